@@ -1,1 +1,6 @@
+pub mod BitSet
+pub mod Flow
 pub mod Graph
+pub mod Packed
+pub mod Queue
+pub mod Visit
