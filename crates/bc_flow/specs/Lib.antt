@@ -1,2 +1,7 @@
+pub mod BitSet
+pub mod Flow
 pub mod Graph
 pub mod Membership
+pub mod Packed
+pub mod Queue
+pub mod Visit

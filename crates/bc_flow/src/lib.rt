@@ -1,6 +1,13 @@
 //! Graphs by their edges, sets of small numbers, and the least sets that flow along the edges of a graph.
 #![tactic(auto)]
 
+mod bit_set;
+mod dataflow;
 mod graph;
+mod queue;
+mod tables;
 
-pub use graph::Edge;
+pub use bit_set::BitSet;
+pub use dataflow::{every_node, every_node_back, flow, propagate};
+pub use graph::{Edge, reversed};
+pub use tables::{Entry, empty_table, join, join_without, table};

@@ -1,0 +1,159 @@
+//! The least sets of facts that flow along the edges of a graph.
+ghost use Rattle.std.specs.Prelude.{◌≡◌, ℕ, ◌+◌, ◌<◌, ◌≤◌, Bool, true, false, not, ◌||◌, ◌&&◌, [], ◌∷◌, length, IfOk, OnOk, slice_set};
+ghost use Rattle.std.specs.List.{All, Contains};
+ghost use Rattle.bc_flow.specs.BitSet.{has, absent_count};
+ghost use Rattle.bc_flow.specs.Graph.{AreWithin};
+ghost use Rattle.bc_flow.specs.Flow.{row, holds, HaveSize, IsFlow};
+ghost use Rattle.bc_flow.specs.Visit.{PassesOn};
+ghost use Rattle.bc_flow.specs.Queue.{IsQueue};
+
+use crate::bit_set::BitSet;
+use crate::graph::{Edge, successors};
+use crate::queue::WorkQueue;
+use std::alloc::{AllocError, Global};
+
+/// The numbers of all nodes, ascending: the order in which to visit where facts flow forward.
+pub fn every_node(alloc: Global, nodes: usize) -> Result<Vec<usize>, AllocError>
+    ensures within { IfOk result (λ numbers. All (λ n. n < nodes) numbers.items) }
+    ensures all { IfOk result (λ numbers. (n : ℕ) → n < nodes → Contains numbers.items n) }
+{
+    let mut numbers = Vec::with_capacity(alloc, nodes)?;
+    for node in 0..nodes {
+        numbers.push(node)?;
+    }
+    Ok(numbers)
+}
+
+/// The same numbers, descending.
+pub fn every_node_back(alloc: Global, nodes: usize) -> Result<Vec<usize>, AllocError>
+    ensures within { IfOk result (λ numbers. All (λ n. n < nodes) numbers.items) }
+    ensures all { IfOk result (λ numbers. (n : ℕ) → n < nodes → Contains numbers.items n) }
+{
+    let mut numbers = Vec::with_capacity(alloc, nodes)?;
+    for count in 0..nodes {
+        numbers.push(nodes - 1 - count)?;
+    }
+    Ok(numbers)
+}
+
+/// The sets that `propagate` makes of `seeds`.
+pub fn flow(
+    alloc: Global,
+    edges: &[Edge],
+    seeds: Vec<BitSet>,
+    kills: &[BitSet],
+    pending: Vec<usize>,
+) -> Result<Vec<BitSet>, AllocError>
+    requires edges { AreWithin edges.now (length seeds.items) }
+    requires rows { HaveSize (length (row seeds.items 0)) seeds.items }
+    requires kills { length kills.now ≡ length seeds.items }
+    requires kill_size { HaveSize (length (row seeds.items 0)) kills.now }
+    requires pending { All (λ n. n < length seeds.items) pending.items }
+    requires all { (n : ℕ) → n < length seeds.items → Contains pending.items n }
+    ensures nodes { IfOk result (λ rows. length rows.items ≡ length seeds.items) }
+    ensures facts { IfOk result (λ rows. HaveSize (length (row seeds.items 0)) rows.items) }
+    ensures flow { IfOk result (λ rows. IsFlow edges.now seeds.items kills.now rows.items) }
+{
+    let mut rows = seeds;
+    propagate(alloc, edges, &mut rows, kills, &pending)?;
+    Ok(rows)
+}
+
+/// Lets the facts of each node flow on along the edges, except into a node that kills them, until nothing changes.
+///
+/// Nodes are visited first in the order of `pending`, which lists each of them.
+pub fn propagate(
+    alloc: Global,
+    edges: &[Edge],
+    rows: &mut [BitSet],
+    kills: &[BitSet],
+    pending: &[usize],
+) -> Result<(), AllocError>
+    requires edges { AreWithin edges.now (length rows.old) }
+    requires rows { HaveSize (length (row rows.old 0)) rows.old }
+    requires kills { length kills.now ≡ length rows.old }
+    requires kill_size { HaveSize (length (row rows.old 0)) kills.now }
+    requires pending { All (λ n. n < length rows.old) pending.now }
+    requires all { (n : ℕ) → n < length rows.old → Contains pending.now n }
+    ensures size { OnOk result (HaveSize (length (row rows.old 0)) rows.new) }
+    ensures flow { OnOk result (IsFlow edges.now rows.old kills.now rows.new) }
+{
+    let lists = successors(alloc, rows.len(), edges)?;
+    let mut queue = WorkQueue::of(alloc, rows.len(), pending)?;
+    while let Some(node) = queue.pop() {
+        visit(rows, &mut queue, node, &lists[node], kills)?;
+    }
+    Ok(())
+}
+
+/// Passes the facts of `node` on to its targets.
+fn visit(
+    rows: &mut [BitSet],
+    pending: &mut WorkQueue,
+    node: usize,
+    targets: &[usize],
+    kills: &[BitSet],
+) -> Result<(), AllocError>
+    requires node { node < length rows.old }
+    requires targets { All (λ n. n < length rows.old) targets.now }
+    requires rows { HaveSize (length (row rows.old node)) rows.old }
+    requires kills { length kills.now ≡ length rows.old }
+    requires kill_size { HaveSize (length (row rows.old node)) kills.now }
+    requires pending { IsQueue (length rows.old) pending.old }
+    ensures rows { OnOk result (HaveSize (length (row rows.old node)) rows.new) }
+    ensures pending { OnOk result (IsQueue (length rows.old) pending.new) }
+    ensures passes { OnOk result (PassesOn node targets.now kills.now rows.old rows.new pending.old.nodes.items pending.new.nodes.items) }
+{
+    for &next in targets {
+        offer(rows, pending, node, next, kills)?;
+    }
+    Ok(())
+}
+
+/// Passes the facts of `node` on to the one node `next`, which is to be visited again if it got a new one.
+fn offer(
+    rows: &mut [BitSet],
+    pending: &mut WorkQueue,
+    node: usize,
+    next: usize,
+    kills: &[BitSet],
+) -> Result<(), AllocError>
+    requires node { node < length rows.old }
+    requires next { next < length rows.old }
+    requires rows { HaveSize (length (row rows.old node)) rows.old }
+    requires kills { length kills.now ≡ length rows.old }
+    requires kill_size { HaveSize (length (row rows.old node)) kills.now }
+    requires pending { IsQueue (length rows.old) pending.old }
+    ensures rows { OnOk result (HaveSize (length (row rows.old node)) rows.new) }
+    ensures pending { OnOk result (IsQueue (length rows.old) pending.new) }
+    ensures passes { OnOk result (PassesOn node (next ∷ []) kills.now rows.old rows.new pending.old.nodes.items pending.new.nodes.items) }
+{
+    if next == node {
+        return Ok(());
+    }
+    if pass(rows, node, next, &kills[next]) {
+        pending.insert(next)?;
+    }
+    Ok(())
+}
+
+fn pass(rows: &mut [BitSet], from: usize, to: usize, kills: &BitSet) -> bool
+    requires from { from < length rows.old }
+    requires to { to < length rows.old }
+    requires apart { from ≡ to → ⊥ }
+    requires size { length (row rows.old from) ≡ length (row rows.old to) }
+    requires kills { length kills.now ≡ length (row rows.old to) }
+    ensures others { rows.new ≡ slice_set rows.old to (row rows.new to) }
+    ensures size { length (row rows.new to) ≡ length (row rows.old to) }
+    ensures members { (f : ℕ) → holds rows.new to f ≡ (holds rows.old to f || (holds rows.old from f && not (has kills.now f))) }
+    ensures unchanged { result ≡ false → rows.new ≡ rows.old }
+    ensures grown { result ≡ true → absent_count (row rows.new to) < absent_count (row rows.old to) }
+{
+    if from < to {
+        let (before, after) = rows.split_at_mut(to);
+        after[0].union_without(&before[from], kills)
+    } else {
+        let (before, after) = rows.split_at_mut(from);
+        before[to].union_without(&after[0], kills)
+    }
+}
