@@ -6,3 +6,5 @@ pub mod Rows
 pub mod Visits
 pub mod Entries
 pub mod Queues
+pub mod Ranges
+pub mod Turning

@@ -4,4 +4,5 @@ pub mod Graph
 pub mod Membership
 pub mod Packed
 pub mod Queue
+pub mod Turned
 pub mod Visit

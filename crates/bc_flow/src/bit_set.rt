@@ -43,6 +43,20 @@ impl BitSet {
         self.words[element / 64] >> (element % 64) & 1 == 1
     }
 
+    /// The size: members are below it.
+    pub fn len(&self) -> usize
+        ensures { result ≡ length self.now }
+    {
+        self.size
+    }
+
+    /// Whether a number is a member, also where it is not below the size.
+    pub fn has(&self, element: usize) -> bool
+        ensures { result ≡ has self.now element }
+    {
+        element < self.len() && self.contains(element)
+    }
+
     /// Adds a number. The answer is whether it was not a member.
     pub fn insert(&mut self, element: usize) -> bool
         requires { element < length self.old }

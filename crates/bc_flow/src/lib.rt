@@ -6,8 +6,10 @@ mod dataflow;
 mod graph;
 mod queue;
 mod tables;
+mod turned;
 
 pub use bit_set::BitSet;
 pub use dataflow::{every_node, every_node_back, flow, propagate};
 pub use graph::{Edge, reversed};
 pub use tables::{Entry, empty_table, join, join_without, table};
+pub use turned::transposed;

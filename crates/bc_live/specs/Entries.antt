@@ -1,0 +1,28 @@
+-- The locals that points use and define, as entries of a table.
+use Rattle.std.specs.Prelude.{ℕ, List, [], ◌∷◌, map, Option, Some, None}
+use Rattle.std.specs.List.{flat_map, enumerate_from}
+use Rattle.bc_flow.specs.declared.tables.Entry.{Entry}
+use Rattle.bc_mir.specs.declared.mir.Step.{Step}
+use Rattle.bc_mir.specs.Mir.{Mir}
+use Rattle.bc_mir.specs.Accesses.{uses_of, defines_of}
+
+-- these locals, at a point
+abbrev pub entries_at : ℕ → List ℕ → List Entry
+entries_at point locals = map (λ local. record { node = point; fact = local }) locals
+
+abbrev pub listed : Option ℕ → List ℕ
+listed (Some local) = local ∷ []
+listed None = []
+
+abbrev pub uses_at : ℕ × Step → List Entry
+uses_at here = entries_at here.0 (uses_of here.1.instruction)
+
+abbrev pub definitions_at : ℕ × Step → List Entry
+definitions_at here = entries_at here.0 (listed (defines_of here.1.instruction))
+
+-- what each point uses, and what each point defines
+abbrev pub use_entries : Mir → List Entry
+use_entries mir = flat_map uses_at (enumerate_from 0 mir.steps)
+
+abbrev pub definition_entries : Mir → List Entry
+definition_entries mir = flat_map definitions_at (enumerate_from 0 mir.steps)

@@ -1,0 +1,7 @@
+//! Liveness: on entry to which points the value of a local may still be used (RFC 2094, "Liveness").
+#![tactic(auto)]
+
+mod entries;
+mod live;
+
+pub use live::{LiveSets, live};
