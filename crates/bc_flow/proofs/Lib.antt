@@ -1,6 +1,6 @@
 pub mod Words
 pub mod Members
-pub mod Lists
+pub mod Chains
 pub mod Mapped
 pub mod Rows
 pub mod Visits

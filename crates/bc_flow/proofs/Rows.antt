@@ -27,7 +27,7 @@ row-set_other rows n m x h = get_or-set_other rows n m x [] h
 pub set_itself : (rows new : List (List Bool)) (n : ℕ) (x : List Bool) → n < length rows → new ≡ set rows n x → new ≡ set rows n (row new n)
 set_itself rows new n x h e = rw (e, row-set_same rows n x h) refl
 
-pub members_written : (rows new : List (List Bool)) (n m : ℕ) (x left right kill : List Bool) → n < length rows → new ≡ set rows n x → left ≡ row rows n → right ≡ row rows m →
-    ((f : ℕ) → has x f ≡ (has left f || (has right f && not (has kill f)))) →
-    (f : ℕ) → holds new n f ≡ (holds rows n f || (holds rows m f && not (has kill f)))
-members_written rows new n m x left right kill h e p q members f = rw (e, row-set_same rows n x h, ← p, ← q) (members f)
+pub members_written : (rows new : List (List Bool)) (n m : ℕ) (x left right : List Bool) (killed : ℕ → Bool) → n < length rows → new ≡ set rows n x → left ≡ row rows n → right ≡ row rows m →
+    ((f : ℕ) → has x f ≡ (has left f || (has right f && not (killed f)))) →
+    (f : ℕ) → holds new n f ≡ (holds rows n f || (holds rows m f && not (killed f)))
+members_written rows new n m x left right killed h e p q members f = rw (e, row-set_same rows n x h, ← p, ← q) (members f)

@@ -1,8 +1,6 @@
 -- Edges between nodes, and the paths along them.
-use Rattle.std.specs.Prelude.{ℕ, ◌<◌, ◌↔◌, List, [], ◌∷◌, length}
-use Rattle.std.specs.List.{All, Contains, HoldsAt}
-use Rattle.std.specs.declared.vec.Vec.{Vec}
-use Rattle.std.specs.declared.alloc.Global.{Global}
+use Rattle.std.specs.Prelude.{ℕ, ◌<◌, List, [], ◌∷◌}
+use Rattle.std.specs.List.{All, Contains}
 use Rattle.bc_flow.specs.declared.graph.Edge.{Edge}
 
 -- an edge goes from a to b
@@ -22,7 +20,3 @@ IsPath edges (a ∷ b ∷ rest) = HasEdge edges a b × IsPath edges (b ∷ rest)
 -- the edge that goes back
 abbrev pub turned : Edge → Edge
 turned edge = record { from = edge.to; to = edge.from }
-
--- each node's list has the nodes to which an edge goes from it
-abbrev pub ListTargets : List (Vec ℕ Global) → List Edge → Type 0
-ListTargets lists edges = (a : ℕ) → a < length lists → HoldsAt (λ row. (b : ℕ) → Contains row.items b ↔ HasEdge edges a b) lists a

@@ -1,4 +1,5 @@
 pub mod BitSet
+pub mod Chains
 pub mod Flow
 pub mod Graph
 pub mod Membership

@@ -3,12 +3,14 @@ ghost use Rattle.std.specs.Prelude.{◌≡◌, ℕ, ◌+◌, ◌<◌, ◌≤◌,
 ghost use Rattle.std.specs.List.{All, Contains};
 ghost use Rattle.bc_flow.specs.BitSet.{has, absent_count};
 ghost use Rattle.bc_flow.specs.Graph.{AreWithin};
+ghost use Rattle.bc_flow.specs.Chains.{AreChains};
 ghost use Rattle.bc_flow.specs.Flow.{row, holds, HaveSize, IsFlow};
 ghost use Rattle.bc_flow.specs.Visit.{PassesOn};
 ghost use Rattle.bc_flow.specs.Queue.{IsQueue};
 
+use crate::adjacency::{EdgeChains, edge_chains};
 use crate::bit_set::BitSet;
-use crate::graph::{Edge, successors};
+use crate::graph::Edge;
 use crate::queue::WorkQueue;
 use std::alloc::{AllocError, Global};
 
@@ -46,8 +48,7 @@ pub fn flow(
 ) -> Result<Vec<BitSet>, AllocError>
     requires edges { AreWithin edges.now (length seeds.items) }
     requires rows { HaveSize (length (row seeds.items 0)) seeds.items }
-    requires kills { length kills.now ≡ length seeds.items }
-    requires kill_size { HaveSize (length (row seeds.items 0)) kills.now }
+    requires kills { HaveSize (length (row seeds.items 0)) kills.now }
     requires pending { All (λ n. n < length seeds.items) pending.items }
     requires all { (n : ℕ) → n < length seeds.items → Contains pending.items n }
     ensures nodes { IfOk result (λ rows. length rows.items ≡ length seeds.items) }
@@ -61,7 +62,8 @@ pub fn flow(
 
 /// Lets the facts of each node flow on along the edges, except into a node that kills them, until nothing changes.
 ///
-/// Nodes are visited first in the order of `pending`, which lists each of them.
+/// A node that has no set in `kills` kills nothing. Nodes are visited first in the order of `pending`, which lists each
+/// of them.
 pub fn propagate(
     alloc: Global,
     edges: &[Edge],
@@ -71,89 +73,105 @@ pub fn propagate(
 ) -> Result<(), AllocError>
     requires edges { AreWithin edges.now (length rows.old) }
     requires rows { HaveSize (length (row rows.old 0)) rows.old }
-    requires kills { length kills.now ≡ length rows.old }
-    requires kill_size { HaveSize (length (row rows.old 0)) kills.now }
+    requires kills { HaveSize (length (row rows.old 0)) kills.now }
     requires pending { All (λ n. n < length rows.old) pending.now }
     requires all { (n : ℕ) → n < length rows.old → Contains pending.now n }
     ensures size { OnOk result (HaveSize (length (row rows.old 0)) rows.new) }
     ensures flow { OnOk result (IsFlow edges.now rows.old kills.now rows.new) }
 {
-    let lists = successors(alloc, rows.len(), edges)?;
+    let chains = edge_chains(alloc, rows.len(), edges)?;
     let mut queue = WorkQueue::of(alloc, rows.len(), pending)?;
     while let Some(node) = queue.pop() {
-        visit(rows, &mut queue, node, &lists[node], kills)?;
+        visit(rows, &mut queue, node, edges, &chains, kills)?;
     }
     Ok(())
 }
 
-/// Passes the facts of `node` on to its targets.
+/// Passes the facts of `node` on along the edges that leave it.
 fn visit(
     rows: &mut [BitSet],
     pending: &mut WorkQueue,
     node: usize,
-    targets: &[usize],
+    edges: &[Edge],
+    chains: &EdgeChains,
     kills: &[BitSet],
 ) -> Result<(), AllocError>
     requires node { node < length rows.old }
-    requires targets { All (λ n. n < length rows.old) targets.now }
+    requires edges { AreWithin edges.now (length rows.old) }
+    requires chains { AreChains 0 (length rows.old) edges.now chains.now.first.items chains.now.next.items }
     requires rows { HaveSize (length (row rows.old node)) rows.old }
-    requires kills { length kills.now ≡ length rows.old }
-    requires kill_size { HaveSize (length (row rows.old node)) kills.now }
+    requires kills { HaveSize (length (row rows.old node)) kills.now }
     requires pending { IsQueue (length rows.old) pending.old }
     ensures rows { OnOk result (HaveSize (length (row rows.old node)) rows.new) }
     ensures pending { OnOk result (IsQueue (length rows.old) pending.new) }
-    ensures passes { OnOk result (PassesOn node targets.now kills.now rows.old rows.new pending.old.nodes.items pending.new.nodes.items) }
+    ensures passes { OnOk result (PassesOn edges.now node kills.now rows.old rows.new pending.old.nodes.items pending.new.nodes.items) }
 {
-    for &next in targets {
-        offer(rows, pending, node, next, kills)?;
+    let mut at = chains.first[node];
+    while at < edges.len() {
+        offer(rows, pending, edges[at], kills)?;
+        at = chains.next[at];
     }
     Ok(())
 }
 
-/// Passes the facts of `node` on to the one node `next`, which is to be visited again if it got a new one.
+/// Passes facts on along one edge. Its target is to be visited again if it got a new one.
 fn offer(
     rows: &mut [BitSet],
     pending: &mut WorkQueue,
-    node: usize,
-    next: usize,
+    edge: Edge,
     kills: &[BitSet],
 ) -> Result<(), AllocError>
-    requires node { node < length rows.old }
-    requires next { next < length rows.old }
-    requires rows { HaveSize (length (row rows.old node)) rows.old }
-    requires kills { length kills.now ≡ length rows.old }
-    requires kill_size { HaveSize (length (row rows.old node)) kills.now }
+    requires from { edge.from < length rows.old }
+    requires to { edge.to < length rows.old }
+    requires rows { HaveSize (length (row rows.old edge.from)) rows.old }
+    requires kills { HaveSize (length (row rows.old edge.from)) kills.now }
     requires pending { IsQueue (length rows.old) pending.old }
-    ensures rows { OnOk result (HaveSize (length (row rows.old node)) rows.new) }
+    ensures rows { OnOk result (HaveSize (length (row rows.old edge.from)) rows.new) }
     ensures pending { OnOk result (IsQueue (length rows.old) pending.new) }
-    ensures passes { OnOk result (PassesOn node (next ∷ []) kills.now rows.old rows.new pending.old.nodes.items pending.new.nodes.items) }
+    ensures passes { OnOk result (PassesOn (edge ∷ []) edge.from kills.now rows.old rows.new pending.old.nodes.items pending.new.nodes.items) }
 {
-    if next == node {
+    if edge.to == edge.from {
         return Ok(());
     }
-    if pass(rows, node, next, &kills[next]) {
-        pending.insert(next)?;
+    if pass(rows, edge.from, edge.to, kills) {
+        pending.insert(edge.to)?;
     }
     Ok(())
 }
 
-fn pass(rows: &mut [BitSet], from: usize, to: usize, kills: &BitSet) -> bool
+/// Passes the facts of one node on to another. The answer is whether that one got a new one.
+fn pass(rows: &mut [BitSet], from: usize, to: usize, kills: &[BitSet]) -> bool
     requires from { from < length rows.old }
     requires to { to < length rows.old }
     requires apart { from ≡ to → ⊥ }
-    requires size { length (row rows.old from) ≡ length (row rows.old to) }
-    requires kills { length kills.now ≡ length (row rows.old to) }
+    requires rows { HaveSize (length (row rows.old from)) rows.old }
+    requires kills { HaveSize (length (row rows.old from)) kills.now }
     ensures others { rows.new ≡ slice_set rows.old to (row rows.new to) }
     ensures size { length (row rows.new to) ≡ length (row rows.old to) }
-    ensures members { (f : ℕ) → holds rows.new to f ≡ (holds rows.old to f || (holds rows.old from f && not (has kills.now f))) }
+    ensures members { (f : ℕ) → holds rows.new to f ≡ (holds rows.old to f || (holds rows.old from f && not (holds kills.now to f))) }
     ensures unchanged { result ≡ false → rows.new ≡ rows.old }
     ensures grown { result ≡ true → absent_count (row rows.new to) < absent_count (row rows.old to) }
 {
     if from < to {
         let (before, after) = rows.split_at_mut(to);
-        after[0].union_without(&before[from], kills)
+        add(&mut after[0], &before[from], kills, to)
     } else {
         let (before, after) = rows.split_at_mut(from);
-        before[to].union_without(&after[0], kills)
+        add(&mut before[to], &after[0], kills, to)
+    }
+}
+
+/// Adds the facts of `from` that the node does not kill. The answer is whether there was a new one.
+fn add(into: &mut BitSet, from: &BitSet, kills: &[BitSet], node: usize) -> bool
+    requires size { length into.old ≡ length from.now }
+    requires kills { HaveSize (length from.now) kills.now }
+    ensures size { length into.new ≡ length into.old }
+    ensures members { (f : ℕ) → has into.new f ≡ (has into.old f || (has from.now f && not (holds kills.now node f))) }
+    ensures unchanged { result ≡ false → into.new ≡ into.old }
+    ensures grown { result ≡ true → absent_count into.new < absent_count into.old }
+{
+    match kills.get(node) {
+        Some(killed) => into.union_without(from, killed),
+        None => into.union(from),
     }
 }

@@ -1,6 +1,7 @@
 //! Graphs by their edges, sets of small numbers, and the least sets that flow along the edges of a graph.
 #![tactic(auto)]
 
+mod adjacency;
 mod bit_set;
 mod dataflow;
 mod graph;

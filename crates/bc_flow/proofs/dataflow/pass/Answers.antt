@@ -13,7 +13,7 @@ returns-then-from-to-clause-members c =
     members_written _ _ _ _ _ _ _ _ c.requires.to (written_right _ _ _ _ _ c.split_at_mut-before.ensures.value c.split_at_mut-before.ensures.front_len)
     (row_right _ _ _ _ _ c.split_at_mut-before.ensures.value c.split_at_mut-before.ensures.front_len some)
     (row_left _ _ _ _ _ c.split_at_mut-before.ensures.value within)
-    c.union_without.ensures.members
+    c.add.ensures.members
 
 pub returns-else-from-to-clause-others : goal.returns-else-from-to-clause-others
 returns-else-from-to-clause-others c =
@@ -27,4 +27,4 @@ returns-else-from-to-clause-members c =
     members_written _ _ _ _ _ _ _ _ c.requires.to (written_left _ _ _ _ _ c.split_at_mut-before-else-from-to.ensures.value within)
     (row_left _ _ _ _ _ c.split_at_mut-before-else-from-to.ensures.value within)
     (row_right _ _ _ _ _ c.split_at_mut-before-else-from-to.ensures.value c.split_at_mut-before-else-from-to.ensures.front_len some)
-    c.union_without-else-from-to.ensures.members
+    c.add-else-from-to.ensures.members

@@ -1,7 +1,7 @@
 use Rattle.std.proofs.Common.{◌≡◌, ℕ, ◌+◌, ◌<◌, ◌≤◌, [], ◌∷◌, length, List, ◌++◌, arith, inr, ◌∙◌, sym, ap}
 use Rattle.std.proofs.lemmas.Grind.{common_steps}
 use Rattle.bc_flow.specs.Flow.{row, holds, HaveSize, IsFlow, begins}
-use Rattle.bc_flow.proofs.Visits.{targets_are, targets_within, from_within, popped, Waits-visit, Flows-visit, IsFlow-end}
+use Rattle.bc_flow.proofs.Visits.{from_within, popped, Waits-visit, Flows-visit, IsFlow-end}
 use Rattle.bc_flow.proofs.dataflow.propagate.Goals as goal
 
 pub loop-node-init : goal.loop-node-init
@@ -14,23 +14,10 @@ loop-node-init c = record {
   least = λ n f h. begins n h;
 }
 
-pub index-requires : goal.index-requires
-index-requires c =
-    let p = popped (length c.args.rows.now) c.in-Some.node _ _ c.in-Some.ensures.node c.loop-node.invariant.queue.within in
-    let ok = c.in_ok-lists.lists.ok.0 in
-    omega (arith, p, ok, c.in_ok-lists.ensures.count)
-
 pub visit-requires-clause-node : goal.visit-requires-clause-node
 visit-requires-clause-node c =
     let p = popped (length c.args.rows.now) c.in-Some.node _ _ c.in-Some.ensures.node c.loop-node.invariant.queue.within in
     omega (arith, p, c.loop-node.invariant.count)
-
-pub visit-requires-clause-targets : goal.visit-requires-clause-targets
-visit-requires-clause-targets c =
-    let p = popped (length c.args.rows.now) c.in-Some.node _ _ c.in-Some.ensures.node c.loop-node.invariant.queue.within in
-    let within : c.in-Some.node < length c.in_ok-lists.lists.items = omega (arith, p, c.in_ok-lists.ensures.count) in
-    let all = targets_within _ _ _ (length c.args.rows.now) c.index.result.now c.in_ok-lists.ensures.targets within c.index.ensures c.requires.edges in
-    rw (c.deref.ensures.value, c.loop-node.invariant.count) all
 
 pub visit-requires-clause-rows : goal.visit-requires-clause-rows
 visit-requires-clause-rows c =
@@ -38,25 +25,23 @@ visit-requires-clause-rows c =
     let within : c.in-Some.node < length c.loop-node.rows = omega (arith, p, c.loop-node.invariant.count) in
     λ k d h. c.loop-node.invariant.sizes k d h ∙ sym (c.loop-node.invariant.sizes c.in-Some.node [] within)
 
-pub visit-requires-clause-kill_size : goal.visit-requires-clause-kill_size
-visit-requires-clause-kill_size c =
+pub visit-requires-clause-kills : goal.visit-requires-clause-kills
+visit-requires-clause-kills c =
     let p = popped (length c.args.rows.now) c.in-Some.node _ _ c.in-Some.ensures.node c.loop-node.invariant.queue.within in
     let within : c.in-Some.node < length c.loop-node.rows = omega (arith, p, c.loop-node.invariant.count) in
-    λ k d h. c.requires.kill_size k d h ∙ sym (c.loop-node.invariant.sizes c.in-Some.node [] within)
+    λ k d h. c.requires.kills k d h ∙ sym (c.loop-node.invariant.sizes c.in-Some.node [] within)
 
 pub loop-node-preserved : goal.loop-node-preserved
 loop-node-preserved c =
     let p = popped (length c.args.rows.now) c.in-Some.node _ _ c.in-Some.ensures.node c.loop-node.invariant.queue.within in
-    let within : c.in-Some.node < length c.in_ok-lists.lists.items = omega (arith, p, c.in_ok-lists.ensures.count) in
     let inside : c.in-Some.node < length c.loop-node.rows = omega (arith, p, c.loop-node.invariant.count) in
-    let are = rw (← c.deref.ensures.value) at (targets_are _ _ _ c.index.result.now c.in_ok-lists.ensures.targets within c.index.ensures) in
     record {
       count = c.visit.auto.rows ∙ c.loop-node.invariant.count;
       sizes = λ k d h. c.in_ok-visit.ensures.rows k d h ∙ c.loop-node.invariant.sizes c.in-Some.node [] inside;
       queue = rw c.loop-node.invariant.count at c.in_ok-visit.ensures.pending;
       begins = λ n f h. c.in_ok-visit.ensures.passes.kept n f (c.loop-node.invariant.begins n f h);
-      waits = Waits-visit _ _ _ _ _ _ _ _ _ are c.in-Some.ensures.node c.in_ok-visit.ensures.passes c.loop-node.invariant.waits;
-      least = Flows-visit _ _ _ _ _ _ _ _ _ are c.in_ok-visit.ensures.passes c.loop-node.invariant.least;
+      waits = Waits-visit _ _ _ _ _ _ _ _ c.in-Some.ensures.node c.in_ok-visit.ensures.passes c.loop-node.invariant.waits;
+      least = Flows-visit _ _ _ _ _ _ _ _ c.in_ok-visit.ensures.passes c.loop-node.invariant.least;
     }
 
 pub returns-clause-flow : goal.returns-clause-flow
