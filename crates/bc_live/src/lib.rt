@@ -2,6 +2,6 @@
 #![tactic(auto)]
 
 mod entries;
-mod live;
+mod liveness;
 
-pub use live::{LiveSets, live};
+pub use liveness::{LiveSets, live};
