@@ -1,0 +1,25 @@
+use Rattle.std.proofs.Common.{◌≡◌, ℕ, zero, suc, ◌+◌, ◌<◌, Bool, true, false, cond, Option, Some, None, List, [], ◌∷◌, ◌++◌, length, get_or, refl, ap, ◌∙◌, arith}
+use Rattle.std.proofs.lemmas.List.FromFn.{map-range_with_len_more}
+use Rattle.bc_mir.specs.declared.mir.Point.{Point}
+use Rattle.bc_mir.specs.declared.mir.Step.{Step}
+use Rattle.bc_mir.specs.declared.access.Depth.TheVariants.{Shallow}
+use Rattle.bc_mir.specs.declared.access.AccessKind.TheVariants.{Write}
+use Rattle.bc_mir.specs.Mir.{Mir}
+use Rattle.bc_mir.specs.Accesses.{return_accesses, access_of, local_place}
+use Rattle.bc_mir.specs.Typing.{fits_at, first_unfit}
+
+-- `return` writes one local more
+pub return_accesses-more : (n : ℕ) → return_accesses (n + 1) ≡ return_accesses n ++ access_of Shallow Write (local_place n) ∷ []
+return_accesses-more n = map-range_with_len_more _ 0 n n (omega arith)
+
+pub test_passed : (b : Bool) (rest : Option Point) (p : Point) → cond b rest (Some p) ≡ None → (b ≡ true) × (rest ≡ None)
+test_passed true rest p none = (refl, none)
+test_passed false rest p none = cc
+
+-- where no point is a misfit, each fits
+pub fits_at-first_unfit : (mir : Mir) (steps : List Step) (i : ℕ) (step : Step) → first_unfit mir steps ≡ None → i < length steps → step ≡ get_or steps i step → fits_at mir step.instruction ≡ true
+fits_at-first_unfit mir [] i step none below is = absurd (omega arith)
+fits_at-first_unfit mir (first ∷ steps) zero step none below is =
+    ap (λ s. fits_at mir s.instruction) is ∙ (test_passed (fits_at mir first.instruction) (first_unfit mir steps) first.point none).0
+fits_at-first_unfit mir (first ∷ steps) (suc i) step none below is =
+    fits_at-first_unfit mir steps i step (test_passed (fits_at mir first.instruction) (first_unfit mir steps) first.point none).1 (omega arith) is

@@ -1,0 +1,141 @@
+use Rattle.std.proofs.Common.{◌≡◌, ℕ, zero, suc, ◌+◌, ◌<◌, ◌≤◌, true, ltb, Option, Some, None, List, [], ◌∷◌, ◌++◌, length, map, get_or, refl, ◌∙◌, length-append, arith}
+use Rattle.std.proofs.lemmas.Bool.{and_from, and_parts, ltb-true}
+use Rattle.std.proofs.lemmas.List.Elements.{All-nil, All-cons, All-append}
+use Rattle.std.proofs.lemmas.List.Folds.{list_all-append}
+use Rattle.std.proofs.lemmas.List.Sums.{sum_by-cons}
+use Rattle.std.specs.List.{All, list_all, flat_map, enumerate_from}
+use Rattle.bc_text.specs.declared.syntax.Body.{Body}
+use Rattle.bc_text.specs.declared.syntax.Block.{Block}
+use Rattle.bc_text.specs.declared.syntax.Statement.{Statement as Simple}
+use Rattle.bc_text.specs.declared.syntax.Terminator.{Terminator as Ending}
+use Rattle.bc_text.specs.declared.syntax.Terminator.TheVariants.{Goto, If, Return, Stop}
+use Rattle.bc_text.specs.Sizes.{IsSized, universal_count, point_count, statement_names, block_names}
+use Rattle.bc_flow.specs.declared.graph.Edge.{Edge}
+use Rattle.bc_mir.specs.declared.mir.Step.{Step}
+use Rattle.bc_mir.specs.declared.mir.Point.{Point}
+use Rattle.bc_mir.specs.declared.typed.Where.TheVariants.{At}
+use Rattle.std.specs.Option.{option_map}
+use Rattle.bc_mir.specs.declared.mir.Instruction.{Instruction}
+use Rattle.bc_mir.specs.declared.mir.Instruction.TheVariants.{Statement, Terminator}
+use Rattle.bc_mir.specs.Mir.{Mir, mir_of, block_steps, steps_from, entries_from, successors_of, edges_of_step}
+use Rattle.bc_mir.specs.Typing.{is_int_operand, fits_at, first_unfit, Fits}
+use Rattle.bc_mir.specs.Typed.{instruction_names, IsTyped}
+use Rattle.bc_mir.proofs.Mirs.{length-block_steps}
+use Rattle.bc_mir.proofs.Fitting.{test_passed}
+
+-- blocks have as many points as they have statements and terminators
+pub length-steps_from : (n : ℕ) (blocks : List Block) → length (steps_from n blocks) ≡ point_count blocks
+length-steps_from n [] = refl
+length-steps_from n (block ∷ blocks) =
+    let here = length-block_steps n 0 block.statements block.terminator in
+    let rest = length-steps_from (n + 1) blocks in
+    omega (arith, length-append (block_steps n 0 block.statements block.terminator) (steps_from (n + 1) blocks), sum_by-cons (λ (b : Block). length b.statements + 1) block blocks)
+
+-- there are as many first points as blocks
+pub length-entries_from : (first : ℕ) (blocks : List Block) → length (entries_from first blocks) ≡ length blocks
+length-entries_from first [] = refl
+length-entries_from first (block ∷ blocks) = omega (arith, length-entries_from (first + length block.statements + 1) blocks)
+
+-- each first point is one of the blocks' points
+pub entries-within : (first label : ℕ) (blocks : List Block) → label < length (entries_from first blocks) → get_or (entries_from first blocks) label 0 < first + point_count blocks
+entries-within first label [] below = absurd (omega arith)
+entries-within first zero (block ∷ blocks) below = omega (arith, sum_by-cons (λ (b : Block). length b.statements + 1) block blocks)
+entries-within first (suc label) (block ∷ blocks) below =
+    omega (arith, entries-within (first + length block.statements + 1) label blocks (omega arith), sum_by-cons (λ (b : Block). length b.statements + 1) block blocks)
+
+-- a statement is followed by a point
+abbrev pub HasNext : Instruction → List Step → Type 0
+HasNext (Statement statement) steps = 1 ≤ length steps
+HasNext (Terminator terminator) steps = Unit {0}
+
+abbrev pub GoesOn : List Step → Type 0
+GoesOn [] = Unit {0}
+GoesOn (step ∷ steps) = HasNext step.instruction steps × GoesOn steps
+
+block-goes-on : (block index : ℕ) (statements : List Simple) (terminator : Ending) (rest : List Step) → GoesOn rest → GoesOn (block_steps block index statements terminator ++ rest)
+block-goes-on block index [] terminator rest more = (tt, more)
+block-goes-on block index (statement ∷ statements) terminator rest more = (
+  omega (arith, length-append (block_steps block (index + 1) statements terminator) rest, length-block_steps block (index + 1) statements terminator),
+  block-goes-on block (index + 1) statements terminator rest more,
+)
+
+steps-go-on : (n : ℕ) (blocks : List Block) → GoesOn (steps_from n blocks)
+steps-go-on n [] = tt
+steps-go-on n (block ∷ blocks) = block-goes-on n 0 block.statements block.terminator (steps_from (n + 1) blocks) (steps-go-on (n + 1) blocks)
+
+-- each first point is a point
+abbrev AreEntered : Mir → Type 0
+AreEntered mir = (label : ℕ) → label < length mir.entries → get_or mir.entries label 0 < length mir.steps
+
+abbrev IsWithin : ℕ → Edge → Type 0
+IsWithin n edge = (edge.from < n) × (edge.to < n)
+
+abbrev edge_to : Mir → ℕ → ℕ → Edge
+edge_to mir p label = record { from = p; to = get_or mir.entries label 0 }
+
+terminator-within : (mir : Mir) (p : ℕ) (terminator : Ending) → AreEntered mir → p < length mir.steps → fits_at mir (Terminator terminator) ≡ true → All (IsWithin (length mir.steps)) (map (λ q. record { from = p; to = q }) (successors_of mir p (Terminator terminator)))
+terminator-within mir p (Goto label) entered below fits =
+    let joined : IsWithin (length mir.steps) (edge_to mir p label) = (below, entered label (ltb-true label (length mir.entries) fits)) in
+    All-cons (IsWithin (length mir.steps)) (edge_to mir p label) [] joined (All-nil (IsWithin (length mir.steps)))
+terminator-within mir p (If condition) entered below fits =
+    let labels = (and_parts (is_int_operand mir.locals condition.operand) _ fits).1 in
+    let both = and_parts (ltb condition.then (length mir.entries)) (ltb condition.otherwise (length mir.entries)) labels in
+    let first : IsWithin (length mir.steps) (edge_to mir p condition.then) = (below, entered condition.then (ltb-true condition.then (length mir.entries) both.0)) in
+    let second : IsWithin (length mir.steps) (edge_to mir p condition.otherwise) = (below, entered condition.otherwise (ltb-true condition.otherwise (length mir.entries) both.1)) in
+    All-cons (IsWithin (length mir.steps)) (edge_to mir p condition.then) (edge_to mir p condition.otherwise ∷ []) first (All-cons (IsWithin (length mir.steps)) (edge_to mir p condition.otherwise) [] second (All-nil (IsWithin (length mir.steps))))
+terminator-within mir p Return entered below fits = All-nil (IsWithin (length mir.steps))
+terminator-within mir p Stop entered below fits = All-nil (IsWithin (length mir.steps))
+
+instruction-within : (mir : Mir) (p : ℕ) (here : Instruction) (steps : List Step) → AreEntered mir → p + 1 + length steps ≡ length mir.steps → HasNext here steps → fits_at mir here ≡ true → All (IsWithin (length mir.steps)) (map (λ q. record { from = p; to = q }) (successors_of mir p here))
+instruction-within mir p (Statement statement) steps entered count next fits =
+    let joined : IsWithin (length mir.steps) (record { from = p; to = p + 1 }) = (omega arith, omega arith) in
+    All-cons (IsWithin (length mir.steps)) (record { from = p; to = p + 1 }) [] joined (All-nil (IsWithin (length mir.steps)))
+instruction-within mir p (Terminator terminator) steps entered count next fits = terminator-within mir p terminator entered (omega arith) fits
+
+edges-within : (mir : Mir) (p : ℕ) (steps : List Step) → AreEntered mir → p + length steps ≡ length mir.steps → GoesOn steps → first_unfit mir steps ≡ None → All (IsWithin (length mir.steps)) (flat_map (edges_of_step mir) (enumerate_from p steps))
+edges-within mir p [] entered count on fits = All-nil (IsWithin (length mir.steps))
+edges-within mir p (step ∷ steps) entered count on fits =
+    let passed = test_passed (fits_at mir step.instruction) (first_unfit mir steps) step.point fits in
+    All-append (IsWithin (length mir.steps)) _ _
+    (instruction-within mir p step.instruction steps entered (omega arith) on.0 passed.0)
+    (edges-within mir (p + 1) steps entered (omega arith) on.1 passed.1)
+
+block-names : (universals block index : ℕ) (statements : List Simple) (terminator : Ending) → list_all (statement_names universals) statements ≡ true → list_all (λ (step : Step). instruction_names universals step.instruction) (block_steps block index statements terminator) ≡ true
+block-names universals block index [] terminator names = refl
+block-names universals block index (statement ∷ statements) terminator names =
+    let parts = and_parts (statement_names universals statement) _ names in
+    and_from _ _ parts.0 (block-names universals block (index + 1) statements terminator parts.1)
+
+steps-names : (universals n : ℕ) (blocks : List Block) → list_all (block_names universals) blocks ≡ true → list_all (λ (step : Step). instruction_names universals step.instruction) (steps_from n blocks) ≡ true
+steps-names universals n [] names = refl
+steps-names universals n (block ∷ blocks) names =
+    let parts = and_parts (block_names universals block) _ names in
+    list_all-append (λ (step : Step). instruction_names universals step.instruction) (block_steps n 0 block.statements block.terminator) (steps_from (n + 1) blocks)
+    ∙ and_from _ _ (block-names universals n 0 block.statements block.terminator parts.0) (steps-names universals (n + 1) blocks parts.1)
+
+passed : (misfit : Option Point) → option_map At misfit ≡ None → misfit ≡ None
+passed None none = refl
+passed (Some point) none = cc
+
+some-point : (blocks : List Block) → 1 ≤ length blocks → 1 ≤ length (steps_from 0 blocks)
+some-point [] some = absurd (omega arith)
+some-point (block ∷ blocks) some = omega (arith, length-append (block_steps 0 0 block.statements block.terminator) (steps_from 1 blocks), length-block_steps 0 0 block.statements block.terminator)
+
+-- a unit that fits is typed
+pub typed : (body : Body) → IsSized body → Fits (mir_of body) → IsTyped (mir_of body)
+typed body sized fits =
+    let mir = mir_of body in
+    let count : length mir.steps ≡ point_count body.blocks = length-steps_from 0 body.blocks in
+    record {
+      fits = fits;
+      some_universal = omega arith;
+      universals = sized.universals;
+      clauses = sized.clauses;
+      some_local = omega arith;
+      locals = sized.locals;
+      types = sized.types;
+      some_point = some-point body.blocks sized.some_block;
+      points = omega (arith, count, sized.points);
+      borrows = steps-names (universal_count body.header) 0 body.blocks sized.statements;
+      edges = edges-within mir 0 mir.steps (λ label below. omega (arith, count, entries-within 0 label body.blocks below)) (omega arith) (steps-go-on 0 body.blocks) (passed (first_unfit mir mir.steps) fits);
+    }

@@ -1,0 +1,4 @@
+pub mod Prefixes
+pub mod Mirs
+pub mod Fitting
+pub mod Kept

@@ -1,0 +1,118 @@
+-- What each point does: its accesses in order, and the locals that it uses and defines.
+use Rattle.std.specs.Prelude.{ℕ, Bool, true, false, Option, Some, None, List, [], ◌∷◌, ◌++◌, length, map, if◌then◌else◌}
+use Rattle.std.specs.List.{flat_map, range_with_len}
+use Rattle.bc_text.specs.declared.syntax.Mutability.{Mutability}
+use Rattle.bc_text.specs.declared.syntax.Mutability.TheVariants.{Shared, Mutable}
+use Rattle.bc_text.specs.declared.syntax.Projection.{Projection}
+use Rattle.bc_text.specs.declared.syntax.Place.{Place}
+use Rattle.bc_text.specs.declared.syntax.Operand.{Operand}
+use Rattle.bc_text.specs.declared.syntax.Operand.TheVariants.{Copy, Move, Number}
+use Rattle.bc_text.specs.declared.syntax.Rvalue.{Rvalue}
+use Rattle.bc_text.specs.declared.syntax.Rvalue.TheVariants.{Use, Borrow, Calc}
+use Rattle.bc_text.specs.declared.syntax.Statement.{Statement as Simple}
+use Rattle.bc_text.specs.declared.syntax.Statement.TheVariants.{Assign, Dead, Nop}
+use Rattle.bc_text.specs.declared.syntax.Terminator.{Terminator as Ending}
+use Rattle.bc_text.specs.declared.syntax.Terminator.TheVariants.{Goto, If, Return, Stop}
+use Rattle.bc_mir.specs.declared.mir.Instruction.{Instruction}
+use Rattle.bc_mir.specs.declared.mir.Instruction.TheVariants.{Statement, Terminator}
+use Rattle.bc_mir.specs.declared.access.Access.{Access}
+use Rattle.bc_mir.specs.declared.access.Depth.{Depth}
+use Rattle.bc_mir.specs.declared.access.Depth.TheVariants.{Shallow, Deep}
+use Rattle.bc_mir.specs.declared.access.AccessKind.{AccessKind}
+use Rattle.bc_mir.specs.declared.access.AccessKind.TheVariants.{Read, Write}
+use Rattle.bc_mir.specs.Mir.{Mir}
+
+-- a local alone, as a place
+abbrev pub local_place : ℕ → Place
+local_place local = record { local = local; projections = [] }
+
+abbrev pub access_of : Depth → AccessKind → Place → Access
+access_of depth kind place = record { place = place; depth = depth; kind = kind }
+
+-- `copy` reads, `move` writes, and a number has no access
+abbrev pub operand_accesses : Operand → List Access
+operand_accesses (Copy place) = access_of Deep Read place ∷ []
+operand_accesses (Move place) = access_of Deep Write place ∷ []
+operand_accesses (Number n) = []
+
+-- a shared borrow reads, a mutable one writes
+abbrev pub borrow_access : Mutability → AccessKind
+borrow_access Shared = Read
+borrow_access Mutable = Write
+
+abbrev pub rvalue_accesses : Rvalue → List Access
+rvalue_accesses (Use operand) = operand_accesses operand
+rvalue_accesses (Borrow borrow) = access_of Deep (borrow_access borrow.reference.mutability) borrow.place ∷ []
+rvalue_accesses (Calc operands) = flat_map operand_accesses operands
+
+-- the access of a target is the last of its point
+abbrev pub statement_accesses : Simple → List Access
+statement_accesses (Assign assignment) =
+    rvalue_accesses assignment.value ++ access_of Shallow Write assignment.target ∷ []
+statement_accesses (Dead local) = access_of Shallow Write (local_place local) ∷ []
+statement_accesses Nop = []
+
+-- `return` writes every local in order
+abbrev pub return_accesses : ℕ → List Access
+return_accesses locals = map (λ local. access_of Shallow Write (local_place local)) (range_with_len 0 locals)
+
+abbrev pub terminator_accesses : ℕ → Ending → List Access
+terminator_accesses locals (Goto label) = []
+terminator_accesses locals (If condition) = operand_accesses condition.operand
+terminator_accesses locals Return = return_accesses locals
+terminator_accesses locals Stop = []
+
+-- the accesses of a point in order, where this happens
+abbrev pub accesses_of : Mir → Instruction → List Access
+accesses_of mir (Statement statement) = statement_accesses statement
+accesses_of mir (Terminator terminator) = terminator_accesses (length mir.locals) terminator
+
+-- the place that a point overwrites
+abbrev pub overwritten : Instruction → Option Place
+overwritten (Statement (Assign assignment)) = Some assignment.target
+overwritten (Statement (Dead local)) = Some (local_place local)
+overwritten (Statement Nop) = None
+overwritten (Terminator terminator) = None
+
+-- an operand uses the local of its place
+abbrev pub operand_uses : Operand → List ℕ
+operand_uses (Copy place) = place.local ∷ []
+operand_uses (Move place) = place.local ∷ []
+operand_uses (Number n) = []
+
+abbrev pub rvalue_uses : Rvalue → List ℕ
+rvalue_uses (Use operand) = operand_uses operand
+rvalue_uses (Borrow borrow) = borrow.place.local ∷ []
+rvalue_uses (Calc operands) = flat_map operand_uses operands
+
+-- a place without projections
+abbrev pub are_none : List Projection → Bool
+are_none [] = true
+are_none (projection ∷ projections) = false
+
+abbrev pub is_local : Place → Bool
+is_local place = are_none place.projections
+
+-- a target uses its local where it has a projection, and else defines it
+abbrev pub target_uses : Place → List ℕ
+target_uses place = if is_local place then [] else place.local ∷ []
+
+abbrev pub target_defines : Place → Option ℕ
+target_defines place = if is_local place then Some place.local else None
+
+-- the locals that a point uses
+abbrev pub uses_of : Instruction → List ℕ
+uses_of (Statement (Assign assignment)) = rvalue_uses assignment.value ++ target_uses assignment.target
+uses_of (Statement (Dead local)) = []
+uses_of (Statement Nop) = []
+uses_of (Terminator (Goto label)) = []
+uses_of (Terminator (If condition)) = operand_uses condition.operand
+uses_of (Terminator Return) = 0 ∷ []
+uses_of (Terminator Stop) = []
+
+-- the local that a point defines
+abbrev pub defines_of : Instruction → Option ℕ
+defines_of (Statement (Assign assignment)) = target_defines assignment.target
+defines_of (Statement (Dead local)) = Some local
+defines_of (Statement Nop) = None
+defines_of (Terminator terminator) = None

@@ -1,0 +1,173 @@
+//! The accesses of points (RFC 2094, "Borrow checker phase 2").
+ghost use Rattle.std.specs.Prelude.{◌≡◌, ◌≤◌, ◌++◌, ◌∷◌, [], length, IfOk, OnOk};
+ghost use Rattle.std.specs.List.{flat_map};
+ghost use Rattle.bc_mir.specs.Accesses.{local_place as place_of_local, access_of, operand_accesses, borrow_access as kind_of_borrow, rvalue_accesses, statement_accesses, return_accesses, terminator_accesses, accesses_of};
+
+use crate::mir::Instruction;
+use crate::typed::Typed;
+use bc_text::{Mutability, Operand, Place, Rvalue, ShortSequence, Statement, Terminator};
+use std::alloc::{AllocError, Global};
+
+/// Whether an access reaches what is behind the place too (RFC 2094, "Borrow checker phase 2").
+#[derive(Clone, Copy, Debug, PartialEq, Eq)]
+pub enum Depth {
+    Shallow,
+    Deep,
+}
+
+/// What an access does to its place.
+#[derive(Clone, Copy, Debug, PartialEq, Eq)]
+pub enum AccessKind {
+    Read,
+    Write,
+}
+
+/// An access of a point to a place.
+#[derive(Drop)]
+pub struct Access {
+    pub place: Place,
+    pub depth: Depth,
+    pub kind: AccessKind,
+}
+
+pub(crate) fn copy_place(place: &Place) -> Result<Place, AllocError>
+    ensures { IfOk result (λ copy. copy ≡ place.now) }
+{
+    place.clone()
+}
+
+fn local_place(alloc: Global, local: u8) -> Place
+    ensures { result ≡ place_of_local local }
+{
+    Place {
+        local,
+        projections: ShortSequence::new(alloc),
+    }
+}
+
+fn borrow_access(mutability: Mutability) -> AccessKind
+    ensures { result ≡ kind_of_borrow mutability }
+{
+    match mutability {
+        Mutability::Shared => AccessKind::Read,
+        Mutability::Mutable => AccessKind::Write,
+    }
+}
+
+fn push_operand(accesses: &mut Vec<Access>, operand: &Operand) -> Result<(), AllocError>
+    ensures { OnOk result (accesses.new.items ≡ accesses.old.items ++ operand_accesses operand.now) }
+{
+    let (place, kind) = match operand {
+        Operand::Copy(place) => (place, AccessKind::Read),
+        Operand::Move(place) => (place, AccessKind::Write),
+        Operand::Number(_) => return Ok(()),
+    };
+    accesses.push(Access {
+        place: copy_place(place)?,
+        depth: Depth::Deep,
+        kind,
+    })?;
+    Ok(())
+}
+
+fn push_operands(accesses: &mut Vec<Access>, operands: &[Operand]) -> Result<(), AllocError>
+    ensures { OnOk result (accesses.new.items ≡ accesses.old.items ++ flat_map operand_accesses operands.now) }
+{
+    for operand in operands {
+        push_operand(accesses, operand)?;
+    }
+    Ok(())
+}
+
+fn push_rvalue(accesses: &mut Vec<Access>, rvalue: &Rvalue) -> Result<(), AllocError>
+    ensures { OnOk result (accesses.new.items ≡ accesses.old.items ++ rvalue_accesses rvalue.now) }
+{
+    match rvalue {
+        Rvalue::Use(operand) => push_operand(accesses, operand),
+        Rvalue::Borrow(borrow) => {
+            accesses.push(Access {
+                place: copy_place(&borrow.place)?,
+                depth: Depth::Deep,
+                kind: borrow_access(borrow.reference.mutability),
+            })?;
+            Ok(())
+        }
+        Rvalue::Calc(operands) => push_operands(accesses, operands.as_slice()),
+    }
+}
+
+fn push_write(accesses: &mut Vec<Access>, place: Place) -> Result<(), AllocError>
+    ensures { OnOk result (accesses.new.items ≡ accesses.old.items ++ access_of Depth.Shallow AccessKind.Write place ∷ []) }
+{
+    accesses.push(Access {
+        place,
+        depth: Depth::Shallow,
+        kind: AccessKind::Write,
+    })?;
+    Ok(())
+}
+
+fn push_statement(
+    alloc: Global,
+    accesses: &mut Vec<Access>,
+    statement: &Statement,
+) -> Result<(), AllocError>
+    ensures { OnOk result (accesses.new.items ≡ accesses.old.items ++ statement_accesses statement.now) }
+{
+    match statement {
+        Statement::Assign(assignment) => {
+            push_rvalue(accesses, &assignment.value)?;
+            push_write(accesses, copy_place(&assignment.target)?)
+        }
+        Statement::Dead(local) => push_write(accesses, local_place(alloc, *local)),
+        Statement::Nop => Ok(()),
+    }
+}
+
+fn push_locals(alloc: Global, accesses: &mut Vec<Access>, locals: usize) -> Result<(), AllocError>
+    requires { locals ≤ 256 }
+    ensures { OnOk result (accesses.new.items ≡ accesses.old.items ++ return_accesses locals) }
+{
+    for local in 0..locals {
+        push_write(accesses, local_place(alloc, local as u8))?;
+    }
+    Ok(())
+}
+
+fn push_terminator(
+    alloc: Global,
+    accesses: &mut Vec<Access>,
+    locals: usize,
+    terminator: &Terminator,
+) -> Result<(), AllocError>
+    requires { locals ≤ 256 }
+    ensures { OnOk result (accesses.new.items ≡ accesses.old.items ++ terminator_accesses locals terminator.now) }
+{
+    match terminator {
+        Terminator::If(condition) => push_operand(accesses, &condition.operand),
+        Terminator::Return => push_locals(alloc, accesses, locals),
+        Terminator::Goto(_) | Terminator::Stop => Ok(()),
+    }
+}
+
+impl Typed {
+    /// The accesses of a point of this unit in order, by what happens there. The number of an access is its place
+    /// in this list.
+    pub fn accesses(
+        &self,
+        alloc: Global,
+        instruction: &Instruction,
+    ) -> Result<Vec<Access>, AllocError>
+        ensures { IfOk result (λ accesses. accesses.items ≡ accesses_of self.now instruction.now) }
+    {
+        let mut accesses = Vec::new(alloc);
+        let locals = self.locals().len();
+        match instruction {
+            Instruction::Statement(statement) => push_statement(alloc, &mut accesses, statement)?,
+            Instruction::Terminator(terminator) => {
+                push_terminator(alloc, &mut accesses, locals, terminator)?
+            }
+        }
+        Ok(accesses)
+    }
+}

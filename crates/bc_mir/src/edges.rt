@@ -1,0 +1,97 @@
+//! The edges between points (RFC 2094, "Control-flow graph").
+ghost use Rattle.std.specs.Prelude.{◌≡◌, ◌<◌, ◌+◌, ◌^◌, ◌++◌, ◌∷◌, [], true, length, map, slice_index, IfOk, OnOk};
+ghost use Rattle.bc_flow.specs.Graph.{AreWithin};
+ghost use Rattle.bc_flow.specs.declared.graph.Edge.{Edge};
+ghost use Rattle.bc_mir.specs.Mir.{labels_of, successors_of, edges_of};
+ghost use Rattle.bc_mir.specs.Typing.{fits_terminator, fits_at};
+
+use crate::mir::{Draft, Instruction};
+use crate::typed::Typed;
+use bc_flow::Edge;
+use bc_text::{Terminator, Ty};
+use std::alloc::{AllocError, Global};
+
+/// Appends the edge to the first point of a block.
+fn push_edge(
+    edges: &mut Vec<Edge>,
+    entries: &[usize],
+    point: usize,
+    label: u8,
+) -> Result<(), AllocError>
+    requires { label < length entries.now }
+    ensures { OnOk result (edges.new.items ≡ edges.old.items ++ record { from = point; to = slice_index entries.now label } ∷ []) }
+{
+    edges.push(Edge {
+        from: point,
+        to: entries[usize::from(label)],
+    })?;
+    Ok(())
+}
+
+fn push_terminator_edges(
+    edges: &mut Vec<Edge>,
+    locals: &[Ty],
+    entries: &[usize],
+    point: usize,
+    terminator: &Terminator,
+) -> Result<(), AllocError>
+    requires { fits_terminator locals.now (length entries.now) terminator.now ≡ true }
+    ensures { OnOk result (edges.new.items
+        ≡ edges.old.items ++ map (λ q. record { from = point; to = q }) (map (slice_index entries.now) (labels_of terminator.now))) }
+{
+    match terminator {
+        Terminator::Goto(label) => push_edge(edges, entries, point, *label),
+        Terminator::If(condition) => {
+            push_edge(edges, entries, point, condition.then)?;
+            push_edge(edges, entries, point, condition.otherwise)
+        }
+        Terminator::Return | Terminator::Stop => Ok(()),
+    }
+}
+
+impl Draft {
+    /// Appends the edges from a point.
+    fn push_edges(
+        &self,
+        edges: &mut Vec<Edge>,
+        point: usize,
+        instruction: &Instruction,
+    ) -> Result<(), AllocError>
+        requires fits { fits_at self.now instruction.now ≡ true }
+        requires room { point + 1 < 2 ^ 64 }
+        ensures { OnOk result (edges.new.items
+            ≡ edges.old.items ++ map (λ q. record { from = point; to = q }) (successors_of self.now point instruction.now)) }
+    {
+        match instruction {
+            Instruction::Statement(_) => {
+                edges.push(Edge {
+                    from: point,
+                    to: point + 1,
+                })?;
+                Ok(())
+            }
+            Instruction::Terminator(terminator) => push_terminator_edges(
+                edges,
+                self.locals.as_slice(),
+                self.entries.as_slice(),
+                point,
+                terminator,
+            ),
+        }
+    }
+}
+
+impl Typed {
+    /// The edges between points, each of which joins two of the unit's points: from a point to the next of its
+    /// block, and from a terminator to the first point of each of its labels.
+    pub fn edges(&self, alloc: Global) -> Result<Vec<Edge>, AllocError>
+        ensures value { IfOk result (λ edges. edges.items ≡ edges_of self.now) }
+        ensures within { AreWithin (edges_of self.now) (length self.now.steps) }
+    {
+        let mut edges = Vec::new(alloc);
+        for (point, step) in self.steps().iter().enumerate() {
+            self.draft.push_edges(&mut edges, point, &step.instruction)?;
+        }
+        Ok(edges)
+    }
+}

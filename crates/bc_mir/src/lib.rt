@@ -1,0 +1,24 @@
+//! Units with their points in one list: the typing rules, the edges, and what each point does.
+#![tactic(auto)]
+
+mod access;
+mod edges;
+mod liveness;
+mod loan;
+mod mir;
+mod places;
+mod region;
+mod typed;
+mod typing;
+
+pub use access::{Access, AccessKind, Depth};
+pub use liveness::{defines, uses};
+pub use loan::{Loan, kills, loan_of};
+pub use mir::{Instruction, Point, Step};
+pub use places::{
+    dereferenced, from_last_shared, is_mutable, is_prefix, is_shallow_prefix, is_supporting_prefix,
+    place_type,
+};
+pub use region::region_number;
+pub use typed::{IllFault, Typed, Where, type_unit};
+pub use typing::{is_same_shape, rvalue_type};

@@ -1,0 +1,91 @@
+//! The locals that points use and define (RFC 2094, "Liveness").
+ghost use Rattle.std.specs.Prelude.{◌≡◌, ◌++◌, OnOk, IfOk};
+ghost use Rattle.std.specs.List.{flat_map};
+ghost use Rattle.bc_mir.specs.Accesses.{operand_uses, rvalue_uses, is_local as local_test, target_uses, uses_of, defines_of};
+
+use crate::mir::Instruction;
+use bc_text::{Operand, Place, Rvalue, Statement, Terminator};
+use std::alloc::{AllocError, Global};
+
+fn push_operand(locals: &mut Vec<u8>, operand: &Operand) -> Result<(), AllocError>
+    ensures { OnOk result (locals.new.items ≡ locals.old.items ++ operand_uses operand.now) }
+{
+    match operand {
+        Operand::Copy(place) | Operand::Move(place) => locals.push(place.local)?,
+        Operand::Number(_) => {}
+    }
+    Ok(())
+}
+
+fn push_operands(locals: &mut Vec<u8>, operands: &[Operand]) -> Result<(), AllocError>
+    ensures { OnOk result (locals.new.items ≡ locals.old.items ++ flat_map operand_uses operands.now) }
+{
+    for operand in operands {
+        push_operand(locals, operand)?;
+    }
+    Ok(())
+}
+
+fn push_rvalue(locals: &mut Vec<u8>, rvalue: &Rvalue) -> Result<(), AllocError>
+    ensures { OnOk result (locals.new.items ≡ locals.old.items ++ rvalue_uses rvalue.now) }
+{
+    match rvalue {
+        Rvalue::Use(operand) => push_operand(locals, operand),
+        Rvalue::Borrow(borrow) => {
+            locals.push(borrow.place.local)?;
+            Ok(())
+        }
+        Rvalue::Calc(operands) => push_operands(locals, operands.as_slice()),
+    }
+}
+
+fn is_local(place: &Place) -> bool
+    ensures { result ≡ local_test place.now }
+{
+    matches!(place.projections.as_slice(), [])
+}
+
+fn push_target(locals: &mut Vec<u8>, place: &Place) -> Result<(), AllocError>
+    ensures { OnOk result (locals.new.items ≡ locals.old.items ++ target_uses place.now) }
+{
+    if !is_local(place) {
+        locals.push(place.local)?;
+    }
+    Ok(())
+}
+
+/// The locals that a point uses, in the order in which it does; a local stands as often as it is used.
+pub fn uses(alloc: Global, instruction: &Instruction) -> Result<Vec<u8>, AllocError>
+    ensures { IfOk result (λ locals. locals.items ≡ uses_of instruction.now) }
+{
+    let mut locals = Vec::new(alloc);
+    match instruction {
+        Instruction::Statement(Statement::Assign(assignment)) => {
+            push_rvalue(&mut locals, &assignment.value)?;
+            push_target(&mut locals, &assignment.target)?;
+        }
+        Instruction::Terminator(Terminator::If(condition)) => {
+            push_operand(&mut locals, &condition.operand)?
+        }
+        Instruction::Terminator(Terminator::Return) => locals.push(0)?,
+        Instruction::Statement(_) | Instruction::Terminator(_) => {}
+    }
+    Ok(locals)
+}
+
+/// The local that a point defines, if it defines one.
+pub fn defines(instruction: &Instruction) -> Option<u8>
+    ensures { result ≡ defines_of instruction.now }
+{
+    match instruction {
+        Instruction::Statement(Statement::Assign(assignment)) => {
+            if is_local(&assignment.target) {
+                Some(assignment.target.local)
+            } else {
+                None
+            }
+        }
+        Instruction::Statement(Statement::Dead(local)) => Some(*local),
+        Instruction::Statement(Statement::Nop) | Instruction::Terminator(_) => None,
+    }
+}

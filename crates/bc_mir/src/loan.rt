@@ -1,0 +1,49 @@
+//! Loans: what borrows make, and what overwrites their paths.
+ghost use Rattle.std.specs.Prelude.{◌≡◌, IfOk};
+ghost use Rattle.bc_mir.specs.Points.{loan_of as loan_made, kills as kill_test};
+
+use crate::access::copy_place;
+use crate::mir::Instruction;
+use crate::places::is_prefix;
+use bc_text::{Mutability, Place, Region, Rvalue, Statement};
+use std::alloc::AllocError;
+
+/// What a borrow makes: its region, whether it is shared or mutable, and the path that is borrowed (RFC 2094,
+/// "Borrow checker phase 1").
+#[derive(Drop)]
+pub struct Loan {
+    pub region: Region,
+    pub mutability: Mutability,
+    pub path: Place,
+}
+
+/// The loan that a point makes, or `None` where it is no borrow.
+pub fn loan_of(instruction: &Instruction) -> Result<Option<Loan>, AllocError>
+    ensures { IfOk result (λ loan. loan ≡ loan_made instruction.now) }
+{
+    match instruction {
+        Instruction::Statement(Statement::Assign(assignment)) => match &assignment.value {
+            Rvalue::Borrow(borrow) => Ok(Some(Loan {
+                region: borrow.reference.region,
+                mutability: borrow.reference.mutability,
+                path: copy_place(&borrow.place)?,
+            })),
+            Rvalue::Use(_) | Rvalue::Calc(_) => Ok(None),
+        },
+        Instruction::Statement(_) | Instruction::Terminator(_) => Ok(None),
+    }
+}
+
+/// Whether a point overwrites a prefix of a path, which ends the loans of that path (RFC 2094, "Borrow checker
+/// phase 1").
+pub fn kills(instruction: &Instruction, path: &Place) -> bool
+    ensures { result ≡ kill_test path.now instruction.now }
+{
+    match instruction {
+        Instruction::Statement(Statement::Assign(assignment)) => {
+            is_prefix(&assignment.target, path)
+        }
+        Instruction::Statement(Statement::Dead(local)) => *local == path.local,
+        Instruction::Statement(Statement::Nop) | Instruction::Terminator(_) => false,
+    }
+}

@@ -1,0 +1,146 @@
+//! The points of a unit in one list.
+ghost use Rattle.std.specs.Prelude.{◌≡◌, ◌≤◌, ◌++◌, IfOk, OnOk};
+ghost use Rattle.bc_text.specs.Sizes.{universal_count, locals_of};
+ghost use Rattle.bc_mir.specs.Mir.{block_steps, mir_of};
+
+use bc_text::{Block, Body, Outlives, Sequence, Statement, Terminator, Ty};
+use std::alloc::{AllocError, Global};
+use std::marker::Model;
+
+/// A point as it is printed: a statement of a block, or its terminator, which comes last (RFC 2094,
+/// "Control-flow graph").
+#[derive(Clone, Copy, Debug, PartialEq, Eq)]
+pub struct Point {
+    pub block: usize,
+    pub index: usize,
+}
+
+/// What happens at a point.
+#[derive(Drop)]
+pub enum Instruction {
+    Statement(Statement),
+    Terminator(Terminator),
+}
+
+/// A point with what happens there.
+#[derive(Drop)]
+pub struct Step {
+    pub point: Point,
+    pub instruction: Instruction,
+}
+
+/// A unit with its points in one list, typed or not.
+#[derive(Drop)]
+pub(crate) struct Draft {
+    pub(crate) universals: u8,
+    pub(crate) clauses: Sequence<Outlives>,
+    pub(crate) locals: Vec<Ty>,
+    pub(crate) steps: Vec<Step>,
+    pub(crate) entries: Vec<usize>,
+}
+
+impl Model for Draft {
+    ghost use Rattle.bc_mir.specs.Mir.{Mir};
+
+    ghost Value = { Mir };
+
+    ghost view = { λ d. record {
+      universals = d.universals;
+      clauses = d.clauses;
+      locals = d.locals.items;
+      steps = d.steps.items;
+      entries = d.entries.items;
+    } };
+}
+
+fn copy_statement(statement: &Statement) -> Result<Statement, AllocError>
+    ensures { IfOk result (λ copy. copy ≡ statement.now) }
+{
+    statement.clone()
+}
+
+fn copy_terminator(terminator: &Terminator) -> Result<Terminator, AllocError>
+    ensures { IfOk result (λ copy. copy ≡ terminator.now) }
+{
+    terminator.clone()
+}
+
+fn copy_clauses(clauses: &Sequence<Outlives>) -> Result<Sequence<Outlives>, AllocError>
+    ensures { IfOk result (λ copy. copy ≡ clauses.now) }
+{
+    clauses.clone()
+}
+
+fn copy_type(ty: &Ty) -> Result<Ty, AllocError>
+    ensures { IfOk result (λ copy. copy ≡ ty.now) }
+{
+    ty.clone()
+}
+
+fn push_types(types: &mut Vec<Ty>, more: &[Ty]) -> Result<(), AllocError>
+    ensures { OnOk result (types.new.items ≡ types.old.items ++ more.now) }
+{
+    for ty in more {
+        types.push(copy_type(ty)?)?;
+    }
+    Ok(())
+}
+
+/// The types of the locals in order: the result, the parameters, the `let` locals.
+fn local_types(alloc: Global, body: &Body) -> Result<Vec<Ty>, AllocError>
+    ensures { IfOk result (λ types. types.items ≡ locals_of body.now) }
+{
+    let mut types = Vec::new(alloc);
+    types.push(copy_type(&body.header.result)?)?;
+    push_types(&mut types, body.header.parameters.as_slice())?;
+    push_types(&mut types, body.lets.as_slice())?;
+    Ok(types)
+}
+
+/// Appends the points of a block.
+fn push_block(steps: &mut Vec<Step>, number: usize, block: &Block) -> Result<(), AllocError>
+    ensures { OnOk result (steps.new.items ≡ steps.old.items ++ block_steps number 0 block.now.statements block.now.terminator) }
+{
+    let statements = block.statements.as_slice();
+    for (index, statement) in statements.iter().enumerate() {
+        let instruction = Instruction::Statement(copy_statement(statement)?);
+        steps.push(Step {
+            point: Point {
+                block: number,
+                index,
+            },
+            instruction,
+        })?;
+    }
+    let instruction = Instruction::Terminator(copy_terminator(&block.terminator)?);
+    steps.push(Step {
+        point: Point {
+            block: number,
+            index: statements.len(),
+        },
+        instruction,
+    })?;
+    Ok(())
+}
+
+impl Draft {
+    /// Lists the points of a body.
+    pub(crate) fn of(alloc: Global, body: &Body) -> Result<Draft, AllocError>
+        requires { universal_count body.now.header ≤ 16 }
+        ensures { IfOk result (λ draft. draft ≡ mir_of body.now) }
+    {
+        let mut steps = Vec::new(alloc);
+        let mut entries = Vec::new(alloc);
+        for (number, block) in body.blocks.as_slice().iter().enumerate() {
+            entries.push(steps.len())?;
+            push_block(&mut steps, number, block)?;
+        }
+        Ok(Draft {
+            universals: (body.header.regions.len() + 1) as u8,
+            clauses: copy_clauses(&body.header.clauses)?,
+            locals: local_types(alloc, body)?,
+            steps,
+            entries,
+        })
+    }
+}

@@ -1,0 +1,131 @@
+//! Units that keep every typing rule.
+ghost use Rattle.std.specs.Prelude.{◌≡◌, ◌≤◌, true, length, IfOk, OnOk};
+ghost use Rattle.std.specs.List.{list_all};
+ghost use Rattle.bc_text.specs.Sizes.{clause_names, ty_names};
+ghost use Rattle.bc_mir.specs.Mir.{mir_of};
+ghost use Rattle.bc_mir.specs.Typing.{first_unfit as first_misfit, misfit as misfit_of, Fits};
+ghost use Rattle.bc_mir.specs.Typed.{IsTyped, instruction_names};
+ghost use Rattle.bc_mir.specs.declared.typed.Where.{Where};
+ghost use Rattle.bc_mir.specs.declared.mir.Step.{Step};
+
+use crate::mir::{Draft, Point, Step};
+use crate::typing::fits_at;
+use bc_text::{Outlives, Ty, Unit};
+use std::alloc::{AllocError, Global};
+use std::marker::Model;
+
+/// Where a unit breaks a typing rule first: its header, else its least point.
+#[derive(Clone, Copy, Debug, PartialEq, Eq)]
+pub enum Where {
+    Header,
+    At(Point),
+}
+
+/// Why a unit is not typed.
+#[derive(Clone, Copy, Debug, PartialEq, Eq)]
+pub enum IllFault {
+    Ill(Where),
+    NoMemory,
+}
+
+impl From<AllocError> for IllFault {
+    ghost use Rattle.bc_mir.specs.declared.typed.IllFault.TheVariants.{NoMemory};
+
+    ghost from_gives = { λ _ fault. fault ≡ NoMemory };
+
+    fn from(_refused: AllocError) -> IllFault {
+        IllFault::NoMemory
+    }
+}
+
+fn first_unfit(alloc: Global, draft: &Draft) -> Result<Option<Point>, AllocError>
+    ensures { IfOk result (λ point. point ≡ first_misfit draft.now draft.now.steps) }
+{
+    for step in draft.steps.as_slice() {
+        if !fits_at(alloc, draft, &step.instruction)? {
+            return Ok(Some(step.point));
+        }
+    }
+    Ok(None)
+}
+
+/// Where a unit breaks a typing rule, if it does.
+fn misfit(alloc: Global, draft: &Draft) -> Result<Option<Where>, AllocError>
+    ensures { IfOk result (λ place. place ≡ misfit_of draft.now) }
+{
+    match first_unfit(alloc, draft)? {
+        Some(point) => Ok(Some(Where::At(point))),
+        None => Ok(None),
+    }
+}
+
+/// A unit that keeps every typing rule, with its points in one list. It borrows nothing.
+#[derive(Drop)]
+pub struct Typed {
+    pub(crate) draft: Draft,
+}
+
+impl Model for Typed {
+    ghost use Rattle.bc_mir.specs.Mir.{Mir};
+    ghost use Rattle.bc_mir.specs.Typed.{IsTyped};
+
+    ghost Value = { Mir };
+
+    ghost view = { λ t. t.draft };
+
+    ghost invariant = { λ t. IsTyped t.draft };
+}
+
+impl Typed {
+    /// How many universal regions there are, 1 to 16: `'static` and the declared ones.
+    pub fn universals(&self) -> u8
+        ensures value { result ≡ self.now.universals }
+        ensures typed { IsTyped self.now }
+    {
+        self.draft.universals
+    }
+
+    /// The `where` clauses, between universal regions.
+    pub fn clauses(&self) -> &[Outlives]
+        ensures value { result.now ≡ self.now.clauses }
+        ensures declared { list_all (clause_names self.now.universals) result.now ≡ true }
+    {
+        self.draft.clauses.as_slice()
+    }
+
+    /// The types of the locals, 1 to 256, in which each region is declared.
+    pub fn locals(&self) -> &[Ty]
+        ensures value { result.now ≡ self.now.locals }
+        ensures some { 1 ≤ length result.now }
+        ensures few { length result.now ≤ 256 }
+        ensures declared { list_all (ty_names self.now.universals) result.now ≡ true }
+    {
+        self.draft.locals.as_slice()
+    }
+
+    /// The points in order, 1 to 4,096, each with what happens there. No rule fails at any of them.
+    pub fn steps(&self) -> &[Step]
+        ensures value { result.now ≡ self.now.steps }
+        ensures some { 1 ≤ length result.now }
+        ensures few { length result.now ≤ 4096 }
+        ensures fit { first_misfit self.now result.now ≡ None }
+        ensures declared { list_all (λ (step : Step). instruction_names self.now.universals step.instruction) result.now ≡ true }
+    {
+        self.draft.steps.as_slice()
+    }
+}
+
+/// Types a unit (the rules are own, over the language of RFC 2094, "The MIR"). It answers `Ill` with the place of
+/// the first misfit where a rule fails: the header if a header rule fails, else the least point at which a rule
+/// fails; and `NoMemory` only where memory was refused.
+pub fn type_unit(alloc: Global, unit: &Unit) -> Result<Typed, IllFault>
+    ensures ok { IfOk result (λ typed. typed ≡ mir_of unit.now) }
+    ensures fits { OnOk result (Fits (mir_of unit.now)) }
+    ensures ill { (place : Where) → result ≡ Err (IllFault.Ill place) → misfit_of (mir_of unit.now) ≡ Some place }
+{
+    let draft = Draft::of(alloc, unit.body())?;
+    match misfit(alloc, &draft)? {
+        None => Ok(Typed { draft }),
+        Some(place) => Err(IllFault::Ill(place)),
+    }
+}
