@@ -10,7 +10,10 @@ use Rattle.bc_flow.specs.Flow.{holds, Flows, begins, goes_on, IsFlow}
 use Rattle.bc_flow.specs.Membership.{Contains-mapped}
 use Rattle.bc_mir.specs.Mir.{Mir, edges_of}
 use Rattle.bc_mir.specs.Points.{Uses, Defines}
+use Rattle.bc_flow.specs.Flow.{HaveEntries}
 use Rattle.bc_live.specs.Live.{IsLive}
+use Rattle.bc_live.specs.Entries.{use_entries, definition_entries}
+use Rattle.bc_live.proofs.Listing.{use_is_listed, definition_is_listed}
 
 edge_is_turned : (edges : List Edge) (a b : ℕ) → HasEdge (map turned edges) b a ↔ HasEdge edges a b
 edge_is_turned edges a b = Contains-mapped turned turned (λ _. refl) (λ _. refl) edges (record { from = b; to = a })
@@ -84,3 +87,16 @@ flow_is_live mir seeds kills after tables flow l p = (
   λ h. live_from_flow mir seeds kills l tables p (flow.least p l h),
   λ h. flow_from_path mir seeds kills after l tables flow h.last h.used h.earlier p h.is_path h.from_point h.undefined,
 )
+
+joined : (A B C : Type 0) → A ↔ B → B ↔ C → A ↔ C
+joined A B C one two = (λ a. two.0 (one.0 a), λ c. one.1 (two.1 c))
+
+pub sets_are_live : (mir : Mir) (seeds kills after rows : List (List Bool)) → HaveEntries seeds (use_entries mir) → HaveEntries kills (definition_entries mir) →
+    IsFlow (map turned (edges_of mir)) seeds kills after → ((l p : ℕ) → (holds rows l p ≡ true) ↔ (holds after p l ≡ true)) →
+    (l p : ℕ) → (holds rows l p ≡ true) ↔ IsLive mir l p
+sets_are_live mir seeds kills after rows uses definitions flow turned_rows l p =
+    let tables : AreTables mir seeds kills = record {
+      uses = λ q k. let a = uses q k in let b = use_is_listed mir q k in (λ h. b.0 (a.0 h), λ u. a.1 (b.1 u));
+      definitions = λ q k. let a = definitions q k in let b = definition_is_listed mir q k in (λ h. b.0 (a.0 h), λ u. a.1 (b.1 u));
+    } in
+    joined (holds rows l p ≡ true) (holds after p l ≡ true) (IsLive mir l p) (turned_rows l p) (flow_is_live mir seeds kills after tables flow l p)

@@ -1,6 +1,5 @@
 //! The uses and definitions of all points, as entries of a table of points and locals.
-ghost use Rattle.std.specs.Prelude.{◌≡◌, ◌++◌, length, IfOk, OnOk};
-ghost use Rattle.bc_flow.specs.Flow.{AreEntriesWithin};
+ghost use Rattle.std.specs.Prelude.{◌≡◌, ◌++◌, IfOk, OnOk};
 ghost use Rattle.bc_live.specs.Entries.{entries_at, listed, use_entries as uses_of_points, definition_entries as definitions_of_points};
 
 use bc_flow::Entry;
@@ -38,8 +37,7 @@ fn push_listed(entries: &mut Vec<Entry>, point: usize, local: Option<u8>) -> Res
 
 /// What each point uses.
 pub fn use_entries(alloc: Global, typed: &Typed) -> Result<Vec<Entry>, AllocError>
-    ensures value { IfOk result (λ entries. entries.items ≡ uses_of_points typed.now) }
-    ensures within { IfOk result (λ entries. AreEntriesWithin entries.items (length typed.now.steps) (length typed.now.locals)) }
+    ensures { IfOk result (λ entries. entries.items ≡ uses_of_points typed.now) }
 {
     let mut entries = Vec::new(alloc);
     for (point, step) in typed.steps().iter().enumerate() {
@@ -51,8 +49,7 @@ pub fn use_entries(alloc: Global, typed: &Typed) -> Result<Vec<Entry>, AllocErro
 
 /// What each point defines.
 pub fn definition_entries(alloc: Global, typed: &Typed) -> Result<Vec<Entry>, AllocError>
-    ensures value { IfOk result (λ entries. entries.items ≡ definitions_of_points typed.now) }
-    ensures within { IfOk result (λ entries. AreEntriesWithin entries.items (length typed.now.steps) (length typed.now.locals)) }
+    ensures { IfOk result (λ entries. entries.items ≡ definitions_of_points typed.now) }
 {
     let mut entries = Vec::new(alloc);
     for (point, step) in typed.steps().iter().enumerate() {
