@@ -1,8 +1,11 @@
 pub mod Words
 pub mod Members
+pub mod NextBit
+pub mod Filled
 pub mod Chains
 pub mod Mapped
 pub mod Rows
 pub mod Visits
 pub mod Entries
 pub mod Queues
+pub mod Ways
