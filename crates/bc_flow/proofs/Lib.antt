@@ -1,5 +1,7 @@
 pub mod Words
 pub mod Members
+pub mod NextBit
+pub mod Filled
 pub mod Chains
 pub mod Mapped
 pub mod Rows
@@ -8,3 +10,4 @@ pub mod Entries
 pub mod Queues
 pub mod Ranges
 pub mod Turning
+pub mod Ways

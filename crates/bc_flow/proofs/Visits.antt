@@ -1,15 +1,14 @@
 -- What one visit passes on, and what all of them leave.
-use Rattle.std.proofs.Common.{◌≡◌, ℕ, ◌+◌, ◌*◌, ◌<◌, ◌≤◌, ◌⊎◌, inl, inr, Bool, true, false, not, ◌||◌, ◌&&◌, List, [], ◌∷◌, ◌++◌, ◌↔◌, length, get_or, set, zero, suc, refl, sym, ap, ◌∙◌, arith}
+use Rattle.std.proofs.Common.{◌≡◌, ℕ, ◌+◌, ◌<◌, ◌≤◌, ◌⊎◌, inl, inr, Bool, true, false, not, ◌||◌, ◌&&◌, List, [], ◌∷◌, ◌++◌, ◌↔◌, length, set, zero, suc, refl, sym, ap, ◌∙◌, arith}
 use Rattle.std.specs.List.{All, Contains, sum_by}
 use Rattle.std.proofs.lemmas.Bool.{cases_eq, or_cases, or_left, or_right, and_from, and_parts, not-true, not_from_false}
-use Rattle.std.proofs.lemmas.List.{get_or-set_same, get_or-set_other, length-append}
-use Rattle.std.proofs.lemmas.List.Elements.{Contains-push, Contains-push_cases, Contains-append_left, Contains-append_right, Contains-append_cases, Contains-get_or, All-head, All-contains}
+use Rattle.std.proofs.lemmas.List.Elements.{Contains-push, Contains-append_left, Contains-append_right, Contains-append_cases, All-head, All-contains}
 use Rattle.std.proofs.lemmas.List.Sums.{sum_by-set}
 use Rattle.bc_flow.specs.declared.graph.Edge.{Edge}
 use Rattle.bc_flow.specs.Graph.{HasEdge, AreWithin}
 use Rattle.bc_flow.specs.BitSet.{has, absent_count}
-use Rattle.bc_flow.specs.Flow.{row, holds, Flows, begins, goes_on, IsFlow}
-use Rattle.bc_flow.specs.Visit.{PassesOn, work_left}
+use Rattle.bc_flow.specs.Flow.{row, holds, Flows, goes_on, IsFlow}
+use Rattle.bc_flow.specs.Visit.{PassesOn}
 use Rattle.bc_flow.proofs.Rows.{row-set_other}
 
 pub Contains_one : {X : Type 0} (x n : X) → Contains (x ∷ []) n → n ≡ x

@@ -1,5 +1,5 @@
 -- The queue of the nodes that are still to be visited.
-use Rattle.std.specs.Prelude.{◌≡◌, ℕ, ◌<◌, Bool, true, false, List, length, slice_index_or}
+use Rattle.std.specs.Prelude.{◌≡◌, ℕ, ◌<◌, true, false, length, slice_index_or}
 use Rattle.std.specs.List.{All, Contains}
 use Rattle.bc_flow.specs.declared.queue.WorkQueue.{WorkQueue}
 

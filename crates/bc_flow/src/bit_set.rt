@@ -1,7 +1,8 @@
 //! Sets of small numbers, one bit for each.
-ghost use Rattle.std.specs.Prelude.{◌≡◌, ℕ, ◌+◌, ◌^◌, ◌<◌, ◌≤◌, ◌↔◌, Bool, true, false, not, ◌||◌, ◌&&◌, length, IfOk, IsTrue, slice_index, slice_set, bit_or, bit_and};
+ghost use Rattle.std.specs.Prelude.{◌≡◌, ℕ, ◌+◌, ◌*◌, ◌^◌, ◌<◌, ◌≤◌, ◌↔◌, Bool, true, false, not, ◌||◌, ◌&&◌, length, IfOk, MatchOption, slice_index, slice_set, bit_or, bit_and};
 ghost use Rattle.std.specs.Int.{Width, w64, bit_not};
-ghost use Rattle.bc_flow.specs.BitSet.{has, absent_count};
+ghost use Rattle.bc_flow.specs.BitSet.{has, absent_count, IsNextMember};
+ghost use Rattle.bc_flow.specs.Packed.{bit, IsNextBit};
 
 use std::alloc::{AllocError, Global};
 use std::marker::Model;
@@ -36,6 +37,14 @@ impl BitSet {
         Ok(Self { words, size })
     }
 
+    /// The size: one more than the greatest number that may be a member.
+    pub fn size(&self) -> usize
+        ensures { result ≡ length self.now }
+    {
+        self.size
+    }
+
+    /// Whether a number below the size is a member.
     pub fn contains(&self, element: usize) -> bool
         requires { element < length self.now }
         ensures { result ≡ has self.now element }
@@ -43,18 +52,11 @@ impl BitSet {
         self.words[element / 64] >> (element % 64) & 1 == 1
     }
 
-    /// The size: members are below it.
-    pub fn len(&self) -> usize
-        ensures { result ≡ length self.now }
-    {
-        self.size
-    }
-
     /// Whether a number is a member, also where it is not below the size.
     pub fn has(&self, element: usize) -> bool
         ensures { result ≡ has self.now element }
     {
-        element < self.len() && self.contains(element)
+        element < self.size() && self.contains(element)
     }
 
     /// Adds a number. The answer is whether it was not a member.
@@ -68,6 +70,23 @@ impl BitSet {
         let added = *word & mask == 0;
         *word |= mask;
         added
+    }
+
+    /// Adds each number below `count`.
+    pub fn insert_below(&mut self, count: usize)
+        requires { count ≤ length self.old }
+        ensures size { length self.new ≡ length self.old }
+        ensures below { (i : ℕ) → i < count → has self.new i ≡ true }
+        ensures others { (i : ℕ) → count ≤ i → has self.new i ≡ has self.old i }
+    {
+        fill_below(&mut self.words, count);
+    }
+
+    /// The least member that is `from` or greater.
+    pub fn next_member(&self, from: usize) -> Option<usize>
+        ensures { MatchOption result ((i : ℕ) → from ≤ i → has self.now i ≡ false) (λ member. IsNextMember self.now from member) }
+    {
+        next_bit(&self.words, self.size, from)
     }
 
     /// Adds the members of `other`. The answer is whether there was a new one.
@@ -92,6 +111,35 @@ impl BitSet {
     {
         union_words_without(&mut self.words, &other.words, &without.words)
     }
+}
+
+/// Sets the first `count` bits.
+fn fill_below(words: &mut [u64], count: usize)
+    requires { count ≤ 64 * length words.old }
+    ensures below { (i : ℕ) → i < count → bit words.new i ≡ true }
+    ensures others { (i : ℕ) → count ≤ i → bit words.new i ≡ bit words.old i }
+{
+    let whole = count / 64;
+    for index in 0..whole {
+        words[index] = u64::MAX;
+    }
+    if count % 64 != 0 {
+        words[whole] |= (1 << (count % 64)) - 1;
+    }
+}
+
+/// The first bit from `from` on that is set. All bits that are set are below `size`.
+fn next_bit(words: &[u64], size: usize, from: usize) -> Option<usize>
+    requires { (i : ℕ) → bit words.now i ≡ true → i < size }
+    ensures { MatchOption result ((i : ℕ) → from ≤ i → bit words.now i ≡ false) (λ next. IsNextBit words.now from next) }
+{
+    let mut index = from / 64;
+    let mut word = words.get(index)? & (u64::MAX << (from % 64));
+    while word == 0 {
+        index += 1;
+        word = *words.get(index)?;
+    }
+    Some(64 * index + word.trailing_zeros() as usize)
 }
 
 fn union_words(into: &mut [u64], from: &[u64]) -> bool

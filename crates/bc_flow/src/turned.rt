@@ -27,7 +27,7 @@ fn push_member(
 fn push_row(entries: &mut Vec<Entry>, number: usize, set: &BitSet) -> Result<(), AllocError>
     ensures { OnOk result (entries.new.items ≡ entries.old.items ++ turned_row (number, set.now)) }
 {
-    for member in 0..set.len() {
+    for member in 0..set.size() {
         push_member(entries, number, set, member)?;
     }
     Ok(())

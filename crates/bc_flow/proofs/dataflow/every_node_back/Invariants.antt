@@ -1,4 +1,4 @@
-use Rattle.std.proofs.Common.{◌≡◌, ◌<◌, ◌≤◌, ◌+◌, ℕ, length}
+use Rattle.std.proofs.Common.{◌<◌, ◌≤◌, ◌+◌, ℕ}
 use Rattle.std.specs.List.{All, Contains}
 use Rattle.bc_flow.proofs.dataflow.every_node_back.Given as goal
 
