@@ -10,6 +10,7 @@ use bc_text::Region;
 pub fn region_number(universals: u8, region: Region) -> usize
     ensures value { result ≡ number_of universals region }
     ensures below { names_region universals region ≡ true → result < universals + 1024 }
+    ensures small { result < 65791 }
 {
     match region {
         Region::Universal(number) => usize::from(number),

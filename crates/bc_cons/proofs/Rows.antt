@@ -1,0 +1,66 @@
+-- The rows of start elements, one region after another, and past the last.
+use Rattle.std.proofs.Common.{◌≡◌, ℕ, ◌+◌, ◌<◌, ◌≤◌, inl, inr, Bool, true, false, ◌&&◌, nat_lt, ◌==◌, List, [], ◌∷◌, ◌++◌, length, get_or, refl, sym, ap, ◌∙◌, subst, arith}
+use Rattle.std.specs.List.{list_any, enumerate_from}
+use Rattle.std.proofs.lemmas.Bool.{cases_lt, le-ltb, ne_eqb}
+use Rattle.std.proofs.lemmas.List.{get_or_past, get_or_append_left, get_or-append-add}
+use Rattle.std.proofs.lemmas.List.Elements.{All-head, All-tail}
+use Rattle.std.proofs.Math.Nat.{eq-or-lt_of_le}
+use Rattle.bc_text.specs.declared.syntax.Ty.{Ty}
+use Rattle.bc_text.specs.declared.syntax.Reference.{Reference}
+use Rattle.bc_flow.specs.BitSet.{has}
+use Rattle.bc_flow.specs.Flow.{row, holds}
+use Rattle.bc_mir.specs.Mir.{Mir}
+use Rattle.bc_mir.specs.Regions.{region_number}
+use Rattle.bc_cons.specs.Starts.{mentions, starts_with}
+use Rattle.bc_cons.specs.Below.{TyIsBelow, TysAreBelow}
+
+-- one row more
+pub starts_more : (wanted : ℕ → ℕ → Bool) (rows : List (List Bool)) (new : List Bool) (n : ℕ) → length rows ≡ n → ((e : ℕ) → has new e ≡ wanted n e) →
+    ((r e : ℕ) → r < n → holds rows r e ≡ wanted r e) → (r e : ℕ) → r < n + 1 → holds (rows ++ new ∷ []) r e ≡ wanted r e
+starts_more wanted rows new n count is before r e below =
+    let le : r ≤ n = omega (arith, below) in
+    elim (eq-or-lt_of_le le) [
+      | inl same ↦
+          let at : get_or (rows ++ new ∷ []) (length rows + 0) [] ≡ new = get_or-append-add rows (new ∷ []) 0 [] in
+          let here : length rows + 0 ≡ r = omega (arith, same, count) in
+          let is_new : row (rows ++ new ∷ []) r ≡ new = subst (λ k. get_or (rows ++ new ∷ []) k [] ≡ new) here at in
+          ap (λ s. has s e) is_new ∙ is e ∙ ap (λ k. wanted k e) (sym same)
+      | inr less ↦
+          let within : r < length rows = omega (arith, less, count) in
+          ap (λ s. has s e) (get_or_append_left rows (new ∷ []) [] r within) ∙ before r e less
+    ]
+
+-- a region whose number is past those of a type does not stand in it
+unmentioned : (u bound r : ℕ) (rs : List Reference) → bound ≤ r → TyIsBelow u bound rs → list_any (λ (q : Reference). region_number u q.region == r) rs ≡ false
+unmentioned u bound r [] past below = refl
+unmentioned u bound r (q ∷ rs) past below =
+    let here = All-head (λ (x : Reference). region_number u x.region < bound) q rs below in
+    let apart : region_number u q.region == r ≡ false = ne_eqb (region_number u q.region) r (λ e. absurd (omega (arith, e, here, past))) in
+    rw apart (unmentioned u bound r rs past (All-tail (λ (x : Reference). region_number u x.region < bound) q rs below))
+
+unstarted : (u bound r p n : ℕ) (live : ℕ → ℕ → Bool) (tys : List Ty) → bound ≤ r → TysAreBelow u bound tys →
+    list_any (λ (here : ℕ × Ty). mentions u r here.1 && live here.0 p) (enumerate_from n tys) ≡ false
+unstarted u bound r p n live [] past below = refl
+unstarted u bound r p n live (ty ∷ tys) past below =
+    let here = All-head (λ (t : Ty). TyIsBelow u bound t.references) ty tys below in
+    rw (unmentioned u bound r ty.references past here) (unstarted u bound r p (n + 1) live tys past (All-tail (λ (t : Ty). TyIsBelow u bound t.references) ty tys below))
+
+nothing_and : (b : Bool) → (b && false) ≡ false
+nothing_and true = refl
+nothing_and false = refl
+
+-- such a region starts with nothing
+pub no_start : (mir : Mir) (live : ℕ → ℕ → Bool) (bound r e : ℕ) → mir.universals ≤ bound → TysAreBelow mir.universals bound mir.locals → bound ≤ r → starts_with mir live r e ≡ false
+no_start mir live bound r e least below past =
+    let none : nat_lt r mir.universals ≡ false = le-ltb r mir.universals (omega (arith, least, past)) in
+    rw (none, unstarted mir.universals bound r e 0 live mir.locals past below) (nothing_and (nat_lt e (length mir.steps)))
+
+-- the rows are the starts of every region
+pub all_starts : (mir : Mir) (live : ℕ → ℕ → Bool) (rows : List (List Bool)) (bound : ℕ) → length rows ≡ bound → mir.universals ≤ bound → TysAreBelow mir.universals bound mir.locals →
+    ((r e : ℕ) → r < bound → holds rows r e ≡ starts_with mir live r e) → (r e : ℕ) → holds rows r e ≡ starts_with mir live r e
+all_starts mir live rows bound count least below within r e = elim (cases_lt r bound) [
+  | inl less ↦ within r e less
+  | inr past ↦
+      let none : row rows r ≡ [] = get_or_past rows r [] (omega (arith, count, past)) in
+      ap (λ s. has s e) none ∙ sym (no_start mir live bound r e least below past)
+]

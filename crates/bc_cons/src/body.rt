@@ -1,0 +1,94 @@
+//! What a body demands of its regions.
+ghost use Rattle.std.specs.Prelude.{◌≡◌, ◌+◌, ◌≤◌, ℕ, map, filter, length, IfOk};
+ghost use Rattle.std.specs.List.{flat_map};
+ghost use Rattle.bc_flow.specs.Flow.{holds};
+ghost use Rattle.bc_mir.specs.Regions.{region_number as number_of};
+ghost use Rattle.bc_cons.specs.Constraints.{same_region, differ, pairs_at, all_pairs, numbered, constraints_of};
+ghost use Rattle.bc_cons.specs.Starts.{starts_with};
+
+use crate::bounds::{pairs_bound, types_bound};
+use crate::facts::{Constraint, Facts};
+use crate::pairs::push_pairs_at;
+use crate::starts::start_rows;
+use bc_live::LiveSets;
+use bc_mir::{Step, Typed, region_number};
+use bc_text::{Region, Ty};
+use std::alloc::{AllocError, Global};
+
+fn is_same_region(first: Region, second: Region) -> bool
+    ensures { result ≡ same_region first second }
+{
+    first == second
+}
+
+/// The pairs of points, in order.
+fn pairs_of_steps(
+    alloc: Global,
+    locals: &[Ty],
+    steps: &[Step],
+) -> Result<Vec<(Region, Region)>, AllocError>
+    ensures { IfOk result (λ pairs. pairs.items ≡ flat_map (λ step. pairs_at locals.now step.instruction) steps.now) }
+{
+    let mut pairs = Vec::new(alloc);
+    for step in steps {
+        push_pairs_at(alloc, &mut pairs, locals, &step.instruction)?;
+    }
+    Ok(pairs)
+}
+
+/// Those of two regions.
+fn differing(alloc: Global, pairs: &[(Region, Region)]) -> Result<Vec<(Region, Region)>, AllocError>
+    ensures { IfOk result (λ kept. kept.items ≡ filter differ pairs.now) }
+{
+    pairs
+        .iter()
+        .copied()
+        .filter(|pair| !is_same_region(pair.0, pair.1))
+        .collect(alloc)
+}
+
+fn constraint(universals: u8, pair: (Region, Region)) -> Constraint
+    ensures { result ≡ numbered universals pair }
+{
+    Constraint {
+        longer: region_number(universals, pair.0),
+        shorter: region_number(universals, pair.1),
+    }
+}
+
+fn by_number(
+    alloc: Global,
+    universals: u8,
+    pairs: &[(Region, Region)],
+) -> Result<Vec<Constraint>, AllocError>
+    ensures { IfOk result (λ constraints. constraints.items ≡ map (numbered universals) pairs.now) }
+{
+    pairs
+        .iter()
+        .map(|pair| constraint(universals, *pair))
+        .collect(alloc)
+}
+
+/// What the values of a body's regions are made from, over the liveness that is handed in: the outlives
+/// constraints of its points, pairs of a region with itself left out, and the elements that each region starts
+/// with. Answers `AllocError` only where memory was refused. (RFC 2094, "Liveness constraints", "Subtyping
+/// constraints" and "Reborrow constraints"; that constraints hold at every point, and that `'static` starts with
+/// all ends, is own.)
+pub fn constraints(alloc: Global, typed: &Typed, live: &LiveSets) -> Result<Facts, AllocError>
+    ensures elements { IfOk result (λ facts. facts.elements ≡ length typed.now.steps + typed.now.universals) }
+    ensures universals { IfOk result (λ facts. typed.now.universals ≤ length facts.starts) }
+    ensures starts { IfOk result (λ facts. (r e : ℕ) → holds facts.starts r e ≡ starts_with typed.now (holds live.now) r e) }
+    ensures pairs { IfOk result (λ facts. facts.pairs ≡ constraints_of typed.now) }
+{
+    let universals = typed.universals();
+    let pairs = differing(
+        alloc,
+        &pairs_of_steps(alloc, typed.locals(), typed.steps())?,
+    )?;
+    let declared = types_bound(universals, usize::from(universals), typed.locals());
+    let regions = pairs_bound(universals, declared, &pairs);
+    let starts = start_rows(alloc, typed, live, regions)?;
+    let elements = typed.steps().len() + usize::from(universals);
+    let numbered = by_number(alloc, universals, &pairs)?;
+    Ok(Facts::new(starts, numbered, elements))
+}

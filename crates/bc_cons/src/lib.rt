@@ -1,0 +1,11 @@
+//! Outlives constraints: what a body demands of its regions, and what their values are made from.
+#![tactic(auto)]
+
+mod body;
+mod bounds;
+mod facts;
+mod pairs;
+mod starts;
+
+pub use body::constraints;
+pub use facts::{Constraint, Facts};
