@@ -45,6 +45,17 @@ pub fn empty_table(alloc: Global, nodes: usize, facts: usize) -> Result<Vec<BitS
     Ok(rows)
 }
 
+/// Another table with the same sets.
+pub fn copy_table(alloc: Global, rows: &[BitSet]) -> Result<Vec<BitSet>, AllocError>
+    ensures { IfOk result (λ copy. copy.items ≡ rows.now) }
+{
+    let mut copy = Vec::with_capacity(alloc, rows.len())?;
+    for row in rows {
+        copy.push(row.copied(alloc)?)?;
+    }
+    Ok(copy)
+}
+
 /// Adds the facts of `other` to each node's set.
 pub fn join(rows: &mut [BitSet], other: &[BitSet])
     requires nodes { length other.now ≡ length rows.old }

@@ -1,0 +1,24 @@
+-- What the values of regions are made from. Regions and elements are numbers.
+use Rattle.std.specs.Prelude.{◌≡◌, ℕ, ◌<◌, Bool, List, length}
+use Rattle.std.specs.List.{All, Contains}
+use Rattle.bc_flow.specs.Flow.{HaveSize}
+use Rattle.bc_cons.specs.declared.facts.Constraint.{Constraint}
+
+-- how many elements there are, for each region the set of those that it starts with, and the constraints between regions
+pub record RegionFacts : Type 0 where
+  pub elements : ℕ
+  pub starts : List (List Bool)
+  pub pairs : List Constraint
+
+-- the longer region is to have all that the shorter has
+abbrev pub Outlives : List Constraint → ℕ → ℕ → Type 0
+Outlives pairs longer shorter = Contains pairs (record { longer = longer; shorter = shorter })
+
+-- each constraint is between two of so many regions
+abbrev pub ArePairsWithin : ℕ → List Constraint → Type 0
+ArePairsWithin regions pairs = All (λ (c : Constraint). (c.longer < regions) × (c.shorter < regions)) pairs
+
+-- each start row is one of so many elements, and each constraint is between regions that have such a row
+pub record IsRegionFacts (elements : ℕ) (starts : List (List Bool)) (pairs : List Constraint) : Type 0 where
+  pub sizes : HaveSize elements starts
+  pub within : ArePairsWithin (length starts) pairs

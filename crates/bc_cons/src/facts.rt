@@ -1,0 +1,89 @@
+//! What the values of regions are made from: the elements that each region starts with, and the constraints between regions.
+ghost use Rattle.std.specs.Prelude.{◌≡◌, ℕ, ◌<◌, length};
+ghost use Rattle.bc_flow.specs.Flow.{row, holds, HaveSize};
+ghost use Rattle.bc_cons.specs.Facts.{ArePairsWithin};
+
+use bc_flow::BitSet;
+use std::marker::Model;
+
+/// `longer: shorter`: the longer region has each element that the shorter has. Regions are numbers. (RFC 2094, "Subtyping";
+/// here a constraint holds at each point, as in rustc's region inference.)
+#[derive(Clone, Copy)]
+pub struct Constraint {
+    pub longer: usize,
+    pub shorter: usize,
+}
+
+/// For each region the elements that it starts with, and the constraints between regions.
+#[derive(Drop)]
+pub struct Facts {
+    starts: Vec<BitSet>,
+    pairs: Vec<Constraint>,
+    elements: usize,
+}
+
+impl Model for Facts {
+    ghost use Rattle.bc_cons.specs.Facts.{RegionFacts, IsRegionFacts};
+
+    ghost Value = { RegionFacts };
+
+    ghost view = { λ f. record { elements = f.elements; starts = f.starts.items; pairs = f.pairs.items } };
+
+    ghost invariant = { λ f. IsRegionFacts f.elements f.starts.items f.pairs.items };
+}
+
+impl Facts {
+    /// The facts with these start rows, one of so many elements for each region, and these constraints between them.
+    pub fn new(starts: Vec<BitSet>, pairs: Vec<Constraint>, elements: usize) -> Self
+        requires starts { HaveSize elements starts.items }
+        requires pairs { ArePairsWithin (length starts.items) pairs.items }
+        ensures elements { result.elements ≡ elements }
+        ensures starts { result.starts ≡ starts.items }
+        ensures pairs { result.pairs ≡ pairs.items }
+    {
+        Self {
+            starts,
+            pairs,
+            elements,
+        }
+    }
+
+    /// How many regions there are.
+    pub fn regions(&self) -> usize
+        ensures { result ≡ length self.now.starts }
+    {
+        self.starts.len()
+    }
+
+    /// How many elements there are.
+    pub fn elements(&self) -> usize
+        ensures { result ≡ self.now.elements }
+    {
+        self.elements
+    }
+
+    /// The start rows: for each region the set of the elements that it starts with.
+    pub fn starts(&self) -> &[BitSet]
+        ensures starts { result.now ≡ self.now.starts }
+        ensures sizes { HaveSize self.now.elements self.now.starts }
+    {
+        &self.starts
+    }
+
+    /// The constraints, each a pair of regions.
+    pub fn pairs(&self) -> &[Constraint]
+        ensures pairs { result.now ≡ self.now.pairs }
+        ensures within { ArePairsWithin (length self.now.starts) self.now.pairs }
+    {
+        &self.pairs
+    }
+
+    /// Whether a region starts with an element. Both are numbers below their counts. It takes no memory.
+    pub fn starts_with(&self, region: usize, element: usize) -> bool
+        requires region { region < length self.now.starts }
+        requires element { element < self.now.elements }
+        ensures { result ≡ holds self.now.starts region element }
+    {
+        self.starts[region].contains(element)
+    }
+}
