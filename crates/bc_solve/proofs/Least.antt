@@ -1,5 +1,5 @@
 -- The sets that flow along the pairs are the values.
-use Rattle.std.proofs.Common.{◌≡◌, ℕ, ◌<◌, ◌↔◌, Bool, true, false, List, [], length, map, refl}
+use Rattle.std.proofs.Common.{◌≡◌, ℕ, ◌<◌, ◌↔◌, Bool, true, List, [], map, refl}
 use Rattle.std.proofs.lemmas.List.Elements.{All-map, All-weaker}
 use Rattle.bc_flow.specs.declared.graph.Edge.{Edge}
 use Rattle.bc_flow.specs.Graph.{HasEdge, AreWithin}
@@ -7,7 +7,7 @@ use Rattle.bc_flow.proofs.Mapped.{Contains-mapped}
 use Rattle.bc_flow.specs.Flow.{holds, Flows, begins, goes_on, IsFlow}
 use Rattle.bc_cons.specs.declared.facts.Constraint.{Constraint}
 use Rattle.bc_cons.specs.Facts.{Outlives, ArePairsWithin}
-use Rattle.bc_solve.specs.Values.{IsLawful, IsInValue, edge_of}
+use Rattle.bc_solve.specs.Values.{IsInValue, edge_of}
 
 abbrev pair_of : Edge → Constraint
 pair_of edge = record { longer = edge.to; shorter = edge.from }
