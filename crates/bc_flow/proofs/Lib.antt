@@ -9,3 +9,4 @@ pub mod Visits
 pub mod Entries
 pub mod Queues
 pub mod Ways
+pub mod Columns

@@ -11,4 +11,4 @@ mod tables;
 pub use bit_set::BitSet;
 pub use dataflow::{every_node, every_node_back, flow, propagate};
 pub use graph::{Edge, reversed};
-pub use tables::{Entry, copy_table, empty_table, join, join_without, table};
+pub use tables::{Entry, copy_table, empty_table, join, join_without, table, transposed};
