@@ -7,6 +7,8 @@ mod dataflow;
 mod graph;
 mod queue;
 mod tables;
+#[cfg(test)]
+mod tests;
 
 pub use bit_set::BitSet;
 pub use dataflow::{every_node, every_node_back, flow, propagate};
