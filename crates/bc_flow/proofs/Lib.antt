@@ -9,5 +9,5 @@ pub mod Visits
 pub mod Entries
 pub mod Queues
 pub mod Ranges
-pub mod Turning
 pub mod Ways
+pub mod Columns

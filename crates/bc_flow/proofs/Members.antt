@@ -129,7 +129,7 @@ joined_grows {size} {old} {new} added packed packed_new bits (k, small_new, smal
     ]
 
 -- what a `Vec` holds after all its items were lent and came back
-pub refilled : (n : ℕ) (new old : List ℕ) → length new ≡ length old → n ≡ length old → take n (new ++ drop (length new) old) ≡ new
+pub refilled : {X : Type 0} (n : ℕ) (new old : List X) → length new ≡ length old → n ≡ length old → take n (new ++ drop (length new) old) ≡ new
 refilled n new old p q = grind (arith, common_steps)
 
 -- the sizes of two sets give the numbers of their words

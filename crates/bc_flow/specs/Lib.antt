@@ -5,5 +5,4 @@ pub mod Graph
 pub mod Membership
 pub mod Packed
 pub mod Queue
-pub mod Turned
 pub mod Visit

@@ -37,6 +37,17 @@ impl BitSet {
         Ok(Self { words, size })
     }
 
+    /// Another set with the same members.
+    pub fn copied(&self, alloc: Global) -> Result<Self, AllocError>
+        ensures { IfOk result (λ copy. copy ≡ self.now) }
+    {
+        let words = self.words.to_vec(alloc)?;
+        Ok(Self {
+            words,
+            size: self.size,
+        })
+    }
+
     /// The size: one more than the greatest number that may be a member.
     pub fn size(&self) -> usize
         ensures { result ≡ length self.now }

@@ -7,10 +7,10 @@ mod dataflow;
 mod graph;
 mod queue;
 mod tables;
-mod turned;
+#[cfg(test)]
+mod tests;
 
 pub use bit_set::BitSet;
 pub use dataflow::{every_node, every_node_back, flow, propagate};
 pub use graph::{Edge, reversed};
-pub use tables::{Entry, empty_table, join, join_without, table};
-pub use turned::transposed;
+pub use tables::{Entry, copy_table, empty_table, join, join_without, table, transposed};

@@ -1,6 +1,7 @@
 //! Tables of sets: for each node the set of the facts at it.
-ghost use Rattle.std.specs.Prelude.{◌≡◌, ℕ, Bool, true, false, not, ◌||◌, ◌&&◌, length, IfOk};
+ghost use Rattle.std.specs.Prelude.{◌≡◌, ℕ, ◌<◌, Bool, true, false, not, ◌||◌, ◌&&◌, length, IfOk};
 ghost use Rattle.std.specs.List.{All};
+ghost use Rattle.bc_flow.specs.BitSet.{has};
 ghost use Rattle.bc_flow.specs.Flow.{row, holds, HaveSize, HaveEntries, AreEntriesWithin};
 
 use crate::bit_set::BitSet;
@@ -43,6 +44,46 @@ pub fn empty_table(alloc: Global, nodes: usize, facts: usize) -> Result<Vec<BitS
         rows.push(BitSet::new(alloc, facts)?)?;
     }
     Ok(rows)
+}
+
+/// Another table with the same sets.
+pub fn copy_table(alloc: Global, rows: &[BitSet]) -> Result<Vec<BitSet>, AllocError>
+    ensures { IfOk result (λ copy. copy.items ≡ rows.now) }
+{
+    let mut copy = Vec::with_capacity(alloc, rows.len())?;
+    for row in rows {
+        copy.push(row.copied(alloc)?)?;
+    }
+    Ok(copy)
+}
+
+/// The table turned round: for each fact the set of the nodes whose sets have it.
+pub fn transposed(alloc: Global, rows: &[BitSet], facts: usize) -> Result<Vec<BitSet>, AllocError>
+    requires { HaveSize facts rows.now }
+    ensures facts { IfOk result (λ turned. length turned.items ≡ facts) }
+    ensures nodes { IfOk result (λ turned. HaveSize (length rows.now) turned.items) }
+    ensures members { IfOk result (λ turned. (n f : ℕ) → holds turned.items f n ≡ holds rows.now n f) }
+{
+    let mut turned = empty_table(alloc, facts, rows.len())?;
+    for node in 0..rows.len() {
+        insert_column(&mut turned, node, &rows[node]);
+    }
+    Ok(turned)
+}
+
+/// Adds one number to the rows whose numbers are members.
+fn insert_column(rows: &mut [BitSet], column: usize, members: &BitSet)
+    requires column { (r : ℕ) → r < length rows.old → column < length (row rows.old r) }
+    requires members { length members.now ≡ length rows.old }
+    ensures sizes { (r : ℕ) → length (row rows.new r) ≡ length (row rows.old r) }
+    ensures column { (r : ℕ) → holds rows.new r column ≡ (holds rows.old r column || has members.now r) }
+    ensures others { (r n : ℕ) → (n ≡ column → ⊥) → holds rows.new r n ≡ holds rows.old r n }
+{
+    let mut from = 0;
+    while let Some(number) = members.next_member(from) {
+        let _added = rows[number].insert(column);
+        from = number + 1;
+    }
 }
 
 /// Adds the facts of `other` to each node's set.

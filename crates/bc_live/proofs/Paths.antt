@@ -88,15 +88,13 @@ flow_is_live mir seeds kills after tables flow l p = (
   λ h. flow_from_path mir seeds kills after l tables flow h.last h.used h.earlier p h.is_path h.from_point h.undefined,
 )
 
-joined : (A B C : Type 0) → A ↔ B → B ↔ C → A ↔ C
-joined A B C one two = (λ a. two.0 (one.0 a), λ c. one.1 (two.1 c))
-
 pub sets_are_live : (mir : Mir) (seeds kills after rows : List (List Bool)) → HaveEntries seeds (use_entries mir) → HaveEntries kills (definition_entries mir) →
-    IsFlow (map turned (edges_of mir)) seeds kills after → ((l p : ℕ) → (holds rows l p ≡ true) ↔ (holds after p l ≡ true)) →
+    IsFlow (map turned (edges_of mir)) seeds kills after → ((p l : ℕ) → holds rows l p ≡ holds after p l) →
     (l p : ℕ) → (holds rows l p ≡ true) ↔ IsLive mir l p
 sets_are_live mir seeds kills after rows uses definitions flow turned_rows l p =
     let tables : AreTables mir seeds kills = record {
       uses = λ q k. let a = uses q k in let b = use_is_listed mir q k in (λ h. b.0 (a.0 h), λ u. a.1 (b.1 u));
       definitions = λ q k. let a = definitions q k in let b = definition_is_listed mir q k in (λ h. b.0 (a.0 h), λ u. a.1 (b.1 u));
     } in
-    joined (holds rows l p ≡ true) (holds after p l ≡ true) (IsLive mir l p) (turned_rows l p) (flow_is_live mir seeds kills after tables flow l p)
+    let live = flow_is_live mir seeds kills after tables flow l p in
+    (λ h. live.0 (sym (turned_rows p l) ∙ h), λ h. turned_rows p l ∙ live.1 h)

@@ -23,4 +23,4 @@ returns-clause-live c =
     (rw (c.deref.ensures.value, c.in_ok-uses.ensures) at c.in_ok-seeds.ensures.entries)
     (rw (c.deref-2.ensures.value, c.in_ok-definitions.ensures) at c.in_ok-kills.ensures.entries)
     (rw (c.deref-4.ensures.value, c.in_ok-back.ensures, c.deref-3.ensures.value, c.in_ok-edges.ensures.value, c.deref-5.ensures.value) at c.in_ok-by_point.ensures.flow)
-    (rw c.deref-6.ensures.value at c.in_ok-rows.ensures.turned)
+    (rw c.deref-6.ensures.value at c.in_ok-rows.ensures.members)

@@ -1,0 +1,4 @@
+pub use Rattle.bc_cons.specs.Facts
+pub use Rattle.bc_flow.specs.BitSet
+pub use Rattle.bc_flow.specs.Flow
+pub mod Values
