@@ -1,5 +1,5 @@
 -- The entries are what the points use and define.
-use Rattle.std.proofs.Common.{◌≡◌, ℕ, ◌+◌, ◌↔◌, List, [], ◌∷◌, Option, Some, None, refl, sym, ap, ◌∙◌, subst, arith}
+use Rattle.std.proofs.Common.{◌≡◌, ℕ, ◌+◌, ◌↔◌, List, [], Option, Some, None, refl, ap, subst, arith}
 use Rattle.std.specs.Prelude.{slice_get, MatchOption}
 use Rattle.std.specs.List.{Contains, flat_map, enumerate_from}
 use Rattle.bc_flow.specs.declared.tables.Entry.{Entry}

@@ -1,9 +1,9 @@
 -- What fits uses and defines locals of its unit alone.
-use Rattle.std.proofs.Common.{◌≡◌, ℕ, zero, suc, ◌<◌, ◌≤◌, ◌+◌, ◌⊎◌, inl, inr, Bool, true, false, cond, ◌&&◌, Option, Some, None, List, [], ◌∷◌, ◌++◌, length, get_or, refl, sym, ap, ◌∙◌, subst, nat_lt, arith}
+use Rattle.std.proofs.Common.{◌≡◌, ℕ, zero, suc, ◌<◌, ◌≤◌, inl, inr, Bool, true, false, cond, Option, Some, None, List, [], ◌∷◌, ◌++◌, length, get_or, refl, arith}
 use Rattle.std.specs.Prelude.{slice_get, option_and_then}
 use Rattle.std.specs.Option.{option_map, option_map_or}
-use Rattle.std.specs.List.{All, Contains, flat_map, list_all}
-use Rattle.std.proofs.lemmas.Option.{slice_get_within, get_or_from_slice_get}
+use Rattle.std.specs.List.{Contains, flat_map, list_all}
+use Rattle.std.proofs.lemmas.Option.{slice_get_within}
 use Rattle.std.proofs.lemmas.List.Elements.{Contains-get_or, Contains-append_cases}
 use Rattle.std.proofs.lemmas.Bool.{and_parts, ltb-true}
 use Rattle.bc_text.specs.declared.syntax.Ty.{Ty}
@@ -25,9 +25,9 @@ use Rattle.bc_mir.specs.Places.{place_type, type_along}
 use Rattle.bc_mir.specs.Typing.{allowed, is_copyable, operand_type, is_int, is_int_operand, writable_type, borrowed_type, rvalue_type, agree, fits_at, first_unfit}
 use Rattle.bc_mir.specs.Accesses.{operand_uses, rvalue_uses, is_local, target_uses, target_defines, uses_of, defines_of}
 use Rattle.bc_flow.specs.Flow.{AreEntriesWithin}
-use Rattle.bc_flow.specs.Membership.{Contains-nil, Contains-one, Contains-cons, Contains-head, Contains-later, from_flat_map}
+use Rattle.bc_flow.specs.Membership.{Contains-nil, Contains-one}
 use Rattle.bc_live.specs.Entries.{listed, use_entries, definition_entries}
-use Rattle.bc_live.proofs.Listing.{entries_by, HasAt, from_entries}
+use Rattle.bc_live.proofs.Listing.{entries_by, from_entries}
 
 -- each local of the list is one of so many
 abbrev Below : ℕ → List ℕ → Type 0
