@@ -1,0 +1,20 @@
+-- The loans of a unit. A loan is known by its place in their list, and printed as the point that makes it.
+use Rattle.std.specs.Prelude.{ℕ, Option, Some, None, List, [], ◌∷◌}
+use Rattle.std.specs.List.{flat_map, enumerate_from}
+use Rattle.bc_mir.specs.declared.mir.Step.{Step}
+use Rattle.bc_mir.specs.declared.loan.Loan.{Loan}
+use Rattle.bc_mir.specs.Mir.{Mir}
+use Rattle.bc_mir.specs.Points.{loan_of}
+
+-- a loan with the point that makes it
+abbrev pub with_point : ℕ → Option Loan → List (ℕ × Loan)
+with_point p None = []
+with_point p (Some loan) = (p, loan) ∷ []
+
+-- the loan that a point makes, if it makes one
+abbrev pub loans_of_step : ℕ × Step → List (ℕ × Loan)
+loans_of_step here = with_point here.0 (loan_of here.1.instruction)
+
+-- the loans of a unit in the order of their points
+abbrev pub loans_of : Mir → List (ℕ × Loan)
+loans_of mir = flat_map loans_of_step (enumerate_from 0 mir.steps)
