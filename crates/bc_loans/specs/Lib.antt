@@ -1,1 +1,5 @@
 pub mod Loans
+pub mod Scope
+pub mod Entries
+pub mod Step
+pub mod Inside

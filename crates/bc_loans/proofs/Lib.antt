@@ -1,0 +1,4 @@
+pub mod Listing
+pub mod Insides
+pub mod Entering
+pub mod Ways

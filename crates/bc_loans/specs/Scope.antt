@@ -1,0 +1,20 @@
+-- Which loans are in scope on entry to which points.
+use Rattle.std.specs.Prelude.{◌≡◌, ℕ, Bool, true, Some, List, [], ◌∷◌, ◌++◌, slice_get}
+use Rattle.std.specs.List.{All}
+use Rattle.bc_flow.specs.Graph.{IsPath}
+use Rattle.bc_mir.specs.declared.loan.Loan.{Loan}
+use Rattle.bc_mir.specs.Mir.{Mir, edges_of}
+use Rattle.bc_mir.specs.Points.{Kills}
+use Rattle.bc_mir.specs.Regions.{region_number}
+use Rattle.bc_loans.specs.Loans.{loans_of}
+
+-- A loan, by its number, is in scope on entry to a point, where `value` tells the points in the value of each region:
+-- a path of at least one step goes there from the point that makes the loan, all its points after that one are in the
+-- value of the loan's region, and none of its points before the last overwrites a prefix of the loan's path.
+pub record IsInScope (mir : Mir) (value : ℕ → ℕ → Bool) (loan point : ℕ) : Type 0 where
+  pub made : ℕ × Loan
+  pub is_loan : slice_get (loans_of mir) loan ≡ Some made
+  pub between : List ℕ
+  pub is_path : IsPath (edges_of mir) (made.0 ∷ (between ++ point ∷ []))
+  pub inside : All (λ p. value (region_number mir.universals made.1.region) p ≡ true) (between ++ point ∷ [])
+  pub kept : All (λ p. ¬ (Kills mir made.1.path p)) (made.0 ∷ between)
