@@ -5,3 +5,4 @@ pub mod Kept
 pub mod Chains
 pub mod Supported
 pub mod Entries
+pub mod Finding

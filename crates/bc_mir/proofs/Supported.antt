@@ -12,7 +12,7 @@ use Rattle.bc_mir.specs.Places.{is_mutable, are_mutable, type_along, dereference
 use Rattle.bc_mir.specs.Supporting.{place_of, referenced, last_reference_of, last_reference, is_shared, supporting_from}
 
 -- one projection more dereferences one reference more, or none
-dereferenced_along-more : (projections : List Projection) (last : Projection) (ty : List Reference) → dereferenced_along (projections ++ last ∷ []) ty ≡ dereferenced_along projections ty ++ option_to_list (option_and_then (referenced last) (type_along projections ty))
+pub dereferenced_along-more : (projections : List Projection) (last : Projection) (ty : List Reference) → dereferenced_along (projections ++ last ∷ []) ty ≡ dereferenced_along projections ty ++ option_to_list (option_and_then (referenced last) (type_along projections ty))
 dereferenced_along-more [] Deref [] = refl
 dereferenced_along-more [] Deref (reference ∷ ty) = refl
 dereferenced_along-more [] (Field k) ty = refl

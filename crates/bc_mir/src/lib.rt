@@ -16,6 +16,7 @@ mod typing;
 pub use access::{Access, AccessKind, Depth};
 pub use laws::{
     edges_join_points, entries_begin_blocks, prefixes_chain, reborrows_list_supporting_references,
+    supporting_prefixes_are_found,
 };
 pub use liveness::{defines, uses};
 pub use loan::{Loan, kills, loan_of};
@@ -28,3 +29,6 @@ pub use region::region_number;
 pub use subtype::Constraint;
 pub use typed::{IllFault, Typed, Where, type_unit};
 pub use typing::{is_same_shape, rvalue_type};
+
+#[cfg(test)]
+mod tests;

@@ -53,10 +53,8 @@ fn first_unfit(alloc: Global, draft: &Draft) -> Result<Option<Point>, AllocError
 fn misfit(alloc: Global, draft: &Draft) -> Result<Option<Where>, AllocError>
     ensures { IfOk result (λ place. place ≡ misfit_of draft.now) }
 {
-    match first_unfit(alloc, draft)? {
-        Some(point) => Ok(Some(Where::At(point))),
-        None => Ok(None),
-    }
+    let point = first_unfit(alloc, draft)?;
+    Ok(point.map(Where::At))
 }
 
 /// A unit that keeps every typing rule, with its points in one list. It borrows nothing.
