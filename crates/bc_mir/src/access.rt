@@ -154,6 +154,24 @@ fn push_terminator(
 }
 
 impl Typed {
+    /// Appends the accesses of a point of this unit in order, by what happens there, so that a list serves many
+    /// points.
+    pub fn push_accesses(
+        &self,
+        alloc: Global,
+        accesses: &mut Vec<Access>,
+        instruction: &Instruction,
+    ) -> Result<(), AllocError>
+        ensures { OnOk result (accesses.new.items ≡ accesses.old.items ++ accesses_of self.now instruction.now) }
+    {
+        match instruction {
+            Instruction::Statement(statement) => push_statement(alloc, accesses, statement),
+            Instruction::Terminator(terminator) => {
+                push_terminator(alloc, accesses, self.locals().len(), terminator)
+            }
+        }
+    }
+
     /// The accesses of a point of this unit in order, by what happens there. The number of an access is its place
     /// in this list.
     pub fn accesses(
@@ -164,13 +182,7 @@ impl Typed {
         ensures { IfOk result (λ accesses. accesses.items ≡ accesses_of self.now instruction.now) }
     {
         let mut accesses = Vec::new(alloc);
-        let locals = self.locals().len();
-        match instruction {
-            Instruction::Statement(statement) => push_statement(alloc, &mut accesses, statement)?,
-            Instruction::Terminator(terminator) => {
-                push_terminator(alloc, &mut accesses, locals, terminator)?
-            }
-        }
+        self.push_accesses(alloc, &mut accesses, instruction)?;
         Ok(accesses)
     }
 }

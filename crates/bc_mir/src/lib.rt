@@ -18,7 +18,7 @@ pub use laws::{
     edges_join_points, entries_begin_blocks, prefixes_chain, reborrows_list_supporting_references,
     supporting_prefixes_are_found,
 };
-pub use liveness::{defines, uses};
+pub use liveness::{defines, push_uses, uses};
 pub use loan::{Loan, kills, loan_of};
 pub use mir::{Instruction, Point, Step};
 pub use places::{

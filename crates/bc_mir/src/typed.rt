@@ -13,6 +13,7 @@ use crate::typing::fits_at;
 use bc_text::{Outlives, Ty, Unit};
 use std::alloc::{AllocError, Global};
 use std::marker::Model;
+use thiserror::Error;
 
 /// Where a unit breaks a typing rule first: its header, else its least point.
 #[derive(Clone, Copy, Debug, PartialEq, Eq)]
@@ -22,9 +23,11 @@ pub enum Where {
 }
 
 /// Why a unit is not typed.
-#[derive(Clone, Copy, Debug, PartialEq, Eq)]
+#[derive(Clone, Copy, Debug, PartialEq, Eq, Error)]
 pub enum IllFault {
+    #[error("a typing rule fails")]
     Ill(Where),
+    #[error("out of memory")]
     NoMemory,
 }
 
