@@ -12,12 +12,13 @@ use Rattle.bc_text.specs.declared.syntax.Terminator.TheVariants.{Goto, If, Retur
 use Rattle.bc_text.specs.Sizes.{IsSized, universal_count, point_count, statement_names, block_names}
 use Rattle.bc_flow.specs.declared.graph.Edge.{Edge}
 use Rattle.bc_mir.specs.declared.mir.Step.{Step}
+use Rattle.bc_flow.specs.Graph.{AreWithin}
 use Rattle.bc_mir.specs.declared.mir.Point.{Point}
 use Rattle.bc_mir.specs.declared.typed.Where.TheVariants.{At}
 use Rattle.std.specs.Option.{option_map}
 use Rattle.bc_mir.specs.declared.mir.Instruction.{Instruction}
 use Rattle.bc_mir.specs.declared.mir.Instruction.TheVariants.{Statement, Terminator}
-use Rattle.bc_mir.specs.Mir.{Mir, mir_of, block_steps, steps_from, entries_from, successors_of, edges_of_step}
+use Rattle.bc_mir.specs.Mir.{Mir, mir_of, block_steps, steps_from, entries_from, successors_of, edges_of_step, edges_of}
 use Rattle.bc_mir.specs.Typing.{is_int_operand, fits_at, first_unfit, Fits}
 use Rattle.bc_mir.specs.Typed.{instruction_names, IsTyped}
 use Rattle.bc_mir.proofs.Mirs.{length-block_steps}
@@ -139,3 +140,10 @@ typed body sized fits =
       borrows = steps-names (universal_count body.header) 0 body.blocks sized.statements;
       edges = edges-within mir 0 mir.steps (λ label below. omega (arith, count, entries-within 0 label body.blocks below)) (omega arith) (steps-go-on 0 body.blocks) (passed (first_unfit mir mir.steps) fits);
     }
+
+-- every edge of a body that fits joins two of its points
+pub edges-join : (body : Body) → Fits (mir_of body) → AreWithin (edges_of (mir_of body)) (length (mir_of body).steps)
+edges-join body fits =
+    let mir = mir_of body in
+    let count : length mir.steps ≡ point_count body.blocks = length-steps_from 0 body.blocks in
+    edges-within mir 0 mir.steps (λ label below. omega (arith, count, entries-within 0 label body.blocks below)) (omega arith) (steps-go-on 0 body.blocks) (passed (first_unfit mir mir.steps) fits)

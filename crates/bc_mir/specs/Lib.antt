@@ -5,3 +5,6 @@ pub mod Accesses
 pub mod Points
 pub mod Regions
 pub mod Typed
+pub mod Supporting
+pub mod Laws
+pub mod Subtype

@@ -54,20 +54,31 @@ fn borrow_access(mutability: Mutability) -> AccessKind
     }
 }
 
+/// Appends an access.
+fn push_access(
+    accesses: &mut Vec<Access>,
+    depth: Depth,
+    kind: AccessKind,
+    place: Place,
+) -> Result<(), AllocError>
+    ensures { OnOk result (accesses.new.items ≡ accesses.old.items ++ access_of depth kind place ∷ []) }
+{
+    accesses.push(Access { place, depth, kind })?;
+    Ok(())
+}
+
 fn push_operand(accesses: &mut Vec<Access>, operand: &Operand) -> Result<(), AllocError>
     ensures { OnOk result (accesses.new.items ≡ accesses.old.items ++ operand_accesses operand.now) }
 {
-    let (place, kind) = match operand {
-        Operand::Copy(place) => (place, AccessKind::Read),
-        Operand::Move(place) => (place, AccessKind::Write),
-        Operand::Number(_) => return Ok(()),
-    };
-    accesses.push(Access {
-        place: copy_place(place)?,
-        depth: Depth::Deep,
-        kind,
-    })?;
-    Ok(())
+    match operand {
+        Operand::Copy(place) => {
+            push_access(accesses, Depth::Deep, AccessKind::Read, copy_place(place)?)
+        }
+        Operand::Move(place) => {
+            push_access(accesses, Depth::Deep, AccessKind::Write, copy_place(place)?)
+        }
+        Operand::Number(_) => Ok(()),
+    }
 }
 
 fn push_operands(accesses: &mut Vec<Access>, operands: &[Operand]) -> Result<(), AllocError>
@@ -85,26 +96,18 @@ fn push_rvalue(accesses: &mut Vec<Access>, rvalue: &Rvalue) -> Result<(), AllocE
     match rvalue {
         Rvalue::Use(operand) => push_operand(accesses, operand),
         Rvalue::Borrow(borrow) => {
-            accesses.push(Access {
-                place: copy_place(&borrow.place)?,
-                depth: Depth::Deep,
-                kind: borrow_access(borrow.reference.mutability),
-            })?;
-            Ok(())
+            let kind = borrow_access(borrow.reference.mutability);
+            push_access(accesses, Depth::Deep, kind, copy_place(&borrow.place)?)
         }
         Rvalue::Calc(operands) => push_operands(accesses, operands.as_slice()),
     }
 }
 
+/// Appends the access of what overwrites a place.
 fn push_write(accesses: &mut Vec<Access>, place: Place) -> Result<(), AllocError>
     ensures { OnOk result (accesses.new.items ≡ accesses.old.items ++ access_of Depth.Shallow AccessKind.Write place ∷ []) }
 {
-    accesses.push(Access {
-        place,
-        depth: Depth::Shallow,
-        kind: AccessKind::Write,
-    })?;
-    Ok(())
+    push_access(accesses, Depth::Shallow, AccessKind::Write, place)
 }
 
 fn push_statement(
@@ -151,6 +154,24 @@ fn push_terminator(
 }
 
 impl Typed {
+    /// Appends the accesses of a point of this unit in order, by what happens there, so that a list serves many
+    /// points.
+    pub fn push_accesses(
+        &self,
+        alloc: Global,
+        accesses: &mut Vec<Access>,
+        instruction: &Instruction,
+    ) -> Result<(), AllocError>
+        ensures { OnOk result (accesses.new.items ≡ accesses.old.items ++ accesses_of self.now instruction.now) }
+    {
+        match instruction {
+            Instruction::Statement(statement) => push_statement(alloc, accesses, statement),
+            Instruction::Terminator(terminator) => {
+                push_terminator(alloc, accesses, self.locals().len(), terminator)
+            }
+        }
+    }
+
     /// The accesses of a point of this unit in order, by what happens there. The number of an access is its place
     /// in this list.
     pub fn accesses(
@@ -161,13 +182,7 @@ impl Typed {
         ensures { IfOk result (λ accesses. accesses.items ≡ accesses_of self.now instruction.now) }
     {
         let mut accesses = Vec::new(alloc);
-        let locals = self.locals().len();
-        match instruction {
-            Instruction::Statement(statement) => push_statement(alloc, &mut accesses, statement)?,
-            Instruction::Terminator(terminator) => {
-                push_terminator(alloc, &mut accesses, locals, terminator)?
-            }
-        }
+        self.push_accesses(alloc, &mut accesses, instruction)?;
         Ok(accesses)
     }
 }

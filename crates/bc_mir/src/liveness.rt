@@ -54,22 +54,32 @@ fn push_target(locals: &mut Vec<u8>, place: &Place) -> Result<(), AllocError>
     Ok(())
 }
 
+/// Appends the locals that a point uses, in the order in which it does; a local stands as often as it is used.
+pub fn push_uses(locals: &mut Vec<u8>, instruction: &Instruction) -> Result<(), AllocError>
+    ensures { OnOk result (locals.new.items ≡ locals.old.items ++ uses_of instruction.now) }
+{
+    match instruction {
+        Instruction::Statement(Statement::Assign(assignment)) => {
+            push_rvalue(locals, &assignment.value)?;
+            push_target(locals, &assignment.target)
+        }
+        Instruction::Terminator(Terminator::If(condition)) => {
+            push_operand(locals, &condition.operand)
+        }
+        Instruction::Terminator(Terminator::Return) => {
+            locals.push(0)?;
+            Ok(())
+        }
+        Instruction::Statement(_) | Instruction::Terminator(_) => Ok(()),
+    }
+}
+
 /// The locals that a point uses, in the order in which it does; a local stands as often as it is used.
 pub fn uses(alloc: Global, instruction: &Instruction) -> Result<Vec<u8>, AllocError>
     ensures { IfOk result (λ locals. locals.items ≡ uses_of instruction.now) }
 {
     let mut locals = Vec::new(alloc);
-    match instruction {
-        Instruction::Statement(Statement::Assign(assignment)) => {
-            push_rvalue(&mut locals, &assignment.value)?;
-            push_target(&mut locals, &assignment.target)?;
-        }
-        Instruction::Terminator(Terminator::If(condition)) => {
-            push_operand(&mut locals, &condition.operand)?
-        }
-        Instruction::Terminator(Terminator::Return) => locals.push(0)?,
-        Instruction::Statement(_) | Instruction::Terminator(_) => {}
-    }
+    push_uses(&mut locals, instruction)?;
     Ok(locals)
 }
 

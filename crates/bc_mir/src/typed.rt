@@ -13,6 +13,7 @@ use crate::typing::fits_at;
 use bc_text::{Outlives, Ty, Unit};
 use std::alloc::{AllocError, Global};
 use std::marker::Model;
+use thiserror::Error;
 
 /// Where a unit breaks a typing rule first: its header, else its least point.
 #[derive(Clone, Copy, Debug, PartialEq, Eq)]
@@ -22,9 +23,11 @@ pub enum Where {
 }
 
 /// Why a unit is not typed.
-#[derive(Clone, Copy, Debug, PartialEq, Eq)]
+#[derive(Clone, Copy, Debug, PartialEq, Eq, Error)]
 pub enum IllFault {
+    #[error("a typing rule fails")]
     Ill(Where),
+    #[error("out of memory")]
     NoMemory,
 }
 
@@ -53,10 +56,8 @@ fn first_unfit(alloc: Global, draft: &Draft) -> Result<Option<Point>, AllocError
 fn misfit(alloc: Global, draft: &Draft) -> Result<Option<Where>, AllocError>
     ensures { IfOk result (λ place. place ≡ misfit_of draft.now) }
 {
-    match first_unfit(alloc, draft)? {
-        Some(point) => Ok(Some(Where::At(point))),
-        None => Ok(None),
-    }
+    let point = first_unfit(alloc, draft)?;
+    Ok(point.map(Where::At))
 }
 
 /// A unit that keeps every typing rule, with its points in one list. It borrows nothing.
