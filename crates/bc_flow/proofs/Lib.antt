@@ -10,3 +10,4 @@ pub mod Entries
 pub mod Queues
 pub mod Ways
 pub mod Columns
+pub mod Searching

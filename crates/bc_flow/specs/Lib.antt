@@ -4,4 +4,5 @@ pub mod Flow
 pub mod Graph
 pub mod Packed
 pub mod Queue
+pub mod Search
 pub mod Visit
