@@ -8,8 +8,8 @@ use crate::adjacency::edge_chains;
 use crate::graph::Edge;
 use std::alloc::{AllocError, Global};
 
-/// The numbers of all nodes, each after those to which edges lead from it, but for edges that close a ring: postorder of a
-/// depth-first search.
+/// The numbers of all nodes in postorder of a depth-first search: each after those to which edges lead from it, but for edges
+/// that close a ring. The only error is want of memory.
 pub fn postorder(alloc: Global, nodes: usize, edges: &[Edge]) -> Result<Vec<usize>, AllocError>
     requires { AreWithin edges.now nodes }
     ensures within { IfOk result (λ numbers. All (λ n. n < nodes) numbers.items) }
