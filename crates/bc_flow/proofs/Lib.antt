@@ -11,3 +11,4 @@ pub mod Queues
 pub mod Ranges
 pub mod Ways
 pub mod Columns
+pub mod Searching

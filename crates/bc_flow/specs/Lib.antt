@@ -5,4 +5,5 @@ pub mod Graph
 pub mod Membership
 pub mod Packed
 pub mod Queue
+pub mod Search
 pub mod Visit

@@ -1,4 +1,4 @@
-//! Sets of small numbers, one bit for each.
+//! Sets of small numbers, one bit for each, as the bit sets of `rustc_index`.
 ghost use Rattle.std.specs.Prelude.{◌≡◌, ℕ, ◌+◌, ◌*◌, ◌^◌, ◌<◌, ◌≤◌, ◌↔◌, Bool, true, false, not, ◌||◌, ◌&&◌, length, IfOk, MatchOption, slice_index, slice_set, bit_or, bit_and};
 ghost use Rattle.std.specs.Int.{Width, w64, bit_not};
 ghost use Rattle.bc_flow.specs.BitSet.{has, absent_count, IsNextMember};
@@ -28,7 +28,7 @@ impl Model for BitSet {
 }
 
 impl BitSet {
-    /// The empty set of numbers below `size`.
+    /// The empty set of numbers below `size`. The only error is want of memory.
     pub fn new(alloc: Global, size: usize) -> Result<Self, AllocError>
         ensures size { IfOk result (λ set. length set ≡ size) }
         ensures empty { IfOk result (λ set. (i : ℕ) → has set i ≡ false) }
@@ -37,7 +37,7 @@ impl BitSet {
         Ok(Self { words, size })
     }
 
-    /// Another set with the same members.
+    /// Another set with the same size and members. The only error is want of memory.
     pub fn copied(&self, alloc: Global) -> Result<Self, AllocError>
         ensures { IfOk result (λ copy. copy ≡ self.now) }
     {
@@ -55,7 +55,7 @@ impl BitSet {
         self.size
     }
 
-    /// Whether a number below the size is a member.
+    /// Whether a number below the size is a member. It takes no memory.
     pub fn contains(&self, element: usize) -> bool
         requires { element < length self.now }
         ensures { result ≡ has self.now element }
@@ -93,14 +93,14 @@ impl BitSet {
         fill_below(&mut self.words, count);
     }
 
-    /// The least member that is `from` or greater.
+    /// The least member that is `from` or greater. It takes no memory.
     pub fn next_member(&self, from: usize) -> Option<usize>
         ensures { MatchOption result ((i : ℕ) → from ≤ i → has self.now i ≡ false) (λ member. IsNextMember self.now from member) }
     {
         next_bit(&self.words, self.size, from)
     }
 
-    /// Adds the members of `other`. The answer is whether there was a new one.
+    /// Adds the members of `other`, a set of the same size. The answer is whether there was a new one.
     pub fn union(&mut self, other: &Self) -> bool
         requires { length self.old ≡ length other.now }
         ensures size { length self.new ≡ length self.old }
@@ -111,7 +111,7 @@ impl BitSet {
         union_words(&mut self.words, &other.words)
     }
 
-    /// Adds the members of `other` that are not in `without`. The answer is whether there was a new one.
+    /// Adds the members of `other` that are not in `without`, three sets of one size. The answer is whether there was a new one.
     pub fn union_without(&mut self, other: &Self, without: &Self) -> bool
         requires other { length self.old ≡ length other.now }
         requires without { length self.old ≡ length without.now }

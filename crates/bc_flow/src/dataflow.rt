@@ -14,7 +14,7 @@ use crate::graph::Edge;
 use crate::queue::WorkQueue;
 use std::alloc::{AllocError, Global};
 
-/// The numbers of all nodes, ascending: the order in which to visit where facts flow forward.
+/// The numbers of all nodes, ascending: an order in which to visit where facts flow forward. The only error is want of memory.
 pub fn every_node(alloc: Global, nodes: usize) -> Result<Vec<usize>, AllocError>
     ensures within { IfOk result (λ numbers. All (λ n. n < nodes) numbers.items) }
     ensures all { IfOk result (λ numbers. (n : ℕ) → n < nodes → Contains numbers.items n) }
@@ -26,7 +26,7 @@ pub fn every_node(alloc: Global, nodes: usize) -> Result<Vec<usize>, AllocError>
     Ok(numbers)
 }
 
-/// The same numbers, descending.
+/// The same numbers, descending, for facts that flow backward.
 pub fn every_node_back(alloc: Global, nodes: usize) -> Result<Vec<usize>, AllocError>
     ensures within { IfOk result (λ numbers. All (λ n. n < nodes) numbers.items) }
     ensures all { IfOk result (λ numbers. (n : ℕ) → n < nodes → Contains numbers.items n) }
@@ -38,7 +38,12 @@ pub fn every_node_back(alloc: Global, nodes: usize) -> Result<Vec<usize>, AllocE
     Ok(numbers)
 }
 
-/// The sets that `propagate` makes of `seeds`.
+/// The least sets of facts that have the seeds and are closed along the edges: each fact of a node goes on along the edges
+/// that leave it, except into a node that kills it. (The fixpoint of the rustc-dev-guide, "Dataflow analysis", in a form of
+/// our own: every fact is taken for itself, and a node kills what comes in.)
+///
+/// `seeds` has a set for each node. A node that has no set in `kills` kills nothing. Nodes are visited first in the order of
+/// `pending`, which lists each of them; the order decides only the time. The only error is want of memory.
 pub fn flow(
     alloc: Global,
     edges: &[Edge],
@@ -61,10 +66,7 @@ pub fn flow(
 }
 
 /// Lets the facts of each node flow on along the edges, except into a node that kills them, until nothing changes.
-///
-/// A node that has no set in `kills` kills nothing. Nodes are visited first in the order of `pending`, which lists each
-/// of them.
-pub fn propagate(
+fn propagate(
     alloc: Global,
     edges: &[Edge],
     rows: &mut [BitSet],

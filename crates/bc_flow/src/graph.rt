@@ -11,7 +11,7 @@ pub struct Edge {
     pub to: usize,
 }
 
-/// Each edge, turned round.
+/// Each edge, turned round, in the same order. The only error is want of memory.
 pub fn reversed(alloc: Global, edges: &[Edge]) -> Result<Vec<Edge>, AllocError>
     ensures { IfOk result (λ back. back.items ≡ map turned edges.now) }
 {

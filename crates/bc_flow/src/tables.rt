@@ -14,7 +14,8 @@ pub struct Entry {
     pub fact: usize,
 }
 
-/// The sets of the facts that are listed at each node.
+/// The sets of the facts that are listed at each node. Nodes and facts are numbers below these counts. The only error is want
+/// of memory.
 pub fn table(
     alloc: Global,
     nodes: usize,
@@ -33,7 +34,7 @@ pub fn table(
     Ok(rows)
 }
 
-/// An empty set of facts for each node.
+/// An empty set of facts for each node. The only error is want of memory.
 pub fn empty_table(alloc: Global, nodes: usize, facts: usize) -> Result<Vec<BitSet>, AllocError>
     ensures nodes { IfOk result (λ rows. length rows.items ≡ nodes) }
     ensures facts { IfOk result (λ rows. HaveSize facts rows.items) }
@@ -46,7 +47,7 @@ pub fn empty_table(alloc: Global, nodes: usize, facts: usize) -> Result<Vec<BitS
     Ok(rows)
 }
 
-/// Another table with the same sets.
+/// Another table with the same sets. The only error is want of memory.
 pub fn copy_table(alloc: Global, rows: &[BitSet]) -> Result<Vec<BitSet>, AllocError>
     ensures { IfOk result (λ copy. copy.items ≡ rows.now) }
 {
@@ -57,7 +58,7 @@ pub fn copy_table(alloc: Global, rows: &[BitSet]) -> Result<Vec<BitSet>, AllocEr
     Ok(copy)
 }
 
-/// The table turned round: for each fact the set of the nodes whose sets have it.
+/// The table turned round: for each fact the set of the nodes whose sets have it. The only error is want of memory.
 pub fn transposed(alloc: Global, rows: &[BitSet], facts: usize) -> Result<Vec<BitSet>, AllocError>
     requires { HaveSize facts rows.now }
     ensures facts { IfOk result (λ turned. length turned.items ≡ facts) }

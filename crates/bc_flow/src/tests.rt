@@ -1,6 +1,6 @@
 use crate::{
     BitSet, Edge, Entry, copy_table, empty_table, every_node, every_node_back, flow, join,
-    join_without, reversed, table, transposed,
+    join_without, postorder, reversed, table, transposed,
 };
 use std::test::Fail;
 
@@ -117,5 +117,17 @@ fn tables_are_joined_and_turned(rt: HostRuntime) -> Result<(), Fail> {
         (rest[0].next_member(0), rest[1].next_member(0)),
         (None, Some(69))
     );
+    Ok(())
+}
+
+#[test]
+fn a_node_comes_after_those_that_it_leads_to(rt: HostRuntime) -> Result<(), Fail> {
+    let edges = [
+        Edge { from: 0, to: 2 },
+        Edge { from: 2, to: 1 },
+        Edge { from: 1, to: 2 },
+    ];
+    let order = postorder(rt.alloc(), 4, &edges)?;
+    assert_eq!(rt; (order.len(), order[0], order[1]), (4, 1, 2));
     Ok(())
 }

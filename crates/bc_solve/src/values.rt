@@ -4,7 +4,7 @@ ghost use Rattle.bc_flow.specs.Flow.{row, holds, HaveSize};
 ghost use Rattle.bc_solve.specs.Values.{IsInValue, edge_of};
 
 use bc_cons::{Constraint, Facts};
-use bc_flow::{BitSet, Edge, copy_table, every_node, flow};
+use bc_flow::{BitSet, Edge, copy_table, flow, postorder, reversed};
 use std::alloc::{AllocError, Global};
 use std::marker::Model;
 
@@ -52,7 +52,8 @@ impl Values {
 /// The value of each region: an element is in it exactly where every lawful assignment of elements to regions has it
 /// there. (RFC 2094, "Solving constraints", without its points: a constraint holds everywhere.)
 ///
-/// The only error is want of memory.
+/// The only error is want of memory. Each region is visited after those that it is to contain, so that without rings of
+/// constraints each is visited once.
 pub fn solve_plain(alloc: Global, facts: &Facts) -> Result<Values, AllocError>
     ensures regions { IfOk result (λ values. length values ≡ length facts.now.starts) }
     ensures elements { IfOk result (λ values. HaveSize facts.now.elements values) }
@@ -61,7 +62,8 @@ pub fn solve_plain(alloc: Global, facts: &Facts) -> Result<Values, AllocError>
     let edges = edges_of(alloc, facts.pairs())?;
     let starts = copy_table(alloc, facts.starts())?;
     let no_kills = Vec::new(alloc);
-    let pending = every_node(alloc, facts.regions())?;
+    let back = reversed(alloc, &edges)?;
+    let pending = postorder(alloc, facts.regions(), &back)?;
     let rows = flow(alloc, &edges, starts, &no_kills, pending)?;
     Ok(Values { rows })
 }
