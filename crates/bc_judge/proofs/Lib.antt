@@ -1,0 +1,5 @@
+pub mod Ranges
+pub mod Walks
+pub mod OutOfScope
+pub mod Closure
+pub mod Law
