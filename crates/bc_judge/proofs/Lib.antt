@@ -1,4 +1,3 @@
-pub mod Ranges
 pub mod Walks
 pub mod OutOfScope
 pub mod Closure

@@ -7,6 +7,8 @@ mod error;
 mod known;
 mod lifetimes;
 mod relevance;
+#[cfg(test)]
+mod tests;
 mod verdict;
 
 pub use error::BorrowError;

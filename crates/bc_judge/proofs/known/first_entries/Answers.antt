@@ -1,6 +1,6 @@
 use Rattle.std.proofs.Common.{[]}
 use Rattle.bc_judge.specs.Known.{entries_of}
-use Rattle.bc_judge.proofs.Ranges.{range-turn}
+use Rattle.bc_flow.proofs.Ranges.{range-turn}
 use Rattle.bc_judge.proofs.known.first_entries.Goals as goal
 
 pub loop-region-preserved : goal.loop-region-preserved

@@ -1,6 +1,6 @@
 use Rattle.bc_flow.specs.Flow.{holds}
 use Rattle.bc_judge.specs.Lifetimes.{failure_of}
-use Rattle.bc_judge.proofs.Ranges.{range-turn}
+use Rattle.bc_flow.proofs.Ranges.{range-turn}
 use Rattle.bc_judge.proofs.lifetimes.push_failures.Goals as goal
 
 pub loop-shorter-preserved : goal.loop-shorter-preserved

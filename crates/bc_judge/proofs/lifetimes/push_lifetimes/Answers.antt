@@ -1,6 +1,6 @@
 use Rattle.bc_flow.specs.Flow.{holds}
 use Rattle.bc_judge.specs.Lifetimes.{failures_of}
-use Rattle.bc_judge.proofs.Ranges.{range-turn}
+use Rattle.bc_flow.proofs.Ranges.{range-turn}
 use Rattle.bc_judge.proofs.lifetimes.push_lifetimes.Goals as goal
 
 pub loop-longer-preserved : goal.loop-longer-preserved
