@@ -1,0 +1,175 @@
+-- The list of errors has exactly the errors.
+use Rattle.std.proofs.Common.{◌≡◌, ℕ, ◌+◌, ◌<◌, ◌⊎◌, inl, inr, ◌↔◌, Bool, true, false, List, [], ◌∷◌, ◌++◌, length, Option, Some, None, refl, sym, ap, ◌∙◌, subst, arith}
+use Rattle.std.specs.Prelude.{◌&&◌, ◌||◌, not, if◌then◌else◌, slice_get}
+use Rattle.std.specs.List.{Contains, flat_map, enumerate_from, range_with_len}
+use Rattle.std.proofs.lemmas.Bool.{and_parts, and_from, both_ways, false_from_ne_true}
+use Rattle.std.proofs.lemmas.Option.{slice_get_within, get_or_from_slice_get}
+use Rattle.std.proofs.lemmas.List.Elements.{Contains-append_left, Contains-append_right, Contains-append_cases}
+use Rattle.bc_text.specs.declared.syntax.Mutability.{Mutability}
+use Rattle.bc_text.specs.declared.syntax.Mutability.TheVariants.{Shared, Mutable}
+use Rattle.bc_mir.specs.declared.access.AccessKind.{AccessKind}
+use Rattle.bc_mir.specs.declared.access.AccessKind.TheVariants.{Read, Write}
+use Rattle.bc_mir.specs.declared.mir.Point.{Point}
+use Rattle.bc_mir.specs.declared.mir.Step.{Step}
+use Rattle.bc_mir.specs.declared.loan.Loan.{Loan}
+use Rattle.bc_mir.specs.Mir.{Mir}
+use Rattle.bc_mir.specs.Places.{is_mutable}
+use Rattle.bc_mir.specs.Points.{loan_of}
+use Rattle.bc_mir.specs.Accesses.{accesses_of}
+use Rattle.bc_flow.specs.Membership.{Contains-nil, Contains-one, Contains-head, from_flat_map, in_flat_map, from_enumerate, in_enumerate, from_range, in_range}
+use Rattle.bc_loans.specs.Loans.{with_point, loans_of_step, loans_of}
+use Rattle.bc_judge.specs.declared.error.BorrowError.{BorrowError}
+use Rattle.bc_judge.specs.declared.error.BorrowError.TheVariants.{Conflict, Lifetime}
+use Rattle.bc_judge.specs.Conflicts.{ScopeTest, is_write, is_conflict, is_relevant_at, point_of, conflict_with, conflicts_of_access, conflicts_of_step, conflicts_of}
+use Rattle.bc_judge.specs.Lifetimes.{IsKnown, TellsKnown, ValueTest, end_of, failure_of, failures_of, lifetimes_of}
+use Rattle.bc_judge.specs.Errors.{errors_of, IsConflict, IsFailure, IsError}
+
+-- ---- one element under a test
+
+from_if : {X : Type 0} (b : Bool) (x y : X) → Contains (if b then x ∷ [] else []) y → (b ≡ true) × (x ≡ y)
+from_if true x y h = (refl, Contains-one x y h)
+from_if false x y h = absurd (Contains-nil y h)
+
+in_if : {X : Type 0} (b : Bool) (x : X) → b ≡ true → Contains (if b then x ∷ [] else []) x
+in_if b x is = rw is (Contains-head x [])
+
+not_true : (b : Bool) → not b ≡ true → b ≡ false
+not_true true h = absurd cc
+not_true false h = refl
+
+-- ---- numbered elements
+
+at_number : {X : Type 0} (xs : List X) (here : ℕ × X) → Contains (enumerate_from 0 xs) here → slice_get xs here.0 ≡ Some here.1
+at_number xs here h =
+    let found = from_enumerate 0 xs here h in
+    let number : found.0 ≡ here.0 = omega (arith, found.1) in
+    subst (λ k. slice_get xs k ≡ Some here.1) number found.2
+
+numbered : {X : Type 0} (xs : List X) (k : ℕ) (x : X) → slice_get xs k ≡ Some x → Contains (enumerate_from 0 xs) (k, x)
+numbered xs k x is =
+    let number : 0 + k ≡ k = omega arith in
+    subst (λ i. Contains (enumerate_from 0 xs) (i, x)) number (in_enumerate 0 xs k x is)
+
+-- ---- conflicts
+
+from_with_point : (p : ℕ) (made : Option Loan) (loan : ℕ × Loan) → Contains (with_point p made) loan → p ≡ loan.0
+from_with_point p None loan h = absurd (Contains-nil loan h)
+from_with_point p (Some there) loan h = ap (λ (l : ℕ × Loan). l.0) (Contains-one (p, there) loan h)
+
+-- a point makes each loan
+maker_of : (mir : Mir) (n : ℕ) (loan : ℕ × Loan) → slice_get (loans_of mir) n ≡ Some loan → (step : Step) × (slice_get mir.steps loan.0 ≡ Some step)
+maker_of mir n loan is =
+    let found = from_flat_map loans_of_step (enumerate_from 0 mir.steps) loan (n, slice_get_within (loans_of mir) n loan is, get_or_from_slice_get (loans_of mir) n loan loan is) in
+    let there = at_number mir.steps found.0 found.1 in
+    (found.0.1, subst (λ k. slice_get mir.steps k ≡ Some found.0.1) (from_with_point found.0.0 (loan_of found.0.1.instruction) loan found.2) there)
+
+printed_at : (steps : List Step) (p : ℕ) (step : Step) → slice_get steps p ≡ Some step → point_of steps p ≡ step.point
+printed_at steps p step is = rw is
+
+one_writes : (kind : AccessKind) (mutability : Mutability) → (is_write kind || is_mutable mutability) ≡ true → (kind ≡ Write) ⊎ (mutability ≡ Mutable)
+one_writes Write mutability h = inl refl
+one_writes Read Mutable h = inr refl
+one_writes Read Shared h = absurd cc
+
+writes_one : (kind : AccessKind) (mutability : Mutability) → (kind ≡ Write) ⊎ (mutability ≡ Mutable) → (is_write kind || is_mutable mutability) ≡ true
+writes_one Write mutability h = refl
+writes_one Read Mutable h = refl
+writes_one Read Shared (inl h) = absurd cc
+writes_one Read Shared (inr h) = absurd cc
+
+from_conflicts : (mir : Mir) (in_scope : ScopeTest) (value : ValueTest) (e : BorrowError) → Contains (conflicts_of mir in_scope) e → IsError mir in_scope value e
+from_conflicts mir in_scope value e h =
+    let here = from_flat_map (conflicts_of_step mir in_scope) (enumerate_from 0 mir.steps) e h in
+    let step = here.0.1 in
+    let accesses = accesses_of mir step.instruction in
+    let access = from_flat_map (conflicts_of_access mir (in_scope here.0.0) step.point) (enumerate_from 0 accesses) e here.2 in
+    let loan = from_flat_map (conflict_with mir (in_scope here.0.0) step.point access.0) (enumerate_from 0 (loans_of mir)) e access.2 in
+    let is_loan = at_number (loans_of mir) loan.0 loan.1 in
+    let maker = maker_of mir loan.0.0 loan.0.1 is_loan in
+    let conflicts = is_conflict mir.locals access.0.1 loan.0.1.1 in
+    let one = from_if (in_scope here.0.0 loan.0.0 && conflicts) (Conflict step.point access.0.0 (point_of mir.steps loan.0.1.0)) e loan.2 in
+    let both = and_parts (in_scope here.0.0 loan.0.0) conflicts one.0 in
+    let parts = and_parts (is_write access.0.1.kind || is_mutable loan.0.1.1.mutability) (is_relevant_at mir.locals access.0.1.depth access.0.1.place loan.0.1.1.path) both.1 in
+    let found : IsConflict mir in_scope step.point access.0.0 (point_of mir.steps loan.0.1.0) = record {
+      point = here.0.0;
+      step = step;
+      is_step = at_number mir.steps here.0 here.1;
+      at_point = refl;
+      access = access.0.1;
+      is_access = at_number accesses access.0 access.1;
+      loan_number = loan.0.0;
+      maker = loan.0.1.0;
+      loan = loan.0.1.1;
+      is_loan = is_loan;
+      maker_step = maker.0;
+      is_maker = maker.1;
+      at_maker = sym (printed_at mir.steps loan.0.1.0 maker.0 maker.1);
+      in_scope_here = both.0;
+      one_writes = one_writes access.0.1.kind loan.0.1.1.mutability parts.0;
+      relevant = parts.1;
+    } in
+    subst (IsError mir in_scope value) one.1 found
+
+in_conflicts : (mir : Mir) (in_scope : ScopeTest) (at : Point) (number : ℕ) (loan_at : Point) → IsConflict mir in_scope at number loan_at → Contains (conflicts_of mir in_scope) (Conflict at number loan_at)
+in_conflicts mir in_scope at number loan_at h =
+    let e = Conflict at number loan_at in
+    let loan : ℕ × (ℕ × Loan) = (h.loan_number, (h.maker, h.loan)) in
+    let printed : point_of mir.steps h.maker ≡ loan_at = printed_at mir.steps h.maker h.maker_step h.is_maker ∙ h.at_maker in
+    let is_e : Conflict h.step.point number (point_of mir.steps h.maker) ≡ e = ap (λ v. Conflict v number (point_of mir.steps h.maker)) h.at_point ∙ ap (λ v. Conflict at number v) printed in
+    let conflicts : is_conflict mir.locals h.access h.loan ≡ true =
+    and_from (is_write h.access.kind || is_mutable h.loan.mutability) (is_relevant_at mir.locals h.access.depth h.access.place h.loan.path)
+    (writes_one h.access.kind h.loan.mutability h.one_writes) h.relevant in
+    let both = and_from (in_scope h.point h.loan_number) (is_conflict mir.locals h.access h.loan) h.in_scope_here conflicts in
+    in_flat_map (conflicts_of_step mir in_scope) (enumerate_from 0 mir.steps) (h.point, h.step) e (numbered mir.steps h.point h.step h.is_step)
+    (in_flat_map (conflicts_of_access mir (in_scope h.point) h.step.point) (enumerate_from 0 (accesses_of mir h.step.instruction)) (number, h.access) e
+    (numbered (accesses_of mir h.step.instruction) number h.access h.is_access)
+    (in_flat_map (conflict_with mir (in_scope h.point) h.step.point (number, h.access)) (enumerate_from 0 (loans_of mir)) loan e
+    (numbered (loans_of mir) h.loan_number (h.maker, h.loan) h.is_loan)
+    (subst (λ v. Contains (conflict_with mir (in_scope h.point) h.step.point (number, h.access) loan) v) is_e
+    (in_if (in_scope h.point h.loan_number && is_conflict mir.locals h.access h.loan) (Conflict h.step.point number (point_of mir.steps h.maker)) both))))
+
+-- ---- failures
+
+from_lifetimes : (mir : Mir) (in_scope : ScopeTest) (value : ValueTest) (known : ℕ → ℕ → Bool) → TellsKnown mir known → (e : BorrowError) → Contains (lifetimes_of mir value known) e → IsError mir in_scope value e
+from_lifetimes mir in_scope value known tells e h =
+    let a = from_flat_map (failures_of mir value known) (range_with_len 0 mir.universals) e h in
+    let b = from_flat_map (failure_of mir value known a.0) (range_with_len 0 mir.universals) e a.2 in
+    let one = from_if (value a.0 (end_of mir b.0) && not (known a.0 b.0)) (Lifetime a.0 b.0) e b.2 in
+    let both = and_parts (value a.0 (end_of mir b.0)) (not (known a.0 b.0)) one.0 in
+    let longer : a.0 < mir.universals = omega (arith, (from_range 0 mir.universals a.0 a.1).1) in
+    let shorter : b.0 < mir.universals = omega (arith, (from_range 0 mir.universals b.0 b.1).1) in
+    let found : IsFailure mir value a.0 b.0 = record {
+      longer_declared = longer;
+      shorter_declared = shorter;
+      has_end = both.0;
+      unknown = λ k. both_ways (known a.0 b.0) (not_true (known a.0 b.0) both.1) ((tells a.0 b.0 longer shorter).1 k);
+    } in
+    subst (IsError mir in_scope value) one.1 found
+
+in_lifetimes : (mir : Mir) (value : ValueTest) (known : ℕ → ℕ → Bool) → TellsKnown mir known → (longer shorter : ℕ) → IsFailure mir value longer shorter → Contains (lifetimes_of mir value known) (Lifetime longer shorter)
+in_lifetimes mir value known tells longer shorter h =
+    let long = h.longer_declared in
+    let short = h.shorter_declared in
+    let unknown : known longer shorter ≡ false = false_from_ne_true (known longer shorter) (λ k. h.unknown ((tells longer shorter long short).0 k)) in
+    let both = and_from (value longer (end_of mir shorter)) (not (known longer shorter)) h.has_end (rw unknown) in
+    in_flat_map (failures_of mir value known) (range_with_len 0 mir.universals) longer (Lifetime longer shorter) (in_range 0 mir.universals longer (omega arith) (omega arith))
+    (in_flat_map (failure_of mir value known longer) (range_with_len 0 mir.universals) shorter (Lifetime longer shorter) (in_range 0 mir.universals shorter (omega arith) (omega arith))
+    (in_if (value longer (end_of mir shorter) && not (known longer shorter)) (Lifetime longer shorter) both))
+
+-- ---- errors
+
+to_list : (mir : Mir) (in_scope : ScopeTest) (value : ValueTest) (known : ℕ → ℕ → Bool) → TellsKnown mir known → (e : BorrowError) → IsError mir in_scope value e → Contains (errors_of mir in_scope value known) e
+to_list mir in_scope value known tells (Conflict at number loan_at) h =
+    Contains-append_left (conflicts_of mir in_scope) (lifetimes_of mir value known) (Conflict at number loan_at) (in_conflicts mir in_scope at number loan_at h)
+to_list mir in_scope value known tells (Lifetime longer shorter) h =
+    Contains-append_right (conflicts_of mir in_scope) (lifetimes_of mir value known) (Lifetime longer shorter) (in_lifetimes mir value known tells longer shorter h)
+
+from_list : (mir : Mir) (in_scope : ScopeTest) (value : ValueTest) (known : ℕ → ℕ → Bool) → TellsKnown mir known → (e : BorrowError) → Contains (errors_of mir in_scope value known) e → IsError mir in_scope value e
+from_list mir in_scope value known tells e h = elim (Contains-append_cases (conflicts_of mir in_scope) (lifetimes_of mir value known) e h) [
+  | inl conflict ↦ from_conflicts mir in_scope value e conflict
+  | inr lifetime ↦ from_lifetimes mir in_scope value known tells e lifetime
+]
+
+pub listed_is_error : (mir : Mir) (in_scope : ScopeTest) (value : ValueTest) (known : ℕ → ℕ → Bool) → TellsKnown mir known → (e : BorrowError) →
+    Contains (errors_of mir in_scope value known) e ↔ IsError mir in_scope value e
+listed_is_error mir in_scope value known tells e = (from_list mir in_scope value known tells e, to_list mir in_scope value known tells e)

@@ -1,0 +1,4 @@
+pub mod Walks
+pub mod OutOfScope
+pub mod Closure
+pub mod Law

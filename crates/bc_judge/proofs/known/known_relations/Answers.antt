@@ -1,0 +1,16 @@
+use Rattle.bc_judge.proofs.Closure.{firsts_within, clauses_within, tells_known}
+use Rattle.bc_judge.proofs.known.known_relations.Goals as goal
+
+pub table-requires : goal.table-requires
+table-requires c = rw (c.deref.ensures.value, c.in_ok-entries.ensures) (firsts_within c.from-universals.result)
+
+pub flow-requires-clause-edges : goal.flow-requires-clause-edges
+flow-requires-clause-edges c =
+    rw (c.deref-2.ensures.value, c.in_ok-edges.ensures, c.in_ok-seeds.ensures.nodes, c.from-universals.ensures, c.universals.ensures.value, c.clauses.ensures.value)
+    (clauses_within c.args.typed.now.clauses c.args.typed.now.universals (rw c.clauses.ensures.value at c.clauses.ensures.declared))
+
+pub returns : goal.returns
+returns c =
+    tells_known c.args.typed.now c.in_ok-seeds.seeds.items c.in_ok-rows.rows.items
+    (rw (c.deref.ensures.value, c.in_ok-entries.ensures, c.from-universals.ensures, c.universals.ensures.value) at c.in_ok-seeds.ensures.entries)
+    (rw (c.deref-2.ensures.value, c.in_ok-edges.ensures, c.clauses.ensures.value) at c.in_ok-rows.ensures.flow)

@@ -1,0 +1,66 @@
+-- Which accesses conflict with which loans.
+use Rattle.std.specs.Prelude.{ℕ, Bool, true, false, ◌&&◌, ◌||◌, if◌then◌else◌, List, [], ◌∷◌, slice_get}
+use Rattle.std.specs.List.{flat_map, enumerate_from}
+use Rattle.std.specs.Option.{option_map_or}
+use Rattle.bc_text.specs.declared.syntax.Ty.{Ty}
+use Rattle.bc_text.specs.declared.syntax.Place.{Place}
+use Rattle.bc_mir.specs.declared.access.Access.{Access}
+use Rattle.bc_mir.specs.declared.access.Depth.{Depth}
+use Rattle.bc_mir.specs.declared.access.Depth.TheVariants.{Shallow, Deep}
+use Rattle.bc_mir.specs.declared.access.AccessKind.{AccessKind}
+use Rattle.bc_mir.specs.declared.access.AccessKind.TheVariants.{Read, Write}
+use Rattle.bc_mir.specs.declared.mir.Point.{Point}
+use Rattle.bc_mir.specs.declared.mir.Step.{Step}
+use Rattle.bc_mir.specs.declared.loan.Loan.{Loan}
+use Rattle.bc_mir.specs.Mir.{Mir}
+use Rattle.bc_mir.specs.Places.{is_mutable, is_prefix, is_shallow_prefix, is_supporting_prefix}
+use Rattle.bc_mir.specs.Accesses.{accesses_of}
+use Rattle.bc_loans.specs.Loans.{loans_of}
+use Rattle.bc_judge.specs.declared.error.BorrowError.{BorrowError}
+use Rattle.bc_judge.specs.declared.error.BorrowError.TheVariants.{Conflict}
+
+-- an access of this depth to a place reaches a loan of a path
+abbrev pub is_relevant_at : List Ty → Depth → Place → Place → Bool
+is_relevant_at locals Shallow place path = is_prefix path place || is_shallow_prefix place path
+is_relevant_at locals Deep place path = is_prefix path place || is_supporting_prefix locals place path
+
+abbrev pub is_write : AccessKind → Bool
+is_write Read = false
+is_write Write = true
+
+-- a relevant access conflicts with a loan unless the access reads and the loan is shared
+abbrev pub is_conflict : List Ty → Access → Loan → Bool
+is_conflict locals access loan =
+    (is_write access.kind || is_mutable loan.mutability) && is_relevant_at locals access.depth access.place loan.path
+
+-- a point, by its number, as it is printed
+abbrev pub point_of : List Step → ℕ → Point
+point_of steps p = option_map_or (λ (step : Step). step.point) (slice_get steps p) (record { block = 0; index = 0 })
+
+-- whether a loan is in scope on entry to a point: of the point's number and the loan's
+abbrev pub ScopeTest : Type 0
+ScopeTest = ℕ → ℕ → Bool
+
+-- the conflict of a numbered access of a point with a numbered loan, if they conflict and the loan is in scope there
+abbrev pub conflict_with : Mir → (ℕ → Bool) → Point → ℕ × Access → ℕ × (ℕ × Loan) → List BorrowError
+conflict_with mir in_scope at access loan =
+    if in_scope loan.0 && is_conflict mir.locals access.1 loan.1.1
+    then Conflict at access.0 (point_of mir.steps loan.1.0) ∷ []
+    else []
+
+-- the conflicts of one access of a point, by the loan
+abbrev pub conflicts_of_access : Mir → (ℕ → Bool) → Point → ℕ × Access → List BorrowError
+conflicts_of_access mir in_scope at access =
+    flat_map (conflict_with mir in_scope at access) (enumerate_from 0 (loans_of mir))
+
+-- the conflicts of a point, by the access
+abbrev pub conflicts_at : Mir → (ℕ → Bool) → Step → List BorrowError
+conflicts_at mir in_scope here =
+    flat_map (conflicts_of_access mir in_scope here.point) (enumerate_from 0 (accesses_of mir here.instruction))
+
+-- the conflicts of a body, by the point
+abbrev pub conflicts_of_step : Mir → ScopeTest → ℕ × Step → List BorrowError
+conflicts_of_step mir in_scope here = conflicts_at mir (in_scope here.0) here.1
+
+abbrev pub conflicts_of : Mir → ScopeTest → List BorrowError
+conflicts_of mir in_scope = flat_map (conflicts_of_step mir in_scope) (enumerate_from 0 mir.steps)

@@ -1,0 +1,4 @@
+pub mod Conflicts
+pub mod Lifetimes
+pub mod Errors
+pub mod Known

@@ -1,0 +1,40 @@
+-- What is known of universal regions, and what fails.
+use Rattle.std.specs.Prelude.{◌≡◌, ℕ, ◌+◌, ◌<◌, ◌↔◌, Bool, true, ◌&&◌, not, if◌then◌else◌, List, [], ◌∷◌, length}
+use Rattle.std.specs.List.{flat_map, Contains, range_with_len}
+use Rattle.bc_text.specs.declared.syntax.Outlives.{Outlives}
+use Rattle.bc_mir.specs.Mir.{Mir}
+use Rattle.bc_judge.specs.declared.error.BorrowError.{BorrowError}
+use Rattle.bc_judge.specs.declared.error.BorrowError.TheVariants.{Lifetime}
+
+-- a is known to outlive b: the least reflexive and transitive relation with the `where` clauses, in which 'static
+-- outlives all
+pub data IsKnown (clauses : List Outlives) : ℕ → ℕ → Type 0 where
+  same : (a : ℕ) → IsKnown clauses a a
+  static : (b : ℕ) → IsKnown clauses 0 b
+  clause : (a b : ℕ) → Contains clauses (record { longer = a; shorter = b }) → IsKnown clauses a b
+  join : (a b c : ℕ) → IsKnown clauses a b → IsKnown clauses b c → IsKnown clauses a c
+
+-- a test tells what is known of a body's universal regions
+abbrev pub TellsKnown : Mir → (ℕ → ℕ → Bool) → Type 0
+TellsKnown mir known =
+    (a b : ℕ) → a < mir.universals → b < mir.universals → (known a b ≡ true) ↔ IsKnown mir.clauses a b
+
+-- whether an element is in the value of a region: of the region's number and the element's
+abbrev pub ValueTest : Type 0
+ValueTest = ℕ → ℕ → Bool
+
+-- the element end(u) of a universal region; the points come before all ends
+abbrev pub end_of : Mir → ℕ → ℕ
+end_of mir u = length mir.steps + u
+
+-- a failure: end(b) is in the value of a, and a is not known to outlive b
+abbrev pub failure_of : Mir → ValueTest → (ℕ → ℕ → Bool) → ℕ → ℕ → List BorrowError
+failure_of mir value known a b = if value a (end_of mir b) && not (known a b) then Lifetime a b ∷ [] else []
+
+-- the failures of a region, by the shorter one
+abbrev pub failures_of : Mir → ValueTest → (ℕ → ℕ → Bool) → ℕ → List BorrowError
+failures_of mir value known a = flat_map (failure_of mir value known a) (range_with_len 0 mir.universals)
+
+-- the failures of a body, by the longer region
+abbrev pub lifetimes_of : Mir → ValueTest → (ℕ → ℕ → Bool) → List BorrowError
+lifetimes_of mir value known = flat_map (failures_of mir value known) (range_with_len 0 mir.universals)

@@ -1,0 +1,93 @@
+//! The relations between universal regions that a body may count on.
+ghost use Rattle.std.specs.Prelude.{◌≡◌, ◌≤◌, ◌++◌, map, IfOk, OnOk};
+ghost use Rattle.std.specs.List.{flat_map, range_with_len};
+ghost use Rattle.bc_flow.specs.Flow.{holds};
+ghost use Rattle.bc_judge.specs.Lifetimes.{TellsKnown};
+ghost use Rattle.bc_judge.specs.Known.{edge_of, entries_of};
+
+use bc_flow::{BitSet, Edge, Entry, every_node, flow, table};
+use bc_mir::Typed;
+use bc_text::Outlives;
+use std::alloc::{AllocError, Global};
+use std::marker::Model;
+
+/// For each universal region those that it is known to outlive. Contracts see a row of regions for each region.
+#[derive(Drop)]
+pub struct KnownRelations {
+    rows: Vec<BitSet>,
+}
+
+impl Model for KnownRelations {
+    ghost use Rattle.std.specs.Prelude.{List, Bool};
+
+    ghost Value = { List (List Bool) };
+
+    ghost view = { λ known. known.rows.items };
+}
+
+impl KnownRelations {
+    /// Whether the first region is known to outlive the second, both by number. A number that is none of the body's
+    /// universal regions gives false. It takes no memory.
+    pub fn contains(&self, longer: usize, shorter: usize) -> bool
+        ensures { result ≡ holds self.now longer shorter }
+    {
+        match self.rows.get(longer) {
+            Some(row) => row.has(shorter),
+            None => false,
+        }
+    }
+}
+
+/// What a region outlives is handed on from the shorter region of each clause to the longer one.
+fn clause_edges(alloc: Global, clauses: &[Outlives]) -> Result<Vec<Edge>, AllocError>
+    ensures { IfOk result (λ edges. edges.items ≡ map edge_of clauses.now) }
+{
+    clauses
+        .iter()
+        .map(|clause| Edge {
+            from: usize::from(clause.shorter),
+            to: usize::from(clause.longer),
+        })
+        .collect(alloc)
+}
+
+/// Appends that a region outlives itself, and that `'static`, which is number 0, outlives it.
+fn push_entries(entries: &mut Vec<Entry>, region: usize) -> Result<(), AllocError>
+    ensures { OnOk result (entries.new.items ≡ entries.old.items ++ entries_of region) }
+{
+    entries.push(Entry {
+        node: region,
+        fact: region,
+    })?;
+    entries.push(Entry {
+        node: 0,
+        fact: region,
+    })?;
+    Ok(())
+}
+
+/// The same for each region.
+fn first_entries(alloc: Global, universals: usize) -> Result<Vec<Entry>, AllocError>
+    ensures { IfOk result (λ entries. entries.items ≡ flat_map entries_of (range_with_len 0 universals)) }
+{
+    let mut entries = Vec::new(alloc);
+    for region in 0..universals {
+        push_entries(&mut entries, region)?;
+    }
+    Ok(entries)
+}
+
+/// The relations between universal regions that a body may count on: the reflexive and transitive closure of its
+/// `where` clauses and of `'static` outliving all (RFC 2094, "Region inference": the universal regions and their
+/// declared relations). Answers `AllocError` only where memory was refused.
+pub fn known_relations(alloc: Global, typed: &Typed) -> Result<KnownRelations, AllocError>
+    ensures { IfOk result (λ known. TellsKnown typed.now (holds known)) }
+{
+    let universals = usize::from(typed.universals());
+    let edges = clause_edges(alloc, typed.clauses())?;
+    let entries = first_entries(alloc, universals)?;
+    let seeds = table(alloc, universals, universals, &entries)?;
+    let pending = every_node(alloc, universals)?;
+    let rows = flow(alloc, &edges, seeds, &[], pending)?;
+    Ok(KnownRelations { rows })
+}

@@ -1,0 +1,16 @@
+//! The errors of a body: accesses that conflict with loans in scope, and universal regions that must outlive others
+//! with no known reason to (RFC 2094, "Borrow checker phase 2" and "Region inference").
+#![tactic(auto)]
+
+mod conflicts;
+mod error;
+mod known;
+mod lifetimes;
+mod relevance;
+#[cfg(test)]
+mod tests;
+mod verdict;
+
+pub use error::BorrowError;
+pub use known::{KnownRelations, known_relations};
+pub use verdict::{Verdict, errors};
