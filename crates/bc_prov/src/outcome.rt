@@ -1,0 +1,34 @@
+//! What an Ask finds.
+ghost use Rattle.std.specs.Prelude.{IfOk};
+ghost use Rattle.bc_prov.specs.Outcome.{IsOutcome};
+
+use bc_text::{Sequence, Unit};
+use std::alloc::{AllocError, Global};
+
+/// A point, as it is printed: its block, and its index there.
+#[derive(Clone, Copy, Debug, PartialEq, Eq)]
+pub struct Point {
+    pub block: usize,
+    pub index: usize,
+}
+
+/// Where a unit breaks a typing rule first.
+#[derive(Clone, Copy, Debug, PartialEq, Eq)]
+pub enum Where {
+    Header,
+    At(Point),
+}
+
+/// An error of a body.
+#[derive(Clone, Copy, Debug, PartialEq, Eq)]
+pub enum BorrowError {
+    Conflict {
+        at: Point,
+        access: usize,
+        loan: Point,
+    },
+    Lifetime {
+        longer: u8,
+        shorter: u8,
+    },
+}
