@@ -1,1 +1,4 @@
 pub mod Equality
+pub mod Cells
+pub mod Segments
+pub mod Ascii
