@@ -33,7 +33,9 @@ pub enum Refusal {
 }
 
 impl From<AllocError> for Refusal {
-    ghost from_gives = { λ _ refusal. refusal ≡ Refusal.NoMemory };
+    ghost use Rattle.bc_book.specs.declared.ledger.Refusal.TheVariants.{NoMemory};
+
+    ghost from_gives = { λ _ refusal. refusal ≡ NoMemory };
 
     fn from(_error: AllocError) -> Refusal {
         Refusal::NoMemory
