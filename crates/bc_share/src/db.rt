@@ -71,6 +71,8 @@ pub struct Db {
 }
 
 impl Model for Db {
+    ghost use Rattle.std.specs.Prelude.{ℕ};
+
     ghost Value = { ℕ };
 
     ghost view = { λ db. db.tag };
