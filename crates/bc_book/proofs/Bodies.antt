@@ -1,5 +1,5 @@
 -- The bodies that are held, as a state.
-use Rattle.std.proofs.Common.{◌≡◌, ℕ, ◌+◌, ◌<◌, ◌≤◌, Bool, true, false, cond, List, [], ◌∷◌, ◌++◌, length, refl, sym, ap, ◌∙◌, subst, arith, Option, Some, None, length-append}
+use Rattle.std.proofs.Common.{◌≡◌, ℕ, ◌<◌, ◌≤◌, Bool, true, false, cond, List, [], ◌∷◌, ◌++◌, length, refl, sym, ap, ◌∙◌, subst, arith, Option, Some, None, length-append}
 use Rattle.std.specs.Bool.{Decides}
 use Rattle.std.specs.Prelude.{is_some}
 use Rattle.std.proofs.lemmas.Bool.Decides.{same_from_decides}
@@ -19,7 +19,7 @@ use Rattle.bc_book.specs.declared.call.Entry.{Entry}
 use Rattle.bc_book.specs.declared.call.PutReply.{PutReply}
 use Rattle.bc_book.specs.declared.call.Call.TheVariants.{Put}
 use Rattle.bc_book.specs.declared.call.Reply.TheVariants as replies
-use Rattle.bc_book.specs.Calls.{State, HoldsCount, with_body, stores, next, after, IsNext}
+use Rattle.bc_book.specs.Calls.{State, HoldsCount, with_body, stores, next, after, IsNext, IsPutReply}
 use Rattle.bc_book.specs.Ledgers.{state_of, AreCounts, IsKept}
 use Rattle.bc_book.proofs.Histories.{legal_snoc, after-snoc}
 
@@ -56,6 +56,9 @@ stored m m' n b u r other put same is =
 -- the reply that a map gives is the state's, where the map is the state
 pub same_state : (m : BTreeMap NameParts Body) (s : State) → ((n : NameParts) → state_of m n ≡ s n) → state_of m ≡ s
 same_state m s same = λ i n. same n i
+
+pub same_reply : (s t : State) (n : NameParts) (a b : Body) (r : PutReply) → s ≡ t → a ≡ b → IsPutReply s n a r → IsPutReply t n b r
+same_reply s t n a b r states bodies reply = subst (λ (p : State × Body). IsPutReply p.0 n p.1 r) (λ i. (states i, bodies i)) reply
 
 -- one more entry
 pub kept_snoc : (capacity : ℕ) (h : List Entry) (counts counts' : List ℕ) (m m' : BTreeMap NameParts Body) (e : Entry)

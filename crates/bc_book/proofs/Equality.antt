@@ -1,8 +1,7 @@
 -- `==` on events decides `≡`.
 use Rattle.std.proofs.Common.{◌≡◌, false, true≢false, refl, sym, ap}
 use Rattle.std.specs.Bool.{Decides}
-use Rattle.std.proofs.lemmas.Bool.Decides.{Decides-and, Decides-like, Decides-eqb}
-use Rattle.std.proofs.lemmas.Slice.Eq.{slice_eq-Decides}
+use Rattle.std.proofs.lemmas.Bool.Decides.{Decides-and, Decides-like}
 use Rattle.bc_text.proofs.Equality.{body, name}
 use Rattle.bc_prov.proofs.Equality.{outcome}
 use Rattle.bc_book.specs.declared.call.Call.{Call}

@@ -5,7 +5,6 @@ use Rattle.bc_text.specs.Names.{NameParts, is_same_name}
 use Rattle.bc_text.specs.declared.syntax.Body.{Body}
 use Rattle.bc_text.specs.declared.syntax.UnitKind.{UnitKind}
 use Rattle.bc_text.specs.declared.syntax.UnitKind.TheVariants.{Function}
-use Rattle.bc_prov.specs.declared.outcome.Outcome.{Outcome}
 use Rattle.bc_prov.specs.Outcome.{IsOutcome}
 use Rattle.bc_book.specs.declared.call.Call.{Call}
 use Rattle.bc_book.specs.declared.call.Call.TheVariants.{Put, Ask}
