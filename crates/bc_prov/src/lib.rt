@@ -1,0 +1,6 @@
+//! The outcome of a body. (Provisional: the analysis below it is being built.)
+#![tactic(auto)]
+
+mod outcome;
+
+pub use outcome::{BodyErrors, BorrowError, Outcome, Point, Where, outcome_of};
