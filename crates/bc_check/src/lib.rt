@@ -1,6 +1,13 @@
-//! The command `check`: a file cut into its sections, and what is printed of it.
+//! The command `check`: a file cut into its sections, put and asked, and what is printed of it.
 #![tactic(auto)]
 
+mod fault;
+mod file;
+mod input;
 mod section;
+mod stop;
 
+pub use file::{Put, read_puts};
+pub use fault::{FaultKind, FileFault};
 pub use section::{Section, Sections};
+pub use stop::Stop;

@@ -1,0 +1,87 @@
+//! Why the command stops before its end.
+ghost use Rattle.std.specs.Prelude.{◌≡◌, ◌≤◌, OnOk};
+ghost use Rattle.std.specs.Io.KnownBytes.{Appends};
+ghost use Rattle.bc_check.specs.Stops.{last_line, stop_status};
+
+use crate::FileFault;
+use std::alloc::{AllocError, AllocFailed};
+use std::io;
+use std::io::Write;
+
+/// Why the command stops before its end.
+#[derive(Clone, Copy, Debug, PartialEq, Eq)]
+pub enum Stop {
+    /// The file cannot be read, or is too long.
+    CannotRead,
+    /// Standard output failed.
+    CannotWrite,
+    /// Standard error failed, so that nothing more can be said.
+    CannotTell,
+    /// Memory ran out.
+    NoMemory,
+    /// The file has a fault.
+    File(FileFault),
+    /// The file puts and asks more than a history may hold.
+    TooManyCalls,
+    /// The history is full.
+    HistoryFull,
+    /// The database was closed with sessions that are not its own.
+    Foreign,
+    /// The history is not what the session did.
+    Audit,
+}
+
+impl From<AllocError> for Stop {
+    ghost use Rattle.bc_check.specs.declared.stop.Stop.TheVariants.{NoMemory};
+
+    ghost from_gives = { λ _ stop. stop ≡ NoMemory };
+
+    fn from(_error: AllocError) -> Self {
+        Stop::NoMemory
+    }
+}
+
+impl<T: Drop> From<AllocFailed<T>> for Stop {
+    ghost use Rattle.bc_check.specs.declared.stop.Stop.TheVariants.{NoMemory};
+
+    ghost from_gives = { λ _ stop. stop ≡ NoMemory };
+
+    fn from(_error: AllocFailed<T>) -> Self {
+        Stop::NoMemory
+    }
+}
+
+/// The status of a command that stops: 2 for a fault of the file, 3 for all else.
+pub fn exit_status(stop: &Stop) -> u8
+    ensures value { result ≡ stop_status stop.now }
+    ensures range { result ≤ 3 }
+{
+    match stop {
+        Stop::File(_) => 2,
+        Stop::CannotRead
+        | Stop::CannotWrite
+        | Stop::CannotTell
+        | Stop::NoMemory
+        | Stop::TooManyCalls
+        | Stop::HistoryFull
+        | Stop::Foreign
+        | Stop::Audit => 3,
+    }
+}
+
+/// Writes why a command on the file of this name stops: one line, and none where standard error failed already.
+pub fn write_last_line<E: Write>(file: &str, stop: &Stop, err: &mut E) -> io::Result<()>
+    ensures { OnOk result (Appends (E.contents err.old) (E.contents err.new) (last_line file.now stop.now)) }
+{
+    match *stop {
+        Stop::CannotRead => writeln!(err, "cannot read {file}"),
+        Stop::CannotWrite => writeln!(err, "cannot write"),
+        Stop::CannotTell => Ok(()),
+        Stop::NoMemory => writeln!(err, "no memory"),
+        Stop::File(fault) => writeln!(err, "{fault}"),
+        Stop::TooManyCalls => writeln!(err, "too many calls"),
+        Stop::HistoryFull => writeln!(err, "history full"),
+        Stop::Foreign => writeln!(err, "close: foreign"),
+        Stop::Audit => writeln!(err, "close: audit"),
+    }
+}

@@ -1,0 +1,7 @@
+//! The outcome of a body. (Provisional: the analysis below it is being built.)
+#![tactic(auto)]
+
+mod outcome;
+mod print;
+
+pub use outcome::{BorrowError, Point, Where};
