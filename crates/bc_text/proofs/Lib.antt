@@ -1,0 +1,4 @@
+pub mod Orders
+pub mod Cells
+pub mod Segments
+pub mod Ascii

@@ -1,0 +1,48 @@
+-- What a name is, how it is spelled, and how names are ordered.
+use Rattle.std.specs.Prelude.{◌≡◌, ℕ, ◌≤◌, Bool, ◌&&◌, ◌||◌, ◌==◌, nat_le, true, List, ◌∷◌, ◌++◌, length, slice_index, decimal, Option, Some, None, if◌then◌else◌, not, ◌-◌, ◌*◌, ◌+◌}
+use Rattle.std.specs.Char.{is_ascii_alphabetic, is_ascii_digit}
+use Rattle.std.specs.List.{flat_map, list_all, AllByRecursion}
+use Rattle.std.specs.declared.cmp.Ordering.{Ordering}
+use Rattle.std.specs.Ordering.{nat_cmp, ordering_then}
+use Rattle.std.specs.Cmp.Lexicographic.{slice_cmp}
+use Rattle.bc_text.specs.Bytes.{is_run_byte}
+
+-- a root, and the numbers behind it
+pub record NameParts : Type 0 where
+  pub root : List ℕ
+  pub segments : List ℕ
+
+-- a letter or `_`
+abbrev pub begins_root : ℕ → Bool
+begins_root b = is_ascii_alphabetic b || b == 95
+
+-- a letter or `_`, followed by letters, digits and `_`, 1 to 32 bytes in all
+abbrev pub is_root : List ℕ → Bool
+is_root root = nat_le 1 (length root) && nat_le (length root) 32 && begins_root (slice_index root 0) && list_all is_run_byte root
+
+-- a root, and up to seven segments from 0 to 63
+pub record IsName (name : NameParts) : Type 0 where
+  pub root : is_root name.root ≡ true
+  pub depth : length name.segments ≤ 7
+  pub segments : AllByRecursion (λ number. number ≤ 63) name.segments
+
+-- a segment is spelled `/` and its number
+abbrev pub segment_text : ℕ → List ℕ
+segment_text number = 47 ∷ decimal number
+
+-- how a name is spelled
+abbrev pub name_text : NameParts → List ℕ
+name_text name = name.root ++ flat_map segment_text name.segments
+
+-- Names are ordered by their roots, byte by byte, then by their segments as numbers. A beginning comes before
+-- what goes on.
+abbrev pub name_order : NameParts → NameParts → Ordering
+name_order a b = ordering_then (slice_cmp nat_cmp a.root b.root) (slice_cmp nat_cmp a.segments b.segments)
+
+-- the segment that stands at the front: its number, and how many bytes it is spelled in
+abbrev pub first_segment : List ℕ → Option (ℕ × ℕ)
+first_segment bytes =
+    if slice_index bytes 0 == 47 && is_ascii_digit (slice_index bytes 1)
+    then (if not (is_ascii_digit (slice_index bytes 2)) || slice_index bytes 1 == 48 then Some (slice_index bytes 1 - 48, 2)
+    else Some (10 * (slice_index bytes 1 - 48) + (slice_index bytes 2 - 48), 3))
+    else None

@@ -1,0 +1,40 @@
+//! Reading bytes of a text.
+ghost use Rattle.std.specs.Prelude.{◌≡◌, ◌≤◌, length, drop, slice_index};
+ghost use Rattle.bc_text.specs.Bytes.{is_run_byte, run};
+
+/// The byte at an index, or 0 past the end.
+pub fn byte_at(bytes: &[u8], index: usize) -> u8
+    ensures { result ≡ slice_index bytes.now index }
+{
+    bytes.get(index).copied().unwrap_or(0)
+}
+
+/// The bytes from an index on.
+pub fn from(bytes: &[u8], index: usize) -> &[u8]
+    ensures { result.now ≡ drop index bytes.now }
+{
+    bytes.get(index..).unwrap_or(&[])
+}
+
+/// Whether the byte is a letter, a digit or `_`.
+pub fn is_run_byte(byte: u8) -> bool
+    ensures { result ≡ is_run_byte byte }
+{
+    byte.is_ascii_alphanumeric() || byte == b'_'
+}
+
+/// How many letters, digits and `_` stand at the front.
+fn run_len(bytes: &[u8]) -> usize
+    ensures count { result ≡ length (run bytes.now) }
+    ensures within { result ≤ length bytes.now }
+{
+    bytes.iter().take_while(|byte| is_run_byte(**byte)).count()
+}
+
+/// The letters, digits and `_` that stand at the front.
+pub fn run(bytes: &[u8]) -> &[u8]
+    ensures run { result.now ≡ run bytes.now }
+    ensures within { length result.now ≤ length bytes.now }
+{
+    &bytes[..run_len(bytes)]
+}
