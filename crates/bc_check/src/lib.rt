@@ -4,10 +4,12 @@
 mod fault;
 mod file;
 mod input;
+mod print;
 mod section;
 mod stop;
 
-pub use file::{Put, read_puts};
 pub use fault::{FaultKind, FileFault};
+pub use file::{Put, read_puts};
+pub use print::write_report;
 pub use section::{Section, Sections};
 pub use stop::Stop;

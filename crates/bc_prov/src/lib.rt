@@ -4,4 +4,4 @@
 mod outcome;
 mod print;
 
-pub use outcome::{BorrowError, Point, Where};
+pub use outcome::{BodyErrors, BorrowError, Outcome, Point, Where};
