@@ -4,4 +4,4 @@
 mod outcome;
 mod print;
 
-pub use outcome::{BodyErrors, BorrowError, Outcome, Point, Where};
+pub use outcome::{BodyErrors, BorrowError, Outcome, Point, Where, outcome_of};

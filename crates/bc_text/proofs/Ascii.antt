@@ -2,7 +2,7 @@
 use Rattle.std.proofs.Common.{◌≡◌, ℕ, zero, suc, ◌<◌, true, List, [], ◌∷◌, arith, lit<}
 use Rattle.std.specs.Prelude.{slice_index, Result, Ok, Err, MatchResult, IsOk, refl}
 use Rattle.std.specs.List.{list_all}
-use Rattle.std.specs.Str.{IsAscii, IsUtf8}
+use Rattle.std.specs.Str.{IsUtf8}
 use Rattle.std.proofs.lemmas.Str.{IsUtf8-from_ascii}
 use Rattle.std.proofs.lemmas.Bool.{and_parts}
 use Rattle.std.proofs.lemmas.Bool.Decides.{nat_tests}

@@ -1,11 +1,11 @@
 -- What stays true of a name's cells as a name is made.
-use Rattle.std.proofs.Common.{◌≡◌, ℕ, zero, suc, ◌+◌, ◌-◌, ◌<◌, ◌≤◌, true, List, [], ◌∷◌, ◌++◌, length, take, drop, set, replicate, refl, sym, ap, ◌∙◌, subst, append_assoc, arith}
+use Rattle.std.proofs.Common.{◌≡◌, ℕ, suc, ◌+◌, ◌-◌, ◌<◌, ◌≤◌, true, List, [], ◌∷◌, ◌++◌, length, take, drop, set, replicate, refl, sym, ap, ◌∙◌, subst, append_assoc, arith}
 use Rattle.std.specs.List.{AllByRecursion}
 use Rattle.std.proofs.lemmas.List.{length-append, length-replicate, take_more_set, length_push, take_at, drop-replicate}
 use Rattle.std.proofs.Math.Seq.{set-append_seam}
 use Rattle.bc_text.specs.declared.name.Name.TheInside.{Inside}
-use Rattle.bc_text.specs.Names.{NameParts, IsName, is_root}
-use Rattle.bc_text.specs.Stored.{padded, cells, parts_of, IsStored}
+use Rattle.bc_text.specs.Names.{is_root}
+use Rattle.bc_text.specs.Stored.{padded, cells, IsStored}
 
 pub fits-push : (xs : List ℕ) (n : ℕ) → AllByRecursion (λ number. number ≤ 63) xs → n ≤ 63 → AllByRecursion (λ number. number ≤ 63) (xs ++ n ∷ [])
 fits-push [] n h le = (le, tt)

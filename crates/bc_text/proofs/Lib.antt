@@ -1,4 +1,4 @@
-pub mod Orders
+pub mod Equality
 pub mod Cells
 pub mod Segments
 pub mod Ascii

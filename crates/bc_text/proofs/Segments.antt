@@ -1,13 +1,13 @@
 -- A name's text is read back segment by segment.
-use Rattle.std.proofs.Common.{◌≡◌, ℕ, zero, suc, ◌+◌, ◌-◌, ◌*◌, ◌/◌, ◌%◌, ◌<◌, ◌≤◌, Bool, true, false, not, ◌&&◌, ◌||◌, cond, eqb, List, [], ◌∷◌, ◌++◌, length, take, drop, slice_index, refl, sym, ap, ◌∙◌, subst, inl, inr, append_assoc, nat_le, nat_lt, ◌==◌, arith}
+use Rattle.std.proofs.Common.{◌≡◌, ℕ, ◌+◌, ◌-◌, ◌*◌, ◌/◌, ◌%◌, ◌<◌, ◌≤◌, Bool, true, false, not, ◌&&◌, ◌||◌, cond, eqb, List, [], ◌∷◌, ◌++◌, length, drop, slice_index, refl, sym, ap, ◌∙◌, subst, inl, inr, append_assoc, nat_le, nat_lt, ◌==◌, arith}
 use Rattle.std.specs.Prelude.{decimal, Option, Some, None, IfSome}
 use Rattle.std.specs.Bool.{then_some}
 use Rattle.std.specs.Char.{is_ascii_digit}
 use Rattle.std.specs.List.{AllByRecursion, flat_map, list_all, take_while, prefix_len}
 use Rattle.std.proofs.lemmas.Fmt.{decimal_digit, decimal_step}
-use Rattle.std.proofs.lemmas.Bool.{cases_lt, cases_Bool, and_parts, or_parts, not-false, eqb-true, eqb-false, both_ways, and_from, le-leb, lt-ltb, leb-true, ltb-true, cond_both}
+use Rattle.std.proofs.lemmas.Bool.{cases_lt, and_parts, or_parts, not-false, eqb-true, eqb-false, both_ways, and_from, le-leb, lt-ltb, leb-true, ltb-true, cond_both}
 use Rattle.std.proofs.lemmas.Bool.Decides.{nat_tests}
-use Rattle.std.proofs.lemmas.List.{take-append-drop, append-nil, take_at, length-append, drop_at, flat_map_more, nil_from_length}
+use Rattle.std.proofs.lemmas.List.{take-append-drop, append-nil, length-append, drop_at, flat_map_more, nil_from_length}
 use Rattle.std.proofs.lemmas.List.Folds.{length-prefix_len}
 use Rattle.std.proofs.lemmas.List.Sums.{take_while-cons}
 use Rattle.bc_text.specs.Bytes.{is_run_byte, run}

@@ -3,8 +3,8 @@ use Rattle.std.specs.Prelude.{◌≡◌, ℕ, ◌≤◌, Bool, ◌&&◌, ◌||�
 use Rattle.std.specs.Char.{is_ascii_alphabetic, is_ascii_digit}
 use Rattle.std.specs.List.{flat_map, list_all, AllByRecursion}
 use Rattle.std.specs.declared.cmp.Ordering.{Ordering}
-use Rattle.std.specs.Ordering.{nat_cmp, ordering_then}
-use Rattle.std.specs.Cmp.Lexicographic.{slice_cmp}
+use Rattle.std.specs.Ordering.{nat_cmp, then_cmp, on, eq_of_both}
+use Rattle.std.specs.Cmp.Lexicographic.{slice_cmp, pointwise}
 use Rattle.bc_text.specs.Bytes.{is_run_byte}
 
 -- a root, and the numbers behind it
@@ -37,7 +37,11 @@ name_text name = name.root ++ flat_map segment_text name.segments
 -- Names are ordered by their roots, byte by byte, then by their segments as numbers. A beginning comes before
 -- what goes on.
 abbrev pub name_order : NameParts → NameParts → Ordering
-name_order a b = ordering_then (slice_cmp nat_cmp a.root b.root) (slice_cmp nat_cmp a.segments b.segments)
+name_order = then_cmp (on (λ (name : NameParts). name.root) (slice_cmp nat_cmp)) (on (λ (name : NameParts). name.segments) (slice_cmp nat_cmp))
+
+-- whether two names have the same root and the same segments
+abbrev pub is_same_name : NameParts → NameParts → Bool
+is_same_name = eq_of_both (on (λ (name : NameParts). name.root) (pointwise ◌==◌)) (on (λ (name : NameParts). name.segments) (pointwise ◌==◌))
 
 -- the segment that stands at the front: its number, and how many bytes it is spelled in
 abbrev pub first_segment : List ℕ → Option (ℕ × ℕ)

@@ -1,9 +1,13 @@
 //! Names: a root, and the numbers of the closures behind it.
 ghost use Rattle.std.specs.Prelude.{◌≡◌, ◌+◌, ◌≤◌, ◌<◌, ℕ, List, [], ◌∷◌, ◌++◌, IfSome, IsSome, Some, None, length, drop, slice_index, false, true, nat_le, nat_lt, ◌&&◌, if◌then◌else◌};
+ghost use Rattle.std.proofs.Common.{rules};
 ghost use Rattle.std.specs.Char.{is_ascii_digit};
+ghost use Rattle.std.specs.Cmp.{partial_order_from_own_ties};
+ghost use Rattle.std.specs.Cmp.Rules.{comparing};
 ghost use Rattle.std.specs.List.{list_all};
+ghost use Rattle.std.specs.Ordering.{as_partial_cmp};
 ghost use Rattle.bc_text.specs.Bytes.{is_run_byte};
-ghost use Rattle.bc_text.specs.Names.{IsName, NameParts, begins_root, is_root, first_segment, name_text, name_order};
+ghost use Rattle.bc_text.specs.Names.{IsName, NameParts, begins_root, is_root, first_segment, name_text, name_order, is_same_name};
 
 use crate::bytes::{byte_at, from, is_run_byte, run};
 use std::cmp::Ordering;
@@ -11,9 +15,9 @@ use std::fmt;
 use std::marker::Model;
 
 /// A name: a root of 1 to 32 letters, digits and `_` that does not begin with a digit, and up to seven segments,
-/// numbers from 0 to 63. The cells behind what is used are zero, so that the derived order is that of names: by
-/// root bytes, then by segments, a beginning before what goes on.
-#[derive(Clone, Copy, Debug, PartialEq, Eq, PartialOrd, Ord)]
+/// numbers from 0 to 63. Names are ordered by root bytes, then by segments as numbers, a beginning before what goes
+/// on.
+#[derive(Clone, Copy, Debug)]
 pub struct Name {
     root: [u8; 32],
     root_len: u8,
@@ -148,15 +152,45 @@ impl Name {
     {
         self.segments().len()
     }
+}
 
-    /// Which of two names comes first: by root bytes, then by segments as numbers, a beginning before what goes
-    /// on.
-    pub fn compare(&self, other: &Name) -> Ordering
-        ensures { result ≡ name_order self.now other.now }
-    {
-        let _mine = &self.root;
-        let _other = &other.root;
-        self.cmp(other)
+impl PartialEq for Name {
+    ghost eq = { is_same_name };
+
+    ghost laws = { Prim.search (comparing, rules) };
+
+    fn eq(&self, other: &Name) -> bool {
+        self.root() == other.root() && self.segments() == other.segments()
+    }
+}
+
+impl Eq for Name {
+    ghost laws = { Prim.search (comparing, rules) };
+}
+
+impl Ord for Name {
+    ghost cmp = { name_order };
+
+    ghost total = { Prim.search (comparing, rules) };
+
+    ghost matches_partial_cmp = { Prim.search (comparing, rules) };
+
+    ghost matches_eq = { Prim.search (comparing, rules) };
+
+    fn cmp(&self, other: &Name) -> Ordering {
+        self.root()
+            .cmp(other.root())
+            .then(self.segments().cmp(other.segments()))
+    }
+}
+
+impl PartialOrd for Name {
+    ghost partial_cmp = { as_partial_cmp name_order };
+
+    ghost laws = { partial_order_from_own_ties (Prim.search (comparing, rules)) (Prim.search (comparing, rules)) };
+
+    fn partial_cmp(&self, other: &Name) -> Option<Ordering> {
+        Some(self.cmp(other))
     }
 }
 

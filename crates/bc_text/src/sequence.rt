@@ -88,6 +88,18 @@ impl<T: Clone> Clone for Sequence<T> {
     }
 }
 
+impl<T: PartialEq> PartialEq for Sequence<T> {
+    ghost use Rattle.std.specs.Cmp.Lexicographic.{pointwise, lists_per};
+
+    ghost eq = { λ s t. pointwise T.eq s t };
+
+    ghost laws = { lists_per T.laws };
+
+    fn eq(&self, other: &Self) -> bool {
+        self.as_slice() == other.as_slice()
+    }
+}
+
 /// A list of at most `N` items as a rule, which then lie in the value itself.
 #[derive(Drop)]
 pub struct ShortSequence<T, const N: usize> {
@@ -139,5 +151,17 @@ impl<T: MadeWith<Global> + Clone, const N: usize> Clone for ShortSequence<T, N> 
         Ok(ShortSequence {
             items: self.items.clone()?,
         })
+    }
+}
+
+impl<T: PartialEq, const N: usize> PartialEq for ShortSequence<T, N> {
+    ghost use Rattle.std.specs.Cmp.Lexicographic.{pointwise, lists_per};
+
+    ghost eq = { λ s t. pointwise T.eq s t };
+
+    ghost laws = { lists_per T.laws };
+
+    fn eq(&self, other: &Self) -> bool {
+        self.as_slice() == other.as_slice()
     }
 }

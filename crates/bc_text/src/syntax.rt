@@ -37,7 +37,7 @@ pub enum Base {
 }
 
 /// A type: its references, the outermost first, and what they lead to.
-#[derive(Clone, Drop)]
+#[derive(Clone, Drop, PartialEq)]
 pub struct Ty {
     pub references: ShortSequence<Reference, 7>,
     pub base: Base,
@@ -52,14 +52,14 @@ pub enum Projection {
 }
 
 /// A local, and the projections that lead on from it.
-#[derive(Clone, Drop)]
+#[derive(Clone, Drop, PartialEq)]
 pub struct Place {
     pub local: u8,
     pub projections: ShortSequence<Projection, 8>,
 }
 
 /// What an rvalue or a terminator reads.
-#[derive(Clone, Drop)]
+#[derive(Clone, Drop, PartialEq)]
 pub enum Operand {
     Copy(Place),
     Move(Place),
@@ -67,14 +67,14 @@ pub enum Operand {
 }
 
 /// `&R P` or `&R mut P`.
-#[derive(Clone, Drop)]
+#[derive(Clone, Drop, PartialEq)]
 pub struct Borrow {
     pub reference: Reference,
     pub place: Place,
 }
 
 /// What an assignment computes.
-#[derive(Clone, Drop)]
+#[derive(Clone, Drop, PartialEq)]
 pub enum Rvalue {
     Use(Operand),
     Borrow(Borrow),
@@ -82,14 +82,14 @@ pub enum Rvalue {
 }
 
 /// `P = rvalue`.
-#[derive(Clone, Drop)]
+#[derive(Clone, Drop, PartialEq)]
 pub struct Assignment {
     pub target: Place,
     pub value: Rvalue,
 }
 
 /// A point of a block that is not its last. `Dead` ends the storage of a local.
-#[derive(Clone, Drop)]
+#[derive(Clone, Drop, PartialEq)]
 pub enum Statement {
     Assign(Assignment),
     Dead(u8),
@@ -97,7 +97,7 @@ pub enum Statement {
 }
 
 /// `if operand then otherwise`, two labels.
-#[derive(Clone, Drop)]
+#[derive(Clone, Drop, PartialEq)]
 pub struct Condition {
     pub operand: Operand,
     pub then: u8,
@@ -105,7 +105,7 @@ pub struct Condition {
 }
 
 /// The last point of a block. Labels are numbers of blocks.
-#[derive(Clone, Drop)]
+#[derive(Clone, Drop, PartialEq)]
 pub enum Terminator {
     Goto(u8),
     If(Condition),
@@ -114,7 +114,7 @@ pub enum Terminator {
 }
 
 /// A block: its statements in order, and its terminator.
-#[derive(Clone, Drop)]
+#[derive(Clone, Drop, PartialEq)]
 pub struct Block {
     pub statements: Sequence<Statement>,
     pub terminator: Terminator,
@@ -128,7 +128,7 @@ pub struct Outlives {
 }
 
 /// The name of a declared region, without its `'`.
-#[derive(Clone, Drop)]
+#[derive(Clone, Drop, PartialEq)]
 pub struct RegionName {
     pub bytes: ShortSequence<u8, 16>,
 }
@@ -140,7 +140,7 @@ pub enum UnitKind {
 }
 
 /// What stands before a unit's body. The regions' numbers are 1 and up, in this order.
-#[derive(Clone, Drop)]
+#[derive(Clone, Drop, PartialEq)]
 pub struct Header {
     pub kind: UnitKind,
     pub regions: Sequence<RegionName>,
@@ -150,7 +150,7 @@ pub struct Header {
 }
 
 /// A header with its body. Local 0 has the result's type; then come the parameters, then the `let` locals.
-#[derive(Clone, Drop)]
+#[derive(Clone, Drop, PartialEq)]
 pub struct Body {
     pub header: Header,
     pub lets: Sequence<Ty>,

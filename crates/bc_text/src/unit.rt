@@ -8,7 +8,7 @@ use std::marker::Model;
 
 /// A body whose numbers are within their limits and whose regions are declared: at most 256 locals, 256 blocks
 /// (one at least) and 4,096 points, at most 15 declared regions, region variables up to 1,023.
-#[derive(Drop)]
+#[derive(Drop, PartialEq)]
 pub struct Unit {
     body: Body,
 }
@@ -22,6 +22,8 @@ impl Model for Unit {
     ghost view = { λ u. u.body };
 
     ghost invariant = { λ u. IsSized u.body };
+
+    ghost inverse = { λ body. record { body = body } };
 }
 
 impl Unit {

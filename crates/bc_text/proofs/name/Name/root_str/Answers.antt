@@ -1,4 +1,4 @@
-use Rattle.std.proofs.Common.{◌≡◌, List, ℕ, subst, sym}
+use Rattle.std.proofs.Common.{subst, sym}
 use Rattle.std.specs.Str.{IsUtf8}
 use Rattle.bc_text.proofs.Ascii.{root_is_text, no_fault}
 use Rattle.bc_text.proofs.name.Name.root_str.Goals as goal
