@@ -1,6 +1,7 @@
 //! The command `check`: a file cut into its sections, put and asked, and what is printed of it.
 #![tactic(auto)]
 
+mod asked;
 mod fault;
 mod file;
 mod input;
@@ -9,6 +10,7 @@ mod section;
 mod stop;
 
 pub use fault::{FaultKind, FileFault};
+pub use asked::find_asked;
 pub use file::{Put, read_puts};
 pub use print::write_report;
 pub use section::{Section, Sections};
