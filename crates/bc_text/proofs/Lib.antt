@@ -2,3 +2,16 @@ pub mod Equality
 pub mod Cells
 pub mod Segments
 pub mod Ascii
+pub mod Keywords
+pub mod Cuts
+pub mod Numbers
+pub mod Turns
+pub mod Begins
+pub mod Types
+pub mod Places
+pub mod Lists
+pub mod Statements
+pub mod Blocks
+pub mod Ends
+pub mod Fitting
+pub mod Units

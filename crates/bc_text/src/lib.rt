@@ -2,13 +2,20 @@
 #![tactic(auto)]
 
 mod bytes;
+mod cursor;
+mod fault;
 mod name;
+mod reader;
 mod sequence;
 mod sizes;
+mod symbol;
 mod syntax;
+mod token;
 mod unit;
 
+pub use fault::ReadFault;
 pub use name::Name;
+pub use reader::{MAX_TEXT, read_unit};
 pub use sequence::{Sequence, ShortSequence};
 pub use syntax::{
     Assignment, Base, Block, Body, Borrow, Condition, Header, Mutability, Operand, Outlives, Place,

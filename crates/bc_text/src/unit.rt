@@ -40,6 +40,14 @@ impl Unit {
         }
     }
 
+    /// The unit of a body that is known to be within the limits.
+    pub fn of_sized(body: Body) -> Unit
+        requires { IsSized body }
+        ensures { result ≡ body }
+    {
+        Unit { body }
+    }
+
     /// What the unit is made of.
     pub fn body(&self) -> &Body
         ensures value { result.now ≡ self.now }

@@ -1,0 +1,116 @@
+-- Tokens, and the tokens of a text.
+use Rattle.std.specs.Prelude.{ℕ, zero, suc, ◌+◌, ◌-◌, Bool, not, ◌||◌, ◌&&◌, if◌then◌else◌, ◌==◌, nat_le, List, [], ◌∷◌, length, drop, slice_index, Option, Some, None, fold, ◌*◌}
+use Rattle.std.specs.Char.{is_ascii_digit, is_ascii_alphabetic, is_ascii_lowercase}
+use Rattle.std.specs.List.{list_all}
+use Rattle.bc_text.specs.declared.symbol.Symbol.{Symbol}
+use Rattle.bc_text.specs.declared.symbol.Symbol.TheVariants.{Arrow}
+use Rattle.bc_text.specs.declared.token.Numbering.{Numbering}
+use Rattle.bc_text.specs.declared.token.Numbering.TheVariants as numberings
+use Rattle.bc_text.specs.declared.token.Kind.{Kind}
+use Rattle.bc_text.specs.declared.token.Kind.TheVariants as kinds
+use Rattle.bc_text.specs.Bytes.{is_run_byte, run}
+use Rattle.bc_text.specs.Symbol.{keyword_of, sign_of}
+
+-- a token, as the grammar sees it
+pub data Token : Type 0 where
+  -- a keyword or a sign
+  Fixed : Symbol → Token
+  -- a number, local, label or region variable, and its number
+  Numbered : Numbering → ℕ → Token
+  -- a word that is no keyword
+  Word : List ℕ → Token
+  -- a region, by its name
+  Region : List ℕ → Token
+  -- a byte that is not ASCII, where a token is to begin
+  NotAscii : Token
+  -- no token
+  Stray : Token
+  -- the end of the text
+  End : Token
+
+-- a token, and the place where it begins
+pub record Placed : Type 0 where
+  pub token : Token
+  pub at : ℕ
+
+abbrev pub placed : Token → ℕ → Placed
+placed token at = record { token = token; at = at }
+
+abbrev pub Tokens : Type 0
+Tokens = List Placed
+
+-- ---- bytes
+
+abbrev pub is_blank : ℕ → Bool
+is_blank b = b == 32 || b == 10
+
+abbrev pub is_region_byte : ℕ → Bool
+is_region_byte b = is_ascii_lowercase b || is_ascii_digit b || b == 95
+
+-- ---- runs
+
+-- 0, or digits without a leading zero
+unfoldable pub is_number : List ℕ → Bool
+is_number digits = list_all is_ascii_digit digits && nat_le 1 (length digits) && (length digits == 1 || not (slice_index digits 0 == 48))
+
+-- what digits count
+abbrev pub value : List ℕ → ℕ
+value digits = fold (λ n b. n * 10 + (b - 48)) 0 digits
+
+unfoldable pub is_region_name : List ℕ → Bool
+is_region_name name = is_ascii_lowercase (slice_index name 0) && list_all is_region_byte name
+
+abbrev pub word : List ℕ → Option Symbol → Token
+word name (Some keyword) = Fixed keyword
+word name None = Word name
+
+-- the token that a run is
+unfoldable pub run_token : List ℕ → Token
+run_token r =
+    if is_number r then Numbered numberings.Number (value r)
+    else (if slice_index r 0 == 95 && is_number (drop 1 r) then Numbered numberings.Local (value (drop 1 r))
+    else (if slice_index r 0 == 98 && slice_index r 1 == 98 && is_number (drop 2 r) then Numbered numberings.Label (value (drop 2 r))
+    else (if is_ascii_alphabetic (slice_index r 0) then word r (keyword_of r)
+    else Stray)))
+
+-- the token behind a `'`, and behind `'?`
+unfoldable pub region_token : List ℕ → Token
+region_token name = if is_region_name name then Region name else Stray
+
+unfoldable pub variable_token : List ℕ → Token
+variable_token digits = if is_number digits then Numbered numberings.Variable (value digits) else Stray
+
+abbrev pub sign_token : Option Symbol → Token
+sign_token (Some sign) = Fixed sign
+sign_token None = Stray
+
+-- ---- texts
+
+-- the token at the front of a text, and how many bytes it has
+unfoldable pub lexeme : List ℕ → Token × ℕ
+lexeme bytes =
+    if is_run_byte (slice_index bytes 0) then (run_token (run bytes), length (run bytes))
+    else (if slice_index bytes 0 == 39 && slice_index bytes 1 == 63 then (variable_token (run (drop 2 bytes)), 2 + length (run (drop 2 bytes)))
+    else (if slice_index bytes 0 == 39 then (region_token (run (drop 1 bytes)), 1 + length (run (drop 1 bytes)))
+    else (if slice_index bytes 0 == 45 && slice_index bytes 1 == 62 then (Fixed Arrow, 2)
+    else (if nat_le 128 (slice_index bytes 0) then (NotAscii, 1)
+    else (sign_token (sign_of (slice_index bytes 0)), 1)))))
+
+-- The tokens of the bytes from place `at` on, of which the first `inside` belong to a token that began before.
+unfoldable pub tokens : (inside at : ℕ) → List ℕ → Tokens
+tokens inside at [] = placed End at ∷ []
+tokens (suc inside) at (b ∷ bytes) = tokens inside (at + 1) bytes
+tokens zero at (b ∷ bytes) =
+    if is_blank b then tokens 0 (at + 1) bytes
+    else placed (lexeme (b ∷ bytes)).0 at ∷ tokens ((lexeme (b ∷ bytes)).1 - 1) (at + 1) bytes
+
+-- ---- a token in the program
+
+abbrev pub shown : Kind → List ℕ → Token
+shown (kinds.Fixed symbol) text = Fixed symbol
+shown (kinds.Numbered numbering) text = Numbered numbering (value text)
+shown kinds.Word text = Word text
+shown kinds.Region text = Region text
+shown kinds.NotAscii text = NotAscii
+shown kinds.Stray text = Stray
+shown kinds.End text = End

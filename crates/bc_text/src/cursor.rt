@@ -1,0 +1,249 @@
+//! A cursor over the tokens of a text, which cuts each as it is reached.
+ghost use Rattle.std.specs.Prelude.{◌≡◌, ◌≢◌, ◌≤◌, ◌<◌, ◌+◌, ◌^◌, ℕ, length, Some, None, nat_le, true, IsSome, if◌then◌else◌, IfOk, MatchOption, take_while};
+ghost use Rattle.bc_text.specs.Token.{End, tokens, value, is_blank};
+ghost use Rattle.bc_text.specs.Parser as spec;
+ghost use Rattle.bc_text.specs.Parser.{Reads, ReadsAs, first, after};
+
+use crate::bytes::from;
+use crate::fault::Refusal;
+use crate::symbol::{Symbol, same};
+use crate::token::{Kind, Numbering, Token, lexeme};
+use std::marker::Model;
+
+/// The tokens of a text from one of them on.
+#[derive(Drop)]
+pub struct Cursor<'a> {
+    token: Token<'a>,
+    at: usize,
+    /// The text after the token, and its place.
+    rest: &'a [u8],
+    end: usize,
+}
+
+impl<'a> Model for Cursor<'a> {
+    ghost use Rattle.bc_text.specs.Token.{Tokens};
+
+    ghost Value = { Tokens };
+
+    ghost use Rattle.bc_text.specs.Cursor.{tokens_ahead, PlacesFit};
+
+    ghost view = { tokens_ahead };
+
+    ghost invariant = { PlacesFit };
+}
+
+fn blanks(text: &[u8]) -> usize
+    ensures count { result ≡ length (take_while is_blank text.now) }
+    ensures within { result ≤ length text.now }
+{
+    text.iter()
+        .take_while(|byte| **byte == b' ' || **byte == b'\n')
+        .count()
+}
+
+/// The number that digits spell, if it is within the limit.
+fn value_within(digits: &[u8], limit: u32) -> Option<u32>
+    ensures { result ≡ (if nat_le (value digits.now) limit then Some (value digits.now) else None) }
+{
+    let mut value = 0u64;
+    for byte in digits {
+        value = value * 10 + u64::from(byte.saturating_sub(b'0'));
+        if value > u64::from(limit) {
+            return None;
+        }
+    }
+    Some(value as u32)
+}
+
+#[tactic(auto, unfolding(crate::specs::Parser::same_numbering))]
+fn same_numbering(a: Numbering, b: Numbering) -> bool
+    ensures { result ≡ spec.same_numbering a b }
+{
+    a == b
+}
+
+impl<'a> Cursor<'a> {
+    /// The tokens of a text that lies at a place.
+    pub fn new(text: &'a [u8], at: usize) -> Cursor<'a>
+        requires { at + length text.now < 2 ^ 64 }
+        ensures { result ≡ tokens 0 at text.now }
+    {
+        let blanks = blanks(text);
+        let text = from(text, blanks);
+        let at = at + blanks;
+        if text.is_empty() {
+            return Cursor {
+                token: Token {
+                    kind: Kind::End,
+                    text,
+                },
+                at,
+                rest: text,
+                end: at,
+            };
+        }
+        let (token, len) = lexeme(text);
+        Cursor {
+            token,
+            at,
+            rest: from(text, len),
+            end: at + len,
+        }
+    }
+
+    /// Where the next token begins.
+    pub fn position(&self) -> usize
+        ensures { result ≡ spec.position self.now }
+    {
+        self.at
+    }
+
+    /// The fault of the next token, where the grammar does not allow it.
+    #[tactic(auto, unfolding(crate::specs::Parser::fault))]
+    pub fn fault(&self) -> Refusal
+        ensures { result ≡ spec.fault self.now }
+    {
+        let at = self.at;
+        match self.token.kind {
+            Kind::NotAscii => Refusal::NotAscii { at },
+            Kind::Stray => Refusal::Token { at },
+            Kind::Fixed(_) | Kind::Numbered(_) | Kind::Word | Kind::Region | Kind::End => {
+                Refusal::Grammar { at }
+            }
+        }
+    }
+
+    /// Goes past the next token.
+    pub fn take(&mut self)
+        requires { (first self.old).token ≢ End }
+        ensures { self.new ≡ after self.old }
+    {
+        *self = Cursor::new(self.rest, self.end);
+    }
+
+    #[tactic(auto, unfolding(crate::specs::Parser::sees))]
+    pub fn sees(&self, symbol: Symbol) -> bool
+        ensures value { result ≡ spec.sees symbol self.now }
+        ensures not_end { result ≡ true → (first self.now).token ≢ End }
+    {
+        match self.token.kind {
+            Kind::Fixed(found) => same(found, symbol),
+            Kind::NotAscii
+            | Kind::Stray
+            | Kind::Numbered(_)
+            | Kind::Word
+            | Kind::Region
+            | Kind::End => false,
+        }
+    }
+
+    /// Takes this symbol, if it comes next.
+    #[tactic(auto, unfolding(crate::specs::Parser::after_symbol))]
+    pub fn eat(&mut self, symbol: Symbol) -> bool
+        ensures found { result ≡ spec.sees symbol self.old }
+        ensures after { self.new ≡ spec.after_symbol symbol self.old }
+    {
+        let found = self.sees(symbol);
+        if found {
+            self.take();
+        }
+        found
+    }
+
+    #[tactic(auto, unfolding(crate::specs::Parser::expect))]
+    pub fn expect(&mut self, symbol: Symbol) -> Result<(), Refusal>
+        ensures { Reads (spec.expect symbol self.old) result self.new }
+    {
+        if !self.sees(symbol) {
+            return Err(self.fault());
+        }
+        self.take();
+        Ok(())
+    }
+
+    fn digits(&self, numbering: Numbering) -> Option<&'a [u8]>
+        ensures not_end { IsSome result → (first self.now).token ≢ End }
+        ensures value { MatchOption result (spec.number_in numbering (first self.now).token ≡ None) (λ digits. spec.number_in numbering (first self.now).token ≡ Some (value digits.now)) }
+    {
+        match self.token.kind {
+            Kind::Numbered(found) if same_numbering(found, numbering) => Some(self.token.text),
+            Kind::Numbered(_)
+            | Kind::Fixed(_)
+            | Kind::NotAscii
+            | Kind::Stray
+            | Kind::Word
+            | Kind::Region
+            | Kind::End => None,
+        }
+    }
+
+    /// A number, a local, a label or a variable, by its number.
+    #[tactic(auto, unfolding(crate::specs::Parser::numbered))]
+    pub fn numbered(&mut self, numbering: Numbering, limit: u32) -> Result<u32, Refusal>
+        ensures reads { Reads (spec.numbered numbering limit self.old) result self.new }
+        ensures within { IfOk result (λ n. n ≤ limit) }
+    {
+        let Some(digits) = self.digits(numbering) else {
+            return Err(self.fault());
+        };
+        let Some(value) = value_within(digits, limit) else {
+            return Err(Refusal::Limit { at: self.at });
+        };
+        self.take();
+        Ok(value)
+    }
+
+    /// Whether the next token is of this numbering.
+    #[tactic(auto, unfolding(crate::specs::Parser::sees_numbered))]
+    pub fn sees_numbered(&self, numbering: Numbering) -> bool
+        ensures { result ≡ spec.sees_numbered numbering self.now }
+    {
+        self.digits(numbering).is_some()
+    }
+
+    fn name(&self) -> Option<&'a [u8]>
+        ensures not_end { IsSome result → (first self.now).token ≢ End }
+        ensures value { MatchOption result (spec.region_in (first self.now).token ≡ None) (λ name. spec.region_in (first self.now).token ≡ Some name.now) }
+    {
+        match self.token.kind {
+            Kind::Region => Some(self.token.text),
+            Kind::Numbered(_)
+            | Kind::Fixed(_)
+            | Kind::NotAscii
+            | Kind::Stray
+            | Kind::Word
+            | Kind::End => None,
+        }
+    }
+
+    /// A region, by its name.
+    #[tactic(auto, unfolding(crate::specs::Parser::region_name))]
+    pub fn region_name(&mut self) -> Result<&'a [u8], Refusal>
+        ensures { ReadsAs (λ name. name.now) (spec.region_name self.old) result self.new }
+    {
+        let Some(name) = self.name() else {
+            return Err(self.fault());
+        };
+        if name.len() > 16 {
+            return Err(Refusal::Limit { at: self.at });
+        }
+        self.take();
+        Ok(name)
+    }
+
+    /// That nothing more comes.
+    #[tactic(auto, unfolding(crate::specs::Parser::at_end))]
+    pub fn at_end(&self) -> Result<(), Refusal>
+        ensures { Reads (spec.at_end self.now) result self.now }
+    {
+        match self.token.kind {
+            Kind::End => Ok(()),
+            Kind::Numbered(_)
+            | Kind::Fixed(_)
+            | Kind::NotAscii
+            | Kind::Stray
+            | Kind::Word
+            | Kind::Region => Err(self.fault()),
+        }
+    }
+}
