@@ -82,8 +82,8 @@ gathered_more puts i put names new h below at root is sorted = record {
   ascending = sorted;
   put = subst (λ ns. All (IsRootPut puts) ns) (sym is) (All-insert_key name_order put.name (IsRootPut puts) names h.put (root, name_at puts i put below at));
   every = below_more (λ k. (d : Placed) → (get_or puts k d).name.segments ≡ [] → Contains new (get_or puts k d).name) i
-    (λ k less d e. subst (λ ns. Contains ns (get_or puts k d).name) (sym is) (stays_in name_order put.name (get_or puts k d).name names (h.every k less d e)))
-    (λ d e. subst (λ ns. Contains ns (get_or puts i d).name) (sym is) (subst (λ (p : Placed). Contains (insert_key name_order names put.name) p.name) (sym (at d)) (put_in name_order name_exact put.name names)));
+      (λ k less d e. subst (λ ns. Contains ns (get_or puts k d).name) (sym is) (stays_in name_order put.name (get_or puts k d).name names (h.every k less d e)))
+      (λ d e. subst (λ ns. Contains ns (get_or puts i d).name) (sym is) (subst (λ (p : Placed). Contains (insert_key name_order names put.name) p.name) (sym (at d)) (put_in name_order name_exact put.name names)));
 }
 
 -- a name that is no root is left out
@@ -92,7 +92,7 @@ gathered_same puts i put names h at other = record {
   ascending = h.ascending;
   put = h.put;
   every = below_more (λ k. (d : Placed) → (get_or puts k d).name.segments ≡ [] → Contains names (get_or puts k d).name) i h.every
-    (λ d e. absurd (other (ap (λ (p : Placed). p.name.segments) (sym (at d)) ∙ e)));
+      (λ d e. absurd (other (ap (λ (p : Placed). p.name.segments) (sym (at d)) ∙ e)));
 }
 
 pub gathered_all : (puts : List Placed) (i : ℕ) (names : List NameParts) → AreGathered puts i names → length puts ≤ i → AreAsked puts names

@@ -1,7 +1,13 @@
 -- What is said where the command stops before its end, and its status.
-use Rattle.std.specs.Prelude.{ℕ, List, [], ◌++◌, codes}
+use Rattle.std.specs.Prelude.{ℕ, Bool, true, false, List, [], ◌++◌, codes}
 use Rattle.bc_check.specs.declared.stop.Stop.{Stop}
 use Rattle.bc_check.specs.declared.stop.Stop.TheVariants.{CannotRead, CannotWrite, CannotTell, NoMemory, File, TooManyCalls, HistoryFull, Foreign, Audit}
+use Rattle.bc_book.specs.declared.ledger.Refusal.{Refusal}
+use Rattle.bc_book.specs.declared.ledger.Refusal.TheVariants as refusals
+use Rattle.bc_share.specs.declared.db.OpenFault.{OpenFault}
+use Rattle.bc_share.specs.declared.db.OpenFault.TheVariants as open_faults
+use Rattle.bc_share.specs.declared.db.CloseFault.{CloseFault}
+use Rattle.bc_share.specs.declared.db.CloseFault.TheVariants as close_faults
 use Rattle.bc_check.specs.Faults.{message}
 use Rattle.bc_check.specs.Text.{line}
 
@@ -28,3 +34,28 @@ stop_status TooManyCalls = 3
 stop_status HistoryFull = 3
 stop_status Foreign = 3
 stop_status Audit = 3
+
+-- where the database refuses a call, is not opened, or is not closed well
+abbrev pub refusal_stop : Refusal → Stop
+refusal_stop refusals.NoMemory = NoMemory
+refusal_stop refusals.HistoryFull = HistoryFull
+
+abbrev pub open_stop : OpenFault → Stop
+open_stop open_faults.Range = TooManyCalls
+open_stop open_faults.NoMemory = NoMemory
+
+abbrev pub close_stop : CloseFault → Stop
+close_stop close_faults.Foreign = Foreign
+close_stop (close_faults.Audit history) = Audit
+
+-- the command stopped at a call, or at the opening or closing of the database
+abbrev pub is_of_calls : Stop → Bool
+is_of_calls CannotRead = false
+is_of_calls CannotWrite = true
+is_of_calls CannotTell = true
+is_of_calls NoMemory = true
+is_of_calls (File fault) = false
+is_of_calls TooManyCalls = true
+is_of_calls HistoryFull = true
+is_of_calls Foreign = true
+is_of_calls Audit = true

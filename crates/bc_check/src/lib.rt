@@ -2,6 +2,7 @@
 #![tactic(auto)]
 
 mod asked;
+mod command;
 mod fault;
 mod file;
 mod input;
@@ -9,8 +10,8 @@ mod print;
 mod section;
 mod stop;
 
+pub use command::check_over;
 pub use fault::{FaultKind, FileFault};
-pub use asked::find_asked;
 pub use file::{Put, read_puts};
 pub use print::write_report;
 pub use section::{Section, Sections};

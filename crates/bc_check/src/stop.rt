@@ -1,9 +1,11 @@
 //! Why the command stops before its end.
 ghost use Rattle.std.specs.Prelude.{◌≡◌, ◌≤◌, OnOk};
 ghost use Rattle.std.specs.Io.KnownBytes.{Appends};
-ghost use Rattle.bc_check.specs.Stops.{last_line, stop_status};
+ghost use Rattle.bc_check.specs.Stops.{last_line, stop_status, refusal_stop, open_stop, close_stop};
 
 use crate::FileFault;
+use bc_book::Refusal;
+use bc_share::{CloseFault, OpenFault};
 use std::alloc::{AllocError, AllocFailed};
 use std::io;
 use std::io::Write;
@@ -48,6 +50,39 @@ impl<T: Drop> From<AllocFailed<T>> for Stop {
 
     fn from(_error: AllocFailed<T>) -> Self {
         Stop::NoMemory
+    }
+}
+
+impl From<Refusal> for Stop {
+    ghost from_gives = { λ refusal stop. stop ≡ refusal_stop refusal };
+
+    fn from(refusal: Refusal) -> Self {
+        match refusal {
+            Refusal::NoMemory => Stop::NoMemory,
+            Refusal::HistoryFull => Stop::HistoryFull,
+        }
+    }
+}
+
+impl From<OpenFault> for Stop {
+    ghost from_gives = { λ fault stop. stop ≡ open_stop fault };
+
+    fn from(fault: OpenFault) -> Self {
+        match fault {
+            OpenFault::Range => Stop::TooManyCalls,
+            OpenFault::NoMemory => Stop::NoMemory,
+        }
+    }
+}
+
+impl From<CloseFault> for Stop {
+    ghost from_gives = { λ fault stop. stop ≡ close_stop fault };
+
+    fn from(fault: CloseFault) -> Self {
+        match fault {
+            CloseFault::Foreign => Stop::Foreign,
+            CloseFault::Audit(_) => Stop::Audit,
+        }
     }
 }
 
