@@ -1,0 +1,3 @@
+pub mod Equality
+pub mod Histories
+pub mod Bodies

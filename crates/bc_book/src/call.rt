@@ -1,0 +1,67 @@
+//! Calls, their replies, and the entries of a history.
+ghost use Rattle.std.specs.Prelude.{◌≡◌, IsTrue, ◌↔◌, true};
+ghost use Rattle.bc_book.specs.Calls.{stores};
+
+use crate::shared::Shared;
+use bc_prov::Outcome;
+use bc_text::{Name, Unit};
+
+/// What a session asks for.
+#[derive(Drop, PartialEq)]
+pub enum Call {
+    Put(Name, Shared<Unit>),
+    Ask(Name),
+}
+
+/// The reply to a put: the body is new, or in place of another; or the name is new and 256 bodies are held; or
+/// the name is not one for such a unit. The last two store nothing.
+#[derive(Clone, Copy, Debug, PartialEq, Eq)]
+pub enum PutReply {
+    Added,
+    Replaced,
+    Full,
+    WrongKind,
+}
+
+impl PutReply {
+    /// Whether the put stored its body.
+    pub fn stores(self) -> bool
+        ensures { result ≡ stores self }
+    {
+        match self {
+            PutReply::Added | PutReply::Replaced => true,
+            PutReply::Full | PutReply::WrongKind => false,
+        }
+    }
+}
+
+/// The reply to a call of its kind.
+#[derive(Drop, PartialEq)]
+pub enum Reply {
+    Put(PutReply),
+    Outcome(Shared<Outcome>),
+}
+
+/// A call with its reply.
+#[derive(Drop, PartialEq)]
+pub struct Event {
+    pub call: Call,
+    pub reply: Reply,
+}
+
+/// An event of a session, and how many events that session had before it.
+#[derive(Drop)]
+pub struct Entry {
+    pub session: u8,
+    pub number: u32,
+    pub event: Event,
+}
+
+impl Event {
+    /// Whether another event has the same call and the same reply.
+    pub fn is(&self, other: &Event) -> bool
+        ensures { IsTrue result ↔ (self.now ≡ other.now) }
+    {
+        self == other
+    }
+}

@@ -1,0 +1,234 @@
+//! The history of a database, and the bodies that it leaves.
+ghost use Rattle.std.specs.Prelude.{◌≡◌, ◌↔◌, ◌+◌, ◌<◌, ◌≤◌, ◌^◌, [], ◌∷◌, ◌++◌, length, is_some, IsSome, IfOk, OnOk, OnErr, IfErr, IsTrue, vec_capacity, vec_len};
+ghost use Rattle.std.specs.Option.{option_copied};
+ghost use Rattle.std.specs.BTreeMap.{btree_map_len, get};
+ghost use Rattle.bc_text.specs.Names.{name_order};
+ghost use Rattle.bc_prov.specs.Outcome.{IsOutcome};
+ghost use Rattle.bc_book.specs.Calls.{IsLegal, IsPutReply, Suits, after, count_of, next};
+ghost use Rattle.bc_book.specs.Ledgers.{Appends, AreCounts, state_of};
+
+use crate::call::{Call, Entry, Event, PutReply, Reply};
+use crate::shared::Shared;
+use bc_prov::{Outcome, outcome_of};
+use bc_text::{Name, Unit, UnitKind};
+use std::alloc::{AllocError, Global};
+use std::collections::BTreeMap;
+use std::marker::Model;
+use std::sync::Arc;
+use thiserror::Error;
+
+/// How many bodies may be held.
+pub const MOST_BODIES: usize = 256;
+
+/// How many sessions a database may have.
+pub const MOST_SESSIONS: usize = 16;
+
+/// Why a call was refused: memory was refused, or the history is as long as it may be. The call changed nothing.
+#[derive(Clone, Copy, Debug, PartialEq, Eq, Error)]
+pub enum Refusal {
+    #[error("no memory")]
+    NoMemory,
+    #[error("history full")]
+    HistoryFull,
+}
+
+impl From<AllocError> for Refusal {
+    ghost use Rattle.bc_book.specs.declared.ledger.Refusal.TheVariants.{NoMemory};
+
+    ghost from_gives = { λ _ refusal. refusal ≡ NoMemory };
+
+    fn from(_error: AllocError) -> Refusal {
+        Refusal::NoMemory
+    }
+}
+
+/// The bodies that are held, by their names.
+type Bodies = BTreeMap<Name, Shared<Unit>>;
+
+/// A legal history, which may have so many entries, and the bodies that it leaves.
+#[derive(Drop)]
+pub struct Ledger {
+    capacity: u32,
+    history: Vec<Entry>,
+    counts: [u32; MOST_SESSIONS],
+    bodies: Bodies,
+}
+
+impl Model for Ledger {
+    ghost use Rattle.std.specs.Prelude.{◌-◌, vec_capacity};
+    ghost use Rattle.bc_book.specs.Ledgers.{LedgerView, IsKept};
+
+    ghost Value = { LedgerView };
+
+    ghost view = { λ l. record { capacity = l.capacity; entries = l.history.items; room = vec_capacity l.history - l.history.len } };
+
+    ghost invariant = { λ l. IsKept l.capacity l.history.items l.counts l.bodies };
+}
+
+impl Ledger {
+    /// An empty history. It takes no memory.
+    pub fn new(alloc: Global, capacity: u32) -> Ledger
+        ensures { (result.capacity ≡ capacity) × (result.entries ≡ []) }
+    {
+        Ledger {
+            capacity,
+            history: Vec::new(alloc),
+            counts: [0; MOST_SESSIONS],
+            bodies: BTreeMap::new(alloc),
+        }
+    }
+
+    /// Makes room for one entry. `HistoryFull` exactly where the history is as long as it may be.
+    pub fn reserve(&mut self) -> Result<(), Refusal>
+        ensures same { (self.new.capacity ≡ self.old.capacity) × (self.new.entries ≡ self.old.entries) }
+        ensures room { OnOk result (0 < self.new.room) }
+        ensures below { OnOk result (length self.old.entries < self.old.capacity) }
+        ensures full { IfErr result (λ r. r ≡ Refusal.HistoryFull ↔ length self.old.entries ≡ self.old.capacity) }
+    {
+        if self.history.len() == self.capacity as usize {
+            return Err(Refusal::HistoryFull);
+        }
+        match self.history.reserve(1) {
+            Ok(()) => Ok(()),
+            Err(_) => Err(Refusal::NoMemory),
+        }
+    }
+
+    /// Enters a session's put, with the reply that the bodies held give it. `AllocError` only where memory was
+    /// refused; then nothing has changed.
+    pub fn put(
+        &mut self,
+        session: u8,
+        name: Name,
+        unit: Shared<Unit>,
+    ) -> Result<PutReply, AllocError>
+        requires session { session < 16 }
+        requires room { 0 < self.old.room }
+        requires below { length self.old.entries < self.old.capacity }
+        ensures ok { IfOk result (λ r. Appends session (Call.Put name unit) (Reply.Put r) self.old self.new) }
+        ensures err { OnErr result ((self.new.capacity ≡ self.old.capacity) × (self.new.entries ≡ self.old.entries)) }
+    {
+        let reply = put_reply(&self.bodies, &name, unit.get());
+        store(&mut self.bodies, name, &unit, reply)?;
+        let event = Event {
+            call: Call::Put(name, unit),
+            reply: Reply::Put(reply),
+        };
+        enter(&mut self.history, &mut self.counts, session, event);
+        Ok(reply)
+    }
+
+    /// The outcome of a name. `AllocError` only where memory was refused.
+    pub fn outcome(&self, alloc: Global, name: &Name) -> Result<Shared<Outcome>, AllocError>
+        ensures { IfOk result (λ outcome. IsOutcome (after self.now.entries name.now) name.now outcome) }
+    {
+        let outcome = outcome_of(alloc, name, held_unit(&self.bodies, name))?;
+        match Arc::new(alloc, outcome) {
+            Ok(outcome) => Ok(Shared::new(outcome)),
+            Err(_) => Err(AllocError),
+        }
+    }
+
+    /// Enters a session's Ask, with its outcome.
+    pub fn ask(&mut self, session: u8, name: Name, outcome: Shared<Outcome>)
+        requires session { session < 16 }
+        requires room { 0 < self.old.room }
+        requires below { length self.old.entries < self.old.capacity }
+        requires outcome { IsOutcome (after self.old.entries name) name outcome }
+        ensures { Appends session (Call.Ask name) (Reply.Outcome outcome) self.old self.new }
+    {
+        let event = Event {
+            call: Call::Ask(name),
+            reply: Reply::Outcome(outcome),
+        };
+        enter(&mut self.history, &mut self.counts, session, event);
+    }
+
+    /// The history, taken out.
+    pub fn into_history(self) -> Vec<Entry>
+        ensures entries { result.items ≡ self.entries }
+        ensures legal { IsLegal self.entries }
+    {
+        self.history
+    }
+}
+
+// Whether a unit of this kind may have the name.
+fn suits(kind: UnitKind, name: &Name) -> bool
+    ensures { IsTrue result ↔ Suits kind name.now }
+{
+    match kind {
+        UnitKind::Function => name.segments().is_empty(),
+    }
+}
+
+// The reply to a put, where so many bodies are held.
+fn put_reply(bodies: &Bodies, name: &Name, unit: &Unit) -> PutReply
+    requires { btree_map_len bodies.now ≤ 256 }
+    ensures reply { IsPutReply (state_of bodies.now) name.now unit.now result }
+    ensures few { result ≡ PutReply.Added → btree_map_len bodies.now < 256 }
+{
+    if !suits(unit.body().header.kind, name) {
+        return PutReply::WrongKind;
+    }
+    let count = bodies.len();
+    if bodies.contains_key(name) {
+        PutReply::Replaced
+    } else if count < MOST_BODIES {
+        PutReply::Added
+    } else {
+        PutReply::Full
+    }
+}
+
+// Stores the unit of a put, where the reply says so.
+fn store(
+    bodies: &mut Bodies,
+    name: Name,
+    unit: &Shared<Unit>,
+    reply: PutReply,
+) -> Result<(), AllocError>
+    requires few { btree_map_len bodies.old ≤ 256 }
+    requires reply { IsPutReply (state_of bodies.old) name unit.now reply }
+    requires added { reply ≡ PutReply.Added → btree_map_len bodies.old < 256 }
+    ensures ok { OnOk result ((other : _) → state_of bodies.new other ≡ next (state_of bodies.old) (Call.Put name unit.now) (Reply.Put reply) other) }
+    ensures few { btree_map_len bodies.new ≤ 256 }
+    ensures err { OnErr result ((other : _) → state_of bodies.new other ≡ state_of bodies.old other) }
+{
+    if !reply.stores() {
+        return Ok(());
+    }
+    let unit = unit.clone()?;
+    match bodies.insert(name, unit) {
+        Ok(_) => Ok(()),
+        Err(_) => Err(AllocError),
+    }
+}
+
+// The unit that a name holds, if there is one.
+fn held_unit<'a>(bodies: &'a Bodies, name: &Name) -> Option<&'a Unit>
+    ensures { option_copied result ≡ state_of bodies.now name.now }
+{
+    match bodies.get(name) {
+        Some(unit) => Some(unit.get()),
+        None => None,
+    }
+}
+
+// Adds a session's event to a history that has room for it.
+fn enter(history: &mut Vec<Entry>, counts: &mut [u32; MOST_SESSIONS], session: u8, event: Event)
+    requires session { session < 16 }
+    requires room { vec_len history.old < vec_capacity history.old }
+    requires short { length history.old.items + 1 < 2 ^ 32 }
+    requires counts { AreCounts counts.old history.old.items }
+    ensures entries { history.new.items ≡ history.old.items ++ record { session = session; number = count_of session history.old.items; event = event } ∷ [] }
+    ensures counts { AreCounts counts.new history.new.items }
+{
+    let number = counts[usize::from(session)];
+    counts[usize::from(session)] = number + 1;
+    history.push_reserved(Entry {
+        session,
+        number,
+        event,
+    });
+}

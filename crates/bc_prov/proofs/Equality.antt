@@ -1,0 +1,55 @@
+-- `==` on outcomes decides `≡`.
+use Rattle.std.proofs.Common.{◌≡◌, false, true≢false, refl, sym, ap}
+use Rattle.std.specs.Bool.{Decides}
+use Rattle.std.proofs.lemmas.Bool.Decides.{Decides-and, Decides-like, Decides-eqb}
+use Rattle.std.proofs.lemmas.Slice.Eq.{slice_eq-Decides}
+use Rattle.bc_text.proofs.Equality.{name}
+use Rattle.bc_prov.specs.declared.outcome.Point.{Point}
+use Rattle.bc_prov.specs.declared.outcome.Where.{Where}
+use Rattle.bc_prov.specs.declared.outcome.Where.TheVariants as wheres
+use Rattle.bc_prov.specs.declared.outcome.BorrowError.{BorrowError}
+use Rattle.bc_prov.specs.declared.outcome.BorrowError.TheVariants as errors
+use Rattle.bc_prov.specs.declared.outcome.BodyErrors.{BodyErrors}
+use Rattle.bc_prov.specs.declared.outcome.Outcome.{Outcome}
+use Rattle.bc_prov.specs.declared.outcome.Outcome.TheVariants as outcomes
+use Rattle.bc_prov.specs.contracts.outcome.PointPartialEq.TheImpl as point_impl
+use Rattle.bc_prov.specs.contracts.outcome.WherePartialEq.TheImpl as place_impl
+use Rattle.bc_prov.specs.contracts.outcome.BorrowErrorPartialEq.TheImpl as error_impl
+use Rattle.bc_prov.specs.contracts.outcome.BodyErrorsPartialEq.TheImpl as body_impl
+use Rattle.bc_prov.specs.contracts.outcome.OutcomePartialEq.TheImpl as outcome_impl
+
+apart : {P : Type 0} → (P → ⊥) → Decides false P
+apart never = (λ f. absurd (true≢false (sym f)), λ p. absurd (never p))
+
+pub point : (a b : Point) → Decides ((point_impl.ghosts).eq a b) (a ≡ b)
+point a b =
+    Decides-like _ (λ p i. record { block = p.0 i; index = p.1 i }) (λ e. (ap (λ (r : Point). r.block) e, ap (λ (r : Point). r.index) e))
+    (Decides-and _ _ (Decides-eqb a.block b.block) (Decides-eqb a.index b.index))
+
+pub place : (a b : Where) → Decides ((place_impl.ghosts).eq a b) (a ≡ b)
+place wheres.Header wheres.Header = (λ _. refl, λ _. refl)
+place wheres.Header (wheres.At y) = apart (λ e. absurd (cc))
+place (wheres.At x) wheres.Header = apart (λ e. absurd (cc))
+place (wheres.At x) (wheres.At y) = Decides-like _ (λ p i. wheres.At (p i)) (λ e. cc) (point x y)
+
+pub error : (a b : BorrowError) → Decides ((error_impl.ghosts).eq a b) (a ≡ b)
+error (errors.Conflict x0 x1 x2) (errors.Conflict y0 y1 y2) = Decides-like _ (λ p i. errors.Conflict (p.0 i) (p.1.0 i) (p.1.1 i)) (λ e. (cc, (cc, cc))) (Decides-and _ _ (point x0 y0) (Decides-and _ _ (Decides-eqb x1 y1) (point x2 y2)))
+error (errors.Conflict x0 x1 x2) (errors.Lifetime y0 y1) = apart (λ e. absurd (cc))
+error (errors.Lifetime x0 x1) (errors.Conflict y0 y1 y2) = apart (λ e. absurd (cc))
+error (errors.Lifetime x0 x1) (errors.Lifetime y0 y1) = Decides-like _ (λ p i. errors.Lifetime (p.0 i) (p.1 i)) (λ e. (cc, cc)) (Decides-and _ _ (Decides-eqb x0 y0) (Decides-eqb x1 y1))
+
+pub body : (a b : BodyErrors) → Decides ((body_impl.ghosts).eq a b) (a ≡ b)
+body a b =
+    Decides-like _ (λ p i. record { name = p.0 i; errors = p.1 i }) (λ e. (ap (λ (r : BodyErrors). r.name) e, ap (λ (r : BodyErrors). r.errors) e))
+    (Decides-and _ _ (name a.name b.name) (slice_eq-Decides error a.errors b.errors _ refl))
+
+pub outcome : (a b : Outcome) → Decides ((outcome_impl.ghosts).eq a b) (a ≡ b)
+outcome outcomes.NoBody outcomes.NoBody = (λ _. refl, λ _. refl)
+outcome outcomes.NoBody (outcomes.Ill y0 y1) = apart (λ e. absurd (cc))
+outcome outcomes.NoBody (outcomes.Report y) = apart (λ e. absurd (cc))
+outcome (outcomes.Ill x0 x1) outcomes.NoBody = apart (λ e. absurd (cc))
+outcome (outcomes.Ill x0 x1) (outcomes.Ill y0 y1) = Decides-like _ (λ p i. outcomes.Ill (p.0 i) (p.1 i)) (λ e. (cc, cc)) (Decides-and _ _ (name x0 y0) (place x1 y1))
+outcome (outcomes.Ill x0 x1) (outcomes.Report y) = apart (λ e. absurd (cc))
+outcome (outcomes.Report x) outcomes.NoBody = apart (λ e. absurd (cc))
+outcome (outcomes.Report x) (outcomes.Ill y0 y1) = apart (λ e. absurd (cc))
+outcome (outcomes.Report x) (outcomes.Report y) = Decides-like _ (λ p i. outcomes.Report (p i)) (λ e. cc) (slice_eq-Decides body x y _ refl)

@@ -1,0 +1,11 @@
+//! The database: opened for its session, and closed with it, which gives the history of its calls.
+#![tactic(auto)]
+
+mod audit;
+mod db;
+mod session;
+#[cfg(test)]
+mod tests;
+
+pub use db::{CloseFault, Db, History, MOST_ENTRIES, OpenFault};
+pub use session::Session;

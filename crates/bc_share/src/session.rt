@@ -1,0 +1,130 @@
+//! What one session does, and its own list of that.
+ghost use Rattle.std.specs.Prelude.{◌≡◌, ◌↔◌, ◌<◌, [], length, IfOk, IfErr, OnOk, OnErr, vec_capacity, vec_len};
+ghost use Rattle.std.specs.Arc.{arc_value};
+ghost use Rattle.bc_book.specs.Calls.{IsLegal};
+ghost use Rattle.bc_share.specs.Sessions.{Tells, new_session};
+
+use bc_book::{Call, Entry, Event, Ledger, PutReply, Refusal, Reply, Shared};
+use bc_prov::Outcome;
+use bc_text::{Name, Unit};
+use std::alloc::Global;
+use std::marker::Model;
+use std::sync::Arc;
+
+/// One session of a database.
+#[derive(Drop)]
+pub struct Session {
+    alloc: Global,
+    tag: u64,
+    number: u8,
+    own: Vec<Event>,
+    ledger: Ledger,
+}
+
+impl Model for Session {
+    ghost use Rattle.std.specs.Prelude.{◌<◌};
+    ghost use Rattle.bc_share.specs.Sessions.{SessionView};
+
+    ghost Value = { SessionView };
+
+    ghost view = { λ s. record { tag = s.tag; number = s.number; own = s.own.items; capacity = s.ledger.capacity; entries = s.ledger.entries } };
+
+    ghost invariant = { λ s. s.number < 16 };
+}
+
+impl Session {
+    /// A session that has made no call, with a history that has no entry. It takes no memory.
+    pub(crate) fn new(alloc: Global, tag: u64, number: u8, capacity: u32) -> Session
+        requires { number < 16 }
+        ensures { result ≡ new_session tag number capacity }
+    {
+        Session {
+            alloc,
+            tag,
+            number,
+            own: Vec::new(alloc),
+            ledger: Ledger::new(alloc, capacity),
+        }
+    }
+
+    /// Stores a unit under a name.
+    ///
+    /// Replies `WrongKind` where the name is not one for such a unit, else `Full` where the name is new and 256
+    /// bodies are held, else `Replaced` or `Added` (own). Refused with `HistoryFull` exactly where the history has
+    /// as many entries as it may have, and with `NoMemory` only where memory was refused; the session and the
+    /// history are then as they were.
+    pub fn put(&mut self, name: Name, unit: Arc<Unit, Global>) -> Result<PutReply, Refusal>
+        ensures told { IfOk result (λ reply. Tells (Call.Put name (arc_value unit)) (Reply.Put reply) self.old self.new) }
+        ensures refused { OnErr result (self.new ≡ self.old) }
+        ensures full { IfErr result (λ r. r ≡ Refusal.HistoryFull ↔ length self.old.entries ≡ self.old.capacity) }
+    {
+        make_room(&mut self.ledger, &mut self.own)?;
+        let unit = Shared::new(unit);
+        let mine = unit.clone()?;
+        let reply = self.ledger.put(self.number, name, unit)?;
+        self.own.push_reserved(Event {
+            call: Call::Put(name, mine),
+            reply: Reply::Put(reply),
+        });
+        Ok(reply)
+    }
+
+    /// Whether the body under a name is borrow-correct now: the outcome of what the name holds.
+    ///
+    /// Refused with `HistoryFull` exactly where the history has as many entries as it may have, and with `NoMemory`
+    /// only where memory was refused; the session and the history are then as they were.
+    pub fn ask(&mut self, name: &Name) -> Result<Arc<Outcome, Global>, Refusal>
+        ensures told { IfOk result (λ outcome. Tells (Call.Ask name.now) (Reply.Outcome (arc_value outcome)) self.old self.new) }
+        ensures refused { OnErr result (self.new ≡ self.old) }
+        ensures full { IfErr result (λ r. r ≡ Refusal.HistoryFull ↔ length self.old.entries ≡ self.old.capacity) }
+    {
+        make_room(&mut self.ledger, &mut self.own)?;
+        let outcome = self.ledger.outcome(self.alloc, name)?;
+        let mine = outcome.clone()?;
+        let answer = outcome.clone()?;
+        self.ledger.ask(self.number, *name, outcome);
+        self.own.push_reserved(Event {
+            call: Call::Ask(*name),
+            reply: Reply::Outcome(mine),
+        });
+        Ok(answer.into_arc())
+    }
+
+    /// The tag of its database.
+    pub(crate) fn tag(&self) -> u64
+        ensures { result ≡ self.now.tag }
+    {
+        self.tag
+    }
+
+    /// Its number among the sessions of its database.
+    pub(crate) fn number(&self) -> u8
+        ensures { result ≡ self.now.number }
+    {
+        self.number
+    }
+
+    /// Its own list, and the history.
+    pub(crate) fn into_lists(self) -> (Vec<Event>, Vec<Entry>)
+        ensures own { result.0.items ≡ self.own }
+        ensures entries { result.1.items ≡ self.entries }
+        ensures legal { IsLegal self.entries }
+    {
+        (self.own, self.ledger.into_history())
+    }
+}
+
+// Makes room for one entry of a history and one event of an own list.
+fn make_room(ledger: &mut Ledger, own: &mut Vec<Event>) -> Result<(), Refusal>
+    ensures ledger { (ledger.new.capacity ≡ ledger.old.capacity) × (ledger.new.entries ≡ ledger.old.entries) }
+    ensures own { own.new.items ≡ own.old.items }
+    ensures room { OnOk result ((0 < ledger.new.room) × (vec_len own.new < vec_capacity own.new)) }
+    ensures below { OnOk result (length ledger.old.entries < ledger.old.capacity) }
+    ensures full { IfErr result (λ r. r ≡ Refusal.HistoryFull ↔ length ledger.old.entries ≡ ledger.old.capacity) }
+{
+    ledger.reserve()?;
+    match own.reserve(1) {
+        Ok(()) => Ok(()),
+        Err(_) => Err(Refusal::NoMemory),
+    }
+}
