@@ -15,7 +15,7 @@ use Rattle.bc_share.specs.Sessions.{SessionView, new_session}
 use Rattle.bc_share.specs.Closings.{IsOneHistory}
 use Rattle.bc_check.specs.declared.fault.FileFault.{FileFault}
 use Rattle.bc_check.specs.declared.stop.Stop.{Stop}
-use Rattle.bc_check.specs.declared.stop.Stop.TheVariants.{CannotRead, CannotWrite, CannotTell, NoMemory, File, TooManyCalls, HistoryFull, Foreign, Audit}
+use Rattle.bc_check.specs.declared.stop.Stop.TheVariants.{WrongUse, CannotRead, CannotWrite, CannotTell, NoMemory, File, TooManyCalls, HistoryFull, Foreign, Audit}
 use Rattle.bc_check.specs.Text.{line}
 use Rattle.bc_check.specs.Parts.{sections_of}
 use Rattle.bc_check.specs.Faults.{message}
@@ -114,6 +114,7 @@ ended_by_fault (Some file) o0 o1 e0 e1 e2 fault h said = (
 
 -- a command that stops below 3 found a fault of the file
 pub ended : (stop : Stop) (r : Result ℕ Stop) (known o0 o1 e0 e1 e2 : Option (List ℕ)) (name : List ℕ) → r ≡ Err stop → ((fault : FileFault) → r ≡ Err (File fault) → IfSome known (Fault o0 o1 e0 e1 fault)) → Appends e1 e2 (last_line name stop) → stop_status stop < 3 → IfSome known (End (stop_status stop) o0 o1 e0 e2)
+ended WrongUse r known o0 o1 e0 e1 e2 name e faults said low = absurd (omega (arith, low))
 ended CannotRead r known o0 o1 e0 e1 e2 name e faults said low = absurd (omega (arith, low))
 ended CannotWrite r known o0 o1 e0 e1 e2 name e faults said low = absurd (omega (arith, low))
 ended CannotTell r known o0 o1 e0 e1 e2 name e faults said low = absurd (omega (arith, low))

@@ -13,7 +13,7 @@ use Rattle.bc_check.specs.declared.fault.FaultKind.TheVariants.{BadHeader, TooLo
 use Rattle.bc_check.specs.declared.fault.FileFault.{FileFault}
 use Rattle.bc_check.specs.declared.file.Put.{Put}
 use Rattle.bc_check.specs.declared.stop.Stop.{Stop}
-use Rattle.bc_check.specs.declared.stop.Stop.TheVariants.{CannotRead, CannotWrite, CannotTell, NoMemory, File, TooManyCalls, HistoryFull, Foreign, Audit}
+use Rattle.bc_check.specs.declared.stop.Stop.TheVariants.{WrongUse, CannotRead, CannotWrite, CannotTell, NoMemory, File, TooManyCalls, HistoryFull, Foreign, Audit}
 use Rattle.bc_check.specs.Parts.{Part}
 
 -- a body under a name
@@ -75,6 +75,7 @@ abbrev pub GivesPut : Part → Result Put Stop → Type 0
 GivesPut section (Ok put) = IsPut section (seen put)
 GivesPut section (Err (File fault)) = (fault.line ≡ section.line) × IsFault section fault.kind
 GivesPut section (Err NoMemory) = Unit {0}
+GivesPut section (Err WrongUse) = ⊥
 GivesPut section (Err CannotRead) = ⊥
 GivesPut section (Err CannotWrite) = ⊥
 GivesPut section (Err CannotTell) = ⊥
@@ -88,6 +89,7 @@ abbrev pub GivesPuts : List Part → Result (Vec Put Global) Stop → Type 0
 GivesPuts sections (Ok puts) = ArePuts sections (map seen puts.items)
 GivesPuts sections (Err (File fault)) = IsFirstFault sections fault
 GivesPuts sections (Err NoMemory) = Unit {0}
+GivesPuts sections (Err WrongUse) = ⊥
 GivesPuts sections (Err CannotRead) = ⊥
 GivesPuts sections (Err CannotWrite) = ⊥
 GivesPuts sections (Err CannotTell) = ⊥

@@ -1,7 +1,7 @@
 -- What is said where the command stops before its end, and its status.
 use Rattle.std.specs.Prelude.{ℕ, Bool, true, false, List, [], ◌++◌, codes}
 use Rattle.bc_check.specs.declared.stop.Stop.{Stop}
-use Rattle.bc_check.specs.declared.stop.Stop.TheVariants.{CannotRead, CannotWrite, CannotTell, NoMemory, File, TooManyCalls, HistoryFull, Foreign, Audit}
+use Rattle.bc_check.specs.declared.stop.Stop.TheVariants.{WrongUse, CannotRead, CannotWrite, CannotTell, NoMemory, File, TooManyCalls, HistoryFull, Foreign, Audit}
 use Rattle.bc_book.specs.declared.ledger.Refusal.{Refusal}
 use Rattle.bc_book.specs.declared.ledger.Refusal.TheVariants as refusals
 use Rattle.bc_share.specs.declared.db.OpenFault.{OpenFault}
@@ -13,6 +13,7 @@ use Rattle.bc_check.specs.Text.{line}
 
 -- the last line on standard error
 abbrev pub last_line : List ℕ → Stop → List ℕ
+last_line file WrongUse = line (codes "wrong use")
 last_line file CannotRead = line (codes "cannot read " ++ file)
 last_line file CannotWrite = line (codes "cannot write")
 last_line file CannotTell = []
@@ -25,6 +26,7 @@ last_line file Audit = line (codes "close: audit")
 
 -- the exit status
 abbrev pub stop_status : Stop → ℕ
+stop_status WrongUse = 3
 stop_status CannotRead = 3
 stop_status CannotWrite = 3
 stop_status CannotTell = 3
@@ -50,6 +52,7 @@ close_stop (close_faults.Audit history) = Audit
 
 -- the command stopped at a call, or at the opening or closing of the database
 abbrev pub is_of_calls : Stop → Bool
+is_of_calls WrongUse = false
 is_of_calls CannotRead = false
 is_of_calls CannotWrite = true
 is_of_calls CannotTell = true

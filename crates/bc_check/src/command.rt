@@ -14,7 +14,7 @@ use crate::asked::find_asked;
 use crate::file::{Put, read_puts};
 use crate::input::{LIMIT, read_whole};
 use crate::print::write_report;
-use crate::stop::{Stop, exit_status, write_last_line};
+use crate::stop::{Stop, stop_with};
 use bc_book::PutReply;
 use bc_prov::{BodyErrors, Outcome};
 use bc_share::{Db, Session};
@@ -218,9 +218,6 @@ pub fn check_over<I: Read, O: Write, E: Write>(
 {
     match check(alloc, input, out, err) {
         Ok(status) => status,
-        Err(stop) => match write_last_line(file, &stop, err) {
-            Ok(()) => exit_status(&stop),
-            Err(_) => 3,
-        },
+        Err(stop) => stop_with(file, &stop, err),
     }
 }

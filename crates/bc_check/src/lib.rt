@@ -9,10 +9,12 @@ mod input;
 mod print;
 mod section;
 mod stop;
+#[cfg(test)]
+mod tests;
 
 pub use command::check_over;
 pub use fault::{FaultKind, FileFault};
-pub use file::{Put, read_puts};
+pub use file::Put;
 pub use print::write_report;
 pub use section::{Section, Sections};
-pub use stop::Stop;
+pub use stop::{Stop, stop_with};

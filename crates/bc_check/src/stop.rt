@@ -1,5 +1,5 @@
 //! Why the command stops before its end.
-ghost use Rattle.std.specs.Prelude.{◌≡◌, ◌≤◌, OnOk};
+ghost use Rattle.std.specs.Prelude.{◌≡◌, ◌≤◌, ◌<◌, OnOk};
 ghost use Rattle.std.specs.Io.KnownBytes.{Appends};
 ghost use Rattle.bc_check.specs.Stops.{last_line, stop_status, refusal_stop, open_stop, close_stop};
 
@@ -13,6 +13,8 @@ use std::io::Write;
 /// Why the command stops before its end.
 #[derive(Clone, Copy, Debug, PartialEq, Eq)]
 pub enum Stop {
+    /// The words of the command line are not those of a command.
+    WrongUse,
     /// The file cannot be read, or is too long.
     CannotRead,
     /// Standard output failed.
@@ -87,13 +89,14 @@ impl From<CloseFault> for Stop {
 }
 
 /// The status of a command that stops: 2 for a fault of the file, 3 for all else.
-pub fn exit_status(stop: &Stop) -> u8
+fn exit_status(stop: &Stop) -> u8
     ensures value { result ≡ stop_status stop.now }
     ensures range { result ≤ 3 }
 {
     match stop {
         Stop::File(_) => 2,
-        Stop::CannotRead
+        Stop::WrongUse
+        | Stop::CannotRead
         | Stop::CannotWrite
         | Stop::CannotTell
         | Stop::NoMemory
@@ -105,10 +108,11 @@ pub fn exit_status(stop: &Stop) -> u8
 }
 
 /// Writes why a command on the file of this name stops: one line, and none where standard error failed already.
-pub fn write_last_line<E: Write>(file: &str, stop: &Stop, err: &mut E) -> io::Result<()>
+fn write_last_line<E: Write>(file: &str, stop: &Stop, err: &mut E) -> io::Result<()>
     ensures { OnOk result (Appends (E.contents err.old) (E.contents err.new) (last_line file.now stop.now)) }
 {
     match *stop {
+        Stop::WrongUse => writeln!(err, "wrong use"),
         Stop::CannotRead => writeln!(err, "cannot read {file}"),
         Stop::CannotWrite => writeln!(err, "cannot write"),
         Stop::CannotTell => Ok(()),
@@ -118,5 +122,17 @@ pub fn write_last_line<E: Write>(file: &str, stop: &Stop, err: &mut E) -> io::Re
         Stop::HistoryFull => writeln!(err, "history full"),
         Stop::Foreign => writeln!(err, "close: foreign"),
         Stop::Audit => writeln!(err, "close: audit"),
+    }
+}
+
+/// Writes why a command on the file of this name stops, and gives its exit status: 2 where the file has a fault, 3
+/// for all else, also where this cannot be written.
+pub fn stop_with<E: Write>(file: &str, stop: &Stop, err: &mut E) -> u8
+    ensures range { result ≤ 3 }
+    ensures said { result < 3 → (result ≡ stop_status stop.now) × Appends (E.contents err.old) (E.contents err.new) (last_line file.now stop.now) }
+{
+    match write_last_line(file, stop, err) {
+        Ok(()) => exit_status(stop),
+        Err(_) => 3,
     }
 }
