@@ -2,5 +2,6 @@
 #![tactic(auto)]
 
 mod outcome;
+mod print;
 
 pub use outcome::{BodyErrors, BorrowError, Outcome, Point, Where, outcome_of};

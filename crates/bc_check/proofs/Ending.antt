@@ -1,0 +1,126 @@
+-- How the command ends.
+use Rattle.std.proofs.Common.{◌≡◌, ℕ, ◌≤◌, ◌<◌, ◌+◌, max, List, [], ◌∷◌, ◌++◌, Option, Some, None, Result, Ok, Err, inl, inr, length, map, refl, sym, ap, ◌∙◌, subst, append_assoc, append-nil, arith, get_or, zero, suc}
+use Rattle.std.specs.Prelude.{IfSome}
+use Rattle.std.specs.List.{flat_map, Contains}
+use Rattle.std.specs.Io.KnownBytes.{Appends, Keeps}
+use Rattle.std.proofs.lemmas.List.{map-append}
+use Rattle.std.proofs.lemmas.Grind.{flat_map-append}
+use Rattle.bc_text.specs.Names.{NameParts}
+use Rattle.bc_book.specs.declared.call.Call.{Call}
+use Rattle.bc_book.specs.declared.call.Call.TheVariants.{Ask}
+use Rattle.bc_book.specs.declared.call.Event.{Event}
+use Rattle.bc_book.specs.declared.call.Entry.{Entry}
+use Rattle.bc_book.specs.Calls.{calls}
+use Rattle.bc_share.specs.Sessions.{SessionView, new_session}
+use Rattle.bc_share.specs.Closings.{IsOneHistory}
+use Rattle.bc_check.specs.declared.fault.FileFault.{FileFault}
+use Rattle.bc_check.specs.declared.stop.Stop.{Stop}
+use Rattle.bc_check.specs.declared.stop.Stop.TheVariants.{WrongUse, CannotRead, CannotWrite, CannotTell, NoMemory, File, TooManyCalls, HistoryFull, Foreign, Audit}
+use Rattle.bc_check.specs.Text.{line}
+use Rattle.bc_check.specs.Parts.{sections_of}
+use Rattle.bc_check.specs.Faults.{message}
+use Rattle.bc_check.specs.Stops.{last_line, stop_status}
+use Rattle.bc_check.specs.Puts.{Placed, ArePuts, IsFirstFault}
+use Rattle.bc_check.specs.Asked.{AreAsked}
+use Rattle.bc_check.specs.Run.{put_call, calls_of, told_of, shown_of, told, shown, reply_status, greatest, AreLegal}
+use Rattle.bc_check.specs.Served.{Served, Runs}
+use Rattle.bc_check.specs.Ends.{IsEnd, HasTooManyCalls}
+use Rattle.bc_check.proofs.Serving.{kept_adds, added_then}
+
+-- nothing is told of an Ask
+told_asks : (names : List NameParts) (events : List Event) → map (λ (e : Event). e.call) events ≡ map Ask names → flat_map told events ≡ []
+told_asks [] [] h = refl
+told_asks [] (e ∷ events) h = absurd cc
+told_asks (name ∷ names) [] h = absurd cc
+told_asks (name ∷ names) (e ∷ events) h =
+    let one : e.call ≡ Ask name = cc in
+    let rest : map (λ (e : Event). e.call) events ≡ map Ask names = cc in
+    ap (λ (call : Call). told_of call e.reply ++ flat_map told events) one ∙ told_asks names events rest
+
+-- nothing is shown of a put
+shown_puts : (puts : List Placed) (events : List Event) → map (λ (e : Event). e.call) events ≡ map put_call puts → flat_map shown events ≡ []
+shown_puts [] [] h = refl
+shown_puts [] (e ∷ events) h = absurd cc
+shown_puts (put ∷ puts) [] h = absurd cc
+shown_puts (put ∷ puts) (e ∷ events) h =
+    let one : e.call ≡ put_call put = cc in
+    let rest : map (λ (e : Event). e.call) events ≡ map put_call puts = cc in
+    ap (λ (call : Call). shown_of call e.reply ++ flat_map shown events) one ∙ shown_puts puts events rest
+
+greatest-append : (a b : List Event) → greatest (a ++ b) ≡ max (greatest a) (greatest b)
+greatest-append [] b = omega arith
+greatest-append (e ∷ a) b = let more = greatest-append a b in omega (arith, more)
+
+the_number : (n m : ℕ) → Contains (n ∷ []) m → n ≡ m
+the_number n m (zero, below, is) = is
+the_number n m (suc k, below, is) = absurd (omega arith)
+
+-- a session that a database closed with made a legal history
+legal_of : (s : SessionView) (h : List Entry) (events : List Event) → IsOneHistory (s ∷ []) h → s.number ≡ 0 → s.own ≡ events → AreLegal events
+legal_of s h events one zero_is own = record {
+  history = h;
+  legal = one.0;
+  one_session = λ k d below. sym (the_number s.number (get_or h k d).session (one.1.others k d below)) ∙ zero_is;
+  own = ap (λ (n : ℕ). calls n h) (sym zero_is) ∙ sym (one.1.own 0 s (omega arith)) ∙ own;
+}
+
+-- all puts and all Asks
+pub runs_of : (puts : List Placed) (names : List NameParts) (m n capacity : ℕ) (s0 s1 s2 : SessionView) (o0 o1 e0 e1 : Option (List ℕ)) (h : List Entry) → Served (map put_call puts) told m s0 s1 e0 e1 → Served (map Ask names) shown n s1 s2 o0 o1 → s0 ≡ new_session 0 0 capacity → length puts + length names ≤ 1000000 → IsOneHistory (s2 ∷ []) h → Runs puts names (max m n) o0 o1 e0 e1
+runs_of puts names m n capacity s0 s1 s2 o0 o1 e0 e1 h p a is few one =
+    let silent : flat_map told p.events ≡ flat_map told (p.events ++ a.events) =
+    sym (flat_map-append told p.events a.events ∙ ap (λ (t : List ℕ). flat_map told p.events ++ t) (told_asks names a.events a.made) ∙ append-nil _) in
+    let hidden : flat_map shown a.events ≡ flat_map shown (p.events ++ a.events) =
+    sym (flat_map-append shown p.events a.events ∙ ap (λ (t : List ℕ). t ++ flat_map shown a.events) (shown_puts puts p.events p.made)) in
+    record {
+      events = p.events ++ a.events;
+      made = map-append (λ (e : Event). e.call) p.events a.events ∙ ap (λ (cs : List Call). cs ++ map (λ (e : Event). e.call) a.events) p.made ∙ ap (λ (cs : List Call). map put_call puts ++ cs) a.made;
+      few = few;
+      legal = legal_of s2 h (p.events ++ a.events) one (a.number ∙ p.number ∙ ap (λ (s : SessionView). s.number) is)
+          (a.own ∙ ap (λ (es : List Event). es ++ a.events) (p.own ∙ ap (λ (s : SessionView). s.own ++ p.events) is));
+      output = subst (λ (t : List ℕ). Appends o0 o1 t) hidden a.printed;
+      errors = subst (λ (t : List ℕ). Appends e0 e1 t) silent p.printed;
+      status = let both = greatest-append p.events a.events in omega (arith, both, p.status, a.status);
+    }
+
+-- what is taken from the end of a list of one
+pub the_last : {X : Type 0} (x y : X) (rest : List X) → x ∷ [] ≡ rest ++ y ∷ [] → (rest ≡ []) × (y ≡ x)
+the_last x y [] h = (refl, cc)
+the_last x y (z ∷ []) h = absurd cc
+the_last x y (z ∷ w ∷ rest) h = absurd cc
+
+-- a fact about what was read is one about the known bytes
+pub known_is : (known : Option (List ℕ)) (file : List ℕ) (P : List ℕ → Type 0) → IfSome known (λ bytes. file ≡ bytes) → P file → IfSome known P
+known_is None file P e p = tt
+known_is (Some bytes) file P e p = subst P e p
+
+abbrev pub Fault : Option (List ℕ) → Option (List ℕ) → Option (List ℕ) → Option (List ℕ) → FileFault → List ℕ → Type 0
+Fault o0 o1 e0 e1 fault file = (length file ≤ 16777216) × IsFirstFault (sections_of file) fault × Keeps o0 o1 × Keeps e0 e1
+
+abbrev pub End : ℕ → Option (List ℕ) → Option (List ℕ) → Option (List ℕ) → Option (List ℕ) → List ℕ → Type 0
+End exit o0 o1 e0 e1 bytes = (length bytes ≤ 16777216) × IsEnd bytes exit o0 o1 e0 e1
+
+ended_by_fault : (known o0 o1 e0 e1 e2 : Option (List ℕ)) (fault : FileFault) → IfSome known (Fault o0 o1 e0 e1 fault) → Appends e1 e2 (line (message fault)) → IfSome known (End 2 o0 o1 e0 e2)
+ended_by_fault None o0 o1 e0 e1 e2 fault h said = tt
+ended_by_fault (Some file) o0 o1 e0 e1 e2 fault h said = (
+  h.0,
+  inr (record {
+    fault = fault;
+    first = h.1;
+    output = kept_adds o0 o1 h.2;
+    errors = added_then e0 e1 e2 [] (line (message fault)) (kept_adds e0 e1 h.3) said;
+    status = refl;
+  }),
+)
+
+-- a command that stops below 3 found a fault of the file
+pub ended : (stop : Stop) (r : Result ℕ Stop) (known o0 o1 e0 e1 e2 : Option (List ℕ)) (name : List ℕ) → r ≡ Err stop → ((fault : FileFault) → r ≡ Err (File fault) → IfSome known (Fault o0 o1 e0 e1 fault)) → Appends e1 e2 (last_line name stop) → stop_status stop < 3 → IfSome known (End (stop_status stop) o0 o1 e0 e2)
+ended WrongUse r known o0 o1 e0 e1 e2 name e faults said low = absurd (omega (arith, low))
+ended CannotRead r known o0 o1 e0 e1 e2 name e faults said low = absurd (omega (arith, low))
+ended CannotWrite r known o0 o1 e0 e1 e2 name e faults said low = absurd (omega (arith, low))
+ended CannotTell r known o0 o1 e0 e1 e2 name e faults said low = absurd (omega (arith, low))
+ended NoMemory r known o0 o1 e0 e1 e2 name e faults said low = absurd (omega (arith, low))
+ended (File fault) r known o0 o1 e0 e1 e2 name e faults said low = ended_by_fault known o0 o1 e0 e1 e2 fault (faults fault e) said
+ended TooManyCalls r known o0 o1 e0 e1 e2 name e faults said low = absurd (omega (arith, low))
+ended HistoryFull r known o0 o1 e0 e1 e2 name e faults said low = absurd (omega (arith, low))
+ended Foreign r known o0 o1 e0 e1 e2 name e faults said low = absurd (omega (arith, low))
+ended Audit r known o0 o1 e0 e1 e2 name e faults said low = absurd (omega (arith, low))

@@ -1,0 +1,91 @@
+-- Calls that are made one after another.
+use Rattle.std.proofs.Common.{◌≡◌, ℕ, max, List, [], ◌∷◌, ◌++◌, Option, Some, None, map, refl, sym, ap, ◌∙◌, subst, append_assoc, append-nil, arith}
+use Rattle.std.specs.List.{flat_map}
+use Rattle.std.specs.Io.KnownBytes.{Appends, Keeps}
+use Rattle.std.proofs.lemmas.List.{map-append}
+use Rattle.std.proofs.lemmas.Grind.{flat_map-append}
+use Rattle.bc_book.specs.declared.call.Call.{Call}
+use Rattle.bc_book.specs.declared.call.Event.{Event}
+use Rattle.bc_share.specs.Sessions.{SessionView}
+use Rattle.bc_check.specs.Run.{reply_status, greatest}
+use Rattle.bc_check.specs.Served.{event_of, Serves, Served}
+
+pub nothing_added : (u : Option (List ℕ)) → Appends u u []
+nothing_added None = tt
+nothing_added (Some xs) = sym (append-nil xs)
+
+pub kept_adds : (u v : Option (List ℕ)) → Keeps u v → Appends u v []
+kept_adds None v k = tt
+kept_adds (Some xs) None k = k
+kept_adds (Some xs) (Some ys) k = k ∙ sym (append-nil xs)
+
+pub added_then : (u v w : Option (List ℕ)) (a b : List ℕ) → Appends u v a → Appends v w b → Appends u w (a ++ b)
+added_then None v w a b x y = tt
+added_then (Some xs) None w a b x y = absurd x
+added_then (Some xs) (Some ys) None a b x y = y
+added_then (Some xs) (Some ys) (Some zs) a b x y = y ∙ ap (λ (t : List ℕ). t ++ b) x ∙ append_assoc xs a b
+
+greatest-snoc : (events : List Event) (event : Event) → greatest (events ++ event ∷ []) ≡ max (greatest events) (reply_status event.reply)
+greatest-snoc [] event = omega arith
+greatest-snoc (e ∷ events) event = let more = greatest-snoc events event in omega (arith, more)
+
+one_text : (text : Event → List ℕ) (event : Event) → flat_map text (event ∷ []) ≡ text event
+one_text text event = append-nil (text event)
+
+pub served_none : (text : Event → List ℕ) (s : SessionView) (u : Option (List ℕ)) → Served [] text 0 s s u u
+served_none text s u = record {
+  events = [];
+  made = refl;
+  tag = refl;
+  number = refl;
+  own = sym (append-nil s.own);
+  printed = nothing_added u;
+  status = refl;
+}
+
+-- one call more
+pub served_more : (list : List Call) (call : Call) (text : Event → List ℕ) (m n : ℕ) (old mid new : SessionView) (u v w : Option (List ℕ)) → Served list text m old mid u v → Serves call text n mid new v w → Served (list ++ call ∷ []) text (max m n) old new u w
+served_more list call text m n old mid new u v w h k =
+    let event : Event = event_of call k.reply in
+    let printed : flat_map text h.events ++ text event ≡ flat_map text (h.events ++ event ∷ []) = ap (λ (t : List ℕ). flat_map text h.events ++ t) (sym (one_text text event)) ∙ sym (flat_map-append text h.events (event ∷ [])) in
+    record {
+      events = h.events ++ event ∷ [];
+      made = map-append (λ (e : Event). e.call) h.events (event ∷ []) ∙ ap (λ (cs : List Call). cs ++ call ∷ []) h.made;
+      tag = k.tells.session.0 ∙ h.tag;
+      number = k.tells.session.1 ∙ h.number;
+      own = k.tells.own ∙ ap (λ (es : List Event). es ++ event ∷ []) h.own ∙ append_assoc old.own h.events (event ∷ []);
+      printed = subst (λ (t : List ℕ). Appends u w t) printed (added_then u v w _ _ h.printed k.printed);
+      status = let more = greatest-snoc h.events event in omega (arith, more, h.status, k.status);
+    }
+
+-- of all items those that are not left have their calls made
+pub record Making {X : Type 0} (call_of : X → Call) (all left : List X) (text : Event → List ℕ) (exit : ℕ) (old new : SessionView) (before after : Option (List ℕ)) : Type 0 where
+  pub front : List X
+  pub cut : all ≡ front ++ left
+  pub served : Served (map call_of front) text exit old new before after
+
+pub making_none : {X : Type 0} (call_of : X → Call) (all left : List X) (text : Event → List ℕ) (s : SessionView) (u : Option (List ℕ)) → left ≡ all → Making call_of all left text 0 s s u u
+making_none call_of all left text s u is = record { front = []; cut = sym is; served = served_none text s u }
+
+pub making_more : {X : Type 0} (call_of : X → Call) (all left rest : List X) (x : X) (text : Event → List ℕ) (m n : ℕ) (old mid new : SessionView) (u v w : Option (List ℕ)) → Making call_of all left text m old mid u v → left ≡ x ∷ rest → Serves (call_of x) text n mid new v w → Making call_of all rest text (max m n) old new u w
+making_more {X} call_of all left rest x text m n old mid new u v w h next k = record {
+  front = h.front ++ x ∷ [];
+  cut = h.cut ∙ ap (λ (xs : List X). h.front ++ xs) next ∙ sym (append_assoc h.front (x ∷ []) rest);
+  served = subst (λ (cs : List Call). Served cs text (max m n) old new u w) (sym (map-append call_of h.front (x ∷ []))) (served_more (map call_of h.front) (call_of x) text m n old mid new u v w h.served k);
+}
+
+pub making_all : {X : Type 0} (call_of : X → Call) (all left : List X) (text : Event → List ℕ) (exit : ℕ) (old new : SessionView) (u v : Option (List ℕ)) → Making call_of all left text exit old new u v → left ≡ [] → Served (map call_of all) text exit old new u v
+making_all {X} call_of all left text exit old new u v h none =
+    let same : all ≡ h.front = h.cut ∙ ap (λ (xs : List X). h.front ++ xs) none ∙ append-nil h.front in
+    subst (λ (xs : List X). Served (map call_of xs) text exit old new u v) (sym same) h.served
+
+pub served_kept : (list : List Call) (text : Event → List ℕ) (exit : ℕ) (old new : SessionView) (u v w : Option (List ℕ)) → Served list text exit old new u v → Keeps v w → Served list text exit old new u w
+served_kept list text exit old new u v w h k = record {
+  events = h.events;
+  made = h.made;
+  tag = h.tag;
+  number = h.number;
+  own = h.own;
+  printed = subst (λ (t : List ℕ). Appends u w t) (append-nil _) (added_then u v w _ [] h.printed (kept_adds v w k));
+  status = h.status;
+}

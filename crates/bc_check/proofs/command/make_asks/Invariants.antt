@@ -1,0 +1,11 @@
+use Rattle.std.proofs.Common.{◌≤◌}
+use Rattle.bc_book.specs.declared.call.Call.TheVariants.{Ask}
+use Rattle.bc_check.specs.Run.{shown}
+use Rattle.bc_check.proofs.Serving.{Making}
+use Rattle.bc_check.proofs.command.make_asks.Given as goal
+
+abbrev pub invariant-loop-name : goal.invariant-loop-name
+invariant-loop-name g l = record {
+  made : Making Ask l.names.keys l.name-iterator shown l.status l.fn.session l.session (g.O.Write.contents l.fn.out) (g.O.Write.contents l.out);
+  range : l.status ≤ 2;
+}

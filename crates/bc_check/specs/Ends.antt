@@ -1,0 +1,38 @@
+-- How the command ends below status 3.
+use Rattle.std.specs.Prelude.{◌≡◌, ◌⊎◌, ℕ, ◌+◌, ◌<◌, Option, List, [], length}
+use Rattle.std.specs.Io.KnownBytes.{Appends}
+use Rattle.bc_text.specs.Names.{NameParts}
+use Rattle.bc_check.specs.declared.fault.FileFault.{FileFault}
+use Rattle.bc_check.specs.Text.{line}
+use Rattle.bc_check.specs.Parts.{sections_of}
+use Rattle.bc_check.specs.Puts.{Placed, ArePuts, IsFirstFault}
+use Rattle.bc_check.specs.Asked.{AreAsked}
+use Rattle.bc_check.specs.Faults.{message}
+use Rattle.bc_check.specs.Served.{Runs}
+
+-- each section put its body, each root name that is put was asked, and what belongs to these calls was printed
+pub record Checked (file : List ℕ) (exit : ℕ) (out out' err err' : Option (List ℕ)) : Type 0 where
+  pub puts : List Placed
+  pub names : List NameParts
+  pub good : ArePuts (sections_of file) puts
+  pub asked : AreAsked puts names
+  pub runs : Runs puts names exit out out' err err'
+
+-- the file has a fault: its first one is told, and nothing else is printed
+pub record Faulted (file : List ℕ) (exit : ℕ) (out out' err err' : Option (List ℕ)) : Type 0 where
+  pub fault : FileFault
+  pub first : IsFirstFault (sections_of file) fault
+  pub output : Appends out out' []
+  pub errors : Appends err err' (line (message fault))
+  pub status : exit ≡ 2
+
+abbrev pub IsEnd : List ℕ → ℕ → Option (List ℕ) → Option (List ℕ) → Option (List ℕ) → Option (List ℕ) → Type 0
+IsEnd file exit out out' err err' = Checked file exit out out' err err' ⊎ Faulted file exit out out' err err'
+
+-- a file without a fault that makes more than 1,000,000 calls
+pub record HasTooManyCalls (file : List ℕ) : Type 0 where
+  pub puts : List Placed
+  pub names : List NameParts
+  pub good : ArePuts (sections_of file) puts
+  pub asked : AreAsked puts names
+  pub many : 1000000 < length puts + length names

@@ -1,0 +1,41 @@
+-- Calls that a session answered, and what was printed of them.
+use Rattle.std.specs.Prelude.{◌≡◌, ℕ, ◌+◌, ◌≤◌, Option, List, [], ◌∷◌, ◌++◌, map, flat_map, length}
+use Rattle.std.specs.Io.KnownBytes.{Appends}
+use Rattle.bc_book.specs.declared.call.Call.{Call}
+use Rattle.bc_book.specs.declared.call.Reply.{Reply}
+use Rattle.bc_book.specs.declared.call.Event.{Event}
+use Rattle.bc_text.specs.Names.{NameParts}
+use Rattle.bc_share.specs.Sessions.{SessionView, Tells}
+use Rattle.bc_check.specs.Puts.{Placed}
+use Rattle.bc_check.specs.Run.{reply_status, greatest, calls_of, shown, told, AreLegal}
+
+abbrev pub event_of : Call → Reply → Event
+event_of call reply = record { call = call; reply = reply }
+
+-- one call was answered and printed; its status
+pub record Serves (call : Call) (text : Event → List ℕ) (exit : ℕ) (old new : SessionView) (before after : Option (List ℕ)) : Type 0 where
+  pub reply : Reply
+  pub tells : Tells call reply old new
+  pub printed : Appends before after (text (event_of call reply))
+  pub status : exit ≡ reply_status reply
+
+-- some calls were answered and printed, in this order; the greatest of their statuses
+pub record Served (list : List Call) (text : Event → List ℕ) (exit : ℕ) (old new : SessionView) (before after : Option (List ℕ)) : Type 0 where
+  pub events : List Event
+  pub made : map (λ (e : Event). e.call) events ≡ list
+  pub tag : new.tag ≡ old.tag
+  pub number : new.number ≡ old.number
+  pub own : new.own ≡ old.own ++ events
+  pub printed : Appends before after (flat_map text events)
+  pub status : exit ≡ greatest events
+
+-- The bodies were put and the names asked, at most 1,000,000 calls, as one session's legal history; of each call
+-- was printed what belongs to it, and the status is the greatest of theirs.
+pub record Runs (puts : List Placed) (names : List NameParts) (exit : ℕ) (out out' err err' : Option (List ℕ)) : Type 0 where
+  pub events : List Event
+  pub made : map (λ (e : Event). e.call) events ≡ calls_of puts names
+  pub few : length puts + length names ≤ 1000000
+  pub legal : AreLegal events
+  pub output : Appends out out' (flat_map shown events)
+  pub errors : Appends err err' (flat_map told events)
+  pub status : exit ≡ greatest events

@@ -1,0 +1,223 @@
+//! The calls of a file, and what is printed of them.
+ghost use Rattle.std.specs.Prelude.{◌≡◌, ◌≤◌, ◌<◌, ◌+◌, ◌⊎◌, true, Err, OnOk, IfSome, IfOk, IfErr, IsErrOf, length, map, max};
+ghost use Rattle.std.specs.Io.KnownBytes.{Appends, Keeps};
+ghost use Rattle.bc_book.specs.declared.call.Call.TheVariants as calls;
+ghost use Rattle.bc_check.specs.declared.fault.FileFault.{FileFault};
+ghost use Rattle.bc_check.specs.Parts.{sections_of};
+ghost use Rattle.bc_check.specs.Puts.{seen, IsFirstFault};
+ghost use Rattle.bc_check.specs.Stops.{is_of_calls};
+ghost use Rattle.bc_check.specs.Ends.{Checked, HasTooManyCalls, IsEnd};
+ghost use Rattle.bc_check.specs.Run.{put_call, refused_line, answer_lines, told, shown, put_status, are_clean, outcome_status};
+ghost use Rattle.bc_check.specs.Served.{Serves, Served, Runs};
+
+use crate::asked::find_asked;
+use crate::file::{Put, read_puts};
+use crate::input::{LIMIT, read_whole};
+use crate::print::write_report;
+use crate::stop::{Stop, stop_with};
+use bc_book::PutReply;
+use bc_prov::{BodyErrors, Outcome};
+use bc_share::{Db, Session};
+use bc_text::Name;
+use std::alloc::Global;
+use std::collections::BTreeSet;
+use std::io;
+use std::io::{Read, Write};
+
+/// How many calls there may be: a put for each section, and an Ask for each name.
+const MOST_CALLS: usize = 1_000_000;
+
+/// The status of a put with this reply.
+fn put_status(reply: PutReply) -> u8
+    ensures value { result ≡ put_status reply }
+    ensures range { result ≤ 2 }
+{
+    match reply {
+        PutReply::Added | PutReply::Replaced => 0,
+        PutReply::Full | PutReply::WrongKind => 2,
+    }
+}
+
+/// Whether no body has an error.
+fn are_clean(bodies: &[BodyErrors]) -> bool
+    ensures { result ≡ are_clean bodies.now }
+{
+    bodies.iter().all(|body| body.errors.len() == 0)
+}
+
+/// The status of an Ask with this outcome.
+fn outcome_status(outcome: &Outcome) -> u8
+    ensures value { result ≡ outcome_status outcome.now }
+    ensures range { result ≤ 2 }
+{
+    match outcome {
+        Outcome::NoBody | Outcome::Ill(_, _) => 2,
+        Outcome::Report(bodies) => { if are_clean(bodies.as_slice()) { 0 } else { 1 } }
+    }
+}
+
+/// Writes the line of a put that stored nothing.
+fn write_refusal<E: Write>(name: &Name, reply: PutReply, err: &mut E) -> io::Result<()>
+    ensures { OnOk result (Appends (E.contents err.old) (E.contents err.new) (refused_line name.now reply)) }
+{
+    match reply {
+        PutReply::Added | PutReply::Replaced => Ok(()),
+        PutReply::Full => writeln!(err, "put {name} full"),
+        PutReply::WrongKind => writeln!(err, "put {name} wrongkind"),
+    }
+}
+
+/// Writes the line of an Ask, and its report.
+fn write_answer<O: Write>(name: &Name, outcome: &Outcome, out: &mut O) -> io::Result<()>
+    ensures { OnOk result (Appends (O.contents out.old) (O.contents out.new) (answer_lines name.now outcome.now)) }
+{
+    writeln!(out, "ask {name}")?;
+    write_report(outcome, out)
+}
+
+/// Puts a body, and tells of it where it is not stored. The status of the put.
+fn make_put<E: Write>(session: &mut Session, put: Put, err: &mut E) -> Result<u8, Stop>
+    ensures served { IfOk result (λ status. Serves (put_call (seen put)) told status session.old session.new (E.contents err.old) (E.contents err.new)) }
+    ensures range { IfOk result (λ status. status ≤ 2) }
+    ensures stop { IfErr result (λ stop. (stop ≡ Stop.CannotTell) ⊎ (stop ≡ Stop.NoMemory) ⊎ (stop ≡ Stop.HistoryFull)) }
+{
+    let Put { name, unit } = put;
+    let reply = session.put(name, unit)?;
+    if write_refusal(&name, reply, err).is_err() {
+        return Err(Stop::CannotTell);
+    }
+    Ok(put_status(reply))
+}
+
+/// Asks a name, and prints its report. The status of the outcome.
+fn make_ask<O: Write>(session: &mut Session, name: &Name, out: &mut O) -> Result<u8, Stop>
+    ensures served { IfOk result (λ status. Serves (calls.Ask name.now) shown status session.old session.new (O.contents out.old) (O.contents out.new)) }
+    ensures range { IfOk result (λ status. status ≤ 2) }
+    ensures stop { IfErr result (λ stop. (stop ≡ Stop.CannotWrite) ⊎ (stop ≡ Stop.NoMemory) ⊎ (stop ≡ Stop.HistoryFull)) }
+{
+    let outcome = session.ask(name)?;
+    if write_answer(name, &outcome, out).is_err() {
+        return Err(Stop::CannotWrite);
+    }
+    Ok(outcome_status(&outcome))
+}
+
+/// Puts the bodies in order. The greatest status of the puts.
+fn make_puts<E: Write>(session: &mut Session, puts: Vec<Put>, err: &mut E) -> Result<u8, Stop>
+    ensures served { IfOk result (λ status. Served (map put_call (map seen puts.items)) told status session.old session.new (E.contents err.old) (E.contents err.new)) }
+    ensures range { IfOk result (λ status. status ≤ 2) }
+    ensures stop { IfErr result (λ stop. (stop ≡ Stop.CannotTell) ⊎ (stop ≡ Stop.NoMemory) ⊎ (stop ≡ Stop.HistoryFull)) }
+{
+    let mut status: u8 = 0;
+    for put in puts {
+        status = status.max(make_put(session, put, err)?);
+    }
+    Ok(status)
+}
+
+/// Asks the names in order, and hands on what the writer has kept back. The greatest status of the outcomes.
+fn make_asks<O: Write>(
+    session: &mut Session,
+    names: &BTreeSet<Name>,
+    out: &mut O,
+) -> Result<u8, Stop>
+    ensures served { IfOk result (λ status. Served (map calls.Ask names.now.keys) shown status session.old session.new (O.contents out.old) (O.contents out.new)) }
+    ensures range { IfOk result (λ status. status ≤ 2) }
+    ensures stop { IfErr result (λ stop. (stop ≡ Stop.CannotWrite) ⊎ (stop ≡ Stop.NoMemory) ⊎ (stop ≡ Stop.HistoryFull)) }
+{
+    let mut status: u8 = 0;
+    for name in names {
+        status = status.max(make_ask(session, name, out)?);
+    }
+    match out.flush() {
+        Ok(()) => Ok(status),
+        Err(_) => Err(Stop::CannotWrite),
+    }
+}
+
+/// How many entries the history may have: one for each put and each Ask, and one at least. `TooManyCalls` exactly
+/// where there are more than 1,000,000 of them.
+fn find_capacity(puts: usize, names: usize) -> Result<u32, Stop>
+    ensures fits { IfOk result (λ capacity. (capacity ≡ max 1 (puts + names)) × (puts + names ≤ 1000000)) }
+    ensures stop { IfErr result (λ stop. (stop ≡ Stop.TooManyCalls) × (1000000 < puts + names)) }
+{
+    if puts > MOST_CALLS || names > MOST_CALLS - puts {
+        return Err(Stop::TooManyCalls);
+    }
+    Ok((puts + names).max(1) as u32)
+}
+
+/// Opens a database, puts the bodies in order, asks the names in order and closes. The greatest status of the
+/// calls. `TooManyCalls` exactly where there are more than 1,000,000 of them.
+fn serve<O: Write, E: Write>(
+    alloc: Global,
+    puts: Vec<Put>,
+    names: &BTreeSet<Name>,
+    out: &mut O,
+    err: &mut E,
+) -> Result<u8, Stop>
+    ensures done { IfOk result (λ status. Runs (map seen puts.items) names.now.keys status (O.contents out.old) (O.contents out.new) (E.contents err.old) (E.contents err.new)) }
+    ensures range { IfOk result (λ status. status ≤ 2) }
+    ensures too_many { IsErrOf result Stop.TooManyCalls → (1000000 < length puts.items + length names.now.keys) × Keeps (O.contents out.old) (O.contents out.new) × Keeps (E.contents err.old) (E.contents err.new) }
+    ensures other { IfErr result (λ stop. is_of_calls stop ≡ true) }
+{
+    let capacity = find_capacity(puts.len(), names.len())?;
+    let (db, mut sessions) = Db::open(alloc, 0, capacity, 1)?;
+    let Some(mut session) = sessions.pop() else {
+        return Err(Stop::Foreign);
+    };
+    let put = make_puts(&mut session, puts, err)?;
+    let asked = make_asks(&mut session, names, out)?;
+    sessions.push(session)?;
+    db.close(sessions)?;
+    Ok(put.max(asked))
+}
+
+/// Reads the whole input, puts its bodies and asks its names, and prints what belongs to each call. The greatest
+/// status of the calls.
+///
+/// Stops with `CannotRead` where the input cannot be read or is over 16 MiB; with `File` at its first fault; with
+/// `TooManyCalls` where it makes more than 1,000,000 calls; with `CannotWrite` or `CannotTell` where a writer
+/// fails; with `NoMemory` where there is no room.
+fn check<I: Read, O: Write, E: Write>(
+    alloc: Global,
+    input: &mut I,
+    out: &mut O,
+    err: &mut E,
+) -> Result<u8, Stop>
+    ensures done { IfOk result (λ status. IfSome (I.remaining input.old) (λ file. (length file ≤ LIMIT)
+        × Checked file status (O.contents out.old) (O.contents out.new) (E.contents err.old) (E.contents err.new))) }
+    ensures range { IfOk result (λ status. status ≤ 2) }
+    ensures fault { (fault : FileFault) → result ≡ Err (Stop.File fault) → IfSome (I.remaining input.old) (λ file. (length file ≤ LIMIT)
+        × IsFirstFault (sections_of file) fault × Keeps (O.contents out.old) (O.contents out.new) × Keeps (E.contents err.old) (E.contents err.new)) }
+    ensures cannot_read { IsErrOf result Stop.CannotRead → Keeps (O.contents out.old) (O.contents out.new) × Keeps (E.contents err.old) (E.contents err.new) }
+    ensures too_many { IsErrOf result Stop.TooManyCalls → IfSome (I.remaining input.old) (λ file. (length file ≤ LIMIT)
+        × HasTooManyCalls file × Keeps (O.contents out.old) (O.contents out.new) × Keeps (E.contents err.old) (E.contents err.new)) }
+{
+    let file = read_whole(alloc, input)?;
+    let puts = read_puts(alloc, &file)?;
+    let names = find_asked(alloc, &puts)?;
+    serve(alloc, puts, &names, out, err)
+}
+
+/// The whole command `check` on the input named `file`: writes reports on `out` and faults on `err`, and gives the
+/// exit status, the greatest that applies (own).
+///
+/// 0 where no report has an error; 1 where one has; 2 where the file has a fault, a put stores nothing or an
+/// outcome is no report; 3 where the command stops for another reason, which is the last line on `err`.
+pub fn check_over<I: Read, O: Write, E: Write>(
+    alloc: Global,
+    file: &str,
+    input: &mut I,
+    out: &mut O,
+    err: &mut E,
+) -> u8
+    ensures range { result ≤ 3 }
+    ensures done { result < 3 → IfSome (I.remaining input.old) (λ bytes. (length bytes ≤ LIMIT)
+        × IsEnd bytes result (O.contents out.old) (O.contents out.new) (E.contents err.old) (E.contents err.new)) }
+{
+    match check(alloc, input, out, err) {
+        Ok(status) => status,
+        Err(stop) => stop_with(file, &stop, err),
+    }
+}

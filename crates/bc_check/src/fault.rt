@@ -1,0 +1,47 @@
+//! Faults of a file.
+ghost use Rattle.std.specs.Prelude.{Some};
+ghost use Rattle.bc_check.specs.Faults.{kind_text, message};
+
+use std::fmt;
+
+/// What is wrong with a section. A place counts bytes from the beginning of the section's text.
+#[derive(Clone, Copy, Debug, PartialEq, Eq)]
+pub enum FaultKind {
+    BadHeader,
+    TooLong,
+    NotAscii { at: usize },
+    Token { at: usize },
+    Grammar { at: usize },
+    Limit { at: usize },
+}
+
+/// A fault of a file: the number of the section's header line, from 1, and what is wrong with the section.
+#[derive(Clone, Copy, Debug, PartialEq, Eq)]
+pub struct FileFault {
+    pub line: usize,
+    pub kind: FaultKind,
+}
+
+impl fmt::Display for FaultKind {
+    ghost output = { λ kind. Some (kind_text kind) };
+
+    fn fmt<W: fmt::Write>(&self, f: &mut fmt::Formatter<W>) -> fmt::Result {
+        match *self {
+            FaultKind::BadHeader => write!(f, "bad header"),
+            FaultKind::TooLong => write!(f, "too long"),
+            FaultKind::NotAscii { at } => write!(f, "not ascii at {at}"),
+            FaultKind::Token { at } => write!(f, "token at {at}"),
+            FaultKind::Grammar { at } => write!(f, "grammar at {at}"),
+            FaultKind::Limit { at } => write!(f, "limit at {at}"),
+        }
+    }
+}
+
+impl fmt::Display for FileFault {
+    ghost output = { λ fault. Some (message fault) };
+
+    fn fmt<W: fmt::Write>(&self, f: &mut fmt::Formatter<W>) -> fmt::Result {
+        let FileFault { line, kind } = *self;
+        write!(f, "line {line}: {kind}")
+    }
+}

@@ -1,0 +1,30 @@
+//! The file, read whole.
+ghost use Rattle.std.specs.Prelude.{◌≡◌, ◌≤◌, ◌⊎◌, IfSome, IfOk, IfErr, length};
+
+use crate::stop::Stop;
+use std::alloc::Global;
+use std::io::{ErrorKind, Read};
+
+/// The longest file that is read, in bytes: 16 MiB.
+pub const LIMIT: usize = 16_777_216;
+
+/// The whole of the input. `CannotRead` where a read fails or the input is over 16 MiB; `NoMemory` where there is
+/// no room for it.
+pub fn read_whole<I: Read>(alloc: Global, input: &mut I) -> Result<Vec<u8>, Stop>
+    ensures whole { IfOk result (λ file. IfSome (I.remaining input.old) (λ bytes. file.items ≡ bytes)) }
+    ensures short { IfOk result (λ file. length file.items ≤ LIMIT) }
+    ensures stop { IfErr result (λ stop. (stop ≡ Stop.CannotRead) ⊎ (stop ≡ Stop.NoMemory)) }
+{
+    let mut file = Vec::new(alloc);
+    let mut limited = Read::take(input, 16_777_217);
+    if let Err(fault) = limited.read_to_end(&mut file) {
+        return Err(match fault.kind() {
+            ErrorKind::OutOfMemory => Stop::NoMemory,
+            _ => Stop::CannotRead,
+        });
+    }
+    if file.len() > LIMIT {
+        return Err(Stop::CannotRead);
+    }
+    Ok(file)
+}

@@ -1,0 +1,20 @@
+//! The command `check`: a file cut into its sections, put and asked, and what is printed of it.
+#![tactic(auto)]
+
+mod asked;
+mod command;
+mod fault;
+mod file;
+mod input;
+mod print;
+mod section;
+mod stop;
+#[cfg(test)]
+mod tests;
+
+pub use command::check_over;
+pub use fault::{FaultKind, FileFault};
+pub use file::Put;
+pub use print::write_report;
+pub use section::{Section, Sections};
+pub use stop::{Stop, stop_with};

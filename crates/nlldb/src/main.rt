@@ -1,0 +1,46 @@
+//! The program: `nlldb check FILE`.
+#![tactic(auto)]
+
+use bc_check::{Stop, check_over, stop_with};
+use std::env;
+use std::fs::File;
+use std::io;
+use std::io::{BufWriter, ErrorKind, Stderr, Write};
+use std::process::ExitCode;
+
+/// The words of the command line, behind the program's own name.
+fn read_words(rt: &HostRuntime) -> io::Result<Vec<String>> {
+    let mut words = Vec::new(rt.alloc());
+    for word in env::args(rt)?.skip(1) {
+        words.push(word)?;
+    }
+    Ok(words)
+}
+
+/// Checks the file of this name. What it prints stands in a buffer, which `check_over` empties below status 3.
+fn check_file(rt: &HostRuntime, file: &str, err: &mut Stderr) -> u8 {
+    let Ok(mut input) = File::open(rt, file) else {
+        return stop_with(file, &Stop::CannotRead, err);
+    };
+    let Ok(mut out) = BufWriter::new(rt.alloc(), rt.stdout()) else {
+        return stop_with(file, &Stop::NoMemory, err);
+    };
+    let status = check_over(rt.alloc(), file, &mut input, &mut out, err);
+    let _ = out.flush();
+    status
+}
+
+fn main(rt: HostRuntime) -> ExitCode {
+    let mut err = rt.stderr();
+    let status = match read_words(&rt) {
+        Ok(words) => match words.as_slice() {
+            [command, file] if command == "check" => check_file(&rt, file, &mut err),
+            _ => stop_with("", &Stop::WrongUse, &mut err),
+        },
+        Err(fault) if fault.kind() == ErrorKind::OutOfMemory => {
+            stop_with("", &Stop::NoMemory, &mut err)
+        }
+        Err(_) => stop_with("", &Stop::WrongUse, &mut err),
+    };
+    ExitCode::from(status)
+}
