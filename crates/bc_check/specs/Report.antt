@@ -2,10 +2,11 @@
 use Rattle.std.specs.Prelude.{ℕ, List, ◌++◌, length, decimal, codes, flat_map}
 use Rattle.bc_text.specs.Names.{name_text}
 use Rattle.bc_prov.specs.declared.outcome.BodyErrors.{BodyErrors}
-use Rattle.bc_prov.specs.declared.outcome.BorrowError.{BorrowError}
+use Rattle.bc_judge.specs.declared.error.BorrowError.{BorrowError}
 use Rattle.bc_prov.specs.declared.outcome.Outcome.{Outcome}
 use Rattle.bc_prov.specs.declared.outcome.Outcome.TheVariants.{NoBody, Ill, Report}
-use Rattle.bc_prov.specs.Lines.{place_text, error_text}
+use Rattle.bc_mir.specs.Lines.{place_text}
+use Rattle.bc_judge.specs.Lines.{error_text}
 use Rattle.bc_check.specs.Text.{line}
 
 -- the line of an error

@@ -3,7 +3,8 @@ ghost use Rattle.std.specs.Prelude.{OnOk};
 ghost use Rattle.std.specs.Io.KnownBytes.{Appends};
 ghost use Rattle.bc_check.specs.Report.{error_line, body_lines, report};
 
-use bc_prov::{BodyErrors, BorrowError, Outcome};
+use bc_judge::BorrowError;
+use bc_prov::{BodyErrors, Outcome};
 use std::io;
 use std::io::Write;
 

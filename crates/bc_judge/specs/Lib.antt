@@ -2,3 +2,4 @@ pub mod Conflicts
 pub mod Lifetimes
 pub mod Errors
 pub mod Known
+pub mod Lines

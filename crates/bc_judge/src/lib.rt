@@ -6,6 +6,7 @@ mod conflicts;
 mod error;
 mod known;
 mod lifetimes;
+mod print;
 mod relevance;
 #[cfg(test)]
 mod tests;

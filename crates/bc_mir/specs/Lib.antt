@@ -8,3 +8,4 @@ pub mod Typed
 pub mod Supporting
 pub mod Laws
 pub mod Subtype
+pub mod Lines

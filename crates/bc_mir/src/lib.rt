@@ -8,6 +8,7 @@ mod liveness;
 mod loan;
 mod mir;
 mod places;
+mod print;
 mod region;
 mod subtype;
 mod typed;

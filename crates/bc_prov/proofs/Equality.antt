@@ -4,17 +4,17 @@ use Rattle.std.specs.Bool.{Decides}
 use Rattle.std.proofs.lemmas.Bool.Decides.{Decides-and, Decides-like, Decides-eqb}
 use Rattle.std.proofs.lemmas.Slice.Eq.{slice_eq-Decides}
 use Rattle.bc_text.proofs.Equality.{name}
-use Rattle.bc_prov.specs.declared.outcome.Point.{Point}
-use Rattle.bc_prov.specs.declared.outcome.Where.{Where}
-use Rattle.bc_prov.specs.declared.outcome.Where.TheVariants as wheres
-use Rattle.bc_prov.specs.declared.outcome.BorrowError.{BorrowError}
-use Rattle.bc_prov.specs.declared.outcome.BorrowError.TheVariants as errors
+use Rattle.bc_mir.specs.declared.mir.Point.{Point}
+use Rattle.bc_mir.specs.declared.typed.Where.{Where}
+use Rattle.bc_mir.specs.declared.typed.Where.TheVariants as wheres
+use Rattle.bc_judge.specs.declared.error.BorrowError.{BorrowError}
+use Rattle.bc_judge.specs.declared.error.BorrowError.TheVariants as errors
 use Rattle.bc_prov.specs.declared.outcome.BodyErrors.{BodyErrors}
 use Rattle.bc_prov.specs.declared.outcome.Outcome.{Outcome}
 use Rattle.bc_prov.specs.declared.outcome.Outcome.TheVariants as outcomes
-use Rattle.bc_prov.specs.contracts.outcome.PointPartialEq.TheImpl as point_impl
-use Rattle.bc_prov.specs.contracts.outcome.WherePartialEq.TheImpl as place_impl
-use Rattle.bc_prov.specs.contracts.outcome.BorrowErrorPartialEq.TheImpl as error_impl
+use Rattle.bc_mir.specs.contracts.mir.PointPartialEq.TheImpl as point_impl
+use Rattle.bc_mir.specs.contracts.typed.WherePartialEq.TheImpl as place_impl
+use Rattle.bc_judge.specs.contracts.error.BorrowErrorPartialEq.TheImpl as error_impl
 use Rattle.bc_prov.specs.contracts.outcome.BodyErrorsPartialEq.TheImpl as body_impl
 use Rattle.bc_prov.specs.contracts.outcome.OutcomePartialEq.TheImpl as outcome_impl
 

@@ -1,7 +1,6 @@
-//! The outcome of a body. (Provisional: the analysis below it is being built.)
+//! The outcome of a body: the whole analysis, from the unit to its errors.
 #![tactic(auto)]
 
 mod outcome;
-mod print;
 
-pub use outcome::{BodyErrors, BorrowError, Outcome, Point, Where, outcome_of};
+pub use outcome::{BodyErrors, Outcome, outcome_of};

@@ -1,38 +1,17 @@
 //! What an Ask finds.
-ghost use Rattle.std.specs.Prelude.{IfOk};
+ghost use Rattle.std.specs.Prelude.{◌≡◌, IfOk};
 ghost use Rattle.std.specs.Option.{option_copied};
-ghost use Rattle.bc_prov.specs.Outcome.{IsOutcome};
+ghost use Rattle.bc_prov.specs.Errors.{AreErrorsOf};
+ghost use Rattle.bc_prov.specs.Outcome.{IsOutcome, report_of};
 
+use bc_cons::constraints;
+use bc_judge::{BorrowError, errors};
+use bc_live::live;
+use bc_loans::in_scope;
+use bc_mir::{IllFault, Typed, Where, type_unit};
+use bc_solve::solve_plain;
 use bc_text::{Name, Sequence, Unit};
 use std::alloc::{AllocError, Global};
-
-/// A point, as it is printed: its block, and its index there.
-#[derive(Clone, Copy, Debug, PartialEq, Eq)]
-pub struct Point {
-    pub block: usize,
-    pub index: usize,
-}
-
-/// Where a unit breaks a typing rule first.
-#[derive(Clone, Copy, Debug, PartialEq, Eq)]
-pub enum Where {
-    Header,
-    At(Point),
-}
-
-/// An error of a body.
-#[derive(Clone, Copy, Debug, PartialEq, Eq)]
-pub enum BorrowError {
-    Conflict {
-        at: Point,
-        access: usize,
-        loan: Point,
-    },
-    Lifetime {
-        longer: u8,
-        shorter: u8,
-    },
-}
 
 /// A body, and its errors in order.
 #[derive(Drop, PartialEq)]
@@ -50,18 +29,50 @@ pub enum Outcome {
     Report(Sequence<BodyErrors>),
 }
 
-/// The outcome of a name that holds this unit, or none. `AllocError` only where memory was refused.
-/// (Provisional.)
-pub fn outcome_of(alloc: Global, name: &Name, held: Option<&Unit>) -> Result<Outcome, AllocError>
-    ensures { IfOk result (IsOutcome (option_copied held.entry) name.now) }
+/// The errors of a typed body, in order: liveness, outlives constraints, region values, loans in scope, and what
+/// conflicts or fails. Answers `AllocError` only where memory was refused. (RFC 2094 as a whole.)
+pub fn errors_of(alloc: Global, typed: &Typed) -> Result<Sequence<BorrowError>, AllocError>
+    ensures { IfOk result (AreErrorsOf typed.now) }
 {
-    let Some(_unit) = held else {
-        return Ok(Outcome::NoBody);
-    };
+    let live = live(alloc, typed)?;
+    let facts = constraints(alloc, typed, &live)?;
+    let values = solve_plain(alloc, &facts)?;
+    let scopes = in_scope(alloc, typed, &values)?;
+    let verdict = errors(alloc, typed, values.rows(), scopes.rows())?;
+    Ok(verdict.errors)
+}
+
+fn report(
+    alloc: Global,
+    name: &Name,
+    errors: Sequence<BorrowError>,
+) -> Result<Outcome, AllocError>
+    ensures { IfOk result (λ outcome. outcome ≡ report_of name.now errors) }
+{
     let mut bodies = Sequence::new(alloc);
     bodies.push(BodyErrors {
         name: *name,
-        errors: Sequence::new(alloc),
+        errors,
     })?;
     Ok(Outcome::Report(bodies))
+}
+
+/// The outcome of a name where this unit is held, or none: `NoBody` where none is held, `Ill` with the least misfit
+/// where the unit breaks a typing rule, and else the report of the body's errors. Answers `AllocError` only where
+/// memory was refused. (Own; the errors are RFC 2094's.)
+pub fn outcome_of(alloc: Global, name: &Name, held: Option<&Unit>) -> Result<Outcome, AllocError>
+    ensures { IfOk result (IsOutcome (option_copied held.entry) name.now) }
+{
+    let Some(unit) = held else {
+        return Ok(Outcome::NoBody);
+    };
+    match type_unit(alloc, unit) {
+        Ok(typed) => {
+            let errors = errors_of(alloc, &typed)?;
+            let outcome = report(alloc, name, errors)?;
+            Ok(outcome)
+        }
+        Err(IllFault::Ill(place)) => Ok(Outcome::Ill(*name, place)),
+        Err(IllFault::NoMemory) => Err(AllocError),
+    }
 }

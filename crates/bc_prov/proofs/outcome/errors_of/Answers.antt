@@ -1,0 +1,17 @@
+use Rattle.bc_flow.specs.Flow.{holds}
+use Rattle.bc_cons.specs.Starts.{starts_with}
+use Rattle.bc_cons.specs.Constraints.{constraints_of}
+use Rattle.bc_prov.proofs.Starts.{value_over}
+use Rattle.bc_prov.proofs.outcome.errors_of.Goals as goal
+
+pub returns : goal.returns
+returns c = record {
+  live = holds c.in_ok-live.live;
+  value = holds c.in_ok-values.values;
+  in_scope = holds c.in_ok-scopes.scopes;
+  tells_live = c.in_ok-live.ensures.live;
+  tells_value = value_over (holds c.in_ok-facts.facts.starts) (starts_with c.args.typed.now (holds c.in_ok-live.live)) c.in_ok-facts.facts.pairs (constraints_of c.args.typed.now) (holds c.in_ok-values.values)
+      c.in_ok-facts.ensures.starts c.in_ok-facts.ensures.pairs c.in_ok-values.ensures.values;
+  tells_scope = c.in_ok-scopes.ensures.scopes;
+  are_errors = rw (c.rows.ensures, c.rows-2.ensures) at c.in_ok-verdict.ensures.errors;
+}
