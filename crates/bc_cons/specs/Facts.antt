@@ -1,5 +1,5 @@
 -- What the values of regions are made from. Regions and elements are numbers.
-use Rattle.std.specs.Prelude.{◌≡◌, ℕ, ◌<◌, Bool, List, length}
+use Rattle.std.specs.Prelude.{ℕ, ◌<◌, Bool, List, length}
 use Rattle.std.specs.List.{All, Contains}
 use Rattle.bc_flow.specs.Flow.{HaveSize}
 use Rattle.bc_cons.specs.declared.facts.Constraint.{Constraint}
