@@ -1,16 +1,16 @@
 -- What flows from the shorter regions of clauses to the longer ones is what is known.
-use Rattle.std.proofs.Common.{◌≡◌, ℕ, ◌+◌, ◌<◌, ◌≤◌, ◌⊎◌, inl, inr, ◌↔◌, Bool, true, false, List, [], ◌∷◌, length, map, refl, sym, ap, ◌∙◌, subst, arith}
-use Rattle.std.specs.Prelude.{◌&&◌, nat_lt}
-use Rattle.std.specs.List.{All, Contains, flat_map, range_with_len, list_all}
+use Rattle.std.proofs.Common.{◌≡◌, ℕ, ◌<◌, ◌⊎◌, inl, inr, Bool, true, List, [], ◌∷◌, map, refl, sym, ap, subst, arith}
+use Rattle.std.specs.Prelude.{nat_lt}
+use Rattle.std.specs.List.{Contains, flat_map, range_with_len, list_all}
 use Rattle.std.proofs.lemmas.Bool.{and_parts, ltb-true}
-use Rattle.std.proofs.lemmas.List.Elements.{All-contains, All-contains_itself, All-map, All-weaker}
+use Rattle.std.proofs.lemmas.List.Elements.{All-contains_itself, All-map, All-weaker}
 use Rattle.std.proofs.lemmas.List.Sums.{AllPass-from_list_all}
 use Rattle.bc_text.specs.declared.syntax.Outlives.{Outlives}
 use Rattle.bc_text.specs.Sizes.{clause_names}
 use Rattle.bc_flow.specs.declared.graph.Edge.{Edge}
 use Rattle.bc_flow.specs.declared.tables.Entry.{Entry}
-use Rattle.bc_flow.specs.Graph.{HasEdge, AreWithin}
-use Rattle.bc_flow.specs.Flow.{holds, Lists, AreEntriesWithin, HaveEntries, Flows, begins, goes_on, IsFlow}
+use Rattle.bc_flow.specs.Graph.{AreWithin}
+use Rattle.bc_flow.specs.Flow.{holds, AreEntriesWithin, HaveEntries, Flows, begins, goes_on, IsFlow}
 use Rattle.bc_flow.specs.Membership.{Contains-one, Contains-cons, Contains-head, Contains-later, from_flat_map, in_flat_map, from_map, in_map, from_range, in_range}
 use Rattle.bc_mir.specs.Mir.{Mir}
 use Rattle.bc_judge.specs.Known.{edge_of, entry, entries_of}

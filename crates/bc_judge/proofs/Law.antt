@@ -1,7 +1,7 @@
 -- The list of errors has exactly the errors.
-use Rattle.std.proofs.Common.{◌≡◌, ℕ, ◌+◌, ◌<◌, ◌⊎◌, inl, inr, ◌↔◌, Bool, true, false, List, [], ◌∷◌, ◌++◌, length, Option, Some, None, refl, sym, ap, ◌∙◌, subst, arith}
+use Rattle.std.proofs.Common.{◌≡◌, ℕ, ◌+◌, ◌<◌, ◌⊎◌, inl, inr, ◌↔◌, Bool, true, false, List, [], ◌∷◌, Option, Some, None, refl, sym, ap, ◌∙◌, subst, arith}
 use Rattle.std.specs.Prelude.{◌&&◌, ◌||◌, not, if◌then◌else◌, slice_get}
-use Rattle.std.specs.List.{Contains, flat_map, enumerate_from, range_with_len}
+use Rattle.std.specs.List.{Contains, enumerate_from, range_with_len}
 use Rattle.std.proofs.lemmas.Bool.{and_parts, and_from, both_ways, false_from_ne_true}
 use Rattle.std.proofs.lemmas.Option.{slice_get_within, get_or_from_slice_get}
 use Rattle.std.proofs.lemmas.List.Elements.{Contains-append_left, Contains-append_right, Contains-append_cases}
@@ -21,7 +21,7 @@ use Rattle.bc_loans.specs.Loans.{with_point, loans_of_step, loans_of}
 use Rattle.bc_judge.specs.declared.error.BorrowError.{BorrowError}
 use Rattle.bc_judge.specs.declared.error.BorrowError.TheVariants.{Conflict, Lifetime}
 use Rattle.bc_judge.specs.Conflicts.{ScopeTest, is_write, is_conflict, is_relevant_at, point_of, conflict_with, conflicts_of_access, conflicts_of_step, conflicts_of}
-use Rattle.bc_judge.specs.Lifetimes.{IsKnown, TellsKnown, ValueTest, end_of, failure_of, failures_of, lifetimes_of}
+use Rattle.bc_judge.specs.Lifetimes.{TellsKnown, ValueTest, end_of, failure_of, failures_of, lifetimes_of}
 use Rattle.bc_judge.specs.Errors.{errors_of, IsConflict, IsFailure, IsError}
 
 -- ---- one element under a test

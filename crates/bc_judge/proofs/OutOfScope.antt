@@ -1,5 +1,5 @@
 -- Loans that are not in scope give no conflict.
-use Rattle.std.proofs.Common.{◌≡◌, ℕ, ◌+◌, ◌≤◌, Bool, true, false, List, [], ◌++◌, length, refl, sym, ap, ◌∙◌, arith, append-nil, Option, Some, None}
+use Rattle.std.proofs.Common.{◌≡◌, ℕ, ◌+◌, ◌≤◌, Bool, false, List, [], ◌++◌, length, sym, ap, ◌∙◌, arith, append-nil, Option, Some, None}
 use Rattle.std.specs.Prelude.{slice_get, MatchOption, is_some}
 use Rattle.std.proofs.lemmas.List.{get_or_past}
 use Rattle.bc_flow.specs.BitSet.{has, IsNextMember}

@@ -1,4 +1,4 @@
-use Rattle.std.proofs.Common.{refl, sym}
+use Rattle.std.proofs.Common.{refl}
 use Rattle.std.proofs.lemmas.Option.{slice_get_read}
 use Rattle.bc_flow.specs.BitSet.{has}
 use Rattle.bc_judge.proofs.OutOfScope.{access-turn, access-past, access-end}
