@@ -1,4 +1,5 @@
 pub mod Words
+pub mod Membership
 pub mod Members
 pub mod NextBit
 pub mod Filled

@@ -11,7 +11,7 @@ use Rattle.bc_flow.specs.declared.graph.Edge.{Edge}
 use Rattle.bc_flow.specs.declared.tables.Entry.{Entry}
 use Rattle.bc_flow.specs.Graph.{AreWithin}
 use Rattle.bc_flow.specs.Flow.{holds, AreEntriesWithin, HaveEntries, Flows, begins, goes_on, IsFlow}
-use Rattle.bc_flow.specs.Membership.{Contains-one, Contains-cons, Contains-head, Contains-later, from_flat_map, in_flat_map, from_map, in_map, from_range, in_range}
+use Rattle.bc_flow.proofs.Membership.{Contains-one, Contains-cons, Contains-head, Contains-later, from_flat_map, in_flat_map, from_map, in_map, from_range, in_range}
 use Rattle.bc_mir.specs.Mir.{Mir}
 use Rattle.bc_judge.specs.Known.{edge_of, entry, entries_of}
 use Rattle.bc_judge.specs.Lifetimes.{IsKnown, same, static, clause, join, TellsKnown}

@@ -16,7 +16,7 @@ use Rattle.bc_mir.specs.Mir.{Mir}
 use Rattle.bc_mir.specs.Places.{is_mutable}
 use Rattle.bc_mir.specs.Points.{loan_of}
 use Rattle.bc_mir.specs.Accesses.{accesses_of}
-use Rattle.bc_flow.specs.Membership.{Contains-nil, Contains-one, Contains-head, from_flat_map, in_flat_map, from_enumerate, in_enumerate, from_range, in_range}
+use Rattle.bc_flow.proofs.Membership.{Contains-nil, Contains-one, Contains-head, from_flat_map, in_flat_map, from_enumerate, in_enumerate, from_range, in_range}
 use Rattle.bc_loans.specs.Loans.{with_point, loans_of_step, loans_of}
 use Rattle.bc_judge.specs.declared.error.BorrowError.{BorrowError}
 use Rattle.bc_judge.specs.declared.error.BorrowError.TheVariants.{Conflict, Lifetime}

@@ -4,6 +4,7 @@
 
 mod conflicts;
 mod error;
+mod judging;
 mod known;
 mod lifetimes;
 mod print;
@@ -14,4 +15,5 @@ mod verdict;
 
 pub use error::BorrowError;
 pub use known::{KnownRelations, known_relations};
-pub use verdict::{Verdict, errors};
+pub use judging::judge;
+pub use verdict::Verdict;

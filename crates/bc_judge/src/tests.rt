@@ -1,4 +1,5 @@
-use crate::{BorrowError, errors, known_relations};
+use crate::verdict::errors;
+use crate::{BorrowError, known_relations};
 use bc_flow::{Entry, empty_table, table};
 use bc_mir::{Point, Typed, type_unit};
 use bc_text::{

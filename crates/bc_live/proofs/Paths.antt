@@ -7,7 +7,7 @@ use Rattle.std.proofs.lemmas.List.Elements.{All-nil, All-cons, All-head, All-tai
 use Rattle.bc_flow.specs.declared.graph.Edge.{Edge}
 use Rattle.bc_flow.specs.Graph.{HasEdge, AreWithin, IsPath, turned}
 use Rattle.bc_flow.specs.Flow.{holds, Flows, begins, goes_on, IsFlow}
-use Rattle.bc_flow.specs.Membership.{Contains-mapped}
+use Rattle.bc_flow.proofs.Membership.{Contains-mapped}
 use Rattle.bc_mir.specs.Mir.{Mir, edges_of}
 use Rattle.bc_mir.specs.Points.{Uses, Defines}
 use Rattle.bc_flow.specs.Flow.{HaveEntries}

@@ -25,7 +25,7 @@ use Rattle.bc_mir.specs.Places.{place_type, type_along}
 use Rattle.bc_mir.specs.Typing.{allowed, is_copyable, operand_type, is_int, is_int_operand, writable_type, borrowed_type, rvalue_type, agree, fits_at, first_unfit}
 use Rattle.bc_mir.specs.Accesses.{operand_uses, rvalue_uses, is_local, target_uses, target_defines, uses_of, defines_of}
 use Rattle.bc_flow.specs.Flow.{AreEntriesWithin}
-use Rattle.bc_flow.specs.Membership.{Contains-nil, Contains-one}
+use Rattle.bc_flow.proofs.Membership.{Contains-nil, Contains-one}
 use Rattle.bc_live.specs.Entries.{listed, use_entries, definition_entries}
 use Rattle.bc_live.proofs.Listing.{entries_by, from_entries}
 

@@ -5,7 +5,7 @@ ghost use Rattle.bc_prov.specs.Errors.{AreErrorsOf};
 ghost use Rattle.bc_prov.specs.Outcome.{IsOutcome, report_of};
 
 use bc_cons::constraints;
-use bc_judge::{BorrowError, errors};
+use bc_judge::{BorrowError, judge};
 use bc_live::live;
 use bc_loans::in_scope;
 use bc_mir::{IllFault, Typed, Where, type_unit};
@@ -38,7 +38,7 @@ pub fn errors_of(alloc: Global, typed: &Typed) -> Result<Sequence<BorrowError>, 
     let facts = constraints(alloc, typed, &live)?;
     let values = solve_plain(alloc, &facts)?;
     let scopes = in_scope(alloc, typed, &values)?;
-    let verdict = errors(alloc, typed, values.rows(), scopes.rows())?;
+    let verdict = judge(alloc, typed, &values, &scopes)?;
     Ok(verdict.errors)
 }
 
