@@ -1,6 +1,5 @@
 -- Names that are gathered in their order.
-use Rattle.std.proofs.Common.{◌≡◌, ℕ, zero, suc, ◌<◌, ◌≤◌, ◌+◌, List, [], ◌∷◌, ◌++◌, length, get_or, map, refl, sym, ap, ◌∙◌, subst, arith, Ordering, Less, Equal, Greater, inl, inr, take}
-use Rattle.std.specs.Prelude.{◌⊎◌}
+use Rattle.std.proofs.Common.{◌≡◌, ℕ, zero, suc, ◌<◌, ◌≤◌, ◌+◌, List, [], ◌∷◌, length, get_or, map, refl, sym, ap, ◌∙◌, subst, arith, Ordering, Less, Equal, Greater, inl, inr}
 use Rattle.std.specs.List.{All, Contains}
 use Rattle.std.specs.List.Sorted.{IsStrictlySortedBy}
 use borrow.Author.Count.{below_more}
@@ -12,8 +11,7 @@ use Rattle.std.proofs.lemmas.Map.Lookups.{CmpEqualImpliesEq, exact_bytes}
 use Rattle.std.proofs.lemmas.List.{get_or-map, length-map}
 use Rattle.std.proofs.lemmas.Map.Views.{All-insert_key}
 use Rattle.bc_text.specs.Names.{NameParts, name_order}
-use Rattle.bc_check.specs.declared.file.Put.{Put}
-use Rattle.bc_check.specs.Puts.{Placed, seen}
+use Rattle.bc_check.specs.Puts.{Placed}
 use Rattle.bc_check.specs.Asked.{IsRootPut, AreAsked}
 
 at_head : {X : Type 0} (x : X) (xs : List X) → Contains (x ∷ xs) x

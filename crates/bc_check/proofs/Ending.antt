@@ -1,5 +1,5 @@
 -- How the command ends.
-use Rattle.std.proofs.Common.{◌≡◌, ℕ, ◌≤◌, ◌<◌, ◌+◌, max, List, [], ◌∷◌, ◌++◌, Option, Some, None, Result, Ok, Err, inl, inr, length, map, refl, sym, ap, ◌∙◌, subst, append_assoc, append-nil, arith, get_or, zero, suc}
+use Rattle.std.proofs.Common.{◌≡◌, ℕ, ◌≤◌, ◌<◌, ◌+◌, max, List, [], ◌∷◌, ◌++◌, Option, Some, None, Result, Err, inr, length, map, refl, sym, ap, ◌∙◌, subst, append_assoc, append-nil, arith, get_or, zero, suc}
 use Rattle.std.specs.Prelude.{IfSome}
 use Rattle.std.specs.List.{flat_map, Contains}
 use Rattle.std.specs.Io.KnownBytes.{Appends, Keeps}
@@ -21,11 +21,10 @@ use Rattle.bc_check.specs.Text.{line}
 use Rattle.bc_check.specs.Parts.{sections_of}
 use Rattle.bc_check.specs.Faults.{message}
 use Rattle.bc_check.specs.Stops.{last_line, stop_status}
-use Rattle.bc_check.specs.Puts.{Placed, ArePuts, IsFirstFault}
-use Rattle.bc_check.specs.Asked.{AreAsked}
-use Rattle.bc_check.specs.Run.{put_call, calls_of, told_of, shown_of, told, shown, reply_status, greatest, AreLegal}
+use Rattle.bc_check.specs.Puts.{Placed, IsFirstFault}
+use Rattle.bc_check.specs.Run.{put_call, calls_of, told_of, shown_of, told, shown, greatest, AreLegal}
 use Rattle.bc_check.specs.Served.{IsSound, Served, ServedPart, Runs, Begins}
-use Rattle.bc_check.specs.Ends.{IsEnd, HasTooManyCalls}
+use Rattle.bc_check.specs.Ends.{IsEnd}
 use Rattle.bc_check.proofs.Serving.{nothing_added, kept_adds, added_then}
 
 -- nothing is told of an Ask

@@ -1,9 +1,8 @@
 -- Sections that are read one after another.
-use Rattle.std.proofs.Common.{◌≡◌, List, [], ◌∷◌, ◌++◌, Ok, Err, Result, refl, sym, ap, ◌∙◌, append_assoc, append-nil, subst, map}
-use Rattle.bc_check.specs.declared.file.Put.{Put}
+use Rattle.std.proofs.Common.{◌≡◌, List, [], ◌∷◌, ◌++◌, refl, sym, ap, ◌∙◌, append_assoc, append-nil, subst}
 use Rattle.bc_check.specs.declared.fault.FileFault.{FileFault}
 use Rattle.bc_check.specs.Parts.{Part}
-use Rattle.bc_check.specs.Puts.{Placed, IsPut, IsFault, ArePuts, IsFirstFault, seen}
+use Rattle.bc_check.specs.Puts.{Placed, IsPut, IsFault, ArePuts, IsFirstFault}
 
 -- of all sections those that are not left are put
 pub record HasRead (all left : List Part) (puts : List Placed) : Type 0 where

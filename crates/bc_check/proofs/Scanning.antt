@@ -1,8 +1,7 @@
 -- The scan for the next header line, byte by byte.
-use Rattle.std.proofs.Common.{◌≡◌, ◌≢◌, ℕ, ◌+◌, ◌<◌, ◌≤◌, Bool, true, false, cond, List, [], ◌∷◌, ◌++◌, take, drop, get_or, length, refl, sym, ap, ◌∙◌, arith, append_assoc, drop-cons, add-one}
+use Rattle.std.proofs.Common.{◌≡◌, ℕ, ◌+◌, Bool, true, false, List, [], ◌∷◌, ◌++◌, refl}
 use Rattle.std.specs.Prelude.{◌==◌}
-use Rattle.std.proofs.lemmas.List.{take_more}
-use Rattle.bc_check.specs.Parts.{Parts, Part, lines_of, onto_first, parts, sections_from}
+use Rattle.bc_check.specs.Parts.{Parts, lines_of, onto_first, parts, sections_from}
 
 -- what is left of a line, and what comes behind it
 abbrev pub within : ℕ → List (List ℕ) → Parts

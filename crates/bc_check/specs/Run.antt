@@ -1,5 +1,5 @@
 -- What the calls that a file makes are, what is printed of them, and their statuses.
-use Rattle.std.specs.Prelude.{◌≡◌, ℕ, Bool, max, List, [], ◌∷◌, ◌++◌, map, flat_map, length, codes, if◌then◌else◌, ◌==◌}
+use Rattle.std.specs.Prelude.{◌≡◌, ℕ, Bool, max, List, [], ◌∷◌, ◌++◌, map, length, codes, if◌then◌else◌, ◌==◌}
 use Rattle.std.specs.List.{All, list_all}
 use Rattle.bc_text.specs.Names.{NameParts, name_text}
 use Rattle.bc_prov.specs.declared.outcome.BodyErrors.{BodyErrors}

@@ -1,4 +1,4 @@
-use Rattle.std.proofs.Common.{◌≡◌, map, sym, ap, ◌∙◌, arith, length, get_or, ◌<◌}
+use Rattle.std.proofs.Common.{map, sym, ap, ◌∙◌, arith, length, ◌<◌}
 use Rattle.std.proofs.lemmas.List.{get_or-map, length-map, nil_from_length}
 use Rattle.bc_check.specs.Puts.{Placed, seen}
 use Rattle.bc_check.proofs.Asking.{gathered_more, gathered_same, gathered_all}

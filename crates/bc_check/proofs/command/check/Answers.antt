@@ -1,4 +1,4 @@
-use Rattle.std.proofs.Common.{arith, ◌<◌, ◌+◌, ◌≤◌, length, map, List, ℕ}
+use Rattle.std.proofs.Common.{arith, ◌≤◌, length, map, List, ℕ}
 use Rattle.std.proofs.lemmas.List.{length-map}
 use Rattle.std.specs.Io.KnownBytes.{Keeps}
 use Rattle.bc_check.specs.Puts.{seen}

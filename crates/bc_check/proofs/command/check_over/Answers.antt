@@ -1,5 +1,4 @@
-use Rattle.std.proofs.Common.{arith, refl, Err, ap, ◌≡◌, ◌<◌}
-use Rattle.bc_check.specs.Stops.{stop_status}
+use Rattle.std.proofs.Common.{refl, Err}
 use Rattle.bc_check.proofs.Ending.{ended}
 use Rattle.bc_check.proofs.command.check_over.Goals as goal
 

@@ -1,8 +1,8 @@
-use Rattle.std.proofs.Common.{arith, rules, map, ap, subst, ◌≡◌, sym}
+use Rattle.std.proofs.Common.{arith, rules, map, ap, ◌≡◌}
 use Rattle.bc_check.specs.declared.stop.Stop.TheVariants.{NoMemory}
 use Rattle.bc_check.specs.Puts.{seen}
 use Rattle.bc_check.specs.Run.{put_call, told}
-use Rattle.bc_check.proofs.Serving.{Making, making_none, making_more, making_part, same_stop}
+use Rattle.bc_check.proofs.Serving.{making_none, making_more, making_part, same_stop}
 use Rattle.bc_check.proofs.command.make_puts.Goals as goal
 
 pub loop-put-preserved : goal.loop-put-preserved

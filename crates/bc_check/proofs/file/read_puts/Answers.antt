@@ -1,4 +1,3 @@
-use Rattle.std.proofs.Common.{map}
 use Rattle.std.proofs.lemmas.List.{map-append}
 use Rattle.bc_check.specs.Left.{part_of}
 use Rattle.bc_check.specs.Puts.{seen}

@@ -1,4 +1,4 @@
-use Rattle.std.proofs.Common.{arith, length, ap, rules, ◌<◌, sym, ◌≡◌, ℕ, List, false}
+use Rattle.std.proofs.Common.{arith, length, ap, rules, ◌<◌, ◌≡◌, ℕ, List, false}
 use Rattle.std.specs.Prelude.{◌==◌}
 use Rattle.std.proofs.lemmas.Bool.Decides.{nat_tests}
 use Rattle.bc_check.proofs.Lines.{first_section}
