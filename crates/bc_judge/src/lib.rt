@@ -14,6 +14,6 @@ mod tests;
 mod verdict;
 
 pub use error::BorrowError;
-pub use known::{KnownRelations, known_relations};
 pub use judging::judge;
+pub use known::{KnownRelations, known_relations};
 pub use verdict::Verdict;

@@ -42,11 +42,7 @@ pub fn errors_of(alloc: Global, typed: &Typed) -> Result<Sequence<BorrowError>, 
     Ok(verdict.errors)
 }
 
-fn report(
-    alloc: Global,
-    name: &Name,
-    errors: Sequence<BorrowError>,
-) -> Result<Outcome, AllocError>
+fn report(alloc: Global, name: &Name, errors: Sequence<BorrowError>) -> Result<Outcome, AllocError>
     ensures { IfOk result (λ outcome. outcome ≡ report_of name.now errors) }
 {
     let mut bodies = Sequence::new(alloc);

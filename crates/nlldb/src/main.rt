@@ -2,11 +2,10 @@
 #![tactic(auto)]
 
 use bc_check::{Stop, check_over, stop_with};
-use std::env;
 use std::fs::File;
-use std::io;
 use std::io::{BufWriter, ErrorKind, Stderr, Write};
 use std::process::ExitCode;
+use std::{env, io};
 
 /// The words of the command line, behind the program's own name.
 fn read_words(rt: &HostRuntime) -> io::Result<Vec<String>> {
