@@ -7,7 +7,7 @@ use Rattle.bc_book.specs.Calls.{calls}
 use Rattle.bc_share.specs.Sessions.{SessionView}
 use Rattle.bc_share.specs.Closings.{Agrees, IsTheirs}
 
-pub all_one : {X : Type 0} (P : X → Type 0) (x : X) → P x → All P (x ∷ [])
+all_one : {X : Type 0} (P : X → Type 0) (x : X) → P x → All P (x ∷ [])
 all_one P x p zero d small = p
 all_one P x p (suc k) d small = absurd (omega arith)
 
@@ -17,14 +17,6 @@ the_one n m c = alone c.0 c.1 c.2
     alone : (k : ℕ) → k < 1 → get_or (n ∷ []) k m ≡ m → m ≡ n
     alone zero small is = sym is
     alone (suc k) small is = absurd (omega arith)
-
-pub agrees_one : (sessions : List SessionView) (s : SessionView) (h : List Entry) → sessions ≡ s ∷ []
-    → (s.own ≡ calls s.number h) × All (λ (e : Entry). e.session ≡ s.number) h → Agrees sessions h
-agrees_one sessions s h one a =
-    subst (λ (l : List SessionView). Agrees l h) (sym one) (record {
-      own = all_one (λ (x : SessionView). x.own ≡ calls x.number h) s a.0;
-      others = λ k d small. (0, omega arith, sym (a.1 k d small));
-    })
 
 pub one_agrees : (sessions : List SessionView) (s : SessionView) (h : List Entry) → sessions ≡ s ∷ [] → Agrees sessions h
     → (s.own ≡ calls s.number h) × All (λ (e : Entry). e.session ≡ s.number) h

@@ -67,8 +67,14 @@ fn the_history_has_each_call_with_its_reply(rt: HostRuntime) -> Result<(), Fail>
     let f = name(b"f")?;
     let (db, mut session) = open(rt.alloc(), 7, 10)?;
     assert!(rt; matches!(*session.ask(&f)?, Outcome::NoBody));
-    assert_eq!(rt; session.put(f, unit(rt.alloc(), Terminator::Return)?)?, PutReply::Added);
-    assert_eq!(rt; session.put(f, unit(rt.alloc(), Terminator::Stop)?)?, PutReply::Replaced);
+    assert_eq!(rt;
+        session.put(f, unit(rt.alloc(), Terminator::Return)?)?,
+        PutReply::Added
+    );
+    assert_eq!(rt;
+        session.put(f, unit(rt.alloc(), Terminator::Stop)?)?,
+        PutReply::Replaced
+    );
     let outcome = session.ask(&f)?;
     assert!(rt; matches!(&*outcome, Outcome::Report(bodies) if bodies.len() == 1));
     let history = close(rt.alloc(), db, session)?;
@@ -79,7 +85,9 @@ fn the_history_has_each_call_with_its_reply(rt: HostRuntime) -> Result<(), Fail>
         assert_eq!(rt; entry.number as usize, number);
     }
     let replaced = &entries[2].event;
-    assert!(rt; matches!(&replaced.call, Call::Put(name, unit) if *name == f && unit.get().body().blocks.len() == 1));
+    assert!(rt;
+        matches!(&replaced.call, Call::Put(name, unit) if *name == f && unit.get().body().blocks.len() == 1)
+    );
     assert!(rt; matches!(&replaced.reply, Reply::Put(PutReply::Replaced)));
     let asked = &entries[3].event;
     assert!(rt; matches!(&asked.call, Call::Ask(name) if *name == f));
@@ -119,7 +127,10 @@ fn a_new_name_is_full_behind_256_bodies(rt: HostRuntime) -> Result<(), Fail> {
             assert_eq!(rt; reply, PutReply::Added);
         }
     }
-    assert_eq!(rt; session.put(name(b"f")?, Arc::try_clone(&unit)?)?, PutReply::Full);
+    assert_eq!(rt;
+        session.put(name(b"f")?, Arc::try_clone(&unit)?)?,
+        PutReply::Full
+    );
     assert!(rt; matches!(*session.ask(&name(b"f")?)?, Outcome::NoBody));
     assert_eq!(rt; session.put(name(b"aa")?, unit)?, PutReply::Replaced);
     assert_eq!(rt; close(rt.alloc(), db, session)?.entries().len(), 259);
