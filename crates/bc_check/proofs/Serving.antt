@@ -1,5 +1,6 @@
 -- Calls that are made one after another.
 use Rattle.std.proofs.Common.{◌≡◌, ℕ, max, List, [], ◌∷◌, ◌++◌, Option, Some, None, map, refl, sym, ap, ◌∙◌, subst, append_assoc, append-nil, arith}
+use Rattle.std.specs.Prelude.{Result, Ok, Err, IsErrAnd, IsErrOf}
 use Rattle.std.specs.List.{flat_map}
 use Rattle.std.specs.Io.KnownBytes.{Appends, Keeps}
 use Rattle.std.proofs.lemmas.List.{map-append}
@@ -7,8 +8,17 @@ use Rattle.std.proofs.lemmas.Grind.{flat_map-append}
 use Rattle.bc_book.specs.declared.call.Call.{Call}
 use Rattle.bc_book.specs.declared.call.Event.{Event}
 use Rattle.bc_share.specs.Sessions.{SessionView}
+use Rattle.bc_check.specs.declared.stop.Stop.{Stop}
 use Rattle.bc_check.specs.Run.{reply_status, greatest}
-use Rattle.bc_check.specs.Served.{event_of, Serves, Served}
+use Rattle.bc_book.specs.declared.call.Reply.{Reply}
+use Rattle.bc_book.specs.declared.call.Entry.{Entry}
+use Rattle.bc_book.specs.Calls.{IsLegal, calls, count_of}
+use Rattle.bc_book.proofs.Histories.{legal_snoc}
+use Rattle.bc_share.proofs.Audits.{calls-append}
+use Rattle.bc_share.specs.Sessions.{Tells}
+use Rattle.std.specs.List.{All}
+use Rattle.std.proofs.lemmas.List.Elements.{All-push}
+use Rattle.bc_check.specs.Served.{event_of, IsSound, Serves, Served, ServedPart}
 
 pub nothing_added : (u : Option (List ℕ)) → Appends u u []
 nothing_added None = tt
@@ -32,6 +42,24 @@ greatest-snoc (e ∷ events) event = let more = greatest-snoc events event in om
 one_text : (text : Event → List ℕ) (event : Event) → flat_map text (event ∷ []) ≡ text event
 one_text text event = append-nil (text event)
 
+-- a call that is answered keeps the history legal, and the session's own
+sound_more : (call : Call) (reply : Reply) (old new : SessionView) → Tells call reply old new → IsSound old → IsSound new
+sound_more call reply old new t h =
+    let number : ℕ = count_of old.number old.entries in
+    let event : Event = event_of call reply in
+    let more : Entry = record { session = old.number; number = number; event = event } in
+    let named : ℕ → List Event = λ (n : ℕ). calls 0 (record { session = n; number = number; event = event } ∷ []) in
+    record {
+      number = t.session.1 ∙ h.number;
+      legal = subst (λ (es : List Entry). IsLegal es) (sym t.entries) (legal_snoc old.entries more h.legal (t.right, refl));
+      alone = subst (λ (es : List Entry). All (λ (e : Entry). e.session ≡ 0) es) (sym t.entries) (All-push (λ (e : Entry). e.session ≡ 0) old.entries more h.alone h.number);
+      own = ap (λ (es : List Entry). calls 0 es) t.entries
+          ∙ calls-append 0 old.entries (more ∷ [])
+          ∙ ap (λ (es : List Event). es ++ calls 0 (more ∷ [])) h.own
+          ∙ ap (λ (n : ℕ). old.own ++ named n) h.number
+          ∙ sym t.own;
+    }
+
 pub served_none : (text : Event → List ℕ) (s : SessionView) (u : Option (List ℕ)) → Served [] text 0 s s u u
 served_none text s u = record {
   events = [];
@@ -39,6 +67,7 @@ served_none text s u = record {
   tag = refl;
   number = refl;
   own = sym (append-nil s.own);
+  sound = λ h. h;
   printed = nothing_added u;
   status = refl;
 }
@@ -54,6 +83,7 @@ served_more list call text m n old mid new u v w h k =
       tag = k.tells.session.0 ∙ h.tag;
       number = k.tells.session.1 ∙ h.number;
       own = k.tells.own ∙ ap (λ (es : List Event). es ++ event ∷ []) h.own ∙ append_assoc old.own h.events (event ∷ []);
+      sound = λ sound. sound_more call k.reply mid new k.tells (h.sound sound);
       printed = subst (λ (t : List ℕ). Appends u w t) printed (added_then u v w _ _ h.printed k.printed);
       status = let more = greatest-snoc h.events event in omega (arith, more, h.status, k.status);
     }
@@ -86,6 +116,25 @@ served_kept list text exit old new u v w h k = record {
   tag = h.tag;
   number = h.number;
   own = h.own;
+  sound = h.sound;
   printed = subst (λ (t : List ℕ). Appends u w t) (append-nil _) (added_then u v w _ [] h.printed (kept_adds v w k));
   status = h.status;
 }
+
+-- the calls that were made where one more was refused
+pub making_part : {X : Type 0} (call_of : X → Call) (all left : List X) (text : Event → List ℕ) (exit : ℕ) (old mid new : SessionView) (u v w : Option (List ℕ)) → Making call_of all left text exit old mid u v → new ≡ mid → Keeps v w → ServedPart (map call_of all) text old new u w
+making_part {X} call_of all left text exit old mid new u v w h same k = record {
+  front = map call_of h.front;
+  ahead = map call_of left;
+  cut = sym (map-append call_of h.front left) ∙ ap (λ (xs : List X). map call_of xs) (sym h.cut);
+  exit = exit;
+  served = subst (λ (s : SessionView). Served (map call_of h.front) text exit old s u w) (sym same) (served_kept (map call_of h.front) text exit old mid u v w h.served k);
+}
+
+pub part_of_all : (list : List Call) (text : Event → List ℕ) (exit : ℕ) (old new : SessionView) (u v : Option (List ℕ)) → Served list text exit old new u v → ServedPart list text old new u v
+part_of_all list text exit old new u v h = record { front = list; ahead = []; cut = append-nil list; exit = exit; served = h }
+
+-- a stop that is passed on is the one that came
+pub same_stop : {A B : Type 0} (r : Result A Stop) (x n : Stop) → IsErrAnd r (λ y. y ≡ x) → r ≡ Err n → IsErrOf {T = B} (Err x) n
+same_stop (Ok a) x n h e = absurd h
+same_stop (Err y) x n h e = cc

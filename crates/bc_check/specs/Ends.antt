@@ -8,7 +8,7 @@ use Rattle.bc_check.specs.Parts.{sections_of}
 use Rattle.bc_check.specs.Puts.{Placed, ArePuts, IsFirstFault}
 use Rattle.bc_check.specs.Asked.{AreAsked}
 use Rattle.bc_check.specs.Faults.{message}
-use Rattle.bc_check.specs.Served.{Runs}
+use Rattle.bc_check.specs.Served.{Runs, Begins}
 
 -- each section put its body, each root name that is put was asked, and what belongs to these calls was printed
 pub record Checked (file : List ℕ) (exit : ℕ) (out out' err err' : Option (List ℕ)) : Type 0 where
@@ -36,3 +36,11 @@ pub record HasTooManyCalls (file : List ℕ) : Type 0 where
   pub good : ArePuts (sections_of file) puts
   pub asked : AreAsked puts names
   pub many : 1000000 < length puts + length names
+
+-- a file without a fault of whose calls a beginning was made, and what belongs to these was printed
+pub record HasBegun (file : List ℕ) (out out' err err' : Option (List ℕ)) : Type 0 where
+  pub puts : List Placed
+  pub names : List NameParts
+  pub good : ArePuts (sections_of file) puts
+  pub asked : AreAsked puts names
+  pub begins : Begins puts names out out' err err'

@@ -6,9 +6,9 @@ ghost use Rattle.bc_check.specs.declared.fault.FileFault.{FileFault};
 ghost use Rattle.bc_check.specs.Parts.{sections_of};
 ghost use Rattle.bc_check.specs.Puts.{seen, IsFirstFault};
 ghost use Rattle.bc_check.specs.Stops.{is_of_calls};
-ghost use Rattle.bc_check.specs.Ends.{Checked, HasTooManyCalls, IsEnd};
+ghost use Rattle.bc_check.specs.Ends.{Checked, HasBegun, HasTooManyCalls, IsEnd};
 ghost use Rattle.bc_check.specs.Run.{put_call, refused_line, answer_lines, told, shown, put_status, are_clean, outcome_status};
-ghost use Rattle.bc_check.specs.Served.{Serves, Served, Runs};
+ghost use Rattle.bc_check.specs.Served.{Serves, Served, ServedPart, Runs, Begins};
 
 use crate::asked::find_asked;
 use crate::file::{Put, read_puts};
@@ -77,6 +77,7 @@ fn write_answer<O: Write>(name: &Name, outcome: &Outcome, out: &mut O) -> io::Re
 
 /// Puts a body, and tells of it where it is not stored. The status of the put.
 fn make_put<E: Write>(session: &mut Session, put: Put, err: &mut E) -> Result<u8, Stop>
+    ensures no_memory { IsErrOf result Stop.NoMemory → (session.new ≡ session.old) × Keeps (E.contents err.old) (E.contents err.new) }
     ensures served { IfOk result (λ status. Serves (put_call (seen put)) told status session.old session.new (E.contents err.old) (E.contents err.new)) }
     ensures range { IfOk result (λ status. status ≤ 2) }
     ensures stop { IfErr result (λ stop. (stop ≡ Stop.CannotTell) ⊎ (stop ≡ Stop.NoMemory) ⊎ (stop ≡ Stop.HistoryFull)) }
@@ -91,6 +92,7 @@ fn make_put<E: Write>(session: &mut Session, put: Put, err: &mut E) -> Result<u8
 
 /// Asks a name, and prints its report. The status of the outcome.
 fn make_ask<O: Write>(session: &mut Session, name: &Name, out: &mut O) -> Result<u8, Stop>
+    ensures no_memory { IsErrOf result Stop.NoMemory → (session.new ≡ session.old) × Keeps (O.contents out.old) (O.contents out.new) }
     ensures served { IfOk result (λ status. Serves (calls.Ask name.now) shown status session.old session.new (O.contents out.old) (O.contents out.new)) }
     ensures range { IfOk result (λ status. status ≤ 2) }
     ensures stop { IfErr result (λ stop. (stop ≡ Stop.CannotWrite) ⊎ (stop ≡ Stop.NoMemory) ⊎ (stop ≡ Stop.HistoryFull)) }
@@ -105,6 +107,7 @@ fn make_ask<O: Write>(session: &mut Session, name: &Name, out: &mut O) -> Result
 /// Puts the bodies in order. The greatest status of the puts.
 fn make_puts<E: Write>(session: &mut Session, puts: Vec<Put>, err: &mut E) -> Result<u8, Stop>
     ensures served { IfOk result (λ status. Served (map put_call (map seen puts.items)) told status session.old session.new (E.contents err.old) (E.contents err.new)) }
+    ensures no_memory { IsErrOf result Stop.NoMemory → ServedPart (map put_call (map seen puts.items)) told session.old session.new (E.contents err.old) (E.contents err.new) }
     ensures range { IfOk result (λ status. status ≤ 2) }
     ensures stop { IfErr result (λ stop. (stop ≡ Stop.CannotTell) ⊎ (stop ≡ Stop.NoMemory) ⊎ (stop ≡ Stop.HistoryFull)) }
 {
@@ -122,6 +125,7 @@ fn make_asks<O: Write>(
     out: &mut O,
 ) -> Result<u8, Stop>
     ensures served { IfOk result (λ status. Served (map calls.Ask names.now.keys) shown status session.old session.new (O.contents out.old) (O.contents out.new)) }
+    ensures no_memory { IsErrOf result Stop.NoMemory → ServedPart (map calls.Ask names.now.keys) shown session.old session.new (O.contents out.old) (O.contents out.new) }
     ensures range { IfOk result (λ status. status ≤ 2) }
     ensures stop { IfErr result (λ stop. (stop ≡ Stop.CannotWrite) ⊎ (stop ≡ Stop.NoMemory) ⊎ (stop ≡ Stop.HistoryFull)) }
 {
@@ -159,6 +163,7 @@ fn serve<O: Write, E: Write>(
     ensures done { IfOk result (λ status. Runs (map seen puts.items) names.now.keys status (O.contents out.old) (O.contents out.new) (E.contents err.old) (E.contents err.new)) }
     ensures range { IfOk result (λ status. status ≤ 2) }
     ensures too_many { IsErrOf result Stop.TooManyCalls → (1000000 < length puts.items + length names.now.keys) × Keeps (O.contents out.old) (O.contents out.new) × Keeps (E.contents err.old) (E.contents err.new) }
+    ensures no_memory { IsErrOf result Stop.NoMemory → Begins (map seen puts.items) names.now.keys (O.contents out.old) (O.contents out.new) (E.contents err.old) (E.contents err.new) }
     ensures other { IfErr result (λ stop. is_of_calls stop ≡ true) }
 {
     let capacity = find_capacity(puts.len(), names.len())?;
@@ -193,6 +198,8 @@ fn check<I: Read, O: Write, E: Write>(
     ensures cannot_read { IsErrOf result Stop.CannotRead → Keeps (O.contents out.old) (O.contents out.new) × Keeps (E.contents err.old) (E.contents err.new) }
     ensures too_many { IsErrOf result Stop.TooManyCalls → IfSome (I.remaining input.old) (λ file. (length file ≤ LIMIT)
         × HasTooManyCalls file × Keeps (O.contents out.old) (O.contents out.new) × Keeps (E.contents err.old) (E.contents err.new)) }
+    ensures no_memory { IsErrOf result Stop.NoMemory → (Keeps (O.contents out.old) (O.contents out.new) × Keeps (E.contents err.old) (E.contents err.new))
+        ⊎ IfSome (I.remaining input.old) (λ file. (length file ≤ LIMIT) × HasBegun file (O.contents out.old) (O.contents out.new) (E.contents err.old) (E.contents err.new)) }
 {
     let file = read_whole(alloc, input)?;
     let puts = read_puts(alloc, &file)?;

@@ -1,7 +1,7 @@
 -- Values over the same start elements are the same.
 use Rattle.std.proofs.Common.{◌≡◌, ℕ, ◌↔◌, Bool, true, List, sym, ◌∙◌, subst}
 use Rattle.bc_cons.specs.declared.facts.Constraint.{Constraint}
-use Rattle.bc_solve.specs.Values.{IsLawful, IsInValue}
+use Rattle.bc_solve.specs.Values.{IsInValue}
 
 same_value : (starts wanted : ℕ → ℕ → Bool) (pairs : List Constraint) (r e : ℕ) → ((q f : ℕ) → starts q f ≡ wanted q f) → IsInValue starts pairs r e → IsInValue wanted pairs r e
 same_value starts wanted pairs r e same h assignment lawful = h assignment (record {

@@ -34,7 +34,7 @@ fn main(rt: HostRuntime) -> ExitCode {
     let mut err = rt.stderr();
     let status = match read_words(&rt) {
         Ok(words) => match words.as_slice() {
-            [command, file] if command == "check" => check_file(&rt, file, &mut err),
+            [command, file] if command.as_str() == "check" => check_file(&rt, file, &mut err),
             _ => stop_with("", &Stop::WrongUse, &mut err),
         },
         Err(fault) if fault.kind() == ErrorKind::OutOfMemory => {

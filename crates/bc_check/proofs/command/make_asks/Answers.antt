@@ -1,5 +1,8 @@
 use Rattle.std.proofs.Common.{arith}
-use Rattle.bc_check.proofs.Serving.{making_more}
+use Rattle.bc_book.specs.declared.call.Call.TheVariants.{Ask}
+use Rattle.bc_check.specs.declared.stop.Stop.TheVariants.{NoMemory}
+use Rattle.bc_check.specs.Run.{shown}
+use Rattle.bc_check.proofs.Serving.{making_more, making_part, same_stop}
 use Rattle.bc_check.proofs.command.make_asks.Goals as goal
 
 pub loop-name-preserved : goal.loop-name-preserved
@@ -7,3 +10,8 @@ loop-name-preserved g c = record {
   made = rw c.max-status.ensures (making_more _ _ _ _ _ _ _ _ _ _ _ _ _ _ c.loop-name.invariant.made c.in-Some.ensures.steps c.in_ok-make_ask.ensures.served);
   range = omega (arith, c.max-status.ensures, c.in_ok-make_ask.ensures.range, c.loop-name.invariant.range);
 }
+
+pub returns-in_err-make_ask-clause-no_memory : goal.returns-in_err-make_ask-clause-no_memory
+returns-in_err-make_ask-clause-no_memory g c e =
+    let kept = c.in_err-make_ask.ensures.no_memory (same_stop c.from_residual.result c.in_err-make_ask.field-0.0 NoMemory c.from_residual.ensures.1 e) in
+    making_part Ask _ _ shown _ _ _ _ _ _ _ c.loop-name.invariant.made kept.0 kept.1

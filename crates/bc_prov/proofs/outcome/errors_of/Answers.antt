@@ -13,5 +13,5 @@ returns c = record {
   tells_value = value_over (holds c.in_ok-facts.facts.starts) (starts_with c.args.typed.now (holds c.in_ok-live.live)) c.in_ok-facts.facts.pairs (constraints_of c.args.typed.now) (holds c.in_ok-values.values)
       c.in_ok-facts.ensures.starts c.in_ok-facts.ensures.pairs c.in_ok-values.ensures.values;
   tells_scope = c.in_ok-scopes.ensures.scopes;
-  are_errors = rw (c.rows.ensures, c.rows-2.ensures) at c.in_ok-verdict.ensures.errors;
+  are_errors = c.in_ok-verdict.ensures.errors;
 }
