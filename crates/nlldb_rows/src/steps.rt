@@ -106,8 +106,8 @@ fn a_loan_is_in_scope_while_its_region_has_the_point(rt: HostRuntime) -> Result<
     let typed = typed(alloc, WRITES_WHILE_BORROWED)?;
     let made = loans(alloc, &typed)?;
     assert!(rt;
-        matches!(made.as_slice(), [(1, loan)]
-        if loan.region == Region::Variable(1) && loan.mutability == Mutability::Shared && loan.path.local == 1)
+        matches!(made.as_slice(), [(at, loan)]
+        if *at == 1 && loan.region == Region::Variable(1) && loan.mutability == Mutability::Shared && loan.path.local == 1)
     );
     let values = values(alloc, &typed)?;
     let scopes = in_scope(alloc, &typed, &values)?;
