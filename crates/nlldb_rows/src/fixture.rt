@@ -1,0 +1,72 @@
+//! What the tests share: a database with one session, and the outcome of one body in it.
+use bc_judge::BorrowError;
+use bc_mir::Point;
+use bc_prov::Outcome;
+use bc_share::{Db, History, Session};
+use bc_text::{Name, Unit};
+use std::alloc::{AllocError, Global};
+use std::sync::Arc;
+use std::test::Fail;
+
+pub const WRITES_LAST: &[u8] =
+    b"fn () -> int { let _1: int; let _2: &'?0 int; bb0 { _1 = 1; _2 = &'?1 _1; _0 = copy _2.*; _1 = 2; return; } }";
+
+pub const WRITES_WHILE_BORROWED: &[u8] =
+    b"fn () -> int { let _1: int; let _2: &'?0 int; bb0 { _1 = 1; _2 = &'?1 _1; _1 = 2; _0 = copy _2.*; return; } }";
+
+pub fn point(block: usize, index: usize) -> Point {
+    Point { block, index }
+}
+
+/// The first access of a point conflicts with the loan of another.
+pub fn conflict(at: Point, loan: Point) -> BorrowError {
+    BorrowError::Conflict {
+        at,
+        access: 0,
+        loan,
+    }
+}
+
+pub fn name(text: &[u8]) -> Result<Name, Fail> {
+    let Some(name) = Name::read(text) else {
+        return Err("a name")?;
+    };
+    Ok(name)
+}
+
+pub fn open(alloc: Global, tag: u64, capacity: u32) -> Result<(Db, Session), Fail> {
+    let (db, mut sessions) = Db::open(alloc, tag, capacity, 1)?;
+    let Some(session) = sessions.pop() else {
+        return Err("one session")?;
+    };
+    Ok((db, session))
+}
+
+pub fn close(alloc: Global, db: Db, session: Session) -> Result<History, Fail> {
+    let mut sessions = Vec::new(alloc);
+    sessions.push(session)?;
+    Ok(db.close(sessions)?)
+}
+
+pub fn shared(alloc: Global, unit: Unit) -> Result<Arc<Unit, Global>, Fail> {
+    Ok(Arc::new(alloc, unit).map_err(|_| AllocError)?)
+}
+
+/// The outcome of a unit, put as `f` into a new database and asked for.
+pub fn outcome(alloc: Global, unit: Unit) -> Result<Arc<Outcome, Global>, Fail> {
+    let f = name(b"f")?;
+    let (_db, mut session) = open(alloc, 0, 2)?;
+    session.put(f, shared(alloc, unit)?)?;
+    Ok(session.ask(&f)?)
+}
+
+/// Whether an outcome reports one body with these errors.
+pub fn reports(outcome: &Outcome, errors: &[BorrowError]) -> bool {
+    match outcome {
+        Outcome::Report(bodies) => match bodies.as_slice() {
+            [body] => body.errors.as_slice() == errors,
+            _ => false,
+        },
+        Outcome::NoBody | Outcome::Ill(_, _) => false,
+    }
+}

@@ -1,0 +1,15 @@
+//! Whole bodies with their outcomes, and what each step of the analysis finds of them.
+#![tactic(auto)]
+
+#[cfg(test)]
+mod branches;
+#[cfg(test)]
+mod calls;
+#[cfg(test)]
+mod fixture;
+#[cfg(test)]
+mod steps;
+#[cfg(test)]
+mod table;
+#[cfg(test)]
+mod texts;
