@@ -70,7 +70,7 @@ fn a_beginning_comes_before_what_goes_on(rt: HostRuntime) {
             return;
         };
         assert!(rt; low < high);
-        assert!(rt; low.compare(&high) == Ordering::Less);
+        assert!(rt; low.cmp(&high) == Ordering::Less);
         assert!(rt; low != high);
     }
 }
