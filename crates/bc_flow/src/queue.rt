@@ -5,6 +5,7 @@ ghost use Rattle.std.specs.List.{All, Contains};
 use std::alloc::{AllocError, Global};
 use std::collections::VecDeque;
 
+/// Nodes to visit, first in first out, each at most once at a time. Own.
 #[derive(Drop)]
 pub struct WorkQueue {
     nodes: VecDeque<usize>,

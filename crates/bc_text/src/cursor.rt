@@ -121,6 +121,7 @@ impl<'a> Cursor<'a> {
         *self = Cursor::new(self.rest, self.end);
     }
 
+    /// Whether this symbol comes next. Own.
     #[tactic(auto, unfolding(crate::specs::Parser::sees))]
     pub fn sees(&self, symbol: Symbol) -> bool
         ensures value { result ≡ spec.sees symbol self.now }
@@ -150,6 +151,7 @@ impl<'a> Cursor<'a> {
         found
     }
 
+    /// Takes this symbol, or refuses what comes in its place. Own.
     #[tactic(auto, unfolding(crate::specs::Parser::expect))]
     pub fn expect(&mut self, symbol: Symbol) -> Result<(), Refusal>
         ensures { Reads (spec.expect symbol self.old) result self.new }

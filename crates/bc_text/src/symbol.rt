@@ -47,6 +47,7 @@ pub enum Symbol {
     Arrow,
 }
 
+/// The symbols that are written as words. Own.
 pub const KEYWORDS: [Symbol; 20] = [
     Symbol::Fn,
     Symbol::Closure,

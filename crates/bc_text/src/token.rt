@@ -18,6 +18,7 @@ pub enum Numbering {
     Variable,
 }
 
+/// What a token is. Own.
 #[derive(Clone, Copy, Debug, PartialEq, Eq)]
 pub enum Kind {
     Fixed(Symbol),
