@@ -8,12 +8,15 @@ use std::alloc::{AllocError, Global};
 use std::sync::Arc;
 use std::test::Fail;
 
+/// Writes the local once the borrow of it is used no more: no error.
 pub const WRITES_LAST: &[u8] =
     b"fn () -> int { let _1: int; let _2: &'?0 int; bb0 { _1 = 1; _2 = &'?1 _1; _0 = copy _2.*; _1 = 2; return; } }";
 
+/// Writes the local while the borrow of it is still used: one conflict.
 pub const WRITES_WHILE_BORROWED: &[u8] =
     b"fn () -> int { let _1: int; let _2: &'?0 int; bb0 { _1 = 1; _2 = &'?1 _1; _1 = 2; _0 = copy _2.*; return; } }";
 
+/// The point of a block, both counted from 0.
 pub fn point(block: usize, index: usize) -> Point {
     Point { block, index }
 }
@@ -27,6 +30,7 @@ pub fn conflict(at: Point, loan: Point) -> BorrowError {
     }
 }
 
+/// The name that a text spells; fails where it spells none.
 pub fn name(text: &[u8]) -> Result<Name, Fail> {
     let Some(name) = Name::read(text) else {
         return Err("a name")?;
@@ -34,6 +38,8 @@ pub fn name(text: &[u8]) -> Result<Name, Fail> {
     Ok(name)
 }
 
+/// A database with one session, whose history may have `capacity` entries (1 to 1,000,000); fails otherwise, or for
+/// want of memory.
 pub fn open(alloc: Global, tag: u64, capacity: u32) -> Result<(Db, Session), Fail> {
     let (db, mut sessions) = Db::open(alloc, tag, capacity, 1)?;
     let Some(session) = sessions.pop() else {
@@ -42,12 +48,14 @@ pub fn open(alloc: Global, tag: u64, capacity: u32) -> Result<(Db, Session), Fai
     Ok((db, session))
 }
 
+/// The history of a database whose one session is given back; fails where `Db::close` does.
 pub fn close(alloc: Global, db: Db, session: Session) -> Result<History, Fail> {
     let mut sessions = Vec::new(alloc);
     sessions.push(session)?;
     Ok(db.close(sessions)?)
 }
 
+/// A unit behind an `Arc`, as a put takes it; fails for want of memory.
 pub fn shared(alloc: Global, unit: Unit) -> Result<Arc<Unit, Global>, Fail> {
     Ok(Arc::new(alloc, unit).map_err(|_| AllocError)?)
 }
