@@ -5,6 +5,7 @@ pub mod Ascii
 pub mod Keywords
 pub mod Cuts
 pub mod Numbers
+pub mod Runs
 pub mod Turns
 pub mod Begins
 pub mod Types

@@ -1,6 +1,8 @@
 //! Reading bytes of a text.
-ghost use Rattle.std.specs.Prelude.{◌≡◌, ◌≤◌, length, drop, slice_index};
+ghost use Rattle.std.specs.Prelude.{◌≡◌, ◌≤◌, length, drop, slice_index, take_while};
+ghost use Rattle.std.specs.Char.{is_ascii_digit};
 ghost use Rattle.bc_text.specs.Bytes.{is_run_byte, run};
+ghost use Rattle.bc_text.specs.Token.{is_region_byte};
 
 /// The byte at an index, or 0 past the end.
 pub fn byte_at(bytes: &[u8], index: usize) -> u8
@@ -16,6 +18,14 @@ pub fn from(bytes: &[u8], index: usize) -> &[u8]
     bytes.get(index..).unwrap_or(&[])
 }
 
+/// The bytes behind so many, of which there are enough.
+pub fn behind(bytes: &[u8], count: usize) -> &[u8]
+    requires { count ≤ length bytes.now }
+    ensures { result.now ≡ drop count bytes.now }
+{
+    &bytes[count..]
+}
+
 /// Whether the byte is a letter, a digit or `_`.
 pub fn is_run_byte(byte: u8) -> bool
     ensures { result ≡ is_run_byte byte }
@@ -23,8 +33,30 @@ pub fn is_run_byte(byte: u8) -> bool
     byte.is_ascii_alphanumeric() || byte == b'_'
 }
 
+/// How many digits stand at the front.
+pub fn digits_len(bytes: &[u8]) -> usize
+    ensures count { result ≡ length (take_while is_ascii_digit bytes.now) }
+    ensures within { result ≤ length bytes.now }
+{
+    bytes
+        .iter()
+        .take_while(|byte| byte.is_ascii_digit())
+        .count()
+}
+
+/// How many lowercase letters, digits and `_` stand at the front.
+pub fn region_len(bytes: &[u8]) -> usize
+    ensures count { result ≡ length (take_while is_region_byte bytes.now) }
+    ensures within { result ≤ length bytes.now }
+{
+    bytes
+        .iter()
+        .take_while(|byte| byte.is_ascii_lowercase() || byte.is_ascii_digit() || **byte == b'_')
+        .count()
+}
+
 /// How many letters, digits and `_` stand at the front.
-fn run_len(bytes: &[u8]) -> usize
+pub fn run_len(bytes: &[u8]) -> usize
     ensures count { result ≡ length (run bytes.now) }
     ensures within { result ≤ length bytes.now }
 {

@@ -4,7 +4,7 @@ ghost use Rattle.bc_text.specs.Token.{End, tokens, value, is_blank};
 ghost use Rattle.bc_text.specs.Parser as spec;
 ghost use Rattle.bc_text.specs.Parser.{Reads, ReadsAs, first, after};
 
-use crate::bytes::from;
+use crate::bytes::behind;
 use crate::fault::Refusal;
 use crate::symbol::{Symbol, same};
 use crate::token::{Kind, Numbering, Token, lexeme};
@@ -68,27 +68,14 @@ impl<'a> Cursor<'a> {
         requires { at + length text.now < 2 ^ 64 }
         ensures { result ≡ tokens 0 at text.now }
     {
-        let blanks = blanks(text);
-        let text = from(text, blanks);
-        let at = at + blanks;
-        if text.is_empty() {
-            return Cursor {
-                token: Token {
-                    kind: Kind::End,
-                    text,
-                },
-                at,
-                rest: text,
-                end: at,
-            };
-        }
-        let (token, len) = lexeme(text);
-        Cursor {
-            token,
+        let mut cursor = Cursor {
+            token: Token::bare(Kind::Stray),
             at,
-            rest: from(text, len),
-            end: at + len,
-        }
+            rest: text,
+            end: at,
+        };
+        cursor.take();
+        cursor
     }
 
     /// Where the next token begins.
@@ -118,7 +105,19 @@ impl<'a> Cursor<'a> {
         requires { (first self.old).token ≢ End }
         ensures { self.new ≡ after self.old }
     {
-        *self = Cursor::new(self.rest, self.end);
+        let blanks = blanks(self.rest);
+        let text = behind(self.rest, blanks);
+        self.at = self.end + blanks;
+        if text.is_empty() {
+            self.token = Token::bare(Kind::End);
+            self.rest = text;
+            self.end = self.at;
+            return;
+        }
+        let (token, len) = lexeme(text);
+        self.token = token;
+        self.rest = behind(text, len);
+        self.end = self.at + len;
     }
 
     /// Whether this symbol comes next. Own.

@@ -1,12 +1,12 @@
 //! Tokens, cut one at a time from the front of a text.
-ghost use Rattle.std.specs.Prelude.{◌≡◌, ◌≢◌, ◌≤◌, ◌<◌, ◌+◌, ◌^◌, ℕ, length, drop, IfSome, IfNone, slice_index};
-ghost use Rattle.std.specs.Char.{is_ascii_digit};
+ghost use Rattle.std.specs.Prelude.{◌≡◌, ◌≢◌, ◌≤◌, ◌<◌, ◌+◌, ◌^◌, ◌∷◌, ℕ, true, length, slice_index, if◌then◌else◌};
+ghost use Rattle.std.specs.Char.{is_ascii_alphabetic, is_ascii_digit};
 ghost use Rattle.std.specs.List.{list_all};
-ghost use Rattle.bc_text.specs.Bytes.{is_run_byte, run};
-ghost use Rattle.bc_text.specs.Token.{shown, is_region_byte, is_number, is_region_name, value, run_token, region_token, variable_token, sign_token, lexeme};
-ghost use Rattle.bc_text.specs.Symbol.{sign_of};
+ghost use Rattle.bc_text.specs.Bytes.{run};
+ghost use Rattle.bc_text.specs.Token.{Numbered, Stray, shown, is_region_byte, is_number, is_region_name, value, word, run_token, region_token, sign_token, lexeme};
+ghost use Rattle.bc_text.specs.Symbol.{keyword_of, sign_of};
 
-use crate::bytes::{byte_at, from, is_run_byte, run};
+use crate::bytes::{behind, byte_at, digits_len, region_len, run, run_len};
 use crate::symbol::Symbol;
 
 /// What a number counts.
@@ -38,67 +38,98 @@ pub struct Token<'a> {
 }
 
 impl<'a> Token<'a> {
-    fn bare(kind: Kind) -> Token<'a>
+    /// A token of which there is no more to say than its kind.
+    pub fn bare(kind: Kind) -> Token<'a>
         ensures { result.kind ≡ kind }
     {
         Token { kind, text: &[] }
     }
 }
 
-fn are_digits(bytes: &[u8]) -> bool
-    ensures { result ≡ list_all is_ascii_digit bytes.now }
-{
-    bytes.iter().all(|byte| byte.is_ascii_digit())
-}
-
-fn are_region_bytes(bytes: &[u8]) -> bool
-    ensures { result ≡ list_all is_region_byte bytes.now }
-{
-    bytes.iter().all(|byte| byte.is_ascii_lowercase() || byte.is_ascii_digit() || *byte == b'_')
-}
-
 #[tactic(auto, unfolding(crate::specs::Token::is_number))]
-fn is_number(digits: &[u8]) -> bool
+fn is_number(digits: &[u8], are_digits: bool) -> bool
+    requires { are_digits ≡ list_all is_ascii_digit digits.now }
     ensures { result ≡ is_number digits.now }
 {
-    are_digits(digits) && !digits.is_empty() && (digits.len() == 1 || byte_at(digits, 0) != b'0')
+    are_digits && !digits.is_empty() && (digits.len() == 1 || byte_at(digits, 0) != b'0')
 }
 
 #[tactic(auto, unfolding(crate::specs::Token::is_region_name))]
-fn is_region_name(name: &[u8]) -> bool
+fn is_region_name(name: &[u8], are_region_bytes: bool) -> bool
+    requires { are_region_bytes ≡ list_all is_region_byte name.now }
     ensures { result ≡ is_region_name name.now }
 {
-    byte_at(name, 0).is_ascii_lowercase() && are_region_bytes(name)
+    byte_at(name, 0).is_ascii_lowercase() && are_region_bytes
 }
 
-#[tactic(auto, unfolding(crate::specs::Token::run_token))]
-fn run_token(run: &[u8]) -> Token<'_>
-    ensures token { shown result.kind result.text.now ≡ run_token run.now }
+/// The run at the front, and whether it is a number. It is gone over once: its digits, then what follows them.
+fn number_run(bytes: &[u8]) -> (&[u8], bool)
+    ensures run { result.0.now ≡ run bytes.now }
+    ensures number { result.1 ≡ is_number (run bytes.now) }
+    ensures within { length result.0.now ≤ length bytes.now }
+{
+    let digits = digits_len(bytes);
+    let others = run_len(behind(bytes, digits));
+    let run = &bytes[..digits + others];
+    (run, is_number(run, others == 0))
+}
+
+/// The run at the front, and whether it is a name of a region. It is gone over once.
+fn region_run(bytes: &[u8]) -> (&[u8], bool)
+    ensures run { result.0.now ≡ run bytes.now }
+    ensures name { result.1 ≡ is_region_name (run bytes.now) }
+    ensures within { length result.0.now ≤ length bytes.now }
+{
+    let front = region_len(bytes);
+    let others = run_len(behind(bytes, front));
+    let run = &bytes[..front + others];
+    (run, is_region_name(run, others == 0))
+}
+
+/// The number at the front, and how many bytes its run has.
+fn number_token(numbering: Numbering, bytes: &[u8]) -> (Token<'_>, usize)
+    ensures token { shown result.0.kind result.0.text.now ≡ (if is_number (run bytes.now) then Numbered numbering (value (run bytes.now)) else Stray) }
+    ensures len { result.1 ≡ length (run bytes.now) }
+    ensures within { result.1 ≤ length bytes.now }
+    ensures not_end { result.0.kind ≢ Kind.End }
+{
+    let (digits, is_number) = number_run(bytes);
+    let token = if is_number {
+        Token {
+            kind: Kind::Numbered(numbering),
+            text: digits,
+        }
+    } else {
+        Token::bare(Kind::Stray)
+    };
+    (token, digits.len())
+}
+
+/// The name of a region at the front, and how many bytes its run has.
+#[tactic(auto, unfolding(crate::specs::Token::region_token))]
+fn region_token(bytes: &[u8]) -> (Token<'_>, usize)
+    ensures token { shown result.0.kind result.0.text.now ≡ region_token (run bytes.now) }
+    ensures len { result.1 ≡ length (run bytes.now) }
+    ensures within { result.1 ≤ length bytes.now }
+    ensures not_end { result.0.kind ≢ Kind.End }
+{
+    let (name, is_name) = region_run(bytes);
+    let token = if is_name {
+        Token {
+            kind: Kind::Region,
+            text: name,
+        }
+    } else {
+        Token::bare(Kind::Stray)
+    };
+    (token, name.len())
+}
+
+/// The keyword or the other word that a run is, which begins with a letter.
+fn word_token(run: &[u8]) -> Token<'_>
+    ensures token { shown result.kind result.text.now ≡ word run.now (keyword_of run.now) }
     ensures not_end { result.kind ≢ Kind.End }
 {
-    if is_number(run) {
-        return Token {
-            kind: Kind::Numbered(Numbering::Number),
-            text: run,
-        };
-    }
-    let digits = from(run, 1);
-    if byte_at(run, 0) == b'_' && is_number(digits) {
-        return Token {
-            kind: Kind::Numbered(Numbering::Local),
-            text: digits,
-        };
-    }
-    let digits = from(run, 2);
-    if byte_at(run, 0) == b'b' && byte_at(run, 1) == b'b' && is_number(digits) {
-        return Token {
-            kind: Kind::Numbered(Numbering::Label),
-            text: digits,
-        };
-    }
-    if !byte_at(run, 0).is_ascii_alphabetic() {
-        return Token::bare(Kind::Stray);
-    }
     match Symbol::of_word(run) {
         Some(keyword) => Token::bare(Kind::Fixed(keyword)),
         None => Token {
@@ -108,34 +139,53 @@ fn run_token(run: &[u8]) -> Token<'_>
     }
 }
 
-#[tactic(auto, unfolding(crate::specs::Token::region_token))]
-fn region_token(name: &[u8]) -> Token<'_>
-    ensures token { shown result.kind result.text.now ≡ region_token name.now }
-    ensures not_end { result.kind ≢ Kind.End }
+/// The label or the word at the front, which begins with `bb`, and how many bytes it has.
+fn label_token(bytes: &[u8]) -> (Token<'_>, usize)
+    requires first { slice_index bytes.now 0 ≡ 98 }
+    requires second { slice_index bytes.now 1 ≡ 98 }
+    ensures token { shown result.0.kind result.0.text.now ≡ run_token (run bytes.now) }
+    ensures len { result.1 ≡ length (run bytes.now) }
+    ensures within { result.1 ≤ length bytes.now }
+    ensures not_end { result.0.kind ≢ Kind.End }
 {
-    if is_region_name(name) {
-        Token {
-            kind: Kind::Region,
-            text: name,
-        }
-    } else {
-        Token::bare(Kind::Stray)
+    let (digits, is_number) = number_run(behind(bytes, 2));
+    let len = 2 + digits.len();
+    if is_number {
+        let token = Token {
+            kind: Kind::Numbered(Numbering::Label),
+            text: digits,
+        };
+        return (token, len);
     }
+    (word_token(&bytes[..len]), len)
 }
 
-#[tactic(auto, unfolding(crate::specs::Token::variable_token))]
-fn variable_token(digits: &[u8]) -> Token<'_>
-    ensures token { shown result.kind result.text.now ≡ variable_token digits.now }
-    ensures not_end { result.kind ≢ Kind.End }
+/// The label, the keyword or the other word at the front, and how many bytes it has.
+fn letter_token(bytes: &[u8]) -> (Token<'_>, usize)
+    requires { is_ascii_alphabetic (slice_index bytes.now 0) ≡ true }
+    ensures token { shown result.0.kind result.0.text.now ≡ run_token (run bytes.now) }
+    ensures len { result.1 ≡ length (run bytes.now) }
+    ensures within { result.1 ≤ length bytes.now }
+    ensures not_end { result.0.kind ≢ Kind.End }
 {
-    if is_number(digits) {
-        Token {
-            kind: Kind::Numbered(Numbering::Variable),
-            text: digits,
-        }
-    } else {
-        Token::bare(Kind::Stray)
+    if byte_at(bytes, 0) == b'b' && byte_at(bytes, 1) == b'b' {
+        return label_token(bytes);
     }
+    let word = run(bytes);
+    (word_token(word), word.len())
+}
+
+/// The region or the variable whose `'` stands before these bytes, and how many of them it has.
+fn quoted_token(bytes: &[u8]) -> (Token<'_>, usize)
+    ensures token { (shown result.0.kind result.0.text.now, 1 + result.1) ≡ lexeme (39 ∷ bytes.now) }
+    ensures within { result.1 ≤ length bytes.now }
+    ensures not_end { result.0.kind ≢ Kind.End }
+{
+    if byte_at(bytes, 0) == b'?' {
+        let (token, len) = number_token(Numbering::Variable, behind(bytes, 1));
+        return (token, 1 + len);
+    }
+    region_token(bytes)
 }
 
 fn sign_token<'a>(byte: u8) -> Token<'a>
@@ -148,8 +198,7 @@ fn sign_token<'a>(byte: u8) -> Token<'a>
     }
 }
 
-/// The token at the front of a text that is not empty, and how many bytes it has.
-#[tactic(auto, unfolding(crate::specs::Token::lexeme))]
+/// The token at the front of a text that is not empty, and how many bytes it has. Its first byte tells its form.
 pub fn lexeme(bytes: &[u8]) -> (Token<'_>, usize)
     requires { 0 < length bytes.now }
     ensures token { (shown result.0.kind result.0.text.now, result.1) ≡ lexeme bytes.now }
@@ -157,25 +206,19 @@ pub fn lexeme(bytes: &[u8]) -> (Token<'_>, usize)
     ensures within { result.1 ≤ length bytes.now }
     ensures not_end { result.0.kind ≢ Kind.End }
 {
-    let first = byte_at(bytes, 0);
-    let second = byte_at(bytes, 1);
-    if is_run_byte(first) {
-        let run = run(bytes);
-        return (run_token(run), run.len());
+    match bytes[0] {
+        b'0'..=b'9' => number_token(Numbering::Number, bytes),
+        b'_' => {
+            let (token, len) = number_token(Numbering::Local, behind(bytes, 1));
+            (token, 1 + len)
+        }
+        b'a'..=b'z' | b'A'..=b'Z' => letter_token(bytes),
+        b'\'' => {
+            let (token, len) = quoted_token(behind(bytes, 1));
+            (token, 1 + len)
+        }
+        b'-' if byte_at(bytes, 1) == b'>' => (Token::bare(Kind::Fixed(Symbol::Arrow)), 2),
+        128..=255 => (Token::bare(Kind::NotAscii), 1),
+        byte => (sign_token(byte), 1),
     }
-    if first == b'\'' && second == b'?' {
-        let digits = run(from(bytes, 2));
-        return (variable_token(digits), 2 + digits.len());
-    }
-    if first == b'\'' {
-        let name = run(from(bytes, 1));
-        return (region_token(name), 1 + name.len());
-    }
-    if first == b'-' && second == b'>' {
-        return (Token::bare(Kind::Fixed(Symbol::Arrow)), 2);
-    }
-    if first >= 128 {
-        return (Token::bare(Kind::NotAscii), 1);
-    }
-    (sign_token(first), 1)
 }
