@@ -101,6 +101,7 @@ impl<'a> Cursor<'a> {
     }
 
     /// Goes past the next token.
+    #[inline(never)]
     pub fn take(&mut self)
         requires { (first self.old).token ≢ End }
         ensures { self.new ≡ after self.old }

@@ -46,6 +46,7 @@ impl<'a> Token<'a> {
     }
 }
 
+#[inline(always)]
 #[tactic(auto, unfolding(crate::specs::Token::is_number))]
 fn is_number(digits: &[u8], are_digits: bool) -> bool
     requires { are_digits ≡ list_all is_ascii_digit digits.now }
@@ -63,6 +64,7 @@ fn is_region_name(name: &[u8], are_region_bytes: bool) -> bool
 }
 
 /// The run at the front, and whether it is a number. It is gone over once: its digits, then what follows them.
+#[inline(always)]
 fn number_run(bytes: &[u8]) -> (&[u8], bool)
     ensures run { result.0.now ≡ run bytes.now }
     ensures number { result.1 ≡ is_number (run bytes.now) }
@@ -87,6 +89,7 @@ fn region_run(bytes: &[u8]) -> (&[u8], bool)
 }
 
 /// The number at the front, and how many bytes its run has.
+#[inline(always)]
 fn number_token(numbering: Numbering, bytes: &[u8]) -> (Token<'_>, usize)
     ensures token { shown result.0.kind result.0.text.now ≡ (if is_number (run bytes.now) then Numbered numbering (value (run bytes.now)) else Stray) }
     ensures len { result.1 ≡ length (run bytes.now) }
@@ -106,6 +109,7 @@ fn number_token(numbering: Numbering, bytes: &[u8]) -> (Token<'_>, usize)
 }
 
 /// The name of a region at the front, and how many bytes its run has.
+#[inline(always)]
 #[tactic(auto, unfolding(crate::specs::Token::region_token))]
 fn region_token(bytes: &[u8]) -> (Token<'_>, usize)
     ensures token { shown result.0.kind result.0.text.now ≡ region_token (run bytes.now) }
@@ -126,6 +130,7 @@ fn region_token(bytes: &[u8]) -> (Token<'_>, usize)
 }
 
 /// The keyword or the other word that a run is, which begins with a letter.
+#[inline(always)]
 fn word_token(run: &[u8]) -> Token<'_>
     ensures token { shown result.kind result.text.now ≡ word run.now (keyword_of run.now) }
     ensures not_end { result.kind ≢ Kind.End }
@@ -140,6 +145,7 @@ fn word_token(run: &[u8]) -> Token<'_>
 }
 
 /// The label or the word at the front, which begins with `bb`, and how many bytes it has.
+#[inline(always)]
 fn label_token(bytes: &[u8]) -> (Token<'_>, usize)
     requires first { slice_index bytes.now 0 ≡ 98 }
     requires second { slice_index bytes.now 1 ≡ 98 }
@@ -161,6 +167,7 @@ fn label_token(bytes: &[u8]) -> (Token<'_>, usize)
 }
 
 /// The label, the keyword or the other word at the front, and how many bytes it has.
+#[inline(always)]
 fn letter_token(bytes: &[u8]) -> (Token<'_>, usize)
     requires { is_ascii_alphabetic (slice_index bytes.now 0) ≡ true }
     ensures token { shown result.0.kind result.0.text.now ≡ run_token (run bytes.now) }
@@ -176,6 +183,7 @@ fn letter_token(bytes: &[u8]) -> (Token<'_>, usize)
 }
 
 /// The region or the variable whose `'` stands before these bytes, and how many of them it has.
+#[inline(always)]
 fn quoted_token(bytes: &[u8]) -> (Token<'_>, usize)
     ensures token { (shown result.0.kind result.0.text.now, 1 + result.1) ≡ lexeme (39 ∷ bytes.now) }
     ensures within { result.1 ≤ length bytes.now }
@@ -188,6 +196,7 @@ fn quoted_token(bytes: &[u8]) -> (Token<'_>, usize)
     region_token(bytes)
 }
 
+#[inline(always)]
 fn sign_token<'a>(byte: u8) -> Token<'a>
     ensures token { shown result.kind result.text.now ≡ sign_token (sign_of byte) }
     ensures not_end { result.kind ≢ Kind.End }
@@ -199,6 +208,7 @@ fn sign_token<'a>(byte: u8) -> Token<'a>
 }
 
 /// The token at the front of a text that is not empty, and how many bytes it has. Its first byte tells its form.
+#[inline(always)]
 pub fn lexeme(bytes: &[u8]) -> (Token<'_>, usize)
     requires { 0 < length bytes.now }
     ensures token { (shown result.0.kind result.0.text.now, result.1) ≡ lexeme bytes.now }
