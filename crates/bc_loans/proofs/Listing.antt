@@ -1,5 +1,5 @@
 -- The entries are where loans are made and overwritten.
-use Rattle.std.proofs.Common.{◌≡◌, ℕ, ◌+◌, ◌<◌, ◌↔◌, Bool, true, false, ◌==◌, inl, inr, IsTrue, List, [], ◌∷◌, Option, Some, None, length, get_or, refl, sym, ap, ◌∙◌, subst, arith}
+use Rattle.std.proofs.Common.{◌≡◌, ℕ, ◌+◌, ◌<◌, ◌↔◌, Bool, true, false, ◌==◌, inl, inr, IsTrue, List, [], Option, Some, None, length, get_or, refl, sym, ap, ◌∙◌, subst, arith}
 use Rattle.std.specs.Prelude.{slice_get, MatchOption}
 use Rattle.std.specs.List.{All, Contains, enumerate_from}
 use Rattle.std.specs.Option.{option_map_or}
@@ -83,7 +83,7 @@ locals_within loans bound below k d h =
     let t = from_locals loans (get_or (local_entries loans) k d) (Contains-get_or (local_entries loans) k d h) in
     let within = slice_get_within loans _ t.0 t.1 in
     let small = All-contains (λ (made : Made). made.1.path.local < bound) loans t.0 below
-        (subst (λ (m : Made). Contains loans m) (get_or_from_slice_get loans _ t.0 t.0 t.1) (Contains-get_or loans _ t.0 within)) in
+    (subst (λ (m : Made). Contains loans m) (get_or_from_slice_get loans _ t.0 t.0 t.1) (Contains-get_or loans _ t.0 within)) in
     (rw (← t.2) small, within)
 
 -- ---- overwrites
