@@ -58,10 +58,9 @@ fn add_points(row: &mut BitSet, live: &LiveSets, local: usize, points: usize)
     ensures size { length row.new ≡ length row.old }
     ensures members { (e : ℕ) → has row.new e ≡ (has row.old e || (nat_lt e points && holds live.now local e)) }
 {
-    for point in 0..points {
-        if live.live(local, point) {
-            let _added = row.insert(point);
-        }
+    match live.rows().get(local) {
+        Some(live_points) => row.union_below(live_points, points),
+        None => {}
     }
 }
 

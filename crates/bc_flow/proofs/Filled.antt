@@ -12,7 +12,7 @@ use Rattle.bc_flow.specs.BitSet.{has}
 use Rattle.bc_flow.specs.Packed.{bit, bits_of, IsPacked}
 use Rattle.bc_flow.proofs.Members.{length-bits_of, IsJoined, joined_set}
 
-bit_is : (words : List ℕ) (i index v : ℕ) → i / 64 ≡ index → get_or words index 0 ≡ v → bit words i ≡ eqb (bit_at v (i % 64)) 1
+pub bit_is : (words : List ℕ) (i index v : ℕ) → i / 64 ≡ index → get_or words index 0 ≡ v → bit words i ≡ eqb (bit_at v (i % 64)) 1
 unfolding bit
 bit_is words i index v at is = rw (at, is) refl
 

@@ -3,6 +3,7 @@ pub mod Membership
 pub mod Members
 pub mod NextBit
 pub mod Filled
+pub mod Fronts
 pub mod Chains
 pub mod Mapped
 pub mod Rows

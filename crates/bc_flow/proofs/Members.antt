@@ -27,7 +27,7 @@ has-bits_of {size} {words} packed i =
     ]
 
 -- two bits, joined
-or_bits : (a b : ℕ) → a < 2 → b < 2 → eqb (max a b) 1 ≡ (eqb a 1 || eqb b 1)
+pub or_bits : (a b : ℕ) → a < 2 → b < 2 → eqb (max a b) 1 ≡ (eqb a 1 || eqb b 1)
 or_bits a b p q = grind (arith, nat_tests)
 
 -- the bits of one list but those of another

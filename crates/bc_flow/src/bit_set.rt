@@ -1,5 +1,5 @@
 //! Sets of small numbers, one bit for each, as the bit sets of `rustc_index`.
-ghost use Rattle.std.specs.Prelude.{◌≡◌, ℕ, ◌+◌, ◌*◌, ◌^◌, ◌<◌, ◌≤◌, ◌↔◌, Bool, true, false, not, ◌||◌, ◌&&◌, length, IfOk, MatchOption, slice_index, slice_set, bit_or, bit_and};
+ghost use Rattle.std.specs.Prelude.{◌≡◌, ℕ, ◌+◌, ◌*◌, ◌^◌, ◌<◌, ◌≤◌, ◌↔◌, Bool, true, false, not, ◌||◌, ◌&&◌, nat_lt, length, IfOk, MatchOption, slice_index, slice_set, bit_or, bit_and};
 ghost use Rattle.std.specs.Int.{Width, w64, bit_not};
 ghost use Rattle.bc_flow.specs.BitSet.{has, absent_count, IsNextMember};
 ghost use Rattle.bc_flow.specs.Packed.{bit, IsNextBit};
@@ -111,6 +111,15 @@ impl BitSet {
         union_words(&mut self.words, &other.words)
     }
 
+    /// Adds the members of `other` below `count`. The two sets may differ in size.
+    pub fn union_below(&mut self, other: &Self, count: usize)
+        requires { count ≤ length self.old }
+        ensures size { length self.new ≡ length self.old }
+        ensures members { (i : ℕ) → has self.new i ≡ (has self.old i || (nat_lt i count && has other.now i)) }
+    {
+        union_words_below(&mut self.words, &other.words, count);
+    }
+
     /// Adds the members of `other` that are not in `without`, three sets of one size. The answer is whether there was a new one.
     pub fn union_without(&mut self, other: &Self, without: &Self) -> bool
         requires other { length self.old ≡ length other.now }
@@ -167,6 +176,20 @@ fn union_words(into: &mut [u64], from: &[u64]) -> bool
         changed |= after != before;
     }
     changed
+}
+
+/// Adds the first `count` bits of `from`, which may have fewer or more words.
+fn union_words_below(into: &mut [u64], from: &[u64], count: usize)
+    requires { count ≤ 64 * length into.old }
+    ensures { (i : ℕ) → bit into.new i ≡ (bit into.old i || (nat_lt i count && bit from.now i)) }
+{
+    let whole = (count / 64).min(from.len());
+    for k in 0..whole {
+        into[k] |= from[k];
+    }
+    if count % 64 != 0 && whole < from.len() {
+        into[whole] |= from[whole] & ((1 << (count % 64)) - 1);
+    }
 }
 
 fn union_words_without(into: &mut [u64], from: &[u64], without: &[u64]) -> bool

@@ -32,6 +32,11 @@ fn sets_are_filled_and_joined(rt: HostRuntime) -> Result<(), Fail> {
     assert_eq!(rt; high.next_member(0), Some(70));
     assert_eq!(rt; high.next_member(127), Some(127));
     assert_eq!(rt; high.next_member(128), None);
+    let mut front = BitSet::new(rt.alloc(), 100)?;
+    front.union_below(&high, 75);
+    assert_eq!(rt; front.next_member(0), Some(70));
+    assert_eq!(rt; front.next_member(74), Some(74));
+    assert_eq!(rt; front.next_member(75), None);
     Ok(())
 }
 

@@ -1,4 +1,5 @@
 pub mod Listing
 pub mod Insides
+pub mod Overwriting
 pub mod Entering
 pub mod Ways

@@ -20,10 +20,11 @@ use Rattle.bc_mir.specs.Points.{Kills}
 use Rattle.bc_mir.specs.Regions.{region_number}
 use Rattle.bc_loans.specs.Loans.{loans_of}
 use Rattle.bc_loans.specs.Inside.{is_inside}
-use Rattle.bc_loans.specs.Entries.{made_entries, overwrite_entries}
+use Rattle.bc_loans.specs.Entries.{made_entries}
+use Rattle.bc_loans.specs.Overwrites.{is_overwritten_at}
 use Rattle.bc_loans.specs.Scope.{IsInScope}
 use Rattle.bc_loans.specs.Step.{AreExits, Enters}
-use Rattle.bc_loans.proofs.Listing.{made_is_listed, overwrite_is_listed}
+use Rattle.bc_loans.proofs.Listing.{made_is_listed, overwritten_is_kills}
 
 -- what a `Vec` holds after all its items were lent and came back
 pub refilled : (n : ℕ) (new old : List (List Bool)) → length new ≡ length old → n ≡ length old → take n (new ++ drop (length new) old) ≡ new
@@ -148,13 +149,14 @@ inside_is : (mir : Mir) (value : ℕ → ℕ → Bool) (points l : ℕ) (made : 
     is_inside mir.universals (loans_of mir) points value l p ≡ value (region_number mir.universals made.1.region) p
 inside_is mir value points l made is p below = rw (is, lt-ltb p points below) refl
 
-pub scopes_are : (mir : Mir) (value : ℕ → ℕ → Bool) (outside exits rows : List (List Bool)) →
-    AreExits (edges_of mir) (made_entries (loans_of mir)) (overwrite_entries (loans_of mir) mir.steps) outside exits →
+pub scopes_are : (mir : Mir) (value : ℕ → ℕ → Bool) (over outside exits rows : List (List Bool)) →
+    AreExits (edges_of mir) (made_entries (loans_of mir)) over outside exits →
+    ((p l : ℕ) → holds over p l ≡ is_overwritten_at (loans_of mir) mir.steps p l) →
     ((p l : ℕ) → p < length mir.steps → l < length (loans_of mir) → holds outside p l ≡ not (is_inside mir.universals (loans_of mir) (length mir.steps) value l p)) →
     AreWithin (edges_of mir) (length mir.steps) → HaveSize (length (loans_of mir)) rows →
     ((l p : ℕ) → (holds rows p l ≡ true) ↔ Enters (edges_of mir) exits outside l p) →
     (l p : ℕ) → (holds rows p l ≡ true) ↔ IsInScope mir value l p
-scopes_are mir value outside exits rows e outside_are within sizes entered l p = elim (cases_lt l (length (loans_of mir))) [
+scopes_are mir value over outside exits rows e over_are outside_are within sizes entered l p = elim (cases_lt l (length (loans_of mir))) [
   | inr past ↦ (
     λ h. absurd (both_ways (holds rows p l) (no_loan rows (length (loans_of mir)) l p sizes past) h),
     λ h. absurd (let below = slice_get_within (loans_of mir) l h.made h.is_loan in omega (arith, past, below)),
@@ -162,13 +164,13 @@ scopes_are mir value outside exits rows e outside_are within sizes entered l p =
   | inl below ↦
       let none_made : ℕ × Loan = get_or (loans_of mir) l (0, record { region = Universal 0; mutability = Shared; path = record { local = 0; projections = [] } }) in
       let is = slice_get-get_or (loans_of mir) l (0, record { region = Universal 0; mutability = Shared; path = record { local = 0; projections = [] } }) below in
-      let sets : AreSets mir value l none_made outside e.makers e.over e.seeds e.kills = record {
+      let sets : AreSets mir value l none_made outside e.makers over e.seeds e.kills = record {
         makers_are = λ q. let a = e.makers_are q l in let b = made_is_listed (loans_of mir) l none_made is q in (λ h. b.0 (a.0 h), λ h. a.1 (b.1 h));
-        over_are = λ q. let a = e.over_are q l in let b = overwrite_is_listed mir (loans_of mir) l none_made is q in (λ h. b.0 (a.0 h), λ h. a.1 (b.1 h));
+        over_are = λ q. let a = over_are q l in let b = overwritten_is_kills mir (loans_of mir) l none_made is q in (λ h. b.0 (sym a ∙ h), λ h. a ∙ b.1 h);
         outside_are = λ q small. outside_are q l small below ∙ ap not (inside_is mir value (length mir.steps) l none_made is q small);
         seeds_are = λ q. e.seeds_are q l;
         kills_are = λ q. e.kills_are q l;
       } in
-      let way = entered_is_scope mir value l none_made is outside e.makers e.over e.seeds e.kills exits sets within e.flow p in
+      let way = entered_is_scope mir value l none_made is outside e.makers over e.seeds e.kills exits sets within e.flow p in
       (λ h. way.0 ((entered l p).0 h), λ h. (entered l p).1 (way.1 h))
 ]

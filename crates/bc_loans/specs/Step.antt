@@ -14,13 +14,11 @@ pub record Enters (edges : List Edge) (exits outside : List (List Bool)) (loan p
 
 -- A loan leaves the point that makes it, unless it is overwritten there; and from there on it goes on along the edges
 -- into points in its region's value that do not overwrite it.
-pub record AreExits (edges : List Edge) (made overwrites : List Entry) (outside exits : List (List Bool)) : Type 0 where
+pub record AreExits (edges : List Edge) (made : List Entry) (over outside exits : List (List Bool)) : Type 0 where
   pub makers : List (List Bool)
-  pub over : List (List Bool)
   pub seeds : List (List Bool)
   pub kills : List (List Bool)
   pub makers_are : HaveEntries makers made
-  pub over_are : HaveEntries over overwrites
   pub seeds_are : (p l : ℕ) → holds seeds p l ≡ (holds makers p l && not (holds over p l))
   pub kills_are : (p l : ℕ) → holds kills p l ≡ (holds over p l || holds outside p l)
   pub flow : IsFlow edges seeds kills exits

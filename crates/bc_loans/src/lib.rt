@@ -4,6 +4,7 @@
 mod entries;
 mod loan_list;
 mod outside;
+mod overwrites;
 mod scopes;
 
 pub use loan_list::loans;

@@ -21,10 +21,9 @@ fn points_inside(
     ensures members { IfOk result (λ row. (p : ℕ) → has row p ≡ (nat_lt p points && holds values.now region p)) }
 {
     let mut row = BitSet::new(alloc, points)?;
-    for point in 0..points {
-        if values.contains(region, point) {
-            let _added = row.insert(point);
-        }
+    match values.rows().get(region) {
+        Some(value) => row.union_below(value, points),
+        None => {}
     }
     Ok(row)
 }

@@ -6,9 +6,10 @@ ghost use Rattle.bc_loans.specs.Loans.{loans_of};
 ghost use Rattle.bc_loans.specs.Scope.{IsInScope};
 ghost use Rattle.bc_loans.specs.Step.{AreExits, Enters};
 
-use crate::entries::{made_entries, overwrite_entries};
+use crate::entries::made_entries;
 use crate::loan_list::loans;
 use crate::outside::loans_outside;
+use crate::overwrites::overwrite_rows;
 use bc_flow::{BitSet, Edge, Entry, empty_table, every_node, flow, join, join_without, table};
 use bc_mir::Typed;
 use bc_solve::Values;
@@ -57,19 +58,20 @@ fn exit_sets(
     loans: usize,
     edges: &[Edge],
     made: &[Entry],
-    overwrites: &[Entry],
+    overwrites: Vec<BitSet>,
     outside: &[BitSet],
 ) -> Result<Vec<BitSet>, AllocError>
     requires edges { AreWithin edges.now points }
     requires made { AreEntriesWithin made.now points loans }
-    requires overwrites { AreEntriesWithin overwrites.now points loans }
+    requires over_points { length overwrites.items ≡ points }
+    requires over_loans { HaveSize loans overwrites.items }
     requires points { length outside.now ≡ points }
     requires loans { HaveSize loans outside.now }
     ensures points { IfOk result (λ exits. length exits.items ≡ points) }
     ensures loans { IfOk result (λ exits. HaveSize loans exits.items) }
-    ensures exits { IfOk result (λ exits. AreExits edges.now made.now overwrites.now outside.now exits.items) }
+    ensures exits { IfOk result (λ exits. AreExits edges.now made.now overwrites.items outside.now exits.items) }
 {
-    let mut kills = table(alloc, points, loans, overwrites)?;
+    let mut kills = overwrites;
     let makers = table(alloc, points, loans, made)?;
     let mut seeds = empty_table(alloc, points, loans)?;
     join_without(&mut seeds, &makers, &kills);
@@ -120,8 +122,8 @@ pub fn in_scope(alloc: Global, typed: &Typed, values: &Values) -> Result<Scopes,
     let edges = typed.edges(alloc)?;
     let outside = loans_outside(alloc, typed.universals(), &loans, values, points)?;
     let made = made_entries(alloc, &loans)?;
-    let overwrites = overwrite_entries(alloc, &loans, steps)?;
-    let exits = exit_sets(alloc, points, count, &edges, &made, &overwrites, &outside)?;
+    let overwrites = overwrite_rows(alloc, &loans, steps)?;
+    let exits = exit_sets(alloc, points, count, &edges, &made, overwrites, &outside)?;
     let rows = entry_sets(alloc, points, count, &edges, &exits, &outside)?;
     Ok(Scopes { rows })
 }
