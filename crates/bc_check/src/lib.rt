@@ -7,6 +7,8 @@ mod fault;
 mod file;
 mod input;
 mod print;
+#[cfg(test)]
+mod rows;
 mod section;
 mod stop;
 #[cfg(test)]

@@ -65,7 +65,8 @@ impl Write for Output {
     }
 }
 
-const NEVER: u32 = u32::MAX;
+/// The number of no call.
+pub const NEVER: u32 = u32::MAX;
 
 /// A borrow that ends before its local is written again, put under three names of which one is no root.
 const FILE: &[u8] =
@@ -77,16 +78,24 @@ const REFUSED: &[u8] = b"put f/0 wrongkind\n";
 
 /// What the command left, and how many calls of each device it made.
 #[derive(Drop)]
-struct Ending {
-    status: u8,
-    out: Vec<u8>,
-    err: Vec<u8>,
+pub struct Ending {
+    pub status: u8,
+    pub out: Vec<u8>,
+    pub err: Vec<u8>,
     reads: u32,
     writes: u32,
     tells: u32,
 }
 
-fn run(rt: &HostRuntime, file: &[u8], chunk: usize, read: u32, write: u32, tell: u32) -> Ending {
+/// The command on this file, which is read so many bytes at a time, with the calls of these numbers failing.
+pub fn run(
+    rt: &HostRuntime,
+    file: &[u8],
+    chunk: usize,
+    read: u32,
+    write: u32,
+    tell: u32,
+) -> Ending {
     let mut input = Input {
         rest: file,
         chunk,
@@ -112,7 +121,8 @@ fn run(rt: &HostRuntime, file: &[u8], chunk: usize, read: u32, write: u32, tell:
     }
 }
 
-fn run_whole(rt: &HostRuntime, file: &[u8]) -> Ending {
+/// The command on this file, with devices that never fail.
+pub fn run_whole(rt: &HostRuntime, file: &[u8]) -> Ending {
     run(rt, file, 7, NEVER, NEVER, NEVER)
 }
 

@@ -1,0 +1,143 @@
+//! Files with what the command prints of them, to the byte, and its status.
+use crate::tests::{NEVER, run, run_whole};
+use crate::{FaultKind, FileFault, Stop, stop_with};
+use bc_text::MAX_TEXT;
+use std::test::Fail;
+
+/// A file, and what the command leaves of it.
+struct Row {
+    file: &'static [u8],
+    out: &'static [u8],
+    err: &'static [u8],
+    status: u8,
+}
+
+/// A local is written while it is borrowed.
+const CONFLICT: Row = Row {
+    file: b"@put f\nfn () -> int { let _1: int; let _2: &'?0 int; bb0 { _1 = 1; _2 = &'?1 _1; _1 = 2; _0 = copy _2.*; return; } }\n",
+    out: b"ask f\nf 1\n  conflict bb0[2] access 0 loan bb0[1]\n",
+    err: b"",
+    status: 1,
+};
+
+/// The same body, but the reference is read for the last time before the write.
+const REPAIRED: Row = Row {
+    file: b"@put f\nfn () -> int { let _1: int; let _2: &'?0 int; bb0 { _1 = 1; _2 = &'?1 _1; _0 = copy _2.*; _1 = 2; return; } }\n",
+    out: b"ask f\nf 0\n",
+    err: b"",
+    status: 0,
+};
+
+/// Two mutable borrows of one local, one after the other.
+const IN_TURN: Row = Row {
+    file: b"@put f\nfn () -> int { let _1: int; let _2: &'?0 mut int; let _3: &'?1 mut int; bb0 { _1 = 1; _2 = &'?0 mut _1; _0 = copy _2.*; _3 = &'?1 mut _1; _0 = copy _3.*; return; } }",
+    out: b"ask f\nf 0\n",
+    err: b"",
+    status: 0,
+};
+
+/// A reference is copied to an `int`.
+const ILL: Row = Row {
+    file: b"@put f\nfn (int) -> &'static int { bb0 { nop; _0 = copy _1; return; } }\n",
+    out: b"ask f\nill f at bb0[1]\n",
+    err: b"",
+    status: 2,
+};
+
+/// What was put last under a name is what is asked.
+const REPLACED: Row = Row {
+    file: b"@put f\nfn () -> int { let _1: int; let _2: &'?0 int; bb0 { _1 = 1; _2 = &'?1 _1; _0 = copy _2.*; _1 = 2; return; } }\n@put f\nfn () -> int { let _1: int; let _2: &'?0 int; bb0 { _1 = 1; _2 = &'?1 _1; _1 = 2; _0 = copy _2.*; return; } }\n",
+    out: b"ask f\nf 1\n  conflict bb0[2] access 0 loan bb0[1]\n",
+    err: b"",
+    status: 1,
+};
+
+/// A body with errors, one without, one that is ill and one that is no function: all are told, and the greatest
+/// status stands.
+const ALL: Row = Row {
+    file: b"@put h\nfn (int) -> &'static int { bb0 { nop; _0 = copy _1; return; } }\n@put g/0\nfn()->int{bb0{stop;}}\n@put g\nfn () -> int { let _1: int; let _2: &'?0 mut int; bb0 { _1 = 1; _2 = &'?0 mut _1; _0 = copy _1; _1 = 2; _0 = copy _2.*; return; } }\n@put f\nfn()->int{bb0{return;}}\n",
+    out: b"ask f\nf 0\nask g\ng 2\n  conflict bb0[2] access 0 loan bb0[1]\n  conflict bb0[3] access 0 loan bb0[1]\nask h\nill h at bb0[1]\n",
+    err: b"put g/0 wrongkind\n",
+    status: 2,
+};
+
+#[test]
+fn each_file_has_its_reports_and_its_status(rt: HostRuntime) {
+    for row in [&CONFLICT, &REPAIRED, &IN_TURN, &ILL, &REPLACED, &ALL] {
+        let ending = run_whole(&rt, row.file);
+        assert_eq!(rt; ending.out.as_slice(), row.out);
+        assert_eq!(rt; ending.err.as_slice(), row.err);
+        assert_eq!(rt; ending.status, row.status);
+    }
+}
+
+#[test]
+fn a_text_has_1_048_576_bytes_and_no_more(rt: HostRuntime) -> Result<(), Fail> {
+    let head = b"@put f\nfn()->int{bb0{stop;}}\n@put g\n".as_slice();
+    let unit = b"fn()->int{bb0{stop;}}".as_slice();
+    let mut file = head.to_vec(rt.alloc())?;
+    file.extend_from_slice(unit)?;
+    for _blank in unit.len()..MAX_TEXT {
+        file.push(b' ')?;
+    }
+    let longest = run_whole(&rt, &file);
+    assert_eq!(rt;
+        longest.out.as_slice(),
+        b"ask f\nf 0\nask g\ng 0\n" as &[u8]
+    );
+    assert_eq!(rt; longest.status, 0);
+    file.push(b' ')?;
+    let longer = run_whole(&rt, &file);
+    assert_eq!(rt; longer.err.as_slice(), b"line 3: too long\n" as &[u8]);
+    assert_eq!(rt; longer.status, 2);
+    assert!(rt; longer.out.is_empty());
+    Ok(())
+}
+
+/// A file of so many bodies, each put under a name of its own of five letters and digits: at most 786,432.
+fn bodies(rt: &HostRuntime, count: u32) -> Result<String, Fail> {
+    let mut file = String::new(rt.alloc());
+    for number in 0..count {
+        if number < 393_216 {
+            write!(file, "@put {:x}\n", 655_360 + u64::from(number))?;
+        } else {
+            write!(file, "@put {:X}\n", 262_144 + u64::from(number))?;
+        }
+        file.push_str("fn()->int{bb0{stop;}}\n")?;
+    }
+    Ok(file)
+}
+
+#[test]
+fn a_file_of_over_a_million_calls_is_too_much(rt: HostRuntime) -> Result<(), Fail> {
+    let file = bodies(&rt, 500_001)?;
+    let ending = run(&rt, file.as_bytes(), 1 << 20, NEVER, NEVER, NEVER);
+    assert_eq!(rt; ending.err.as_slice(), b"too many calls\n" as &[u8]);
+    assert_eq!(rt; ending.status, 3);
+    assert!(rt; ending.out.is_empty());
+    Ok(())
+}
+
+#[test]
+fn each_stop_has_its_line_and_its_status(rt: HostRuntime) {
+    let fault = FileFault {
+        line: 4,
+        kind: FaultKind::Grammar { at: 3 },
+    };
+    for (stop, line, status) in [
+        (Stop::WrongUse, b"wrong use\n".as_slice(), 3),
+        (Stop::CannotRead, b"cannot read demo\n".as_slice(), 3),
+        (Stop::CannotWrite, b"cannot write\n".as_slice(), 3),
+        (Stop::CannotTell, b"".as_slice(), 3),
+        (Stop::NoMemory, b"no memory\n".as_slice(), 3),
+        (Stop::File(fault), b"line 4: grammar at 3\n".as_slice(), 2),
+        (Stop::TooManyCalls, b"too many calls\n".as_slice(), 3),
+        (Stop::HistoryFull, b"history full\n".as_slice(), 3),
+        (Stop::Foreign, b"close: foreign\n".as_slice(), 3),
+        (Stop::Audit, b"close: audit\n".as_slice(), 3),
+    ] {
+        let mut err = Vec::new(rt.alloc());
+        assert_eq!(rt; stop_with("demo", &stop, &mut err), status);
+        assert_eq!(rt; err.as_slice(), line);
+    }
+}
