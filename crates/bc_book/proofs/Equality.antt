@@ -2,7 +2,8 @@
 use Rattle.std.proofs.Common.{◌≡◌, false, true≢false, refl, sym, ap}
 use Rattle.std.specs.Bool.{Decides}
 use Rattle.std.proofs.lemmas.Bool.Decides.{Decides-and, Decides-like}
-use Rattle.bc_text.proofs.Equality.{body, name}
+use Rattle.bc_text.proofs.Equality.{name}
+use Rattle.bc_syntax.proofs.Equality.{body}
 use Rattle.bc_prov.proofs.Equality.{outcome}
 use Rattle.bc_book.specs.declared.call.Call.{Call}
 use Rattle.bc_book.specs.declared.call.Call.TheVariants as calls

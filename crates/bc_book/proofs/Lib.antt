@@ -1,3 +1,4 @@
 pub mod Equality
 pub mod Histories
+pub mod Counting
 pub mod Bodies

@@ -2,9 +2,9 @@
 use Rattle.std.specs.Prelude.{◌≡◌, ◌≢◌, ◌==◌, ◌↔◌, ◌<◌, ℕ, Bool, true, false, Option, Some, None, IsSome, List, [], ◌∷◌, ◌++◌, length, map, filter, fold, count_by, if◌then◌else◌}
 use Rattle.std.specs.List.{AllPairs, Contains}
 use Rattle.bc_text.specs.Names.{NameParts, is_same_name}
-use Rattle.bc_text.specs.declared.syntax.Body.{Body}
-use Rattle.bc_text.specs.declared.syntax.UnitKind.{UnitKind}
-use Rattle.bc_text.specs.declared.syntax.UnitKind.TheVariants.{Function}
+use Rattle.bc_syntax.specs.declared.syntax.Body.{Body}
+use Rattle.bc_syntax.specs.declared.syntax.UnitKind.{UnitKind}
+use Rattle.bc_syntax.specs.declared.syntax.UnitKind.TheVariants.{Function}
 use Rattle.bc_prov.specs.Outcome.{IsOutcome}
 use Rattle.bc_book.specs.declared.call.Call.{Call}
 use Rattle.bc_book.specs.declared.call.Call.TheVariants.{Put, Ask}

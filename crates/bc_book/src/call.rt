@@ -4,7 +4,8 @@ ghost use Rattle.bc_book.specs.Calls.{stores};
 
 use crate::shared::Shared;
 use bc_prov::Outcome;
-use bc_text::{Name, Unit};
+use bc_syntax::Unit;
+use bc_text::Name;
 
 /// What a session asks for.
 #[derive(Drop, PartialEq)]

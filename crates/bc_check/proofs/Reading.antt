@@ -1,8 +1,11 @@
 -- Sections that are read one after another.
-use Rattle.std.proofs.Common.{◌≡◌, List, [], ◌∷◌, ◌++◌, refl, sym, ap, ◌∙◌, append_assoc, append-nil, subst}
+use Rattle.std.proofs.Common.{◌≡◌, true, List, [], ◌∷◌, ◌++◌, refl, sym, ap, ◌∙◌, append_assoc, append-nil, subst}
+use Rattle.std.proofs.lemmas.Bool.{and_from, and_parts}
+use Rattle.std.proofs.lemmas.List.Folds.{list_all-append}
+use Rattle.bc_syntax.specs.Served.{served}
 use Rattle.bc_check.specs.declared.fault.FileFault.{FileFault}
 use Rattle.bc_check.specs.Parts.{Part}
-use Rattle.bc_check.specs.Puts.{Placed, IsPut, IsFault, ArePuts, IsFirstFault}
+use Rattle.bc_check.specs.Puts.{Placed, IsPut, IsFault, are_served, ArePuts, IsFirstFault}
 
 -- of all sections those that are not left are put
 pub record HasRead (all left : List Part) (puts : List Placed) : Type 0 where
@@ -45,3 +48,17 @@ read_fault all left rest puts section fault h next line kind = record {
   line = line;
   kind = kind;
 }
+
+-- what the sections put is served
+pub served_all : (sections : List Part) (puts : List Placed) → ArePuts sections puts → are_served puts ≡ true
+served_all [] [] h = refl
+served_all [] (put ∷ puts) h = absurd h
+served_all (section ∷ sections) [] h = absurd h
+served_all (section ∷ sections) (put ∷ puts) h = and_from _ _ h.0.2 (served_all sections puts h.1)
+
+-- so is the next one of those that are left
+pub served_next : (all front left rest : List Placed) (put : Placed) → are_served all ≡ true → all ≡ front ++ left → left ≡ put ∷ rest → served put.body ≡ true
+served_next all front left rest put h cut next =
+    let whole : are_served (front ++ put ∷ rest) ≡ true = subst (λ (ps : List Placed). are_served ps ≡ true) (cut ∙ ap (λ (ps : List Placed). front ++ ps) next) h in
+    let both = and_parts (are_served front) (are_served (put ∷ rest)) (sym (list_all-append (λ (p : Placed). served p.body) front (put ∷ rest)) ∙ whole) in
+    (and_parts (served put.body) (are_served rest) both.1).0

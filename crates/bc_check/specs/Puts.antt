@@ -1,15 +1,16 @@
 -- What a file puts, and its first fault.
-use Rattle.std.specs.Prelude.{◌≡◌, ℕ, List, ◌∷◌, ◌++◌, Result, Ok, Err, codes, map, Vec}
-use Rattle.std.specs.List.{AllZip}
+use Rattle.std.specs.Prelude.{◌≡◌, ℕ, Bool, true, false, List, ◌∷◌, ◌++◌, Result, Ok, Err, codes, map, Vec}
+use Rattle.std.specs.List.{AllZip, list_all}
 use Rattle.std.specs.Arc.{arc_value}
 use Rattle.std.specs.declared.alloc.Global.{Global}
-use Rattle.bc_text.specs.declared.syntax.Body.{Body}
+use Rattle.bc_syntax.specs.declared.syntax.Body.{Body}
+use Rattle.bc_syntax.specs.Served.{served}
 use Rattle.bc_text.specs.declared.fault.ReadFault.{ReadFault}
 use Rattle.bc_text.specs.declared.fault.ReadFault.TheVariants as read_faults
 use Rattle.bc_text.specs.Names.{NameParts, IsName, name_text}
 use Rattle.bc_text.specs.Reading.{read}
 use Rattle.bc_check.specs.declared.fault.FaultKind.{FaultKind}
-use Rattle.bc_check.specs.declared.fault.FaultKind.TheVariants.{BadHeader, TooLong, NotAscii, Token, Grammar, Limit}
+use Rattle.bc_check.specs.declared.fault.FaultKind.TheVariants.{BadHeader, TooLong, NotAscii, Token, Grammar, Limit, NotServed}
 use Rattle.bc_check.specs.declared.fault.FileFault.{FileFault}
 use Rattle.bc_check.specs.declared.file.Put.{Put}
 use Rattle.bc_check.specs.declared.stop.Stop.{Stop}
@@ -25,13 +26,21 @@ pub record Placed : Type 0 where
 abbrev pub IsHeader : NameParts → List ℕ → Type 0
 IsHeader name header = IsName name × (header ≡ codes "@put " ++ name_text name)
 
--- a section puts a body: its header has the name, and its text is read as the body
+-- a section puts a body: its header has the name, and its text is read as the body, which is served
 abbrev pub IsPut : Part → Placed → Type 0
-IsPut section put = IsHeader put.name section.header × (read section.text ≡ Ok put.body)
+IsPut section put = IsHeader put.name section.header × (read section.text ≡ Ok put.body) × (served put.body ≡ true)
 
 -- a section with a good header has a text that cannot be read
 abbrev pub HasText : Part → ReadFault → Type 0
 HasText section fault = ((name : NameParts) × IsHeader name section.header) × (read section.text ≡ Err fault)
+
+-- a section with a good header has a text that is read as a body that is not served
+pub record IsNotServed (section : Part) : Type 0 where
+  pub name : NameParts
+  pub body : Body
+  pub header : IsHeader name section.header
+  pub text : read section.text ≡ Ok body
+  pub not_served : served body ≡ false
 
 -- what is wrong with a section
 abbrev pub IsFault : Part → FaultKind → Type 0
@@ -41,6 +50,11 @@ IsFault section (NotAscii at) = HasText section (read_faults.NotAscii at)
 IsFault section (Token at) = HasText section (read_faults.Token at)
 IsFault section (Grammar at) = HasText section (read_faults.Grammar at)
 IsFault section (Limit at) = HasText section (read_faults.Limit at)
+IsFault section NotServed = IsNotServed section
+
+-- these bodies are all served
+abbrev pub are_served : List Placed → Bool
+are_served puts = list_all (λ (put : Placed). served put.body) puts
 
 -- the sections put these bodies, one each, in this order
 abbrev pub ArePuts : List Part → List Placed → Type 0

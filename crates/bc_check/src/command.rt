@@ -2,9 +2,10 @@
 ghost use Rattle.std.specs.Prelude.{◌≡◌, ◌≤◌, ◌<◌, ◌+◌, ◌⊎◌, true, Err, OnOk, IfSome, IfOk, IfErr, IsErrOf, length, map, max};
 ghost use Rattle.std.specs.Io.KnownBytes.{Appends, Keeps};
 ghost use Rattle.bc_book.specs.declared.call.Call.TheVariants as calls;
+ghost use Rattle.bc_syntax.specs.Served.{served};
 ghost use Rattle.bc_check.specs.declared.fault.FileFault.{FileFault};
 ghost use Rattle.bc_check.specs.Parts.{sections_of};
-ghost use Rattle.bc_check.specs.Puts.{seen, IsFirstFault};
+ghost use Rattle.bc_check.specs.Puts.{seen, are_served, IsFirstFault};
 ghost use Rattle.bc_check.specs.Stops.{is_of_calls};
 ghost use Rattle.bc_check.specs.Ends.{Checked, HasBegun, HasTooManyCalls, IsEnd};
 ghost use Rattle.bc_check.specs.Run.{put_call, refused_line, answer_lines, told, shown, put_status, are_clean, outcome_status};
@@ -77,6 +78,7 @@ fn write_answer<O: Write>(name: &Name, outcome: &Outcome, out: &mut O) -> io::Re
 
 /// Puts a body, and tells of it where it is not stored. The status of the put.
 fn make_put<E: Write>(session: &mut Session, put: Put, err: &mut E) -> Result<u8, Stop>
+    requires { served (seen put).body ≡ true }
     ensures no_memory { IsErrOf result Stop.NoMemory → (session.new ≡ session.old) × Keeps (E.contents err.old) (E.contents err.new) }
     ensures served { IfOk result (λ status. Serves (put_call (seen put)) told status session.old session.new (E.contents err.old) (E.contents err.new)) }
     ensures range { IfOk result (λ status. status ≤ 2) }
@@ -106,6 +108,7 @@ fn make_ask<O: Write>(session: &mut Session, name: &Name, out: &mut O) -> Result
 
 /// Puts the bodies in order. The greatest status of the puts.
 fn make_puts<E: Write>(session: &mut Session, puts: Vec<Put>, err: &mut E) -> Result<u8, Stop>
+    requires { are_served (map seen puts.items) ≡ true }
     ensures served { IfOk result (λ status. Served (map put_call (map seen puts.items)) told status session.old session.new (E.contents err.old) (E.contents err.new)) }
     ensures no_memory { IsErrOf result Stop.NoMemory → ServedPart (map put_call (map seen puts.items)) told session.old session.new (E.contents err.old) (E.contents err.new) }
     ensures range { IfOk result (λ status. status ≤ 2) }
@@ -160,6 +163,7 @@ fn serve<O: Write, E: Write>(
     out: &mut O,
     err: &mut E,
 ) -> Result<u8, Stop>
+    requires { are_served (map seen puts.items) ≡ true }
     ensures done { IfOk result (λ status. Runs (map seen puts.items) names.now.keys status (O.contents out.old) (O.contents out.new) (E.contents err.old) (E.contents err.new)) }
     ensures range { IfOk result (λ status. status ≤ 2) }
     ensures too_many { IsErrOf result Stop.TooManyCalls → (1000000 < length puts.items + length names.now.keys) × Keeps (O.contents out.old) (O.contents out.new) × Keeps (E.contents err.old) (E.contents err.new) }

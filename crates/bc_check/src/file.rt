@@ -8,7 +8,8 @@ ghost use Rattle.bc_check.specs.Puts.{IsHeader, text_stop, GivesPut, GivesPuts};
 use crate::fault::{FaultKind, FileFault};
 use crate::section::{Section, Sections};
 use crate::stop::Stop;
-use bc_text::{Name, ReadFault, Unit, read_unit};
+use bc_syntax::Unit;
+use bc_text::{Name, ReadFault, read_unit};
 use std::alloc::Global;
 use std::sync::Arc;
 
@@ -42,7 +43,7 @@ fn text_stop(line: usize, fault: ReadFault) -> Stop
     Stop::File(FileFault { line, kind })
 }
 
-/// What a section puts.
+/// What a section puts: a unit that the database serves.
 fn read_put(alloc: Global, section: &Section<'_>) -> Result<Put, Stop>
     ensures { GivesPut (part_of section.now) result }
 {
@@ -53,6 +54,10 @@ fn read_put(alloc: Global, section: &Section<'_>) -> Result<Put, Stop>
     };
     match read_unit(alloc, section.text) {
         Ok(unit) => {
+            if !unit.served() {
+                let kind = FaultKind::NotServed;
+                return Err(Stop::File(FileFault { line, kind }));
+            }
             let unit = Arc::new(alloc, unit)?;
             Ok(Put { name, unit })
         }

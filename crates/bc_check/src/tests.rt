@@ -172,6 +172,30 @@ fn tells_the_first_fault(rt: HostRuntime) -> Result<(), Fail> {
             b"@put f\nfn()->int{bb0{return;}}\n\n@put g\nfn\n@x\n",
             b"line 4: grammar at 3\n",
         ),
+        (
+            b"@put f\nfn()->int{bb0{return;}}\n@put g\nfn()->int{bb0{goto bb0;}}\n@x\n",
+            b"line 3: not served\n",
+        ),
+        (
+            b"@put f\nfn<'a>()->int{bb0{return;}}",
+            b"line 1: not served\n",
+        ),
+        (
+            b"@put f\nfn()->S{bb0{return;}}\n@x",
+            b"line 1: not served\n",
+        ),
+        (
+            b"@put f\nfn()->int{bb0{drop _0;return;}}",
+            b"line 1: not served\n",
+        ),
+        (
+            b"@put f\nfn()->int{bb0{stop;}bb1{stop;}}",
+            b"line 1: not served\n",
+        ),
+        (
+            b"@x\n@put f\nfn()->int{bb0{goto bb0;}}",
+            b"line 1: bad header\n",
+        ),
     ] {
         let faulty = run_whole(&rt, file);
         assert_eq!(rt; faulty.err.as_slice(), want);

@@ -5,8 +5,8 @@ use Rattle.std.proofs.lemmas.Bool.{cases_lt, le-ltb, ne_eqb}
 use Rattle.std.proofs.lemmas.List.{get_or_past, get_or_append_left, get_or-append-add}
 use Rattle.std.proofs.lemmas.List.Elements.{All-head, All-tail}
 use Rattle.std.proofs.Math.Nat.{eq-or-lt_of_le}
-use Rattle.bc_text.specs.declared.syntax.Ty.{Ty}
-use Rattle.bc_text.specs.declared.syntax.Reference.{Reference}
+use Rattle.bc_syntax.specs.declared.syntax.Ty.{Ty}
+use Rattle.bc_syntax.specs.declared.syntax.Reference.{Reference}
 use Rattle.bc_flow.specs.BitSet.{has}
 use Rattle.bc_flow.specs.Flow.{row, holds}
 use Rattle.bc_mir.specs.Mir.{Mir}

@@ -1,8 +1,8 @@
 -- Numbers of regions below a bound.
 use Rattle.std.specs.Prelude.{ℕ, ◌<◌, List}
 use Rattle.std.specs.List.{All}
-use Rattle.bc_text.specs.declared.syntax.Ty.{Ty}
-use Rattle.bc_text.specs.declared.syntax.Reference.{Reference}
+use Rattle.bc_syntax.specs.declared.syntax.Ty.{Ty}
+use Rattle.bc_syntax.specs.declared.syntax.Reference.{Reference}
 use Rattle.bc_mir.specs.Regions.{region_number}
 use Rattle.bc_cons.specs.Constraints.{Pair}
 

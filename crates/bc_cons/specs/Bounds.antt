@@ -1,7 +1,7 @@
 -- How many regions there are, by the numbers that types and pairs use: one more than the greatest, or `least`.
 use Rattle.std.specs.Prelude.{ℕ, ◌+◌, max, fold, List}
-use Rattle.bc_text.specs.declared.syntax.Ty.{Ty}
-use Rattle.bc_text.specs.declared.syntax.Reference.{Reference}
+use Rattle.bc_syntax.specs.declared.syntax.Ty.{Ty}
+use Rattle.bc_syntax.specs.declared.syntax.Reference.{Reference}
 use Rattle.bc_mir.specs.Regions.{region_number}
 use Rattle.bc_cons.specs.Constraints.{Pair}
 

@@ -1,13 +1,14 @@
 -- The outlives constraints of a body: (longer, shorter) says that the value of the longer region contains that of the shorter.
 use Rattle.std.specs.Prelude.{ℕ, Bool, false, not, ◌==◌, if◌then◌else◌, Option, Some, None, List, [], ◌∷◌, ◌++◌, map, filter}
 use Rattle.std.specs.List.{flat_map}
-use Rattle.bc_text.specs.declared.syntax.Ty.{Ty}
-use Rattle.bc_text.specs.declared.syntax.Region.{Region}
-use Rattle.bc_text.specs.declared.syntax.Region.TheVariants.{Universal, Variable}
-use Rattle.bc_text.specs.declared.syntax.Reference.{Reference}
-use Rattle.bc_text.specs.declared.syntax.Rvalue.{Rvalue}
-use Rattle.bc_text.specs.declared.syntax.Rvalue.TheVariants.{Use, Borrow, Calc}
-use Rattle.bc_text.specs.declared.syntax.Statement.TheVariants.{Assign, Dead, Nop}
+use Rattle.bc_syntax.specs.declared.syntax.Ty.{Ty}
+use Rattle.bc_syntax.specs.declared.syntax.Region.{Region}
+use Rattle.bc_syntax.specs.declared.syntax.Region.TheVariants.{Universal, Variable}
+use Rattle.bc_syntax.specs.declared.syntax.Reference.{Reference}
+use Rattle.bc_syntax.specs.declared.syntax.Rvalue.{Rvalue}
+use Rattle.bc_syntax.specs.declared.syntax.Rvalue.TheVariants.{Use, Borrow, Aggregate, Calc}
+use Rattle.bc_syntax.specs.declared.syntax.Statement.TheVariants.{Assign, Dead, Drop, Nop}
+use Rattle.bc_syntax.specs.declared.syntax.Terminator.TheVariants.{Goto, If, Call, Return, Stop}
 use Rattle.bc_mir.specs.declared.mir.Step.{Step}
 use Rattle.bc_mir.specs.declared.mir.Instruction.{Instruction}
 use Rattle.bc_mir.specs.declared.mir.Instruction.TheVariants.{Statement, Terminator}
@@ -44,15 +45,22 @@ abbrev pub reborrow_pairs : List Ty → Rvalue → List Pair
 reborrow_pairs locals (Use operand) = []
 reborrow_pairs locals (Borrow borrow) =
     map (λ (reference : Reference). (reference.region, borrow.reference.region)) (from_last_shared (dereferenced locals borrow.place))
+reborrow_pairs locals (Aggregate aggregate) = []
 reborrow_pairs locals (Calc operands) = []
 
--- the pairs of a point: the value of an assignment is a subtype of its target, and a borrow may be a reborrow
+-- the pairs of a point: the value of an assignment is a subtype of its target, and a borrow may be a reborrow; no body
+-- that fits makes a struct or calls a function, since none is declared
 abbrev pub pairs_at : List Ty → Instruction → List Pair
 pairs_at locals (Statement (Assign assignment)) =
     sub_types (rvalue_type locals assignment.value) (place_type locals assignment.target) ++ reborrow_pairs locals assignment.value
 pairs_at locals (Statement (Dead local)) = []
+pairs_at locals (Statement (Drop place)) = []
 pairs_at locals (Statement Nop) = []
-pairs_at locals (Terminator terminator) = []
+pairs_at locals (Terminator (Goto label)) = []
+pairs_at locals (Terminator (If condition)) = []
+pairs_at locals (Terminator (Call call)) = []
+pairs_at locals (Terminator Return) = []
+pairs_at locals (Terminator Stop) = []
 
 abbrev pub same_region : Region → Region → Bool
 same_region (Universal u) (Universal v) = u == v

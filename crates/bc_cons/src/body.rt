@@ -12,7 +12,7 @@ use crate::pairs::push_pairs_at;
 use crate::starts::start_rows;
 use bc_live::LiveSets;
 use bc_mir::{Step, Typed, region_number};
-use bc_text::{Region, Ty};
+use bc_syntax::{Region, Ty};
 use std::alloc::{AllocError, Global};
 
 fn is_same_region(first: Region, second: Region) -> bool

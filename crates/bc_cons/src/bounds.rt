@@ -3,7 +3,7 @@ ghost use Rattle.std.specs.Prelude.{◌≡◌};
 ghost use Rattle.bc_cons.specs.Bounds.{type_bound as bound_of_type, types_bound as bound_of_types, pairs_bound as bound_of_pairs};
 
 use bc_mir::region_number;
-use bc_text::{Reference, Region, Ty};
+use bc_syntax::{Reference, Region, Ty};
 
 /// One more than the greatest number of a region in a type, or `least` where that is more.
 fn type_bound(universals: u8, least: usize, references: &[Reference]) -> usize

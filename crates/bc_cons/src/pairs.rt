@@ -5,7 +5,7 @@ ghost use Rattle.bc_mir.specs.Typing.{rvalue_type as type_of_rvalue};
 ghost use Rattle.bc_cons.specs.Constraints.{equate, sub, sub_types, reborrow_pairs, pairs_at};
 
 use bc_mir::{Instruction, dereferenced, from_last_shared, is_mutable, place_type, rvalue_type};
-use bc_text::{Assignment, Reference, Region, Rvalue, Statement, Ty};
+use bc_syntax::{Assignment, Reference, Region, Rvalue, Statement, Terminator, Ty};
 use std::alloc::{AllocError, Global};
 
 /// Appends the pairs that make two types equal.
@@ -80,7 +80,7 @@ fn push_reborrow(
             let references = dereferenced(locals, &borrow.place);
             push_outlives(pairs, from_last_shared(references), borrow.reference.region)
         }
-        Rvalue::Use(_) | Rvalue::Calc(_) => Ok(()),
+        Rvalue::Use(_) | Rvalue::Aggregate(_) | Rvalue::Calc(_) => Ok(()),
     }
 }
 
@@ -117,7 +117,13 @@ pub(crate) fn push_pairs_at(
             push_assigned(alloc, pairs, locals, assignment)?;
             push_reborrow(pairs, locals, &assignment.value)
         }
-        Instruction::Statement(Statement::Dead(_) | Statement::Nop) | Instruction::Terminator(_) =>
-            Ok(()),
+        Instruction::Statement(Statement::Dead(_) | Statement::Drop(_) | Statement::Nop)
+        | Instruction::Terminator(
+            Terminator::Goto(_)
+            | Terminator::If(_)
+            | Terminator::Call(_)
+            | Terminator::Return
+            | Terminator::Stop,
+        ) => Ok(()),
     }
 }

@@ -9,7 +9,7 @@ ghost use Rattle.bc_mir.specs.Regions.{region_number as number_of};
 use bc_flow::BitSet;
 use bc_live::LiveSets;
 use bc_mir::{Typed, region_number};
-use bc_text::{Region, Ty};
+use bc_syntax::{Region, Ty};
 use std::alloc::{AllocError, Global};
 
 /// What a universal region starts with.

@@ -5,8 +5,8 @@ use Rattle.std.specs.List.{Contains, flat_map, range_with_len, list_all}
 use Rattle.std.proofs.lemmas.Bool.{and_parts, ltb-true}
 use Rattle.std.proofs.lemmas.List.Elements.{All-contains_itself, All-map, All-weaker}
 use Rattle.std.proofs.lemmas.List.Sums.{AllPass-from_list_all}
-use Rattle.bc_text.specs.declared.syntax.Outlives.{Outlives}
-use Rattle.bc_text.specs.Sizes.{clause_names}
+use Rattle.bc_syntax.specs.declared.syntax.Outlives.{Outlives}
+use Rattle.bc_syntax.specs.Fits.{clause_fits}
 use Rattle.bc_flow.specs.declared.graph.Edge.{Edge}
 use Rattle.bc_flow.specs.declared.tables.Entry.{Entry}
 use Rattle.bc_flow.specs.Graph.{AreWithin}
@@ -50,15 +50,15 @@ pub firsts_within : (count : ℕ) → AreEntriesWithin (first count) count count
 firsts_within count =
     All-weaker (Contains (first count)) (λ e. (e.node < count) × (e.fact < count)) (λ e is. first_within count e (from_first count e is)) (first count) (All-contains_itself (first count))
 
-clause_within : (count : ℕ) (c : Outlives) → clause_names count c ≡ true → (c.shorter < count) × (c.longer < count)
+clause_within : (count : ℕ) (c : Outlives) → clause_fits count c ≡ true → (c.shorter < count) × (c.longer < count)
 clause_within count c named =
     let parts = and_parts (nat_lt c.longer count) (nat_lt c.shorter count) named in
     (ltb-true c.shorter count parts.1, ltb-true c.longer count parts.0)
 
-pub clauses_within : (clauses : List Outlives) (count : ℕ) → list_all (clause_names count) clauses ≡ true → AreWithin (map edge_of clauses) count
+pub clauses_within : (clauses : List Outlives) (count : ℕ) → list_all (clause_fits count) clauses ≡ true → AreWithin (map edge_of clauses) count
 clauses_within clauses count named =
     All-map (λ (e : Edge). (e.from < count) × (e.to < count)) edge_of clauses
-    (All-weaker (λ c. clause_names count c ≡ true) (λ c. (c.shorter < count) × (c.longer < count)) (clause_within count) clauses (AllPass-from_list_all (clause_names count) clauses named))
+    (All-weaker (λ c. clause_fits count c ≡ true) (λ c. (c.shorter < count) × (c.longer < count)) (clause_within count) clauses (AllPass-from_list_all (clause_fits count) clauses named))
 
 -- what flows to a region is known of it
 known_from_flow : (clauses : List Outlives) (count : ℕ) (seeds : List (List Bool)) → HaveEntries seeds (first count) → (b a : ℕ) → Flows (map edge_of clauses) seeds [] b a → IsKnown clauses a b

@@ -5,8 +5,8 @@ use Rattle.std.specs.List.{Contains, enumerate_from, range_with_len}
 use Rattle.std.proofs.lemmas.Bool.{and_parts, and_from, both_ways, false_from_ne_true}
 use Rattle.std.proofs.lemmas.Option.{slice_get_within, get_or_from_slice_get}
 use Rattle.std.proofs.lemmas.List.Elements.{Contains-append_left, Contains-append_right, Contains-append_cases}
-use Rattle.bc_text.specs.declared.syntax.Mutability.{Mutability}
-use Rattle.bc_text.specs.declared.syntax.Mutability.TheVariants.{Shared, Mutable}
+use Rattle.bc_syntax.specs.declared.syntax.Mutability.{Mutability}
+use Rattle.bc_syntax.specs.declared.syntax.Mutability.TheVariants.{Shared, Mutable}
 use Rattle.bc_mir.specs.declared.access.AccessKind.{AccessKind}
 use Rattle.bc_mir.specs.declared.access.AccessKind.TheVariants.{Read, Write}
 use Rattle.bc_mir.specs.declared.mir.Point.{Point}

@@ -1,6 +1,6 @@
 -- The errors of a body, as a list in order, and what an error is.
 use Rattle.std.specs.Prelude.{◌≡◌, ℕ, ◌<◌, ◌⊎◌, Bool, true, List, ◌++◌, Some, slice_get}
-use Rattle.bc_text.specs.declared.syntax.Mutability.TheVariants.{Mutable}
+use Rattle.bc_syntax.specs.declared.syntax.Mutability.TheVariants.{Mutable}
 use Rattle.bc_mir.specs.declared.access.Access.{Access}
 use Rattle.bc_mir.specs.declared.access.AccessKind.TheVariants.{Write}
 use Rattle.bc_mir.specs.declared.mir.Point.{Point}

@@ -1,6 +1,6 @@
 -- How known relations flow: a region has what each region has that a clause makes it outlive.
 use Rattle.std.specs.Prelude.{ℕ, List, [], ◌∷◌}
-use Rattle.bc_text.specs.declared.syntax.Outlives.{Outlives}
+use Rattle.bc_syntax.specs.declared.syntax.Outlives.{Outlives}
 use Rattle.bc_flow.specs.declared.graph.Edge.{Edge}
 use Rattle.bc_flow.specs.declared.tables.Entry.{Entry}
 

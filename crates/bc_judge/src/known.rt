@@ -7,7 +7,7 @@ ghost use Rattle.bc_judge.specs.Known.{edge_of, entries_of};
 
 use bc_flow::{BitSet, Edge, Entry, every_node, flow, table};
 use bc_mir::Typed;
-use bc_text::Outlives;
+use bc_syntax::Outlives;
 use std::alloc::{AllocError, Global};
 use std::marker::Model;
 

@@ -5,7 +5,7 @@ ghost use Rattle.bc_judge.specs.Conflicts.{is_relevant_at, is_write as write_tes
 use bc_mir::{
     Access, AccessKind, Depth, Loan, is_mutable, is_prefix, is_shallow_prefix, is_supporting_prefix,
 };
-use bc_text::{Place, Ty};
+use bc_syntax::{Place, Ty};
 
 /// Whether an access to a place reaches a loan of a path: the path is a prefix of the place, or the place is a
 /// prefix of the path, which must be shallow for a shallow access and supporting for a deep one.

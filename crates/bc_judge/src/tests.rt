@@ -2,7 +2,7 @@ use crate::verdict::errors;
 use crate::{BorrowError, known_relations};
 use bc_flow::{Entry, empty_table, table};
 use bc_mir::{Point, Typed, type_unit};
-use bc_text::{
+use bc_syntax::{
     Assignment, Base, Block, Body, Borrow, Header, Mutability, Operand, Outlives, Place, Reference,
     Region, RegionName, Rvalue, Sequence, ShortSequence, Statement, Terminator, Ty, Unit, UnitKind,
 };

@@ -12,7 +12,7 @@ use crate::known::{KnownRelations, known_relations};
 use crate::lifetimes::push_lifetimes;
 use bc_flow::BitSet;
 use bc_mir::Typed;
-use bc_text::{Outlives, Sequence};
+use bc_syntax::{Outlives, Sequence};
 use std::alloc::{AllocError, Global};
 
 /// What is found of a body: its errors in order, and the relations between its external regions that its creator

@@ -6,16 +6,16 @@ use Rattle.std.specs.List.{Contains, flat_map, list_all}
 use Rattle.std.proofs.lemmas.Option.{slice_get_within}
 use Rattle.std.proofs.lemmas.List.Elements.{Contains-get_or, Contains-append_cases}
 use Rattle.std.proofs.lemmas.Bool.{and_parts, ltb-true}
-use Rattle.bc_text.specs.declared.syntax.Ty.{Ty}
-use Rattle.bc_text.specs.declared.syntax.Reference.{Reference}
-use Rattle.bc_text.specs.declared.syntax.Place.{Place}
-use Rattle.bc_text.specs.declared.syntax.Operand.{Operand}
-use Rattle.bc_text.specs.declared.syntax.Operand.TheVariants.{Copy, Move, Number}
-use Rattle.bc_text.specs.declared.syntax.Rvalue.{Rvalue}
-use Rattle.bc_text.specs.declared.syntax.Rvalue.TheVariants.{Use, Borrow, Calc}
-use Rattle.bc_text.specs.declared.syntax.Mutability.TheVariants.{Shared, Mutable}
-use Rattle.bc_text.specs.declared.syntax.Statement.TheVariants.{Assign, Dead, Nop}
-use Rattle.bc_text.specs.declared.syntax.Terminator.TheVariants.{Goto, If, Return, Stop}
+use Rattle.bc_syntax.specs.declared.syntax.Ty.{Ty}
+use Rattle.bc_syntax.specs.declared.syntax.Reference.{Reference}
+use Rattle.bc_syntax.specs.declared.syntax.Place.{Place}
+use Rattle.bc_syntax.specs.declared.syntax.Operand.{Operand}
+use Rattle.bc_syntax.specs.declared.syntax.Operand.TheVariants.{Copy, Move, Number}
+use Rattle.bc_syntax.specs.declared.syntax.Rvalue.{Rvalue}
+use Rattle.bc_syntax.specs.declared.syntax.Rvalue.TheVariants.{Use, Borrow, Aggregate, Calc}
+use Rattle.bc_syntax.specs.declared.syntax.Mutability.TheVariants.{Shared, Mutable}
+use Rattle.bc_syntax.specs.declared.syntax.Statement.TheVariants.{Assign, Dead, Drop, Nop}
+use Rattle.bc_syntax.specs.declared.syntax.Terminator.TheVariants.{Goto, If, Call, Return, Stop}
 use Rattle.bc_mir.specs.declared.mir.Point.{Point}
 use Rattle.bc_mir.specs.declared.mir.Step.{Step}
 use Rattle.bc_mir.specs.declared.mir.Instruction.{Instruction}
@@ -96,6 +96,7 @@ rvalue_within locals (Use operand) ty typed = operand_within locals operand ty t
 rvalue_within locals (Borrow borrow) ty typed =
     let t = mapped (borrowed_type locals borrow.reference.mutability borrow.place) borrow.reference ty typed in
     below_one (length locals) borrow.place.local (borrow_within locals borrow.reference.mutability borrow.place t.0 t.1)
+rvalue_within locals (Aggregate aggregate) ty typed = absurd cc
 rvalue_within locals (Calc operands) ty typed = ints_within locals operands (allowed_holds (list_all (is_int_operand locals) operands) (Some []) ty typed)
 
 both_typed : (target value : Option (List Reference)) → agree target value ≡ true → (t v : List Reference) × (target ≡ Some t) × (value ≡ Some v)
@@ -122,10 +123,12 @@ uses_within mir (Statement (Assign assignment)) some fits =
     (rvalue_within mir.locals assignment.value t.1 t.3)
     (target_within (length mir.locals) assignment.target (place_within mir.locals assignment.target t.0 (was_there _ (place_type mir.locals assignment.target) t.0 t.2)))
 uses_within mir (Statement (Dead local)) some fits = below_none (length mir.locals)
+uses_within mir (Statement (Drop place)) some fits = below_none (length mir.locals)
 uses_within mir (Statement Nop) some fits = below_none (length mir.locals)
 uses_within mir (Terminator (Goto label)) some fits = below_none (length mir.locals)
 uses_within mir (Terminator (If condition)) some fits =
     int_within mir.locals condition.operand (and_parts (is_int_operand mir.locals condition.operand) _ fits).0
+uses_within mir (Terminator (Call call)) some fits = absurd cc
 uses_within mir (Terminator Return) some fits = below_one (length mir.locals) 0 (omega (arith, some))
 uses_within mir (Terminator Stop) some fits = below_none (length mir.locals)
 
@@ -134,8 +137,13 @@ definitions_within mir (Statement (Assign assignment)) fits =
     let t = both_typed (writable_type mir.locals assignment.target) (rvalue_type mir.locals assignment.value) fits in
     defined_within (length mir.locals) assignment.target (place_within mir.locals assignment.target t.0 (was_there _ (place_type mir.locals assignment.target) t.0 t.2))
 definitions_within mir (Statement (Dead local)) fits = below_one (length mir.locals) local (ltb-true local (length mir.locals) fits)
+definitions_within mir (Statement (Drop place)) fits = below_none (length mir.locals)
 definitions_within mir (Statement Nop) fits = below_none (length mir.locals)
-definitions_within mir (Terminator terminator) fits = below_none (length mir.locals)
+definitions_within mir (Terminator (Goto label)) fits = below_none (length mir.locals)
+definitions_within mir (Terminator (If condition)) fits = below_none (length mir.locals)
+definitions_within mir (Terminator (Call call)) fits = absurd cc
+definitions_within mir (Terminator Return) fits = below_none (length mir.locals)
+definitions_within mir (Terminator Stop) fits = below_none (length mir.locals)
 
 test_passed : (b : Bool) (rest : Option Point) (p : Point) → cond b rest (Some p) ≡ None → (b ≡ true) × (rest ≡ None)
 test_passed true rest p none = (refl, none)

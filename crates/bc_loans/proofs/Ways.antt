@@ -12,8 +12,8 @@ use Rattle.bc_flow.specs.Graph.{HasEdge, AreWithin, IsPath}
 use Rattle.bc_flow.specs.BitSet.{has}
 use Rattle.bc_flow.specs.Flow.{row, holds, HaveSize, Flows, begins, goes_on, IsFlow}
 use Rattle.bc_flow.proofs.Ways.{end_of, end_of-nil, end_of-after, path_after}
-use Rattle.bc_text.specs.declared.syntax.Region.TheVariants.{Universal}
-use Rattle.bc_text.specs.declared.syntax.Mutability.TheVariants.{Shared}
+use Rattle.bc_syntax.specs.declared.syntax.Region.TheVariants.{Universal}
+use Rattle.bc_syntax.specs.declared.syntax.Mutability.TheVariants.{Shared}
 use Rattle.bc_mir.specs.declared.loan.Loan.{Loan}
 use Rattle.bc_mir.specs.Mir.{Mir, edges_of}
 use Rattle.bc_mir.specs.Points.{Kills}

@@ -1,7 +1,7 @@
 -- Which loans a point overwrites: those with a prefix of their path overwritten there. Loans and points are numbers.
 use Rattle.std.specs.Prelude.{ℕ, Bool, false, ◌==◌, List, slice_get}
 use Rattle.std.specs.Option.{option_map_or}
-use Rattle.bc_text.specs.declared.syntax.Place.{Place}
+use Rattle.bc_syntax.specs.declared.syntax.Place.{Place}
 use Rattle.bc_mir.specs.declared.loan.Loan.{Loan}
 use Rattle.bc_mir.specs.declared.mir.Step.{Step}
 use Rattle.bc_mir.specs.declared.mir.Instruction.{Instruction}

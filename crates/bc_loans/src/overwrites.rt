@@ -9,7 +9,7 @@ ghost use Rattle.bc_loans.specs.Overwrites.{begins_with, has_prefix, is_overwrit
 use crate::entries::local_entries;
 use bc_flow::{BitSet, table};
 use bc_mir::{Instruction, Loan, Step, is_prefix};
-use bc_text::{Place, Statement};
+use bc_syntax::{Place, Statement, Terminator};
 use std::alloc::{AllocError, Global};
 
 /// A number above those of the locals with which paths begin: one more than the greatest, or 0 without loans.
@@ -102,7 +102,13 @@ fn overwrite_row(
         Instruction::Statement(Statement::Dead(local)) => {
             add_loans_of(&mut row, by_local, usize::from(*local));
         }
-        Instruction::Statement(Statement::Nop) | Instruction::Terminator(_) => {}
+        Instruction::Terminator(Terminator::Call(call)) => {
+            add_overwritten(&mut row, loans, by_local, &call.destination);
+        }
+        Instruction::Statement(Statement::Drop(_) | Statement::Nop)
+        | Instruction::Terminator(
+            Terminator::Goto(_) | Terminator::If(_) | Terminator::Return | Terminator::Stop,
+        ) => {}
     }
     Ok(row)
 }

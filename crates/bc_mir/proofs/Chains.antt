@@ -1,8 +1,8 @@
 use Rattle.std.proofs.Common.{◌≡◌, Bool, true, false, cond, eqb, Option, None, is_some, List, [], ◌∷◌, refl, ap, ◌∙◌}
 use Rattle.std.proofs.lemmas.Bool.{eqb-true}
-use Rattle.bc_text.specs.declared.syntax.Projection.{Projection}
-use Rattle.bc_text.specs.declared.syntax.Projection.TheVariants.{Deref, Field}
-use Rattle.bc_text.specs.declared.syntax.Place.{Place}
+use Rattle.bc_syntax.specs.declared.syntax.Projection.{Projection}
+use Rattle.bc_syntax.specs.declared.syntax.Projection.TheVariants.{Deref, Field}
+use Rattle.bc_syntax.specs.declared.syntax.Place.{Place}
 use Rattle.bc_mir.specs.Places.{same_projection, rest_after, is_prefix}
 
 is_some-allowed : {A : Type 0} (test : Bool) (value : Option A) → is_some (cond test value None) ≡ true → (test ≡ true) × (is_some value ≡ true)

@@ -1,8 +1,8 @@
 use Rattle.std.proofs.Common.{◌≡◌, ℕ, zero, suc, ◌+◌, ◌<◌, Option, Some, List, [], ◌∷◌, ◌++◌, length, get_or, slice_get, length-append, append_assoc, refl, ap, sym, ◌∙◌, arith}
 use Rattle.std.specs.Option.{option_map}
-use Rattle.bc_text.specs.declared.syntax.Block.{Block}
-use Rattle.bc_text.specs.declared.syntax.Statement.{Statement as Simple}
-use Rattle.bc_text.specs.declared.syntax.Terminator.{Terminator as Ending}
+use Rattle.bc_syntax.specs.declared.syntax.Block.{Block}
+use Rattle.bc_syntax.specs.declared.syntax.Statement.{Statement as Simple}
+use Rattle.bc_syntax.specs.declared.syntax.Terminator.{Terminator as Ending}
 use Rattle.bc_mir.specs.declared.mir.Point.{Point}
 use Rattle.bc_mir.specs.declared.mir.Step.{Step}
 use Rattle.bc_mir.specs.Mir.{block_steps, steps_from, entries_from}

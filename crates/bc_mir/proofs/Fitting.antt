@@ -1,12 +1,14 @@
 use Rattle.std.proofs.Common.{◌≡◌, ℕ, zero, suc, ◌+◌, ◌<◌, Bool, true, false, cond, Option, Some, None, List, [], ◌∷◌, ◌++◌, length, get_or, refl, ap, ◌∙◌, arith}
+use Rattle.std.specs.Option.{option_map}
 use Rattle.std.proofs.lemmas.List.FromFn.{map-range_with_len_more}
 use Rattle.bc_mir.specs.declared.mir.Point.{Point}
 use Rattle.bc_mir.specs.declared.mir.Step.{Step}
 use Rattle.bc_mir.specs.declared.access.Depth.TheVariants.{Shallow}
 use Rattle.bc_mir.specs.declared.access.AccessKind.TheVariants.{Write}
+use Rattle.bc_mir.specs.declared.typed.Where.TheVariants.{Header, At}
 use Rattle.bc_mir.specs.Mir.{Mir}
 use Rattle.bc_mir.specs.Accesses.{return_accesses, access_of, local_place}
-use Rattle.bc_mir.specs.Typing.{fits_at, first_unfit}
+use Rattle.bc_mir.specs.Typing.{header_fits, fits_at, first_unfit, Fits}
 
 -- `return` writes one local more
 pub return_accesses-more : (n : ℕ) → return_accesses (n + 1) ≡ return_accesses n ++ access_of Shallow Write (local_place n) ∷ []
@@ -15,6 +17,15 @@ return_accesses-more n = map-range_with_len_more _ 0 n n (omega arith)
 pub test_passed : (b : Bool) (rest : Option Point) (p : Point) → cond b rest (Some p) ≡ None → (b ≡ true) × (rest ≡ None)
 test_passed true rest p none = (refl, none)
 test_passed false rest p none = cc
+
+passed : (header : Bool) (point : Option Point) → cond header (option_map At point) (Some Header) ≡ None → point ≡ None
+passed true None none = refl
+passed true (Some point) none = cc
+passed false point none = cc
+
+-- where a unit fits, no point is a misfit
+pub no_unfit : (mir : Mir) → Fits mir → first_unfit mir mir.steps ≡ None
+no_unfit mir = passed (header_fits mir) (first_unfit mir mir.steps)
 
 -- where no point is a misfit, each fits
 pub fits_at-first_unfit : (mir : Mir) (steps : List Step) (i : ℕ) (step : Step) → first_unfit mir steps ≡ None → i < length steps → step ≡ get_or steps i step → fits_at mir step.instruction ≡ true

@@ -1,28 +1,26 @@
-use Rattle.std.proofs.Common.{◌≡◌, ℕ, zero, suc, ◌+◌, ◌<◌, ◌≤◌, true, ltb, Option, Some, None, List, [], ◌∷◌, ◌++◌, length, map, get_or, refl, ◌∙◌, length-append, arith}
+use Rattle.std.proofs.Common.{◌≡◌, ℕ, zero, suc, ◌+◌, ◌<◌, ◌≤◌, true, false, ltb, None, List, [], ◌∷◌, ◌++◌, length, map, get_or, refl, ◌∙◌, length-append, arith}
 use Rattle.std.proofs.lemmas.Bool.{and_from, and_parts, ltb-true}
 use Rattle.std.proofs.lemmas.List.Elements.{All-nil, All-cons, All-append}
 use Rattle.std.proofs.lemmas.List.Folds.{list_all-append}
 use Rattle.std.proofs.lemmas.List.Sums.{sum_by-cons}
 use Rattle.std.specs.List.{All, list_all, flat_map, enumerate_from}
-use Rattle.bc_text.specs.declared.syntax.Body.{Body}
-use Rattle.bc_text.specs.declared.syntax.Block.{Block}
-use Rattle.bc_text.specs.declared.syntax.Statement.{Statement as Simple}
-use Rattle.bc_text.specs.declared.syntax.Terminator.{Terminator as Ending}
-use Rattle.bc_text.specs.declared.syntax.Terminator.TheVariants.{Goto, If, Return, Stop}
-use Rattle.bc_text.specs.Sizes.{IsSized, universal_count, point_count, statement_names, block_names}
+use Rattle.bc_syntax.specs.declared.syntax.Body.{Body}
+use Rattle.bc_syntax.specs.declared.syntax.Block.{Block}
+use Rattle.bc_syntax.specs.declared.syntax.Statement.{Statement as Simple}
+use Rattle.bc_syntax.specs.declared.syntax.Terminator.{Terminator as Ending}
+use Rattle.bc_syntax.specs.declared.syntax.Terminator.TheVariants.{Goto, If, Call, Return, Stop}
+use Rattle.bc_syntax.specs.Fits.{Fits as Sized, universal_count, locals_of, point_count, clause_fits, ty_fits, statement_fits, terminator_fits, block_fits}
 use Rattle.bc_flow.specs.declared.graph.Edge.{Edge}
 use Rattle.bc_mir.specs.declared.mir.Step.{Step}
 use Rattle.bc_flow.specs.Graph.{AreWithin}
-use Rattle.bc_mir.specs.declared.mir.Point.{Point}
-use Rattle.bc_mir.specs.declared.typed.Where.TheVariants.{At}
-use Rattle.std.specs.Option.{option_map}
 use Rattle.bc_mir.specs.declared.mir.Instruction.{Instruction}
 use Rattle.bc_mir.specs.declared.mir.Instruction.TheVariants.{Statement, Terminator}
 use Rattle.bc_mir.specs.Mir.{Mir, mir_of, block_steps, steps_from, entries_from, successors_of, edges_of_step, edges_of}
 use Rattle.bc_mir.specs.Typing.{is_int_operand, fits_at, first_unfit, Fits}
-use Rattle.bc_mir.specs.Typed.{instruction_names, IsTyped}
+use Rattle.bc_mir.specs.Typed.{instruction_fits, steps_fit, IsTyped}
 use Rattle.bc_mir.proofs.Mirs.{length-block_steps}
-use Rattle.bc_mir.proofs.Fitting.{test_passed}
+use Rattle.bc_mir.proofs.Fitting.{test_passed, no_unfit}
+use Rattle.bc_mir.proofs.Wider.{ty-wider, types-wider}
 
 -- blocks have as many points as they have statements and terminators
 pub length-steps_from : (n : ℕ) (blocks : List Block) → length (steps_from n blocks) ≡ point_count blocks
@@ -84,6 +82,7 @@ terminator-within mir p (If condition) entered below fits =
     let first : IsWithin (length mir.steps) (edge_to mir p condition.then) = (below, entered condition.then (ltb-true condition.then (length mir.entries) both.0)) in
     let second : IsWithin (length mir.steps) (edge_to mir p condition.otherwise) = (below, entered condition.otherwise (ltb-true condition.otherwise (length mir.entries) both.1)) in
     All-cons (IsWithin (length mir.steps)) (edge_to mir p condition.then) (edge_to mir p condition.otherwise ∷ []) first (All-cons (IsWithin (length mir.steps)) (edge_to mir p condition.otherwise) [] second (All-nil (IsWithin (length mir.steps))))
+terminator-within mir p (Call call) entered below fits = cc
 terminator-within mir p Return entered below fits = All-nil (IsWithin (length mir.steps))
 terminator-within mir p Stop entered below fits = All-nil (IsWithin (length mir.steps))
 
@@ -101,44 +100,49 @@ edges-within mir p (step ∷ steps) entered count on fits =
     (instruction-within mir p step.instruction steps entered (omega arith) on.0 passed.0)
     (edges-within mir (p + 1) steps entered (omega arith) on.1 passed.1)
 
-block-names : (universals block index : ℕ) (statements : List Simple) (terminator : Ending) → list_all (statement_names universals) statements ≡ true → list_all (λ (step : Step). instruction_names universals step.instruction) (block_steps block index statements terminator) ≡ true
-block-names universals block index [] terminator names = refl
-block-names universals block index (statement ∷ statements) terminator names =
-    let parts = and_parts (statement_names universals statement) _ names in
-    and_from _ _ parts.0 (block-names universals block (index + 1) statements terminator parts.1)
+block-fit : (universals locals block index : ℕ) (statements : List Simple) (terminator : Ending) → list_all (statement_fits universals locals) statements ≡ true → terminator_fits universals locals terminator ≡ true → steps_fit universals locals (block_steps block index statements terminator) ≡ true
+block-fit universals locals block index [] terminator fit last = and_from _ _ last refl
+block-fit universals locals block index (statement ∷ statements) terminator fit last =
+    let parts = and_parts (statement_fits universals locals statement) _ fit in
+    and_from _ _ parts.0 (block-fit universals locals block (index + 1) statements terminator parts.1 last)
 
-steps-names : (universals n : ℕ) (blocks : List Block) → list_all (block_names universals) blocks ≡ true → list_all (λ (step : Step). instruction_names universals step.instruction) (steps_from n blocks) ≡ true
-steps-names universals n [] names = refl
-steps-names universals n (block ∷ blocks) names =
-    let parts = and_parts (block_names universals block) _ names in
-    list_all-append (λ (step : Step). instruction_names universals step.instruction) (block_steps n 0 block.statements block.terminator) (steps_from (n + 1) blocks)
-    ∙ and_from _ _ (block-names universals n 0 block.statements block.terminator parts.0) (steps-names universals (n + 1) blocks parts.1)
-
-passed : (misfit : Option Point) → option_map At misfit ≡ None → misfit ≡ None
-passed None none = refl
-passed (Some point) none = cc
+steps-fit : (universals locals n : ℕ) (blocks : List Block) → list_all (block_fits universals locals) blocks ≡ true → steps_fit universals locals (steps_from n blocks) ≡ true
+steps-fit universals locals n [] fit = refl
+steps-fit universals locals n (block ∷ blocks) fit =
+    let parts = and_parts (block_fits universals locals block) _ fit in
+    let here = and_parts (list_all (statement_fits universals locals) block.statements) (terminator_fits universals locals block.terminator) parts.0 in
+    list_all-append (λ (step : Step). instruction_fits universals locals step.instruction) (block_steps n 0 block.statements block.terminator) (steps_from (n + 1) blocks)
+    ∙ and_from _ _ (block-fit universals locals n 0 block.statements block.terminator here.0 here.1) (steps-fit universals locals (n + 1) blocks parts.1)
 
 some-point : (blocks : List Block) → 1 ≤ length blocks → 1 ≤ length (steps_from 0 blocks)
 some-point [] some = absurd (omega arith)
 some-point (block ∷ blocks) some = omega (arith, length-append (block_steps 0 0 block.statements block.terminator) (steps_from 1 blocks), length-block_steps 0 0 block.statements block.terminator)
 
+-- the types of the locals name regions that may be named
+types-fit : (body : Body) → Sized body → list_all (ty_fits true (universal_count body.header)) (locals_of body) ≡ true
+types-fit body sized =
+    let n = universal_count body.header in
+    let parameters = (and_parts (list_all (ty_fits false n) body.header.parameters) _ sized.header.parameters).0 in
+    and_from _ _ (ty-wider n body.header.result sized.header.result)
+    (list_all-append (ty_fits true n) body.header.parameters body.lets ∙ and_from _ _ (types-wider n body.header.parameters parameters) sized.lets)
+
 -- a unit that fits is typed
-pub typed : (body : Body) → IsSized body → Fits (mir_of body) → IsTyped (mir_of body)
+pub typed : (body : Body) → Sized body → Fits (mir_of body) → IsTyped (mir_of body)
 typed body sized fits =
     let mir = mir_of body in
     let count : length mir.steps ≡ point_count body.blocks = length-steps_from 0 body.blocks in
     record {
       fits = fits;
       some_universal = omega arith;
-      universals = sized.universals;
-      clauses = sized.clauses;
+      universals = sized.header.universals;
+      clauses = (and_parts (list_all (clause_fits (universal_count body.header)) body.header.clauses) _ sized.header.clauses).0;
       some_local = omega arith;
       locals = sized.locals;
-      types = sized.types;
+      types = types-fit body sized;
       some_point = some-point body.blocks sized.some_block;
       points = omega (arith, count, sized.points);
-      borrows = steps-names (universal_count body.header) 0 body.blocks sized.statements;
-      edges = edges-within mir 0 mir.steps (λ label below. omega (arith, count, entries-within 0 label body.blocks below)) (omega arith) (steps-go-on 0 body.blocks) (passed (first_unfit mir mir.steps) fits);
+      instructions = steps-fit (universal_count body.header) (length (locals_of body)) 0 body.blocks sized.blocks;
+      edges = edges-within mir 0 mir.steps (λ label below. omega (arith, count, entries-within 0 label body.blocks below)) (omega arith) (steps-go-on 0 body.blocks) (no_unfit mir fits);
     }
 
 -- every edge of a body that fits joins two of its points
@@ -146,4 +150,4 @@ pub edges-join : (body : Body) → Fits (mir_of body) → AreWithin (edges_of (m
 edges-join body fits =
     let mir = mir_of body in
     let count : length mir.steps ≡ point_count body.blocks = length-steps_from 0 body.blocks in
-    edges-within mir 0 mir.steps (λ label below. omega (arith, count, entries-within 0 label body.blocks below)) (omega arith) (steps-go-on 0 body.blocks) (passed (first_unfit mir mir.steps) fits)
+    edges-within mir 0 mir.steps (λ label below. omega (arith, count, entries-within 0 label body.blocks below)) (omega arith) (steps-go-on 0 body.blocks) (no_unfit mir fits)

@@ -1,6 +1,7 @@
 pub mod Prefixes
 pub mod Mirs
 pub mod Fitting
+pub mod Wider
 pub mod Kept
 pub mod Chains
 pub mod Supported

@@ -1,8 +1,8 @@
 use Rattle.std.proofs.Common.{◌≡◌, ℕ, ◌+◌, ◌<◌, List, [], ◌∷◌, ◌++◌, length, get_or, drop, ap, sym, ◌∙◌, append_assoc, arith}
 use Rattle.std.proofs.lemmas.List.{at_drop_more}
-use Rattle.bc_text.specs.declared.syntax.Block.{Block}
-use Rattle.bc_text.specs.declared.syntax.Statement.{Statement as Simple}
-use Rattle.bc_text.specs.declared.syntax.Terminator.{Terminator as Ending}
+use Rattle.bc_syntax.specs.declared.syntax.Block.{Block}
+use Rattle.bc_syntax.specs.declared.syntax.Statement.{Statement as Simple}
+use Rattle.bc_syntax.specs.declared.syntax.Terminator.{Terminator as Ending}
 use Rattle.bc_mir.specs.declared.mir.Step.{Step}
 use Rattle.bc_mir.specs.Mir.{block_steps, steps_from, entries_from}
 

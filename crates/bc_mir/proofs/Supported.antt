@@ -3,11 +3,11 @@ use Rattle.std.proofs.lemmas.List.{append-nil, reverse-append, reverse-reverse}
 use Rattle.std.proofs.lemmas.List.Folds.{list_all-append}
 use Rattle.std.specs.List.{flat_map}
 use Rattle.std.specs.Option.{option_map_or, option_to_list}
-use Rattle.bc_text.specs.declared.syntax.Ty.{Ty}
-use Rattle.bc_text.specs.declared.syntax.Place.{Place}
-use Rattle.bc_text.specs.declared.syntax.Reference.{Reference}
-use Rattle.bc_text.specs.declared.syntax.Projection.{Projection}
-use Rattle.bc_text.specs.declared.syntax.Projection.TheVariants.{Deref, Field}
+use Rattle.bc_syntax.specs.declared.syntax.Ty.{Ty}
+use Rattle.bc_syntax.specs.declared.syntax.Place.{Place}
+use Rattle.bc_syntax.specs.declared.syntax.Reference.{Reference}
+use Rattle.bc_syntax.specs.declared.syntax.Projection.{Projection}
+use Rattle.bc_syntax.specs.declared.syntax.Projection.TheVariants.{Deref, Field}
 use Rattle.bc_mir.specs.Places.{is_mutable, are_mutable, type_along, dereferenced_along, dereferenced, from_last_shared}
 use Rattle.bc_mir.specs.Supporting.{place_of, referenced, last_reference_of, last_reference, is_shared, supporting_from}
 

@@ -1,18 +1,18 @@
 -- What each point does: its accesses in order, and the locals that it uses and defines.
 use Rattle.std.specs.Prelude.{ℕ, Bool, true, false, Option, Some, None, List, [], ◌∷◌, ◌++◌, length, map, if◌then◌else◌}
 use Rattle.std.specs.List.{flat_map, range_with_len}
-use Rattle.bc_text.specs.declared.syntax.Mutability.{Mutability}
-use Rattle.bc_text.specs.declared.syntax.Mutability.TheVariants.{Shared, Mutable}
-use Rattle.bc_text.specs.declared.syntax.Projection.{Projection}
-use Rattle.bc_text.specs.declared.syntax.Place.{Place}
-use Rattle.bc_text.specs.declared.syntax.Operand.{Operand}
-use Rattle.bc_text.specs.declared.syntax.Operand.TheVariants.{Copy, Move, Number}
-use Rattle.bc_text.specs.declared.syntax.Rvalue.{Rvalue}
-use Rattle.bc_text.specs.declared.syntax.Rvalue.TheVariants.{Use, Borrow, Calc}
-use Rattle.bc_text.specs.declared.syntax.Statement.{Statement as Simple}
-use Rattle.bc_text.specs.declared.syntax.Statement.TheVariants.{Assign, Dead, Nop}
-use Rattle.bc_text.specs.declared.syntax.Terminator.{Terminator as Ending}
-use Rattle.bc_text.specs.declared.syntax.Terminator.TheVariants.{Goto, If, Return, Stop}
+use Rattle.bc_syntax.specs.declared.syntax.Mutability.{Mutability}
+use Rattle.bc_syntax.specs.declared.syntax.Mutability.TheVariants.{Shared, Mutable}
+use Rattle.bc_syntax.specs.declared.syntax.Projection.{Projection}
+use Rattle.bc_syntax.specs.declared.syntax.Place.{Place}
+use Rattle.bc_syntax.specs.declared.syntax.Operand.{Operand}
+use Rattle.bc_syntax.specs.declared.syntax.Operand.TheVariants.{Copy, Move, Number}
+use Rattle.bc_syntax.specs.declared.syntax.Rvalue.{Rvalue}
+use Rattle.bc_syntax.specs.declared.syntax.Rvalue.TheVariants.{Use, Borrow, Aggregate, Calc}
+use Rattle.bc_syntax.specs.declared.syntax.Statement.{Statement as Simple}
+use Rattle.bc_syntax.specs.declared.syntax.Statement.TheVariants.{Assign, Dead, Drop, Nop}
+use Rattle.bc_syntax.specs.declared.syntax.Terminator.{Terminator as Ending}
+use Rattle.bc_syntax.specs.declared.syntax.Terminator.TheVariants.{Goto, If, Call, Return, Stop}
 use Rattle.bc_mir.specs.declared.mir.Instruction.{Instruction}
 use Rattle.bc_mir.specs.declared.mir.Instruction.TheVariants.{Statement, Terminator}
 use Rattle.bc_mir.specs.declared.access.Access.{Access}
@@ -43,13 +43,15 @@ borrow_access Mutable = Write
 abbrev pub rvalue_accesses : Rvalue → List Access
 rvalue_accesses (Use operand) = operand_accesses operand
 rvalue_accesses (Borrow borrow) = access_of Deep (borrow_access borrow.reference.mutability) borrow.place ∷ []
+rvalue_accesses (Aggregate aggregate) = flat_map operand_accesses aggregate.operands
 rvalue_accesses (Calc operands) = flat_map operand_accesses operands
 
--- the access of a target is the last of its point
+-- the access of a target is the last of its point; no type holds a drop, so that `drop` reaches its place alone
 abbrev pub statement_accesses : Simple → List Access
 statement_accesses (Assign assignment) =
     rvalue_accesses assignment.value ++ access_of Shallow Write assignment.target ∷ []
 statement_accesses (Dead local) = access_of Shallow Write (local_place local) ∷ []
+statement_accesses (Drop place) = access_of Shallow Write place ∷ []
 statement_accesses Nop = []
 
 -- `return` writes every local in order
@@ -59,6 +61,8 @@ return_accesses locals = map (λ local. access_of Shallow Write (local_place loc
 abbrev pub terminator_accesses : ℕ → Ending → List Access
 terminator_accesses locals (Goto label) = []
 terminator_accesses locals (If condition) = operand_accesses condition.operand
+terminator_accesses locals (Call call) =
+    flat_map operand_accesses call.operands ++ access_of Shallow Write call.destination ∷ []
 terminator_accesses locals Return = return_accesses locals
 terminator_accesses locals Stop = []
 
@@ -71,8 +75,13 @@ accesses_of mir (Terminator terminator) = terminator_accesses (length mir.locals
 abbrev pub overwritten : Instruction → Option Place
 overwritten (Statement (Assign assignment)) = Some assignment.target
 overwritten (Statement (Dead local)) = Some (local_place local)
+overwritten (Statement (Drop place)) = None
 overwritten (Statement Nop) = None
-overwritten (Terminator terminator) = None
+overwritten (Terminator (Goto label)) = None
+overwritten (Terminator (If condition)) = None
+overwritten (Terminator (Call call)) = Some call.destination
+overwritten (Terminator Return) = None
+overwritten (Terminator Stop) = None
 
 -- an operand uses the local of its place
 abbrev pub operand_uses : Operand → List ℕ
@@ -83,6 +92,7 @@ operand_uses (Number n) = []
 abbrev pub rvalue_uses : Rvalue → List ℕ
 rvalue_uses (Use operand) = operand_uses operand
 rvalue_uses (Borrow borrow) = borrow.place.local ∷ []
+rvalue_uses (Aggregate aggregate) = flat_map operand_uses aggregate.operands
 rvalue_uses (Calc operands) = flat_map operand_uses operands
 
 -- a place without projections
@@ -104,9 +114,11 @@ target_defines place = if is_local place then Some place.local else None
 abbrev pub uses_of : Instruction → List ℕ
 uses_of (Statement (Assign assignment)) = rvalue_uses assignment.value ++ target_uses assignment.target
 uses_of (Statement (Dead local)) = []
+uses_of (Statement (Drop place)) = []
 uses_of (Statement Nop) = []
 uses_of (Terminator (Goto label)) = []
 uses_of (Terminator (If condition)) = operand_uses condition.operand
+uses_of (Terminator (Call call)) = flat_map operand_uses call.operands ++ target_uses call.destination
 uses_of (Terminator Return) = 0 ∷ []
 uses_of (Terminator Stop) = []
 
@@ -114,5 +126,10 @@ uses_of (Terminator Stop) = []
 abbrev pub defines_of : Instruction → Option ℕ
 defines_of (Statement (Assign assignment)) = target_defines assignment.target
 defines_of (Statement (Dead local)) = Some local
+defines_of (Statement (Drop place)) = None
 defines_of (Statement Nop) = None
-defines_of (Terminator terminator) = None
+defines_of (Terminator (Goto label)) = None
+defines_of (Terminator (If condition)) = None
+defines_of (Terminator (Call call)) = target_defines call.destination
+defines_of (Terminator Return) = None
+defines_of (Terminator Stop) = None

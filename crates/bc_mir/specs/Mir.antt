@@ -1,14 +1,14 @@
 -- A unit with its points in one list, and the edges between them.
 use Rattle.std.specs.Prelude.{ℕ, ◌+◌, List, [], ◌∷◌, ◌++◌, length, map, slice_index}
 use Rattle.std.specs.List.{flat_map, enumerate_from}
-use Rattle.bc_text.specs.declared.syntax.Body.{Body}
-use Rattle.bc_text.specs.declared.syntax.Block.{Block}
-use Rattle.bc_text.specs.declared.syntax.Ty.{Ty}
-use Rattle.bc_text.specs.declared.syntax.Outlives.{Outlives}
-use Rattle.bc_text.specs.declared.syntax.Statement.{Statement as Simple}
-use Rattle.bc_text.specs.declared.syntax.Terminator.{Terminator as Ending}
-use Rattle.bc_text.specs.declared.syntax.Terminator.TheVariants.{Goto, If, Return, Stop}
-use Rattle.bc_text.specs.Sizes.{universal_count, locals_of}
+use Rattle.bc_syntax.specs.declared.syntax.Body.{Body}
+use Rattle.bc_syntax.specs.declared.syntax.Block.{Block}
+use Rattle.bc_syntax.specs.declared.syntax.Ty.{Ty}
+use Rattle.bc_syntax.specs.declared.syntax.Outlives.{Outlives}
+use Rattle.bc_syntax.specs.declared.syntax.Statement.{Statement as Simple}
+use Rattle.bc_syntax.specs.declared.syntax.Terminator.{Terminator as Ending}
+use Rattle.bc_syntax.specs.declared.syntax.Terminator.TheVariants.{Goto, If, Call, Return, Stop}
+use Rattle.bc_syntax.specs.Fits.{universal_count, locals_of}
 use Rattle.bc_flow.specs.declared.graph.Edge.{Edge}
 use Rattle.bc_mir.specs.declared.mir.Step.{Step}
 use Rattle.bc_mir.specs.declared.mir.Instruction.{Instruction}
@@ -55,6 +55,7 @@ mir_of body = record {
 abbrev pub labels_of : Ending → List ℕ
 labels_of (Goto label) = label ∷ []
 labels_of (If condition) = condition.then ∷ condition.otherwise ∷ []
+labels_of (Call call) = call.target ∷ []
 labels_of Return = []
 labels_of Stop = []
 

@@ -2,13 +2,13 @@
 use Rattle.std.specs.Prelude.{Bool, true, false, ◌==◌, if◌then◌else◌, Option, Some, None, option_and_then, is_some, List, [], ◌∷◌, slice_get}
 use Rattle.std.specs.List.{list_all}
 use Rattle.std.specs.Option.{option_map_or}
-use Rattle.bc_text.specs.declared.syntax.Ty.{Ty}
-use Rattle.bc_text.specs.declared.syntax.Place.{Place}
-use Rattle.bc_text.specs.declared.syntax.Reference.{Reference}
-use Rattle.bc_text.specs.declared.syntax.Mutability.{Mutability}
-use Rattle.bc_text.specs.declared.syntax.Mutability.TheVariants.{Shared, Mutable}
-use Rattle.bc_text.specs.declared.syntax.Projection.{Projection}
-use Rattle.bc_text.specs.declared.syntax.Projection.TheVariants.{Deref, Field}
+use Rattle.bc_syntax.specs.declared.syntax.Ty.{Ty}
+use Rattle.bc_syntax.specs.declared.syntax.Place.{Place}
+use Rattle.bc_syntax.specs.declared.syntax.Reference.{Reference}
+use Rattle.bc_syntax.specs.declared.syntax.Mutability.{Mutability}
+use Rattle.bc_syntax.specs.declared.syntax.Mutability.TheVariants.{Shared, Mutable}
+use Rattle.bc_syntax.specs.declared.syntax.Projection.{Projection}
+use Rattle.bc_syntax.specs.declared.syntax.Projection.TheVariants.{Deref, Field}
 
 abbrev pub is_mutable : Mutability → Bool
 is_mutable Mutable = true

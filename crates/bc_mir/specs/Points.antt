@@ -2,13 +2,13 @@
 use Rattle.std.specs.Prelude.{◌≡◌, ℕ, Bool, false, IsTrue, MatchOption, Option, Some, None, slice_get}
 use Rattle.std.specs.List.{Contains}
 use Rattle.std.specs.Option.{option_map_or}
-use Rattle.bc_text.specs.declared.syntax.Place.{Place}
-use Rattle.bc_text.specs.declared.syntax.Rvalue.TheVariants.{Use, Borrow, Calc}
-use Rattle.bc_text.specs.declared.syntax.Statement.TheVariants.{Assign, Dead, Nop}
+use Rattle.bc_syntax.specs.declared.syntax.Place.{Place}
+use Rattle.bc_syntax.specs.declared.syntax.Rvalue.TheVariants.{Use, Borrow, Aggregate, Calc}
+use Rattle.bc_syntax.specs.declared.syntax.Statement.TheVariants.{Assign, Dead, Drop, Nop}
 use Rattle.bc_mir.specs.declared.mir.Instruction.{Instruction}
 use Rattle.bc_mir.specs.declared.mir.Instruction.TheVariants.{Statement, Terminator}
 use Rattle.bc_mir.specs.declared.loan.Loan.{Loan}
-use Rattle.bc_text.specs.declared.syntax.Rvalue.{Rvalue}
+use Rattle.bc_syntax.specs.declared.syntax.Rvalue.{Rvalue}
 use Rattle.bc_mir.specs.Mir.{Mir}
 use Rattle.bc_mir.specs.Places.{is_prefix}
 use Rattle.bc_mir.specs.Accesses.{uses_of, defines_of, overwritten}
@@ -29,12 +29,14 @@ abbrev pub loan_of_rvalue : Rvalue → Option Loan
 loan_of_rvalue (Use operand) = None
 loan_of_rvalue (Borrow borrow) =
     Some (record { region = borrow.reference.region; mutability = borrow.reference.mutability; path = borrow.place })
+loan_of_rvalue (Aggregate aggregate) = None
 loan_of_rvalue (Calc operands) = None
 
 -- the loan that a point makes: each borrow is a loan
 abbrev pub loan_of : Instruction → Option Loan
 loan_of (Statement (Assign assignment)) = loan_of_rvalue assignment.value
 loan_of (Statement (Dead local)) = None
+loan_of (Statement (Drop place)) = None
 loan_of (Statement Nop) = None
 loan_of (Terminator terminator) = None
 

@@ -1,7 +1,7 @@
 -- Regions as numbers: the universal ones first, then the variables.
 use Rattle.std.specs.Prelude.{ℕ, ◌+◌}
-use Rattle.bc_text.specs.declared.syntax.Region.{Region}
-use Rattle.bc_text.specs.declared.syntax.Region.TheVariants.{Universal, Variable}
+use Rattle.bc_syntax.specs.declared.syntax.Region.{Region}
+use Rattle.bc_syntax.specs.declared.syntax.Region.TheVariants.{Universal, Variable}
 
 -- the number of a region where so many are universal
 abbrev pub region_number : ℕ → Region → ℕ

@@ -1,7 +1,7 @@
 -- What one type has to outlive to be a subtype of another.
 use Rattle.std.specs.Prelude.{if◌then◌else◌, List, [], ◌∷◌}
-use Rattle.bc_text.specs.declared.syntax.Region.{Region}
-use Rattle.bc_text.specs.declared.syntax.Reference.{Reference}
+use Rattle.bc_syntax.specs.declared.syntax.Region.{Region}
+use Rattle.bc_syntax.specs.declared.syntax.Reference.{Reference}
 use Rattle.bc_mir.specs.declared.subtype.Constraint.{Constraint}
 use Rattle.bc_mir.specs.Places.{is_mutable}
 

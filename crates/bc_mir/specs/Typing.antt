@@ -1,20 +1,22 @@
 -- The typing rules. A type that exists is one for which the rules of its form hold.
-use Rattle.std.specs.Prelude.{◌≡◌, ℕ, Bool, true, false, ◌&&◌, nat_lt, not, if◌then◌else◌, Option, Some, None, option_and_then, List, [], ◌∷◌, length}
+use Rattle.std.specs.Prelude.{◌≡◌, ℕ, Bool, true, false, ◌&&◌, nat_lt, not, if◌then◌else◌, Option, Some, None, option_and_then, is_some, List, [], ◌∷◌, length}
 use Rattle.std.specs.List.{list_all}
 use Rattle.std.specs.Option.{option_map, option_map_or}
-use Rattle.bc_text.specs.declared.syntax.Ty.{Ty}
-use Rattle.bc_text.specs.declared.syntax.Reference.{Reference}
-use Rattle.bc_text.specs.declared.syntax.Mutability.{Mutability}
-use Rattle.bc_text.specs.declared.syntax.Mutability.TheVariants.{Shared, Mutable}
-use Rattle.bc_text.specs.declared.syntax.Place.{Place}
-use Rattle.bc_text.specs.declared.syntax.Operand.{Operand}
-use Rattle.bc_text.specs.declared.syntax.Operand.TheVariants.{Copy, Move, Number}
-use Rattle.bc_text.specs.declared.syntax.Rvalue.{Rvalue}
-use Rattle.bc_text.specs.declared.syntax.Rvalue.TheVariants.{Use, Borrow, Calc}
-use Rattle.bc_text.specs.declared.syntax.Statement.{Statement as Simple}
-use Rattle.bc_text.specs.declared.syntax.Statement.TheVariants.{Assign, Dead, Nop}
-use Rattle.bc_text.specs.declared.syntax.Terminator.{Terminator as Ending}
-use Rattle.bc_text.specs.declared.syntax.Terminator.TheVariants.{Goto, If, Return, Stop}
+use Rattle.bc_syntax.specs.declared.syntax.Base.{Base}
+use Rattle.bc_syntax.specs.declared.syntax.Base.TheVariants.{Int, Struct}
+use Rattle.bc_syntax.specs.declared.syntax.Ty.{Ty}
+use Rattle.bc_syntax.specs.declared.syntax.Reference.{Reference}
+use Rattle.bc_syntax.specs.declared.syntax.Mutability.{Mutability}
+use Rattle.bc_syntax.specs.declared.syntax.Mutability.TheVariants.{Shared, Mutable}
+use Rattle.bc_syntax.specs.declared.syntax.Place.{Place}
+use Rattle.bc_syntax.specs.declared.syntax.Operand.{Operand}
+use Rattle.bc_syntax.specs.declared.syntax.Operand.TheVariants.{Copy, Move, Number}
+use Rattle.bc_syntax.specs.declared.syntax.Rvalue.{Rvalue}
+use Rattle.bc_syntax.specs.declared.syntax.Rvalue.TheVariants.{Use, Borrow, Aggregate, Calc}
+use Rattle.bc_syntax.specs.declared.syntax.Statement.{Statement as Simple}
+use Rattle.bc_syntax.specs.declared.syntax.Statement.TheVariants.{Assign, Dead, Drop, Nop}
+use Rattle.bc_syntax.specs.declared.syntax.Terminator.{Terminator as Ending}
+use Rattle.bc_syntax.specs.declared.syntax.Terminator.TheVariants.{Goto, If, Call, Return, Stop}
 use Rattle.bc_mir.specs.declared.mir.Point.{Point}
 use Rattle.bc_mir.specs.declared.mir.Step.{Step}
 use Rattle.bc_mir.specs.declared.mir.Instruction.{Instruction}
@@ -67,11 +69,13 @@ abbrev pub borrowed_type : List Ty → Mutability → Place → Option (List Ref
 borrowed_type locals Shared place = place_type locals place
 borrowed_type locals Mutable place = writable_type locals place
 
--- the type of an rvalue: a borrow is a reference to what it borrows, and `calc` computes an `int` from `int`s
+-- the type of an rvalue: a borrow is a reference to what it borrows, `calc` computes an `int` from `int`s, and a struct
+-- has none, since none is declared
 abbrev pub rvalue_type : List Ty → Rvalue → Option (List Reference)
 rvalue_type locals (Use operand) = operand_type locals operand
 rvalue_type locals (Borrow borrow) =
     option_map (λ ty. borrow.reference ∷ ty) (borrowed_type locals borrow.reference.mutability borrow.place)
+rvalue_type locals (Aggregate aggregate) = None
 rvalue_type locals (Calc operands) = allowed (list_all (is_int_operand locals) operands) (Some [])
 
 -- both types exist and have one shape
@@ -80,18 +84,25 @@ agree (Some target) (Some value) = same_shape target value
 agree (Some target) None = false
 agree None value = false
 
+-- a place that may be dropped: it has a type, and no `.*`
+abbrev pub is_droppable : List Ty → Place → Bool
+is_droppable locals place = has_no_deref place && is_some (place_type locals place)
+
 -- an assignment fits if its target may be written and has the shape of the rvalue; a local that dies exists
 abbrev pub fits_statement : List Ty → Simple → Bool
 fits_statement locals (Assign assignment) =
     agree (writable_type locals assignment.target) (rvalue_type locals assignment.value)
 fits_statement locals (Dead local) = nat_lt local (length locals)
+fits_statement locals (Drop place) = is_droppable locals place
 fits_statement locals Nop = true
 
--- a terminator fits if each of its labels is a block, and what it tests is an `int`
+-- a terminator fits if each of its labels is a block, and what it tests is an `int`; a call never does, since no function
+-- is declared
 abbrev pub fits_terminator : List Ty → ℕ → Ending → Bool
 fits_terminator locals blocks (Goto label) = nat_lt label blocks
 fits_terminator locals blocks (If condition) =
     is_int_operand locals condition.operand && (nat_lt condition.then blocks && nat_lt condition.otherwise blocks)
+fits_terminator locals blocks (Call call) = false
 fits_terminator locals blocks Return = true
 fits_terminator locals blocks Stop = true
 
@@ -100,9 +111,14 @@ abbrev pub fits_at : Mir → Instruction → Bool
 fits_at mir (Statement statement) = fits_statement mir.locals statement
 fits_at mir (Terminator terminator) = fits_terminator mir.locals (length mir.entries) terminator
 
--- no header rule fails: a header of references to `int` alone has none to break
+-- a base is declared: `int` is, and no struct
+abbrev pub is_declared : Base → Bool
+is_declared Int = true
+is_declared (Struct instance) = false
+
+-- no header rule fails: what each local's type leads to is declared
 abbrev pub header_fits : Mir → Bool
-header_fits mir = true
+header_fits mir = list_all (λ (ty : Ty). is_declared ty.base) mir.locals
 
 -- the first point at which a rule fails
 abbrev pub first_unfit : Mir → List Step → Option Point

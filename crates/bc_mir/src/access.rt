@@ -5,7 +5,7 @@ ghost use Rattle.bc_mir.specs.Accesses.{local_place as place_of_local, access_of
 
 use crate::mir::Instruction;
 use crate::typed::Typed;
-use bc_text::{Mutability, Operand, Place, Rvalue, ShortSequence, Statement, Terminator};
+use bc_syntax::{Mutability, Operand, Place, Rvalue, ShortSequence, Statement, Terminator};
 use std::alloc::{AllocError, Global};
 
 /// Whether an access reaches what is behind the place too (RFC 2094, "Borrow checker phase 2").
@@ -99,6 +99,7 @@ fn push_rvalue(accesses: &mut Vec<Access>, rvalue: &Rvalue) -> Result<(), AllocE
             let kind = borrow_access(borrow.reference.mutability);
             push_access(accesses, Depth::Deep, kind, copy_place(&borrow.place)?)
         }
+        Rvalue::Aggregate(aggregate) => push_operands(accesses, aggregate.operands.as_slice()),
         Rvalue::Calc(operands) => push_operands(accesses, operands.as_slice()),
     }
 }
@@ -123,6 +124,7 @@ fn push_statement(
             push_write(accesses, copy_place(&assignment.target)?)
         }
         Statement::Dead(local) => push_write(accesses, local_place(alloc, *local)),
+        Statement::Drop(place) => push_write(accesses, copy_place(place)?),
         Statement::Nop => Ok(()),
     }
 }
@@ -148,6 +150,10 @@ fn push_terminator(
 {
     match terminator {
         Terminator::If(condition) => push_operand(accesses, &condition.operand),
+        Terminator::Call(call) => {
+            push_operands(accesses, call.operands.as_slice())?;
+            push_write(accesses, copy_place(&call.destination)?)
+        }
         Terminator::Return => push_locals(alloc, accesses, locals),
         Terminator::Goto(_) | Terminator::Stop => Ok(()),
     }

@@ -8,7 +8,7 @@ ghost use Rattle.bc_mir.specs.Typing.{fits_terminator, fits_at};
 use crate::mir::{Draft, Instruction};
 use crate::typed::Typed;
 use bc_flow::Edge;
-use bc_text::{Terminator, Ty};
+use bc_syntax::{Terminator, Ty};
 use std::alloc::{AllocError, Global};
 
 /// Appends the edge to the first point of a block.
@@ -45,6 +45,7 @@ fn push_terminator_edges(
             push_edge(edges, entries, point, condition.then)?;
             push_edge(edges, entries, point, condition.otherwise)
         }
+        Terminator::Call(call) => push_edge(edges, entries, point, call.target),
         Terminator::Return | Terminator::Stop => Ok(()),
     }
 }

@@ -1,10 +1,10 @@
 //! The locals that points use and define (RFC 2094, "Liveness").
 ghost use Rattle.std.specs.Prelude.{◌≡◌, ◌++◌, OnOk, IfOk};
 ghost use Rattle.std.specs.List.{flat_map};
-ghost use Rattle.bc_mir.specs.Accesses.{operand_uses, rvalue_uses, is_local as local_test, target_uses, uses_of, defines_of};
+ghost use Rattle.bc_mir.specs.Accesses.{operand_uses, rvalue_uses, is_local as local_test, target_uses, target_defines, uses_of, defines_of};
 
 use crate::mir::Instruction;
-use bc_text::{Operand, Place, Rvalue, Statement, Terminator};
+use bc_syntax::{Operand, Place, Rvalue, Statement, Terminator};
 use std::alloc::{AllocError, Global};
 
 fn push_operand(locals: &mut Vec<u8>, operand: &Operand) -> Result<(), AllocError>
@@ -35,6 +35,7 @@ fn push_rvalue(locals: &mut Vec<u8>, rvalue: &Rvalue) -> Result<(), AllocError>
             locals.push(borrow.place.local)?;
             Ok(())
         }
+        Rvalue::Aggregate(aggregate) => push_operands(locals, aggregate.operands.as_slice()),
         Rvalue::Calc(operands) => push_operands(locals, operands.as_slice()),
     }
 }
@@ -66,11 +67,16 @@ pub fn push_uses(locals: &mut Vec<u8>, instruction: &Instruction) -> Result<(), 
         Instruction::Terminator(Terminator::If(condition)) => {
             push_operand(locals, &condition.operand)
         }
+        Instruction::Terminator(Terminator::Call(call)) => {
+            push_operands(locals, call.operands.as_slice())?;
+            push_target(locals, &call.destination)
+        }
         Instruction::Terminator(Terminator::Return) => {
             locals.push(0)?;
             Ok(())
         }
-        Instruction::Statement(_) | Instruction::Terminator(_) => Ok(()),
+        Instruction::Statement(Statement::Dead(_) | Statement::Drop(_) | Statement::Nop)
+        | Instruction::Terminator(Terminator::Goto(_) | Terminator::Stop) => Ok(()),
     }
 }
 
@@ -83,19 +89,27 @@ pub fn uses(alloc: Global, instruction: &Instruction) -> Result<Vec<u8>, AllocEr
     Ok(locals)
 }
 
+fn defined_by(target: &Place) -> Option<u8>
+    ensures { result ≡ target_defines target.now }
+{
+    if is_local(target) {
+        Some(target.local)
+    } else {
+        None
+    }
+}
+
 /// The local that a point defines, if it defines one.
 pub fn defines(instruction: &Instruction) -> Option<u8>
     ensures { result ≡ defines_of instruction.now }
 {
     match instruction {
-        Instruction::Statement(Statement::Assign(assignment)) => {
-            if is_local(&assignment.target) {
-                Some(assignment.target.local)
-            } else {
-                None
-            }
-        }
+        Instruction::Statement(Statement::Assign(assignment)) => { defined_by(&assignment.target) }
         Instruction::Statement(Statement::Dead(local)) => Some(*local),
-        Instruction::Statement(Statement::Nop) | Instruction::Terminator(_) => None,
+        Instruction::Terminator(Terminator::Call(call)) => defined_by(&call.destination),
+        Instruction::Statement(Statement::Drop(_) | Statement::Nop)
+        | Instruction::Terminator(
+            Terminator::Goto(_) | Terminator::If(_) | Terminator::Return | Terminator::Stop,
+        ) => None,
     }
 }

@@ -5,7 +5,7 @@ ghost use Rattle.bc_mir.specs.Points.{loan_of as loan_made, kills as kill_test};
 use crate::access::copy_place;
 use crate::mir::Instruction;
 use crate::places::is_prefix;
-use bc_text::{Mutability, Place, Region, Rvalue, Statement};
+use bc_syntax::{Mutability, Place, Region, Rvalue, Statement, Terminator};
 use std::alloc::AllocError;
 
 /// What a borrow makes: its region, whether it is shared or mutable, and the path that is borrowed (RFC 2094,
@@ -28,9 +28,10 @@ pub fn loan_of(instruction: &Instruction) -> Result<Option<Loan>, AllocError>
                 mutability: borrow.reference.mutability,
                 path: copy_place(&borrow.place)?,
             })),
-            Rvalue::Use(_) | Rvalue::Calc(_) => Ok(None),
+            Rvalue::Use(_) | Rvalue::Aggregate(_) | Rvalue::Calc(_) => Ok(None),
         },
-        Instruction::Statement(_) | Instruction::Terminator(_) => Ok(None),
+        Instruction::Statement(Statement::Dead(_) | Statement::Drop(_) | Statement::Nop)
+        | Instruction::Terminator(_) => Ok(None),
     }
 }
 
@@ -44,6 +45,10 @@ pub fn kills(instruction: &Instruction, path: &Place) -> bool
             is_prefix(&assignment.target, path)
         }
         Instruction::Statement(Statement::Dead(local)) => *local == path.local,
-        Instruction::Statement(Statement::Nop) | Instruction::Terminator(_) => false,
+        Instruction::Terminator(Terminator::Call(call)) => is_prefix(&call.destination, path),
+        Instruction::Statement(Statement::Drop(_) | Statement::Nop)
+        | Instruction::Terminator(
+            Terminator::Goto(_) | Terminator::If(_) | Terminator::Return | Terminator::Stop,
+        ) => false,
     }
 }

@@ -1,9 +1,9 @@
 //! The points of a unit in one list.
 ghost use Rattle.std.specs.Prelude.{◌≡◌, ◌≤◌, ◌++◌, IfOk, OnOk};
-ghost use Rattle.bc_text.specs.Sizes.{universal_count, locals_of};
+ghost use Rattle.bc_syntax.specs.Fits.{universal_count, locals_of};
 ghost use Rattle.bc_mir.specs.Mir.{block_steps, mir_of};
 
-use bc_text::{Block, Body, Outlives, Sequence, Statement, Terminator, Ty};
+use bc_syntax::{Block, Body, Outlives, Sequence, Statement, Terminator, Ty};
 use std::alloc::{AllocError, Global};
 use std::marker::Model;
 

@@ -4,7 +4,7 @@ ghost use Rattle.std.specs.List.{list_all};
 ghost use Rattle.std.specs.Option.{option_copied};
 ghost use Rattle.bc_mir.specs.Places.{is_mutable as mutable, are_mutable as all_mutable, project as project_of, type_along as along, place_type as type_of, dereferenced_along, dereferenced as dereferenced_of, from_last_shared as since_last_shared, rest_after as after, same_projection, rest_of as what_follows, is_field, has_no_deref as no_deref, is_prefix as prefix_test, is_shallow_prefix as shallow_test, is_supporting_prefix as supporting_test};
 
-use bc_text::{Mutability, Place, Projection, Reference, Ty};
+use bc_syntax::{Mutability, Place, Projection, Reference, Ty};
 
 /// The type behind one projection.
 fn project<'a>(projection: Projection, references: &'a [Reference]) -> Option<&'a [Reference]>

@@ -4,7 +4,7 @@ ghost use Rattle.bc_mir.specs.Subtype.{equate, subtype};
 
 use crate::places::is_mutable;
 use crate::typed::Typed;
-use bc_text::{Reference, Region};
+use bc_syntax::{Reference, Region};
 use std::alloc::AllocError;
 
 /// A region and one that it outlives: the value of `longer` contains that of `shorter`.

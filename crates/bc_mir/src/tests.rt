@@ -1,7 +1,8 @@
 use super::*;
-use bc_text::{
-    Assignment, Base, Block, Body, Borrow, Header, Mutability, Operand, Place, Projection,
-    Reference, Region, Rvalue, Sequence, ShortSequence, Statement, Terminator, Ty, Unit, UnitKind,
+use bc_syntax::{
+    Assignment, Base, Block, Body, Borrow, Header, Instance, ItemName, Mutability, Operand, Place,
+    Projection, Reference, Region, Rvalue, Sequence, ShortSequence, Statement, Terminator, Ty,
+    Unit, UnitKind,
 };
 use std::alloc::{AllocError, Global};
 use std::test::Fail;
@@ -127,6 +128,39 @@ fn label_that_is_no_block_is_ill(rt: HostRuntime) -> Result<(), Fail> {
         Terminator::Goto(1),
     )?;
     assert_eq!(rt; fault(alloc, unit), ill_at(2));
+    Ok(())
+}
+
+#[test]
+fn struct_that_is_not_declared_is_ill_in_the_header(rt: HostRuntime) -> Result<(), Fail> {
+    let alloc = rt.alloc();
+    let mut name = ItemName {
+        bytes: ShortSequence::new(alloc),
+    };
+    name.bytes.push(b'S')?;
+    let mut result = int(alloc);
+    result.base = Base::Struct(Instance {
+        name,
+        regions: ShortSequence::new(alloc),
+    });
+    let unit = unit(
+        alloc,
+        result,
+        Statement::Nop,
+        Statement::Nop,
+        Terminator::Goto(1),
+    )?;
+    assert_eq!(rt; fault(alloc, unit), Some(IllFault::Ill(Where::Header)));
+    Ok(())
+}
+
+#[test]
+fn drop_of_a_place_without_a_type_is_ill(rt: HostRuntime) -> Result<(), Fail> {
+    let alloc = rt.alloc();
+    let whole = Statement::Drop(local(alloc, 1));
+    let behind = Statement::Drop(projected(alloc, 1, Projection::Deref)?);
+    let unit = unit(alloc, int(alloc), whole, behind, Terminator::Return)?;
+    assert_eq!(rt; fault(alloc, unit), ill_at(1));
     Ok(())
 }
 

@@ -1,16 +1,15 @@
 //! Units that keep every typing rule.
 ghost use Rattle.std.specs.Prelude.{◌≡◌, ◌≤◌, true, length, IfOk, OnOk};
 ghost use Rattle.std.specs.List.{list_all};
-ghost use Rattle.bc_text.specs.Sizes.{clause_names, ty_names};
+ghost use Rattle.bc_syntax.specs.Fits.{clause_fits, ty_fits};
 ghost use Rattle.bc_mir.specs.Mir.{mir_of};
 ghost use Rattle.bc_mir.specs.Typing.{first_unfit as first_misfit, misfit as misfit_of, Fits};
-ghost use Rattle.bc_mir.specs.Typed.{IsTyped, instruction_names};
+ghost use Rattle.bc_mir.specs.Typed.{IsTyped, steps_fit};
 ghost use Rattle.bc_mir.specs.declared.typed.Where.{Where};
-ghost use Rattle.bc_mir.specs.declared.mir.Step.{Step};
 
 use crate::mir::{Draft, Point, Step};
-use crate::typing::fits_at;
-use bc_text::{Outlives, Ty, Unit};
+use crate::typing::{fits_at, fits_header};
+use bc_syntax::{Outlives, Ty, Unit};
 use std::alloc::{AllocError, Global};
 use std::marker::Model;
 use thiserror::Error;
@@ -56,6 +55,9 @@ fn first_unfit(alloc: Global, draft: &Draft) -> Result<Option<Point>, AllocError
 fn misfit(alloc: Global, draft: &Draft) -> Result<Option<Where>, AllocError>
     ensures { IfOk result (λ place. place ≡ misfit_of draft.now) }
 {
+    if !fits_header(draft) {
+        return Ok(Some(Where::Header));
+    }
     let point = first_unfit(alloc, draft)?;
     Ok(point.map(Where::At))
 }
@@ -89,7 +91,7 @@ impl Typed {
     /// The `where` clauses, between universal regions.
     pub fn clauses(&self) -> &[Outlives]
         ensures value { result.now ≡ self.now.clauses }
-        ensures declared { list_all (clause_names self.now.universals) result.now ≡ true }
+        ensures declared { list_all (clause_fits self.now.universals) result.now ≡ true }
     {
         self.draft.clauses.as_slice()
     }
@@ -99,7 +101,7 @@ impl Typed {
         ensures value { result.now ≡ self.now.locals }
         ensures some { 1 ≤ length result.now }
         ensures few { length result.now ≤ 256 }
-        ensures declared { list_all (ty_names self.now.universals) result.now ≡ true }
+        ensures declared { list_all (ty_fits true self.now.universals) result.now ≡ true }
     {
         self.draft.locals.as_slice()
     }
@@ -110,7 +112,7 @@ impl Typed {
         ensures some { 1 ≤ length result.now }
         ensures few { length result.now ≤ 4096 }
         ensures fit { first_misfit self.now result.now ≡ None }
-        ensures declared { list_all (λ (step : Step). instruction_names self.now.universals step.instruction) result.now ≡ true }
+        ensures declared { steps_fit self.now.universals (length self.now.locals) result.now ≡ true }
     {
         self.draft.steps.as_slice()
     }

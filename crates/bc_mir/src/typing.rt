@@ -2,12 +2,12 @@
 ghost use Rattle.std.specs.Prelude.{◌≡◌, ◌∷◌, ◌++◌, IfOk, OnOk};
 ghost use Rattle.std.specs.List.{list_all};
 ghost use Rattle.std.specs.Option.{option_copied};
-ghost use Rattle.bc_mir.specs.Typing.{same_mutability, same_shape, agree, is_copyable as copyable, is_int as int_test, operand_type as type_of_operand, is_int_operand as int_operand, writable_type as type_to_write, borrowed_type as type_to_borrow, rvalue_type as type_of_rvalue, fits_statement as statement_fits, fits_terminator as terminator_fits, fits_at as step_fits};
+ghost use Rattle.bc_mir.specs.Typing.{same_mutability, same_shape, agree, is_copyable as copyable, is_int as int_test, operand_type as type_of_operand, is_int_operand as int_operand, writable_type as type_to_write, borrowed_type as type_to_borrow, rvalue_type as type_of_rvalue, fits_statement as statement_fits, is_declared as declared_test, is_droppable as droppable, fits_terminator as terminator_fits, fits_at as step_fits, header_fits};
 
 use crate::mir::{Draft, Instruction};
 use crate::places::{derefs_only_mutable, has_no_deref, is_mutable, place_type};
-use bc_text::{
-    Assignment, Mutability, Operand, Place, Reference, Rvalue, ShortSequence, Statement,
+use bc_syntax::{
+    Assignment, Base, Mutability, Operand, Place, Reference, Rvalue, ShortSequence, Statement,
     Terminator, Ty,
 };
 use std::alloc::{AllocError, Global};
@@ -149,7 +149,7 @@ fn are_int_operands(locals: &[Ty], operands: &[Operand]) -> bool
 
 /// The type of an rvalue, or `None` where it breaks a rule: a place in it has no type, `copy` takes a mutable
 /// reference, `move` takes a place with `.*`, a mutable borrow goes through a shared reference, or an operand of
-/// `calc` is no `int`.
+/// `calc` is no `int`; and of a struct, since none is declared.
 pub fn rvalue_type(
     alloc: Global,
     locals: &[Ty],
@@ -169,6 +169,7 @@ pub fn rvalue_type(
                 None => Ok(None),
             }
         }
+        Rvalue::Aggregate(_) => Ok(None),
         Rvalue::Calc(operands) => {
             if are_int_operands(locals, operands.as_slice()) {
                 Ok(Some(ShortSequence::new(alloc)))
@@ -193,12 +194,19 @@ fn fits_assignment(
     }
 }
 
+fn is_droppable(locals: &[Ty], place: &Place) -> bool
+    ensures { result ≡ droppable locals.now place.now }
+{
+    has_no_deref(place) && place_type(locals, place).is_some()
+}
+
 fn fits_statement(alloc: Global, locals: &[Ty], statement: &Statement) -> Result<bool, AllocError>
     ensures { IfOk result (λ fits. fits ≡ statement_fits locals.now statement.now) }
 {
     match statement {
         Statement::Assign(assignment) => fits_assignment(alloc, locals, assignment),
         Statement::Dead(local) => Ok(usize::from(*local) < locals.len()),
+        Statement::Drop(place) => Ok(is_droppable(locals, place)),
         Statement::Nop => Ok(true),
     }
 }
@@ -213,8 +221,25 @@ fn fits_terminator(locals: &[Ty], blocks: usize, terminator: &Terminator) -> boo
                 && (usize::from(condition.then) < blocks
                     && usize::from(condition.otherwise) < blocks)
         }
+        Terminator::Call(_) => false,
         Terminator::Return | Terminator::Stop => true,
     }
+}
+
+fn is_declared(base: &Base) -> bool
+    ensures { result ≡ declared_test base.now }
+{
+    match base {
+        Base::Int => true,
+        Base::Struct(_) => false,
+    }
+}
+
+/// Whether no header rule fails: what the type of each local leads to is declared.
+pub(crate) fn fits_header(draft: &Draft) -> bool
+    ensures { result ≡ header_fits draft.now }
+{
+    draft.locals.iter().all(|ty| is_declared(&ty.base))
 }
 
 /// Whether no rule fails at a point.

@@ -1,6 +1,6 @@
 -- What an Ask finds.
 use Rattle.std.specs.Prelude.{◌≡◌, Option, Some, None, List, [], ◌∷◌}
-use Rattle.bc_text.specs.declared.syntax.Body.{Body}
+use Rattle.bc_syntax.specs.declared.syntax.Body.{Body}
 use Rattle.bc_text.specs.Names.{NameParts}
 use Rattle.bc_mir.specs.declared.typed.Where.{Where}
 use Rattle.bc_mir.specs.Mir.{Mir, mir_of}

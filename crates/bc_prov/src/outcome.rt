@@ -10,7 +10,8 @@ use bc_live::live;
 use bc_loans::in_scope;
 use bc_mir::{IllFault, Typed, Where, type_unit};
 use bc_solve::solve_plain;
-use bc_text::{Name, Sequence, Unit};
+use bc_syntax::{Sequence, Unit};
+use bc_text::Name;
 use std::alloc::{AllocError, Global};
 
 /// A body, and its errors in order.

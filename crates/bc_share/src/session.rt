@@ -1,12 +1,14 @@
 //! What one session does, and its own list of that.
-ghost use Rattle.std.specs.Prelude.{◌≡◌, ◌↔◌, ◌<◌, [], length, IfOk, IfErr, OnOk, OnErr, vec_capacity, vec_len};
+ghost use Rattle.std.specs.Prelude.{◌≡◌, ◌↔◌, ◌<◌, [], true, length, IfOk, IfErr, OnOk, OnErr, vec_capacity, vec_len};
 ghost use Rattle.std.specs.Arc.{arc_value};
+ghost use Rattle.bc_syntax.specs.Served.{served};
 ghost use Rattle.bc_book.specs.Calls.{IsLegal};
 ghost use Rattle.bc_share.specs.Sessions.{Tells, new_session};
 
 use bc_book::{Call, Entry, Event, Ledger, PutReply, Refusal, Reply, Shared};
 use bc_prov::Outcome;
-use bc_text::{Name, Unit};
+use bc_syntax::Unit;
+use bc_text::Name;
 use std::alloc::Global;
 use std::marker::Model;
 use std::sync::Arc;
@@ -47,13 +49,14 @@ impl Session {
         }
     }
 
-    /// Stores a unit under a name.
+    /// Stores a unit under a name, one that the database serves.
     ///
     /// Replies `WrongKind` where the name is not one for such a unit, else `Full` where the name is new and 256
     /// bodies are held, else `Replaced` or `Added` (own). Refused with `HistoryFull` exactly where the history has
     /// as many entries as it may have, and with `NoMemory` only where memory was refused; the session and the
     /// history are then as they were.
     pub fn put(&mut self, name: Name, unit: Arc<Unit, Global>) -> Result<PutReply, Refusal>
+        requires { served (arc_value unit) ≡ true }
         ensures told { IfOk result (λ reply. Tells (Call.Put name (arc_value unit)) (Reply.Put reply) self.old self.new) }
         ensures refused { OnErr result (self.new ≡ self.old) }
         ensures full { IfErr result (λ r. r ≡ Refusal.HistoryFull ↔ length self.old.entries ≡ self.old.capacity) }

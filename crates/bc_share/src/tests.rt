@@ -1,9 +1,14 @@
+ghost use Rattle.std.specs.Prelude.{◌≡◌, true, IfOk};
+ghost use Rattle.std.specs.Arc.{arc_value};
+ghost use Rattle.bc_syntax.specs.Served.{served};
+
 use crate::{CloseFault, Db, OpenFault, Session};
 use bc_book::{Call, PutReply, Refusal, Reply};
 use bc_prov::Outcome;
-use bc_text::{
-    Base, Block, Body, Header, Name, Sequence, ShortSequence, Terminator, Ty, Unit, UnitKind,
+use bc_syntax::{
+    Base, Block, Body, Header, Sequence, ShortSequence, Terminator, Ty, Unit, UnitKind,
 };
+use bc_text::Name;
 use std::alloc::{AllocError, Global};
 use std::sync::Arc;
 use std::test::Fail;
@@ -16,7 +21,9 @@ fn int(alloc: Global) -> Ty {
 }
 
 /// `fn () -> int { bb0 { return; } }`, or with `stop` for `return`.
-fn unit(alloc: Global, terminator: Terminator) -> Result<Arc<Unit, Global>, Fail> {
+fn unit(alloc: Global, terminator: Terminator) -> Result<Arc<Unit, Global>, Fail>
+    ensures { IfOk result (λ unit. served (arc_value unit) ≡ true) }
+{
     let mut blocks = Sequence::new(alloc);
     blocks.push(Block {
         statements: Sequence::new(alloc),
@@ -38,7 +45,13 @@ fn unit(alloc: Global, terminator: Terminator) -> Result<Arc<Unit, Global>, Fail
     let Some(unit) = Unit::new(body) else {
         return Err("a unit")?;
     };
-    Ok(Arc::new(alloc, unit).map_err(|_| AllocError)?)
+    if !unit.served() {
+        return Err("a unit that is served")?;
+    }
+    match Arc::new(alloc, unit) {
+        Ok(unit) => Ok(unit),
+        Err(_) => Err(AllocError)?,
+    }
 }
 
 fn name(text: &[u8]) -> Result<Name, Fail> {

@@ -6,7 +6,7 @@ use Rattle.std.specs.Str.{IsUtf8}
 use Rattle.std.proofs.lemmas.Str.{IsUtf8-from_ascii}
 use Rattle.std.proofs.lemmas.Bool.{and_parts}
 use Rattle.std.proofs.lemmas.Bool.Decides.{nat_tests}
-use Rattle.bc_text.specs.Bytes.{is_run_byte}
+use Rattle.bc_syntax.specs.Bytes.{is_run_byte}
 use Rattle.bc_text.specs.Names.{NameParts, IsName}
 
 run_byte_is_ascii : (b : ℕ) → is_run_byte b ≡ true → b < 128

@@ -2,14 +2,15 @@
 use Rattle.std.proofs.Common.{◌≡◌, ◌≢◌, ℕ, zero, suc, ◌+◌, ◌-◌, Bool, true, false, cond, List, [], ◌∷◌, ◌++◌, length, drop, map, Option, Some, None, refl, sym, ap, ◌∙◌, subst, inl, inr}
 use Rattle.std.specs.Prelude.{slice_index, nat_le, ◌&&◌, ◌==◌}
 use Rattle.std.specs.Char.{is_ascii_alphabetic}
-use Rattle.bc_text.specs.declared.symbol.Symbol.TheVariants.{Arrow}
+use Rattle.bc_syntax.specs.declared.symbol.Symbol.TheVariants.{Arrow}
 use Rattle.bc_text.specs.declared.token.Numbering.TheVariants as n
 use Rattle.std.proofs.lemmas.Bool.{cases_Bool}
-use Rattle.bc_text.specs.declared.symbol.Symbol.{Symbol}
+use Rattle.bc_syntax.specs.declared.symbol.Symbol.{Symbol}
 use Rattle.bc_text.specs.declared.token.Numbering.{Numbering}
-use Rattle.bc_text.specs.Symbol.{keyword_of, sign_of}
-use Rattle.bc_text.specs.Bytes.{is_run_byte, run}
-use Rattle.bc_text.specs.Token.{Token, Fixed, Numbered, Region, NotAscii, Stray, End, Placed, placed, Tokens, tokens, lexeme, is_blank, run_token, region_token, variable_token, sign_token, word, is_number, value}
+use Rattle.bc_syntax.specs.Symbol.{keyword_of, sign_of}
+use Rattle.bc_syntax.specs.Bytes.{is_run_byte, run}
+use Rattle.bc_text.specs.Token.{Token, Fixed, Numbered, Region, NotAscii, Stray, End, Placed, placed, Tokens, tokens, lexeme, is_blank, run_token, region_token, variable_token, sign_token, word, value}
+use Rattle.bc_syntax.specs.Words.{is_number, is_label}
 use Rattle.bc_text.proofs.Begins.{Begins}
 use Rattle.bc_text.proofs.Cuts.{blank_goes, token_begins}
 
@@ -45,7 +46,7 @@ not_ascii_goes : NotAscii ≢ End
 not_ascii_goes = λ e. cc
 
 run_goes : (r : List ℕ) → run_token r ≢ End
-unfolding run_token
+unfolding run_token is_label
 run_goes r =
     let a = slice_index r 0 == 95 && is_number (drop 1 r) in
     let b = slice_index r 0 == 98 && slice_index r 1 == 98 && is_number (drop 2 r) in

@@ -8,10 +8,11 @@ use Rattle.std.proofs.lemmas.Bool.Decides.{nat_tests}
 use Rattle.std.proofs.lemmas.List.Folds.{length-prefix_len}
 use Rattle.std.proofs.lemmas.List.Sums.{take_while-cons}
 use Rattle.bc_text.specs.declared.token.Numbering.TheVariants as numberings
-use Rattle.bc_text.specs.declared.symbol.Symbol.TheVariants.{Arrow}
-use Rattle.bc_text.specs.Bytes.{is_run_byte, run}
-use Rattle.bc_text.specs.Symbol.{keyword_of, sign_of}
-use Rattle.bc_text.specs.Token.{Token, Fixed, Numbered, NotAscii, Stray, is_region_byte, is_number, value, word, run_token, region_token, variable_token, sign_token, lexeme}
+use Rattle.bc_syntax.specs.declared.symbol.Symbol.TheVariants.{Arrow}
+use Rattle.bc_syntax.specs.Bytes.{is_run_byte, run}
+use Rattle.bc_syntax.specs.Symbol.{keyword_of, sign_of}
+use Rattle.bc_syntax.specs.Words.{is_region_byte, is_number, is_label}
+use Rattle.bc_text.specs.Token.{Token, Fixed, Numbered, NotAscii, Stray, value, word, run_token, region_token, variable_token, sign_token, lexeme}
 
 -- ---- the front of a run, and the rest of it
 
@@ -101,7 +102,7 @@ begins_with k [] e = absurd (omega (arith, e))
 begins_with k (b ∷ bytes) e = ap (λ (n : ℕ). n ∷ bytes) e
 
 digit_token : (r : List ℕ) → is_ascii_digit (slice_index r 0) ≡ true → run_token r ≡ cond (is_number r) (Numbered numberings.Number (value r)) Stray
-unfolding run_token
+unfolding run_token is_label
 digit_token r h =
     let n95 : (slice_index r 0 == 95) ≡ false = grind (arith, nat_tests) in
     let n98 : (slice_index r 0 == 98) ≡ false = grind (arith, nat_tests) in
@@ -109,11 +110,11 @@ digit_token r h =
     rw (n95, n98, letter) refl
 
 local_token : (r : List ℕ) → run_token (95 ∷ r) ≡ cond (is_number r) (Numbered numberings.Local (value r)) Stray
-unfolding run_token is_number
+unfolding run_token is_label is_number
 local_token r = refl
 
 label_token : (r : List ℕ) → run_token (98 ∷ 98 ∷ r) ≡ cond (is_number r) (Numbered numberings.Label (value r)) (word (98 ∷ 98 ∷ r) (keyword_of (98 ∷ 98 ∷ r)))
-unfolding run_token is_number
+unfolding run_token is_label is_number
 label_token r = refl
 
 label_run : (bytes : List ℕ) → slice_index bytes 0 ≡ 98 → slice_index bytes 1 ≡ 98 → run bytes ≡ 98 ∷ 98 ∷ run (drop 2 bytes)
@@ -160,7 +161,7 @@ second_b (b ∷ bytes) e =
     ]
 
 letter_run_token : (b : ℕ) (r : List ℕ) → is_ascii_alphabetic b ≡ true → (b == 98 && slice_index r 0 == 98) ≡ false → run_token (b ∷ r) ≡ word (b ∷ r) (keyword_of (b ∷ r))
-unfolding run_token is_number
+unfolding run_token is_label is_number
 letter_run_token b r letter not_label =
     let digit : is_ascii_digit b ≡ false = grind (arith, nat_tests) in
     let n95 : (b == 95) ≡ false = grind (arith, nat_tests) in

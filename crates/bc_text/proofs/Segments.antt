@@ -10,7 +10,7 @@ use Rattle.std.proofs.lemmas.Bool.Decides.{nat_tests}
 use Rattle.std.proofs.lemmas.List.{take-append-drop, append-nil, length-append, drop_at, flat_map_more, nil_from_length}
 use Rattle.std.proofs.lemmas.List.Folds.{length-prefix_len}
 use Rattle.std.proofs.lemmas.List.Sums.{take_while-cons}
-use Rattle.bc_text.specs.Bytes.{is_run_byte, run}
+use Rattle.bc_syntax.specs.Bytes.{is_run_byte, run}
 use Rattle.bc_text.specs.Names.{NameParts, IsName, is_root, segment_text, name_text, first_segment}
 use Rattle.bc_text.proofs.Cells.{fits-push}
 

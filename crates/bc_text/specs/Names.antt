@@ -5,7 +5,7 @@ use Rattle.std.specs.List.{flat_map, list_all, AllByRecursion}
 use Rattle.std.specs.declared.cmp.Ordering.{Ordering}
 use Rattle.std.specs.Ordering.{nat_cmp, then_cmp, on, eq_of_both}
 use Rattle.std.specs.Cmp.Lexicographic.{slice_cmp, pointwise}
-use Rattle.bc_text.specs.Bytes.{is_run_byte}
+use Rattle.bc_syntax.specs.Bytes.{is_run_byte}
 
 -- a root, and the numbers behind it
 pub record NameParts : Type 0 where

@@ -1,88 +1,142 @@
 -- Units, read from left to right: the productions of the grammar, one by one.
-use Rattle.std.specs.Prelude.{◌≡◌, ◌≢◌, ℕ, zero, suc, ◌+◌, Bool, true, false, ◌||◌, ◌&&◌, if◌then◌else◌, ◌==◌, nat_lt, List, [], ◌∷◌, ◌++◌, length, Option, Some, None, Result, Ok, Err, codes}
-use Rattle.std.specs.Str.{bytes_eq}
+use Rattle.std.specs.Prelude.{◌≡◌, ◌≢◌, ℕ, zero, suc, ◌+◌, ◌-◌, Bool, true, false, ◌||◌, ◌&&◌, if◌then◌else◌, ◌==◌, nat_lt, List, [], ◌∷◌, ◌++◌, length, map, Option, Some, None, Result, Ok, Err}
+use Rattle.std.specs.List.{filter, zip}
 use Rattle.bc_text.specs.declared.fault.ReadFault.{ReadFault}
 use Rattle.bc_text.specs.declared.fault.ReadFault.TheVariants.{TooLong, NoMemory}
 use Rattle.bc_text.specs.Fault.{read_fault}
-use Rattle.bc_text.specs.declared.reader.Scope.{Scope}
-use Rattle.bc_text.specs.declared.symbol.Symbol.TheVariants as s
+use Rattle.bc_text.specs.declared.points.Point.{Point}
+use Rattle.bc_text.specs.declared.points.Point.TheVariants as point_kinds
+use Rattle.bc_syntax.specs.declared.symbol.Symbol.TheVariants as s
 use Rattle.bc_text.specs.declared.token.Numbering.TheVariants as n
-use Rattle.bc_text.specs.declared.syntax.Region.{Region}
-use Rattle.bc_text.specs.declared.syntax.Region.TheVariants.{Universal, Variable}
-use Rattle.bc_text.specs.declared.syntax.Mutability.{Mutability}
-use Rattle.bc_text.specs.declared.syntax.Mutability.TheVariants.{Shared, Mutable}
-use Rattle.bc_text.specs.declared.syntax.Reference.{Reference}
-use Rattle.bc_text.specs.declared.syntax.Base.TheVariants as bases
-use Rattle.bc_text.specs.declared.syntax.Ty.{Ty}
-use Rattle.bc_text.specs.declared.syntax.Projection.{Projection}
-use Rattle.bc_text.specs.declared.syntax.Projection.TheVariants.{Deref, Field}
-use Rattle.bc_text.specs.declared.syntax.Place.{Place}
-use Rattle.bc_text.specs.declared.syntax.Operand.{Operand}
-use Rattle.bc_text.specs.declared.syntax.Operand.TheVariants as operand_kinds
-use Rattle.bc_text.specs.declared.syntax.Borrow.{Borrow}
-use Rattle.bc_text.specs.declared.syntax.Rvalue.{Rvalue}
-use Rattle.bc_text.specs.declared.syntax.Rvalue.TheVariants as rvalue_kinds
-use Rattle.bc_text.specs.declared.syntax.Assignment.{Assignment}
-use Rattle.bc_text.specs.declared.syntax.Statement.{Statement}
-use Rattle.bc_text.specs.declared.syntax.Statement.TheVariants as statement_kinds
-use Rattle.bc_text.specs.declared.syntax.Terminator.{Terminator}
-use Rattle.bc_text.specs.declared.syntax.Terminator.TheVariants.{Return, Stop}
-use Rattle.bc_text.specs.declared.syntax.Block.{Block}
-use Rattle.bc_text.specs.declared.syntax.UnitKind.TheVariants.{Function}
-use Rattle.bc_text.specs.declared.syntax.Header.{Header}
-use Rattle.bc_text.specs.declared.syntax.Body.{Body}
+use Rattle.bc_syntax.specs.declared.syntax.Region.{Region}
+use Rattle.bc_syntax.specs.declared.syntax.Region.TheVariants.{Universal, Variable}
+use Rattle.bc_syntax.specs.declared.syntax.RegionName.{RegionName}
+use Rattle.bc_syntax.specs.declared.syntax.ItemName.{ItemName}
+use Rattle.bc_syntax.specs.declared.syntax.Instance.{Instance}
+use Rattle.bc_syntax.specs.declared.syntax.Mutability.{Mutability}
+use Rattle.bc_syntax.specs.declared.syntax.Mutability.TheVariants.{Shared, Mutable}
+use Rattle.bc_syntax.specs.declared.syntax.Reference.{Reference}
+use Rattle.bc_syntax.specs.declared.syntax.Base.{Base}
+use Rattle.bc_syntax.specs.declared.syntax.Base.TheVariants as bases
+use Rattle.bc_syntax.specs.declared.syntax.Ty.{Ty}
+use Rattle.bc_syntax.specs.declared.syntax.Projection.{Projection}
+use Rattle.bc_syntax.specs.declared.syntax.Projection.TheVariants.{Deref, Field}
+use Rattle.bc_syntax.specs.declared.syntax.Place.{Place}
+use Rattle.bc_syntax.specs.declared.syntax.Operand.{Operand}
+use Rattle.bc_syntax.specs.declared.syntax.Operand.TheVariants as operand_kinds
+use Rattle.bc_syntax.specs.declared.syntax.Borrow.{Borrow}
+use Rattle.bc_syntax.specs.declared.syntax.Aggregate.{Aggregate}
+use Rattle.bc_syntax.specs.declared.syntax.Rvalue.{Rvalue}
+use Rattle.bc_syntax.specs.declared.syntax.Rvalue.TheVariants as rvalue_kinds
+use Rattle.bc_syntax.specs.declared.syntax.Statement.{Statement}
+use Rattle.bc_syntax.specs.declared.syntax.Statement.TheVariants as statement_kinds
+use Rattle.bc_syntax.specs.declared.syntax.Condition.{Condition}
+use Rattle.bc_syntax.specs.declared.syntax.Call.{Call}
+use Rattle.bc_syntax.specs.declared.syntax.Terminator.{Terminator}
+use Rattle.bc_syntax.specs.declared.syntax.Terminator.TheVariants.{Goto, If, Return, Stop}
+use Rattle.bc_syntax.specs.declared.syntax.Terminator.TheVariants as terminator_kinds
+use Rattle.bc_syntax.specs.declared.syntax.Block.{Block}
+use Rattle.bc_syntax.specs.declared.syntax.Outlives.{Outlives}
+use Rattle.bc_syntax.specs.declared.syntax.UnitKind.TheVariants.{Function}
+use Rattle.bc_syntax.specs.declared.syntax.Header.{Header}
+use Rattle.bc_syntax.specs.declared.syntax.Body.{Body}
+use Rattle.bc_syntax.specs.declared.symbol.Symbol.{Symbol}
+use Rattle.bc_syntax.specs.declared.syntax.Variance.{Variance}
+use Rattle.bc_syntax.specs.declared.syntax.Variance.TheVariants.{Covariant, Invariant}
+use Rattle.bc_syntax.specs.declared.syntax.StructDeclaration.{StructDeclaration}
+use Rattle.bc_syntax.specs.declared.syntax.ExternDeclaration.{ExternDeclaration}
+use Rattle.bc_syntax.specs.declared.syntax.Declaration.{Declaration}
+use Rattle.bc_syntax.specs.declared.syntax.Declaration.TheVariants as declarations
+use Rattle.bc_syntax.specs.Fits.{is_new, is_struct}
+use Rattle.bc_syntax.specs.Words.{is_word}
 use Rattle.bc_text.specs.Token.{Tokens, tokens}
-use Rattle.bc_text.specs.Parser.{Outcome, Parser, ◌>>=◌, ◌>>◌, ◌<$>◌, pure, refuse, past_limit, here, fail, eat, expect, sees, sees_numbered, numbered, region_name, closed_list, at_end}
+use Rattle.bc_text.specs.Universals.{number_of}
+use Rattle.bc_text.specs.declared.fault.Refusal.{Refusal}
+use Rattle.bc_text.specs.declared.declarations.Marks.{Marks as InMemory}
+use Rattle.bc_text.specs.Parser.{Outcome, Parser, ReadsAs, ◌>>=◌, ◌>>◌, ◌<$>◌, pure, refuse, past_limit, here, fail, eat, expect, sees, sees_numbered, sees_word, sees_region, numbered, region_name, word, closed_list, opened_list, angled_list, declared_list, at_end}
 
--- ---- types
+-- ---- regions and names
 
--- the one declared region is 'static
-unfoldable pub declared_region : Parser Region
-declared_region = do
+abbrev pub declared_as : ℕ → Option ℕ → Parser ℕ
+declared_as at (Some number) = pure number
+declared_as at None = fail at
+
+-- 'static, or a declared region
+unfoldable pub universal : List RegionName → Parser ℕ
+universal regions = do
   at ← here
   name ← region_name
-  if bytes_eq name (codes "static") then pure (Universal 0) else fail at
+  declared_as at (number_of regions name)
 
-unfoldable pub region : Scope → Parser Region
-region scope = λ ts. if scope.in_body && sees_numbered n.Variable ts then (Variable <$> numbered n.Variable 1023) ts else declared_region ts
+unfoldable pub region : Bool → List RegionName → Parser Region
+region variables regions = λ ts. if variables && sees_numbered n.Variable ts then (Variable <$> numbered n.Variable 1023) ts else (Universal <$> universal regions) ts
+
+abbrev pub begins_region : Bool → Tokens → Bool
+begins_region variables ts = sees_region ts || (variables && sees_numbered n.Variable ts)
+
+-- a region that is declared here, where those before it are
+unfoldable pub new_region : List RegionName → Parser RegionName
+new_region before = do
+  at ← here
+  name ← region_name
+  if is_new before (record { bytes = name }) then pure (record { bytes = name }) else fail at
+
+unfoldable pub item_name : Parser ItemName
+item_name = do
+  at ← here
+  name ← word
+  if is_word name then pure (record { bytes = name }) else fail at
+
+unfoldable pub instance : Bool → List RegionName → Parser Instance
+instance variables regions = do
+  name ← item_name
+  regions ← angled_list (begins_region variables) (region variables regions) 15
+  pure (record { name = name; regions = regions })
+
+-- ---- types
 
 unfoldable pub mutability : Parser Mutability
 mutability = do
   found ← eat s.Mut
   if found then pure Mutable else pure Shared
 
-unfoldable pub reference : Scope → Parser Reference
-reference scope = do
-  r ← region scope
+unfoldable pub reference : Bool → List RegionName → Parser Reference
+reference variables regions = do
+  r ← region variables regions
   m ← mutability
   pure (record { region = r; mutability = m })
 
 abbrev pub begins_ty : Tokens → Bool
-begins_ty ts = sees s.Ampersand ts || sees s.Int ts
+begins_ty ts = sees s.Ampersand ts || sees s.Int ts || sees_word ts
 
-abbrev pub base : List Reference → Parser Ty
-base found = expect s.Int >> pure (record { references = found; base = bases.Int })
+unfoldable pub base : Bool → List RegionName → Parser Base
+base variables regions = do
+  whole ← eat s.Int
+  if whole then pure bases.Int else (bases.Struct <$> instance variables regions)
 
-unfoldable pub ty_turn : Scope → (List Reference → Parser Ty) → List Reference → Parser Ty
-ty_turn scope again found = do
+abbrev pub behind : List Reference → Base → Ty
+behind found b = record { references = found; base = b }
+
+unfoldable pub ty_turn : Bool → List RegionName → (List Reference → Parser Ty) → List Reference → Parser Ty
+ty_turn variables regions again found = do
   more ← eat s.Ampersand
-  if more then (reference scope >>= λ r. again (found ++ r ∷ [])) else base found
+  if more then (reference variables regions >>= λ r. again (found ++ r ∷ [])) else (behind found <$> base variables regions)
 
 -- references one in another, and what they lead to: so many tokens of nesting are left
-unfoldable pub ty_from : Scope → ℕ → List Reference → Parser Ty
-ty_from scope zero found = λ ts. if begins_ty ts then past_limit ts else refuse ts
-ty_from scope (suc room) found = ty_turn scope (ty_from scope room) found
+unfoldable pub ty_from : Bool → List RegionName → ℕ → List Reference → Parser Ty
+ty_from variables regions zero found = λ ts. if begins_ty ts then past_limit ts else refuse ts
+ty_from variables regions (suc room) found = ty_turn variables regions (ty_from variables regions room) found
 
-unfoldable pub ty : Scope → Parser Ty
-ty scope = ty_from scope 8 []
+unfoldable pub ty : Bool → List RegionName → Parser Ty
+ty variables regions = ty_from variables regions 8 []
 
 -- ---- places and operands
 
-unfoldable pub local : Scope → Parser ℕ
-local scope = do
+unfoldable pub local : ℕ → Parser ℕ
+local locals = do
   at ← here
   l ← numbered n.Local 255
-  if nat_lt l scope.locals then pure l else fail at
+  if nat_lt l locals then pure l else fail at
 
 unfoldable pub projection : Parser Projection
 projection = do
@@ -98,171 +152,363 @@ unfoldable pub projections_from : ℕ → List Projection → Parser (List Proje
 projections_from zero found = λ ts. if sees s.Dot ts then past_limit ts else pure found ts
 projections_from (suc room) found = projections_turn (projections_from room) found
 
-unfoldable pub place : Scope → Parser Place
-place scope = do
-  l ← local scope
+unfoldable pub place : ℕ → Parser Place
+place locals = do
+  l ← local locals
   ps ← projections_from 8 []
   pure (record { local = l; projections = ps })
 
-unfoldable pub moved : Scope → Parser Operand
-moved scope = do
+unfoldable pub moved : ℕ → Parser Operand
+moved locals = do
   moves ← eat s.Move
-  if moves then (operand_kinds.Move <$> place scope) else (operand_kinds.Number <$> numbered n.Number 4294967295)
+  if moves then (operand_kinds.Move <$> place locals) else (operand_kinds.Number <$> numbered n.Number 4294967295)
 
-unfoldable pub operand : Scope → Parser Operand
-operand scope = do
+unfoldable pub operand : ℕ → Parser Operand
+operand locals = do
   copies ← eat s.Copy
-  if copies then (operand_kinds.Copy <$> place scope) else moved scope
+  if copies then (operand_kinds.Copy <$> place locals) else moved locals
 
 abbrev pub begins_operand : Tokens → Bool
 begins_operand ts = sees s.Copy ts || sees s.Move ts || sees_numbered n.Number ts
 
-unfoldable pub operands : Scope → Parser (List Operand)
-operands scope = expect s.OpenParen >> closed_list begins_operand (operand scope) 16 s.CloseParen
+unfoldable pub operands : ℕ → Parser (List Operand)
+operands locals = expect s.OpenParen >> closed_list begins_operand (operand locals) 16 s.CloseParen
 
 -- ---- statements
 
-unfoldable pub borrow : Scope → Parser Borrow
-borrow scope = do
-  r ← reference scope
-  p ← place scope
+unfoldable pub borrow : List RegionName → ℕ → Parser Borrow
+borrow regions locals = do
+  r ← reference true regions
+  p ← place locals
   pure (record { reference = r; place = p })
 
-unfoldable pub computed : Scope → Parser Rvalue
-computed scope = do
+unfoldable pub aggregate : List RegionName → ℕ → Parser Aggregate
+aggregate regions locals = do
+  i ← instance true regions
+  os ← operands locals
+  pure (record { instance = i; operands = os })
+
+unfoldable pub created : List RegionName → ℕ → Parser Rvalue
+created regions locals = λ ts. if sees_word ts then (rvalue_kinds.Aggregate <$> aggregate regions locals) ts else (rvalue_kinds.Use <$> operand locals) ts
+
+unfoldable pub computed : List RegionName → ℕ → Parser Rvalue
+computed regions locals = do
   calculates ← eat s.Calc
-  if calculates then (rvalue_kinds.Calc <$> operands scope) else (rvalue_kinds.Use <$> operand scope)
+  if calculates then (rvalue_kinds.Calc <$> operands locals) else created regions locals
 
-unfoldable pub rvalue : Scope → Parser Rvalue
-rvalue scope = do
+unfoldable pub rvalue : List RegionName → ℕ → Parser Rvalue
+rvalue regions locals = do
   borrows ← eat s.Ampersand
-  if borrows then (rvalue_kinds.Borrow <$> borrow scope) else computed scope
+  if borrows then (rvalue_kinds.Borrow <$> borrow regions locals) else computed regions locals
 
-unfoldable pub assignment : Scope → Parser Assignment
-assignment scope = do
-  p ← place scope
+unfoldable pub label : Parser ℕ
+label = numbered n.Label 255
+
+-- what is called for a destination, and where it returns to
+unfoldable pub called : List RegionName → ℕ → Place → Parser Call
+called regions locals destination = do
+  i ← instance true regions
+  os ← operands locals
+  l ← label
+  pure (record { destination = destination; function = i; operands = os; target = l })
+
+abbrev pub assigned : Place → Rvalue → Point
+assigned p v = point_kinds.Statement (statement_kinds.Assign (record { target = p; value = v }))
+
+abbrev pub ending : Terminator → Point
+ending t = point_kinds.Terminator t
+
+-- what stands behind `P =`
+unfoldable pub value_of : List RegionName → ℕ → Place → Parser Point
+value_of regions locals p = do
+  calls ← eat s.Call
+  if calls then ((λ c. ending (terminator_kinds.Call c)) <$> called regions locals p) else (assigned p <$> rvalue regions locals)
+
+unfoldable pub assignment : List RegionName → ℕ → Parser Point
+assignment regions locals = do
+  p ← place locals
   expect s.Equals
-  v ← rvalue scope
-  pure (record { target = p; value = v })
+  value_of regions locals p
 
-unfoldable pub active : Scope → Parser Statement
-active scope = do
+unfoldable pub active : List RegionName → ℕ → Parser Point
+active regions locals = do
   idles ← eat s.Nop
-  if idles then pure statement_kinds.Nop else (statement_kinds.Assign <$> assignment scope)
+  if idles then pure (point_kinds.Statement statement_kinds.Nop) else assignment regions locals
 
-unfoldable pub statement : Scope → Parser Statement
-statement scope = do
+unfoldable pub dropping : List RegionName → ℕ → Parser Point
+dropping regions locals = do
+  drops ← eat s.Drop
+  if drops then ((λ p. point_kinds.Statement (statement_kinds.Drop p)) <$> place locals) else active regions locals
+
+unfoldable pub dying : List RegionName → ℕ → Parser Point
+dying regions locals = do
   dies ← eat s.Dead
-  if dies then (statement_kinds.Dead <$> local scope) else active scope
+  if dies then ((λ l. point_kinds.Statement (statement_kinds.Dead l)) <$> local locals) else dropping regions locals
+
+unfoldable pub condition : ℕ → Parser Condition
+condition locals = do
+  o ← operand locals
+  yes_label ← label
+  no_label ← label
+  pure (record { operand = o; then = yes_label; otherwise = no_label })
+
+unfoldable pub branching : List RegionName → ℕ → Parser Point
+branching regions locals = do
+  branches ← eat s.If
+  if branches then ((λ c. ending (If c)) <$> condition locals) else dying regions locals
+
+unfoldable pub going : List RegionName → ℕ → Parser Point
+going regions locals = do
+  goes ← eat s.Goto
+  if goes then ((λ l. ending (Goto l)) <$> label) else branching regions locals
+
+unfoldable pub stopping : List RegionName → ℕ → Parser Point
+stopping regions locals = do
+  stops ← eat s.Stop
+  if stops then pure (ending Stop) else going regions locals
+
+-- a statement or a terminator
+unfoldable pub point : List RegionName → ℕ → Parser Point
+point regions locals = do
+  returns ← eat s.Return
+  if returns then pure (ending Return) else stopping regions locals
+
+abbrev pub begins_point : Tokens → Bool
+begins_point ts = sees s.Return ts || sees s.Stop ts || sees s.Goto ts || sees s.If ts || sees s.Dead ts || sees s.Drop ts || sees s.Nop ts || sees_numbered n.Local ts
 
 -- ---- blocks
 
-unfoldable pub stop : Parser (Option Terminator)
-stop = do
-  stops ← eat s.Stop
-  if stops then pure (Some Stop) else pure None
+-- a terminator ends the block, and a statement goes on
+abbrev pub goes_on : List Statement → (List Statement → Parser Block) → Point → Parser Block
+goes_on found again (point_kinds.Terminator t) = pure (record { statements = found; terminator = t })
+goes_on found again (point_kinds.Statement st) = expect s.Semicolon >> again (found ++ st ∷ [])
 
--- the terminator, if one comes next
-unfoldable pub terminator : Parser (Option Terminator)
-terminator = do
-  returns ← eat s.Return
-  if returns then pure (Some Return) else stop
-
-abbrev pub begins_point : Tokens → Bool
-begins_point ts = sees s.Return ts || sees s.Stop ts || sees s.Dead ts || sees s.Nop ts || sees_numbered n.Local ts
-
-unfoldable pub line : Scope → Parser Statement
-line scope = do
-  st ← statement scope
-  expect s.Semicolon
-  pure st
-
-abbrev pub closed_block : List Statement → (List Statement → Parser Block) → Scope → Option Terminator → Parser Block
-closed_block found again scope (Some t) = pure (record { statements = found; terminator = t })
-closed_block found again scope None = line scope >>= λ st. again (found ++ st ∷ [])
-
-unfoldable pub block_turn : Scope → (List Statement → Parser Block) → List Statement → Parser Block
-block_turn scope again found = terminator >>= λ t. closed_block found again scope t
+unfoldable pub block_turn : List RegionName → ℕ → (List Statement → Parser Block) → List Statement → Parser Block
+block_turn regions locals again found = point regions locals >>= λ p. goes_on found again p
 
 -- what stands up to the terminator: so many points are left
-unfoldable pub block_from : Scope → ℕ → List Statement → Parser Block
-block_from scope zero found = λ ts. if begins_point ts then past_limit ts else refuse ts
-block_from scope (suc room) found = block_turn scope (block_from scope room) found
+unfoldable pub block_from : List RegionName → ℕ → ℕ → List Statement → Parser Block
+block_from regions locals zero found = λ ts. if begins_point ts then past_limit ts else refuse ts
+block_from regions locals (suc room) found = block_turn regions locals (block_from regions locals room) found
 
-unfoldable pub braced : Scope → Parser Block
-braced scope = do
+unfoldable pub braced : List RegionName → ℕ → ℕ → Parser Block
+braced regions locals left = do
   expect s.OpenBrace
-  b ← block_from scope 4096 []
+  b ← block_from regions locals left []
   expect s.Semicolon
   expect s.CloseBrace
   pure b
 
-unfoldable pub block : Scope → Parser Block
-block scope = do
+-- the block of this number, where so many points are left
+unfoldable pub block : List RegionName → ℕ → ℕ → ℕ → Parser Block
+block regions locals number left = do
   at ← here
-  l ← numbered n.Label 255
-  if l == 0 then braced scope else fail at
+  l ← label
+  if l == number then braced regions locals left else fail at
+
+abbrev pub left_behind : ℕ → Block → ℕ
+left_behind left b = left - (length b.statements + 1)
+
+unfoldable pub blocks_turn : List RegionName → ℕ → (ℕ → List Block → Parser (List Block)) → ℕ → List Block → Parser (List Block)
+blocks_turn regions locals again left found = block regions locals (length found) left >>= λ b. again (left_behind left b) (found ++ b ∷ [])
+
+-- More blocks, where so many points are left: the number of a label bounds them.
+unfoldable pub blocks_from : List RegionName → ℕ → ℕ → ℕ → List Block → Parser (List Block)
+blocks_from regions locals zero left found = refuse
+blocks_from regions locals (suc room) left found = λ ts. if sees_numbered n.Label ts then blocks_turn regions locals (blocks_from regions locals room) left found ts else pure found ts
+
+-- at least one block
+unfoldable pub blocks : List RegionName → ℕ → Parser (List Block)
+blocks regions locals = blocks_turn regions locals (blocks_from regions locals 256) 4096 []
+
+-- ---- headers
+
+-- a clause between universal regions
+unfoldable pub clause : List RegionName → Parser Outlives
+clause regions = do
+  longer ← universal regions
+  expect s.Colon
+  shorter ← universal regions
+  pure (record { longer = longer; shorter = shorter })
+
+unfoldable pub clauses : List RegionName → Parser (List Outlives)
+clauses regions = opened_list sees_region (clause regions) 32 s.Where
+
+unfoldable pub parameters : List RegionName → Parser (List Ty)
+parameters regions = expect s.OpenParen >> closed_list begins_ty (ty false regions) 16 s.CloseParen
+
+-- what stands behind the regions that a header declares
+unfoldable pub signature : List RegionName → Parser Header
+signature regions = do
+  cs ← clauses regions
+  ps ← parameters regions
+  expect s.Arrow
+  r ← ty false regions
+  pure (record { kind = Function; regions = regions; clauses = cs; parameters = ps; result = r })
+
+-- a header that declares at most so many regions, behind its first word or its name
+unfoldable pub header_of : ℕ → Parser Header
+header_of limit = declared_list sees_region new_region limit >>= signature
+
+unfoldable pub header : Parser Header
+header = expect s.Fn >> header_of 15
 
 -- ---- units
 
-abbrev pub scope_of : Bool → ℕ → Scope
-scope_of in_body locals = record { in_body = in_body; locals = locals }
-
 -- the next local, its type
-unfoldable pub declared_ty : Parser Ty
-declared_ty = do
+unfoldable pub declared_ty : List RegionName → Parser Ty
+declared_ty regions = do
   expect s.Colon
-  t ← ty (scope_of true 0)
+  t ← ty true regions
   expect s.Semicolon
   pure t
 
-unfoldable pub let_ty : ℕ → Parser Ty
-let_ty next = do
+unfoldable pub let_ty : List RegionName → ℕ → Parser Ty
+let_ty regions number = do
   at ← here
   l ← numbered n.Local 255
-  if l == next then declared_ty else fail at
+  if l == number then declared_ty regions else fail at
 
-unfoldable pub lets_turn : ℕ → (List Ty → Parser (List Ty)) → List Ty → Parser (List Ty)
-lets_turn next again found = do
+unfoldable pub lets_turn : List RegionName → ℕ → (List Ty → Parser (List Ty)) → List Ty → Parser (List Ty)
+lets_turn regions number again found = do
   more ← eat s.Let
-  if more then (let_ty (next + length found) >>= λ t. again (found ++ t ∷ [])) else pure found
+  if more then (let_ty regions (number + length found) >>= λ t. again (found ++ t ∷ [])) else pure found
 
 -- more types of locals, the first of which is this local: the number of a local bounds them
-unfoldable pub lets_from : ℕ → ℕ → List Ty → Parser (List Ty)
-lets_from next zero found = refuse
-lets_from next (suc room) found = lets_turn next (lets_from next room) found
+unfoldable pub lets_from : List RegionName → ℕ → ℕ → List Ty → Parser (List Ty)
+lets_from regions number zero found = refuse
+lets_from regions number (suc room) found = lets_turn regions number (lets_from regions number room) found
 
-unfoldable pub parameters : Scope → Parser (List Ty)
-parameters scope = expect s.OpenParen >> closed_list begins_ty (ty scope) 16 s.CloseParen
-
--- the parameters and the result, without declared regions and clauses
-unfoldable pub header : Parser Header
-header = do
-  expect s.Fn
-  ps ← parameters (scope_of false 0)
-  expect s.Arrow
-  r ← ty (scope_of false 0)
-  pure (record { kind = Function; regions = []; clauses = []; parameters = ps; result = r })
-
-unfoldable pub unit : Parser Body
-unit = do
-  h ← header
+-- a body behind its header
+unfoldable pub body_of : Header → Parser Body
+body_of h = do
   expect s.OpenBrace
-  ls ← lets_from (1 + length h.parameters) 256 []
-  b ← block (scope_of true (1 + length h.parameters + length ls))
+  ls ← lets_from h.regions (1 + length h.parameters) 256 []
+  bs ← blocks h.regions (1 + length h.parameters + length ls)
   expect s.CloseBrace
   at_end
-  pure (record { header = h; lets = ls; blocks = b ∷ [] })
+  pure (record { header = h; lets = ls; blocks = bs })
+
+unfoldable pub unit : Parser Body
+unit = header >>= body_of
+
+-- ---- declarations
+
+unfoldable pub variance : Parser Variance
+variance = do
+  covariant ← eat s.Plus
+  if covariant then pure Covariant else (expect s.Equals >> pure Invariant)
+
+abbrev pub begins_mark : Tokens → Bool
+begins_mark ts = sees s.Plus ts || sees s.Equals ts
+
+abbrev pub Marks : Type 0
+Marks = List (Variance × RegionName)
+
+abbrev pub variances_of : Marks → List Variance
+variances_of marks = map (λ (m : Variance × RegionName). m.0) marks
+
+abbrev pub regions_of : Marks → List RegionName
+regions_of marks = map (λ (m : Variance × RegionName). m.1) marks
+
+-- a region with its variance, that is declared where those before it are
+unfoldable pub mark : Marks → Parser (Variance × RegionName)
+mark before = do
+  v ← variance
+  r ← new_region (regions_of before)
+  pure (v, r)
+
+unfoldable pub fields_turn : List RegionName → (List Ty → Parser (List Ty)) → List Ty → Parser (List Ty)
+fields_turn regions again found = do
+  t ← ty false regions
+  expect s.Semicolon
+  again (found ++ t ∷ [])
+
+-- more types of fields, at most so many
+unfoldable pub fields_from : List RegionName → ℕ → List Ty → Parser (List Ty)
+fields_from regions zero found = λ ts. if begins_ty ts then past_limit ts else pure found ts
+fields_from regions (suc room) found = λ ts. if begins_ty ts then fields_turn regions (fields_from regions room) found ts else pure found ts
+
+unfoldable pub fields : List RegionName → Parser (List Ty)
+fields regions = do
+  expect s.OpenBrace
+  ts ← fields_from regions 16 []
+  expect s.CloseBrace
+  pure ts
+
+-- a struct with these regions, behind them
+unfoldable pub struct_of : ItemName → Marks → Parser StructDeclaration
+struct_of name marks = do
+  drops ← eat s.Drop
+  fs ← fields (regions_of marks)
+  pure (record { name = name; regions = regions_of marks; variances = variances_of marks; has_drop = drops; fields = fs })
+
+-- a struct behind its first word
+unfoldable pub struct_declaration : Parser StructDeclaration
+struct_declaration = do
+  name ← item_name
+  marks ← declared_list begins_mark mark 8
+  struct_of name marks
+
+-- an extern function behind its first word
+unfoldable pub extern_declaration : Parser ExternDeclaration
+extern_declaration = do
+  name ← item_name
+  h ← header_of 8
+  expect s.Semicolon
+  pure (record { name = name; header = h })
+
+-- a first word, and what it begins, where so many of its kind stand before
+abbrev pub counted : {A : Type 0} → ℕ → Symbol → Parser A → Parser A
+counted before word rest = λ ts. if nat_lt before 64 then (expect word >> rest) ts else past_limit ts
+
+abbrev pub structs_in : List Declaration → ℕ
+structs_in found = length (filter is_struct found)
+
+unfoldable pub declaration : List Declaration → Parser Declaration
+declaration found = λ ts.
+    if sees s.Struct ts then counted (structs_in found) s.Struct (declarations.Struct <$> struct_declaration) ts
+    else counted (length found - structs_in found) s.Extern (declarations.Extern <$> extern_declaration) ts
+
+abbrev pub begins_declaration : Tokens → Bool
+begins_declaration ts = sees s.Struct ts || sees s.Extern ts
+
+unfoldable pub declarations_turn : (List Declaration → Parser (List Declaration)) → List Declaration → Parser (List Declaration)
+declarations_turn again found = declaration found >>= λ d. again (found ++ d ∷ [])
+
+-- More declarations: the limit of each kind bounds them.
+unfoldable pub declarations_from : ℕ → List Declaration → Parser (List Declaration)
+declarations_from zero found = refuse
+declarations_from (suc room) found = λ ts. if begins_declaration ts then declarations_turn (declarations_from room) found ts else pure found ts
+
+unfoldable pub types : Parser (List Declaration)
+types = do
+  ds ← declarations_from 129 []
+  at_end
+  pure ds
+
+-- ---- texts
 
 abbrev pub answer_of : {A : Type 0} → Outcome A → Result A ReadFault
 answer_of (Ok p) = Ok p.0
 answer_of (Err e) = Err (read_fault e)
 
 -- a whole text
+unfoldable pub read_whole : {A : Type 0} → Parser A → List ℕ → Result A ReadFault
+read_whole parser bytes = if nat_lt 1048576 (length bytes) then Err TooLong else answer_of (parser (tokens 0 0 bytes))
+
 unfoldable pub read : List ℕ → Result Body ReadFault
-read bytes = if nat_lt 1048576 (length bytes) then Err TooLong else answer_of (unit (tokens 0 0 bytes))
+read = read_whole unit
+
+-- a whole text of declarations
+unfoldable pub read_types : List ℕ → Result (List Declaration) ReadFault
+read_types = read_whole types
 
 -- what a function returned is the answer, unless memory ran out
 abbrev pub Answers : {A : Type 0} → Result A ReadFault → Result A ReadFault → Type 0
 Answers (Ok a) answer = answer ≡ Ok a
 Answers (Err e) answer = e ≢ NoMemory → answer ≡ Err e
+
+-- the same for the regions of a struct, which are kept apart from their variances
+abbrev pub ReadsMarks : Outcome Marks → Result InMemory Refusal → Tokens → Type 0
+ReadsMarks outcome result later = ReadsAs (λ (m : InMemory). zip m.variances m.regions) outcome result later

@@ -1,61 +1,110 @@
--- How each value is spelled, token by token, and which values have a spelling.
-use Rattle.std.specs.Prelude.{◌≡◌, ℕ, ◌+◌, ◌<◌, ◌≤◌, true, false, List, [], ◌∷◌, ◌++◌, length, map, codes}
-use Rattle.std.specs.List.{flat_map, AllByRecursion}
-use Rattle.bc_text.specs.declared.reader.Scope.{Scope}
-use Rattle.bc_text.specs.declared.symbol.Symbol.{Symbol}
-use Rattle.bc_text.specs.declared.symbol.Symbol.TheVariants as s
+-- How each value is spelled, token by token.
+use Rattle.std.specs.Prelude.{◌≡◌, ℕ, ◌+◌, ◌≤◌, Bool, true, false, List, [], ◌∷◌, ◌++◌, length, map, get_or}
+use Rattle.std.specs.List.{flat_map, zip}
+use Rattle.bc_syntax.specs.declared.symbol.Symbol.{Symbol}
+use Rattle.bc_syntax.specs.declared.symbol.Symbol.TheVariants as s
 use Rattle.bc_text.specs.declared.token.Numbering.TheVariants as n
-use Rattle.bc_text.specs.declared.syntax.Region.{Region}
-use Rattle.bc_text.specs.declared.syntax.Region.TheVariants.{Universal, Variable}
-use Rattle.bc_text.specs.declared.syntax.Mutability.{Mutability}
-use Rattle.bc_text.specs.declared.syntax.Mutability.TheVariants.{Shared, Mutable}
-use Rattle.bc_text.specs.declared.syntax.Reference.{Reference}
-use Rattle.bc_text.specs.declared.syntax.Base.{Base}
-use Rattle.bc_text.specs.declared.syntax.Base.TheVariants as bases
-use Rattle.bc_text.specs.declared.syntax.Ty.{Ty}
-use Rattle.bc_text.specs.declared.syntax.Projection.{Projection}
-use Rattle.bc_text.specs.declared.syntax.Projection.TheVariants.{Deref, Field}
-use Rattle.bc_text.specs.declared.syntax.Place.{Place}
-use Rattle.bc_text.specs.declared.syntax.Operand.{Operand}
-use Rattle.bc_text.specs.declared.syntax.Operand.TheVariants as operand_kinds
-use Rattle.bc_text.specs.declared.syntax.Borrow.{Borrow}
-use Rattle.bc_text.specs.declared.syntax.Rvalue.{Rvalue}
-use Rattle.bc_text.specs.declared.syntax.Rvalue.TheVariants as rvalue_kinds
-use Rattle.bc_text.specs.declared.syntax.Assignment.{Assignment}
-use Rattle.bc_text.specs.declared.syntax.Statement.{Statement}
-use Rattle.bc_text.specs.declared.syntax.Statement.TheVariants as statement_kinds
-use Rattle.bc_text.specs.declared.syntax.Terminator.{Terminator}
-use Rattle.bc_text.specs.declared.syntax.Terminator.TheVariants.{Goto, If, Return, Stop}
-use Rattle.bc_text.specs.declared.syntax.Block.{Block}
-use Rattle.bc_text.specs.declared.syntax.Header.{Header}
-use Rattle.bc_text.specs.declared.syntax.Body.{Body}
-use Rattle.bc_text.specs.Token.{Token, Fixed, Numbered, End, tokens, Placed}
+use Rattle.bc_syntax.specs.declared.syntax.Region.{Region}
+use Rattle.bc_syntax.specs.declared.syntax.Region.TheVariants.{Universal, Variable}
+use Rattle.bc_syntax.specs.declared.syntax.RegionName.{RegionName}
+use Rattle.bc_syntax.specs.declared.syntax.ItemName.{ItemName}
+use Rattle.bc_syntax.specs.declared.syntax.Instance.{Instance}
+use Rattle.bc_syntax.specs.declared.syntax.Mutability.{Mutability}
+use Rattle.bc_syntax.specs.declared.syntax.Mutability.TheVariants.{Shared, Mutable}
+use Rattle.bc_syntax.specs.declared.syntax.Reference.{Reference}
+use Rattle.bc_syntax.specs.declared.syntax.Base.{Base}
+use Rattle.bc_syntax.specs.declared.syntax.Base.TheVariants as bases
+use Rattle.bc_syntax.specs.declared.syntax.Ty.{Ty}
+use Rattle.bc_syntax.specs.declared.syntax.Projection.{Projection}
+use Rattle.bc_syntax.specs.declared.syntax.Projection.TheVariants.{Deref, Field}
+use Rattle.bc_syntax.specs.declared.syntax.Place.{Place}
+use Rattle.bc_syntax.specs.declared.syntax.Operand.{Operand}
+use Rattle.bc_syntax.specs.declared.syntax.Operand.TheVariants as operand_kinds
+use Rattle.bc_syntax.specs.declared.syntax.Borrow.{Borrow}
+use Rattle.bc_syntax.specs.declared.syntax.Aggregate.{Aggregate}
+use Rattle.bc_syntax.specs.declared.syntax.Rvalue.{Rvalue}
+use Rattle.bc_syntax.specs.declared.syntax.Rvalue.TheVariants as rvalue_kinds
+use Rattle.bc_syntax.specs.declared.syntax.Assignment.{Assignment}
+use Rattle.bc_syntax.specs.declared.syntax.Statement.{Statement}
+use Rattle.bc_syntax.specs.declared.syntax.Statement.TheVariants as statement_kinds
+use Rattle.bc_syntax.specs.declared.syntax.Condition.{Condition}
+use Rattle.bc_syntax.specs.declared.syntax.Call.{Call}
+use Rattle.bc_syntax.specs.declared.syntax.Terminator.{Terminator}
+use Rattle.bc_syntax.specs.declared.syntax.Terminator.TheVariants as terminator_kinds
+use Rattle.bc_syntax.specs.declared.syntax.Block.{Block}
+use Rattle.bc_syntax.specs.declared.syntax.Outlives.{Outlives}
+use Rattle.bc_syntax.specs.declared.syntax.Header.{Header}
+use Rattle.bc_syntax.specs.declared.syntax.Body.{Body}
+use Rattle.bc_syntax.specs.declared.syntax.Variance.{Variance}
+use Rattle.bc_syntax.specs.declared.syntax.Variance.TheVariants.{Covariant, Invariant}
+use Rattle.bc_syntax.specs.declared.syntax.StructDeclaration.{StructDeclaration}
+use Rattle.bc_syntax.specs.declared.syntax.ExternDeclaration.{ExternDeclaration}
+use Rattle.bc_syntax.specs.declared.syntax.Declaration.{Declaration}
+use Rattle.bc_syntax.specs.declared.syntax.Declaration.TheVariants as declarations
+use Rattle.bc_text.specs.Token.{Token, Fixed, Numbered, Word, End, tokens, Placed}
 use Rattle.bc_text.specs.Token.{Region as Named}
+use Rattle.bc_text.specs.Universals.{universal_names}
 
 abbrev pub symbol : Symbol → List Token
 symbol found = Fixed found ∷ []
 
--- ---- types
+-- items, each behind a comma
+abbrev pub behind_commas : {A : Type 0} → (A → List Token) → List A → List Token
+behind_commas item xs = flat_map (λ y. symbol s.Comma ++ item y) xs
 
-abbrev pub region : Region → List Token
-region (Universal k) = Named (codes "static") ∷ []
-region (Variable v) = Numbered n.Variable v ∷ []
+-- items with commas between
+abbrev pub commas : {A : Type 0} → (A → List Token) → List A → List Token
+commas item [] = []
+commas item (x ∷ xs) = item x ++ behind_commas item xs
+
+-- items with commas between, in `<` and `>`; nothing where there is none
+abbrev pub angled : {A : Type 0} → (A → List Token) → List A → List Token
+angled item [] = []
+angled item (x ∷ xs) = symbol s.Less ++ (commas item (x ∷ xs) ++ symbol s.Greater)
+
+-- ---- names and regions, where these are declared
+
+abbrev pub universal : List RegionName → ℕ → List Token
+universal regions number = Named (get_or (universal_names regions) number []) ∷ []
+
+abbrev pub region : List RegionName → Region → List Token
+region regions (Universal number) = universal regions number
+region regions (Variable number) = Numbered n.Variable number ∷ []
+
+abbrev pub item_name : ItemName → List Token
+item_name name = Word name.bytes ∷ []
+
+abbrev pub instance : List RegionName → Instance → List Token
+instance regions i = item_name i.name ++ angled (region regions) i.regions
+
+abbrev pub region_name : RegionName → List Token
+region_name name = Named name.bytes ∷ []
+
+abbrev pub clause : List RegionName → Outlives → List Token
+clause regions c = universal regions c.longer ++ (symbol s.Colon ++ universal regions c.shorter)
+
+abbrev pub clauses : List RegionName → List Outlives → List Token
+clauses regions [] = []
+clauses regions (c ∷ cs) = symbol s.Where ++ commas (clause regions) (c ∷ cs)
+
+-- ---- types
 
 abbrev pub mutability : Mutability → List Token
 mutability Shared = []
 mutability Mutable = symbol s.Mut
 
-abbrev pub reference : Reference → List Token
-reference r = region r.region ++ mutability r.mutability
+abbrev pub reference : List RegionName → Reference → List Token
+reference regions r = region regions r.region ++ mutability r.mutability
 
-abbrev pub behind : Reference → List Token
-behind r = symbol s.Ampersand ++ reference r
+abbrev pub behind : List RegionName → Reference → List Token
+behind regions r = symbol s.Ampersand ++ reference regions r
 
-abbrev pub base : Base → List Token
-base bases.Int = symbol s.Int
+abbrev pub base : List RegionName → Base → List Token
+base regions bases.Int = symbol s.Int
+base regions (bases.Struct i) = instance regions i
 
-abbrev pub ty : Ty → List Token
-ty t = flat_map behind t.references ++ base t.base
+abbrev pub ty : List RegionName → Ty → List Token
+ty regions t = flat_map (behind regions) t.references ++ base regions t.base
 
 -- ---- places and operands
 
@@ -74,151 +123,144 @@ operand (operand_kinds.Copy p) = symbol s.Copy ++ place p
 operand (operand_kinds.Move p) = symbol s.Move ++ place p
 operand (operand_kinds.Number k) = Numbered n.Number k ∷ []
 
--- items with commas between
-abbrev pub commas : {A : Type 0} → (A → List Token) → List A → List Token
-commas item [] = []
-commas item (x ∷ xs) = item x ++ flat_map (λ y. symbol s.Comma ++ item y) xs
-
 abbrev pub operands : List Operand → List Token
 operands os = symbol s.OpenParen ++ (commas operand os ++ symbol s.CloseParen)
 
--- ---- statements
+-- ---- points
 
-abbrev pub borrow : Borrow → List Token
-borrow b = reference b.reference ++ place b.place
+abbrev pub borrow : List RegionName → Borrow → List Token
+borrow regions b = reference regions b.reference ++ place b.place
 
-abbrev pub rvalue : Rvalue → List Token
-rvalue (rvalue_kinds.Use o) = operand o
-rvalue (rvalue_kinds.Borrow b) = symbol s.Ampersand ++ borrow b
-rvalue (rvalue_kinds.Calc os) = symbol s.Calc ++ operands os
+abbrev pub aggregate : List RegionName → Aggregate → List Token
+aggregate regions a = instance regions a.instance ++ operands a.operands
 
-abbrev pub assignment : Assignment → List Token
-assignment a = place a.target ++ (symbol s.Equals ++ rvalue a.value)
+abbrev pub rvalue : List RegionName → Rvalue → List Token
+rvalue regions (rvalue_kinds.Use o) = operand o
+rvalue regions (rvalue_kinds.Borrow b) = symbol s.Ampersand ++ borrow regions b
+rvalue regions (rvalue_kinds.Aggregate a) = aggregate regions a
+rvalue regions (rvalue_kinds.Calc os) = symbol s.Calc ++ operands os
 
-abbrev pub statement : Statement → List Token
-statement (statement_kinds.Assign a) = assignment a
-statement (statement_kinds.Dead l) = symbol s.Dead ++ (Numbered n.Local l ∷ [])
-statement statement_kinds.Nop = symbol s.Nop
+abbrev pub assignment : List RegionName → Assignment → List Token
+assignment regions a = place a.target ++ (symbol s.Equals ++ rvalue regions a.value)
 
-abbrev pub line : Statement → List Token
-line st = statement st ++ symbol s.Semicolon
+abbrev pub statement : List RegionName → Statement → List Token
+statement regions (statement_kinds.Assign a) = assignment regions a
+statement regions (statement_kinds.Dead l) = symbol s.Dead ++ (Numbered n.Local l ∷ [])
+statement regions (statement_kinds.Drop p) = symbol s.Drop ++ place p
+statement regions statement_kinds.Nop = symbol s.Nop
 
-abbrev pub terminator : Terminator → List Token
-terminator (Goto label) = symbol s.Goto ++ (Numbered n.Label label ∷ [])
-terminator (If c) = symbol s.If ++ (operand c.operand ++ (Numbered n.Label c.then ∷ Numbered n.Label c.otherwise ∷ []))
-terminator Return = symbol s.Return
-terminator Stop = symbol s.Stop
+abbrev pub line : List RegionName → Statement → List Token
+line regions st = statement regions st ++ symbol s.Semicolon
 
-abbrev pub points : Block → List Token
-points b = flat_map line b.statements ++ terminator b.terminator
+abbrev pub label : ℕ → List Token
+label number = Numbered n.Label number ∷ []
+
+abbrev pub condition : Condition → List Token
+condition c = operand c.operand ++ (label c.then ++ label c.otherwise)
+
+-- what is called, and where it returns to
+abbrev pub called : List RegionName → Call → List Token
+called regions c = instance regions c.function ++ (operands c.operands ++ label c.target)
+
+abbrev pub call : List RegionName → Call → List Token
+call regions c = place c.destination ++ (symbol s.Equals ++ (symbol s.Call ++ called regions c))
+
+abbrev pub terminator : List RegionName → Terminator → List Token
+terminator regions (terminator_kinds.Goto number) = symbol s.Goto ++ label number
+terminator regions (terminator_kinds.If c) = symbol s.If ++ condition c
+terminator regions (terminator_kinds.Call c) = call regions c
+terminator regions terminator_kinds.Return = symbol s.Return
+terminator regions terminator_kinds.Stop = symbol s.Stop
+
+abbrev pub points : List RegionName → Block → List Token
+points regions b = flat_map (line regions) b.statements ++ terminator regions b.terminator
+
+abbrev pub braced : List RegionName → Block → List Token
+braced regions b = symbol s.OpenBrace ++ (points regions b ++ (symbol s.Semicolon ++ symbol s.CloseBrace))
 
 -- a block under its label
-abbrev pub block : ℕ → Block → List Token
-block label b = Numbered n.Label label ∷ (symbol s.OpenBrace ++ (points b ++ (symbol s.Semicolon ++ symbol s.CloseBrace)))
+abbrev pub block : List RegionName → ℕ → Block → List Token
+block regions number b = label number ++ braced regions b
 
 -- blocks, the first of which has this label
-abbrev pub blocks : ℕ → List Block → List Token
-blocks next [] = []
-blocks next (b ∷ bs) = block next b ++ blocks (next + 1) bs
+abbrev pub blocks : List RegionName → ℕ → List Block → List Token
+blocks regions number [] = []
+blocks regions number (b ∷ bs) = block regions number b ++ blocks regions (number + 1) bs
 
 -- ---- units
 
-abbrev pub declared : ℕ → Ty → List Token
-declared next t = symbol s.Let ++ (Numbered n.Local next ∷ (symbol s.Colon ++ (ty t ++ symbol s.Semicolon)))
+abbrev pub declared : List RegionName → ℕ → Ty → List Token
+declared regions number t = symbol s.Let ++ (Numbered n.Local number ∷ (symbol s.Colon ++ (ty regions t ++ symbol s.Semicolon)))
 
 -- the types of the locals from this one on
-abbrev pub lets : ℕ → List Ty → List Token
-lets next [] = []
-lets next (t ∷ ts) = declared next t ++ lets (next + 1) ts
+abbrev pub lets : List RegionName → ℕ → List Ty → List Token
+lets regions number [] = []
+lets regions number (t ∷ ts) = declared regions number t ++ lets regions (number + 1) ts
 
--- a header that declares no regions and has no clauses
+abbrev pub parameters : List RegionName → List Ty → List Token
+parameters regions ts = symbol s.OpenParen ++ (commas (ty regions) ts ++ symbol s.CloseParen)
+
+-- what stands behind a function's name or the word `fn`
+abbrev pub signature : Header → List Token
+signature h = angled region_name h.regions ++ (clauses h.regions h.clauses ++ (parameters h.regions h.parameters ++ (symbol s.Arrow ++ ty h.regions h.result)))
+
 abbrev pub header : Header → List Token
-header h = symbol s.Fn ++ (symbol s.OpenParen ++ (commas ty h.parameters ++ (symbol s.CloseParen ++ (symbol s.Arrow ++ ty h.result))))
+header h = symbol s.Fn ++ signature h
+
+-- the first of the `let` locals
+abbrev pub first_let : Header → ℕ
+first_let h = 1 + length h.parameters
+
+-- what stands behind a header
+abbrev pub body : Body → List Token
+body u = symbol s.OpenBrace ++ (lets u.header.regions (first_let u.header) u.lets ++ (blocks u.header.regions 0 u.blocks ++ symbol s.CloseBrace))
 
 abbrev pub unit : Body → List Token
-unit u = header u.header ++ (symbol s.OpenBrace ++ (lets (1 + length u.header.parameters) u.lets ++ (blocks 0 u.blocks ++ (symbol s.CloseBrace ++ End ∷ []))))
+unit u = header u.header ++ body u
 
--- ---- what has a spelling
+-- ---- declarations
 
-abbrev pub RegionFits : Scope → Region → Type 0
-RegionFits scope (Universal k) = k ≡ 0
-RegionFits scope (Variable v) = (scope.in_body ≡ true) × (v ≤ 1023)
+abbrev pub variance : Variance → List Token
+variance Covariant = symbol s.Plus
+variance Invariant = symbol s.Equals
 
-abbrev pub ReferenceFits : Scope → Reference → Type 0
-ReferenceFits scope r = RegionFits scope r.region
+-- a region with its variance
+abbrev pub mark : Variance × RegionName → List Token
+mark m = variance m.0 ++ region_name m.1
 
-pub record TyFits (scope : Scope) (t : Ty) : Type 0 where
-  pub depth : length t.references ≤ 7
-  pub references : AllByRecursion (ReferenceFits scope) t.references
+abbrev pub drop_word : Bool → List Token
+drop_word false = []
+drop_word true = symbol s.Drop
 
-abbrev pub LocalFits : Scope → ℕ → Type 0
-LocalFits scope l = (l ≤ 255) × (l < scope.locals)
+abbrev pub field : List RegionName → Ty → List Token
+field regions t = ty regions t ++ symbol s.Semicolon
 
-abbrev pub ProjectionFits : Projection → Type 0
-ProjectionFits Deref = Unit {0}
-ProjectionFits (Field k) = k ≤ 15
+abbrev pub fields : StructDeclaration → List Token
+fields d = symbol s.OpenBrace ++ (flat_map (field d.regions) d.fields ++ symbol s.CloseBrace)
 
-pub record PlaceFits (scope : Scope) (p : Place) : Type 0 where
-  pub local : LocalFits scope p.local
-  pub length : length p.projections ≤ 8
-  pub projections : AllByRecursion ProjectionFits p.projections
+-- a struct behind its first word
+abbrev pub struct_rest : StructDeclaration → List Token
+struct_rest d = item_name d.name ++ (angled mark (zip d.variances d.regions) ++ (drop_word d.has_drop ++ fields d))
 
-abbrev pub OperandFits : Scope → Operand → Type 0
-OperandFits scope (operand_kinds.Copy p) = PlaceFits scope p
-OperandFits scope (operand_kinds.Move p) = PlaceFits scope p
-OperandFits scope (operand_kinds.Number k) = k ≤ 4294967295
+-- an extern function behind its first word
+abbrev pub extern_rest : ExternDeclaration → List Token
+extern_rest d = item_name d.name ++ (signature d.header ++ symbol s.Semicolon)
 
-abbrev pub OperandsFit : Scope → List Operand → Type 0
-OperandsFit scope os = AllByRecursion (OperandFits scope) os × (length os ≤ 16)
+abbrev pub declaration : Declaration → List Token
+declaration (declarations.Struct d) = symbol s.Struct ++ struct_rest d
+declaration (declarations.Extern d) = symbol s.Extern ++ extern_rest d
 
-abbrev pub RvalueFits : Scope → Rvalue → Type 0
-RvalueFits scope (rvalue_kinds.Use o) = OperandFits scope o
-RvalueFits scope (rvalue_kinds.Borrow b) = ReferenceFits scope b.reference × PlaceFits scope b.place
-RvalueFits scope (rvalue_kinds.Calc os) = OperandsFit scope os
+abbrev pub types : List Declaration → List Token
+types ds = flat_map declaration ds
 
-abbrev pub AssignmentFits : Scope → Assignment → Type 0
-AssignmentFits scope a = PlaceFits scope a.target × RvalueFits scope a.value
+-- ---- texts
 
-abbrev pub StatementFits : Scope → Statement → Type 0
-StatementFits scope (statement_kinds.Assign a) = AssignmentFits scope a
-StatementFits scope (statement_kinds.Dead l) = LocalFits scope l
-StatementFits scope statement_kinds.Nop = Unit {0}
+-- The bytes spell these tokens: they are theirs, and the bytes are not too many.
+abbrev pub AreSpelled : List ℕ → List Token → Type 0
+AreSpelled bytes found = (length bytes ≤ 1048576) × (map (λ (t : Placed). t.token) (tokens 0 0 bytes) ≡ found ++ End ∷ [])
 
--- the terminators that are read so far
-abbrev pub EndsUnit : Terminator → Type 0
-EndsUnit (Goto label) = ⊥
-EndsUnit (If c) = ⊥
-EndsUnit Return = Unit {0}
-EndsUnit Stop = Unit {0}
-
-pub record BlockFits (scope : Scope) (b : Block) : Type 0 where
-  pub ends : EndsUnit b.terminator
-  pub statements : AllByRecursion (StatementFits scope) b.statements
-  pub points : length b.statements + 1 ≤ 4096
-
--- what may be named in a header, and in a body with so many locals
-abbrev pub in_header : Scope
-in_header = record { in_body = false; locals = 0 }
-
-abbrev pub in_body : ℕ → Scope
-in_body locals = record { in_body = true; locals = locals }
-
--- The headers that are read so far declare no regions and have no clauses.
-pub record HeaderFits (h : Header) : Type 0 where
-  pub regions : h.regions ≡ []
-  pub clauses : h.clauses ≡ []
-  pub parameters : AllByRecursion (TyFits in_header) h.parameters
-  pub parameter_count : length h.parameters ≤ 16
-  pub result : TyFits in_header h.result
-
--- The units that are read so far have one block.
-pub record Fits (u : Body) : Type 0 where
-  pub header : HeaderFits u.header
-  pub lets : AllByRecursion (TyFits (in_body 0)) u.lets
-  pub local_count : 1 + length u.header.parameters + length u.lets ≤ 256
-  pub one_block : length u.blocks ≡ 1
-  pub blocks : AllByRecursion (BlockFits (in_body (1 + length u.header.parameters + length u.lets))) u.blocks
-
--- The bytes spell the unit: their tokens are its tokens, and they are not too many.
 abbrev pub Spells : List ℕ → Body → Type 0
-Spells bytes u = (length bytes ≤ 1048576) × (map (λ (t : Placed). t.token) (tokens 0 0 bytes) ≡ unit u)
+Spells bytes u = AreSpelled bytes (unit u)
+
+abbrev pub SpellsTypes : List ℕ → List Declaration → Type 0
+SpellsTypes bytes ds = AreSpelled bytes (types ds)

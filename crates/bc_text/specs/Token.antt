@@ -2,14 +2,15 @@
 use Rattle.std.specs.Prelude.{ℕ, zero, suc, ◌+◌, ◌-◌, Bool, not, ◌||◌, ◌&&◌, if◌then◌else◌, ◌==◌, nat_le, List, [], ◌∷◌, length, drop, slice_index, Option, Some, None, fold, ◌*◌}
 use Rattle.std.specs.Char.{is_ascii_digit, is_ascii_alphabetic, is_ascii_lowercase}
 use Rattle.std.specs.List.{list_all}
-use Rattle.bc_text.specs.declared.symbol.Symbol.{Symbol}
-use Rattle.bc_text.specs.declared.symbol.Symbol.TheVariants.{Arrow}
+use Rattle.bc_syntax.specs.declared.symbol.Symbol.{Symbol}
+use Rattle.bc_syntax.specs.declared.symbol.Symbol.TheVariants.{Arrow}
 use Rattle.bc_text.specs.declared.token.Numbering.{Numbering}
 use Rattle.bc_text.specs.declared.token.Numbering.TheVariants as numberings
 use Rattle.bc_text.specs.declared.token.Kind.{Kind}
 use Rattle.bc_text.specs.declared.token.Kind.TheVariants as kinds
-use Rattle.bc_text.specs.Bytes.{is_run_byte, run}
-use Rattle.bc_text.specs.Symbol.{keyword_of, sign_of}
+use Rattle.bc_syntax.specs.Bytes.{is_run_byte, run}
+use Rattle.bc_syntax.specs.Symbol.{keyword_of, sign_of}
+use Rattle.bc_syntax.specs.Words.{is_number, is_label, is_region_name}
 
 -- a token, as the grammar sees it
 pub data Token : Type 0 where
@@ -44,21 +45,11 @@ Tokens = List Placed
 abbrev pub is_blank : ℕ → Bool
 is_blank b = b == 32 || b == 10
 
-abbrev pub is_region_byte : ℕ → Bool
-is_region_byte b = is_ascii_lowercase b || is_ascii_digit b || b == 95
-
 -- ---- runs
-
--- 0, or digits without a leading zero
-unfoldable pub is_number : List ℕ → Bool
-is_number digits = list_all is_ascii_digit digits && nat_le 1 (length digits) && (length digits == 1 || not (slice_index digits 0 == 48))
 
 -- what digits count
 abbrev pub value : List ℕ → ℕ
 value digits = fold (λ n b. n * 10 + (b - 48)) 0 digits
-
-unfoldable pub is_region_name : List ℕ → Bool
-is_region_name name = is_ascii_lowercase (slice_index name 0) && list_all is_region_byte name
 
 abbrev pub word : List ℕ → Option Symbol → Token
 word name (Some keyword) = Fixed keyword
@@ -69,7 +60,7 @@ unfoldable pub run_token : List ℕ → Token
 run_token r =
     if is_number r then Numbered numberings.Number (value r)
     else (if slice_index r 0 == 95 && is_number (drop 1 r) then Numbered numberings.Local (value (drop 1 r))
-    else (if slice_index r 0 == 98 && slice_index r 1 == 98 && is_number (drop 2 r) then Numbered numberings.Label (value (drop 2 r))
+    else (if is_label r then Numbered numberings.Label (value (drop 2 r))
     else (if is_ascii_alphabetic (slice_index r 0) then word r (keyword_of r)
     else Stray)))
 

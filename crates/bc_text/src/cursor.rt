@@ -4,9 +4,8 @@ ghost use Rattle.bc_text.specs.Token.{End, tokens, value, is_blank};
 ghost use Rattle.bc_text.specs.Parser as spec;
 ghost use Rattle.bc_text.specs.Parser.{Reads, ReadsAs, first, after};
 
-use crate::bytes::behind;
 use crate::fault::Refusal;
-use crate::symbol::{Symbol, same};
+use bc_syntax::{Symbol, behind, same};
 use crate::token::{Kind, Numbering, Token, lexeme};
 use std::marker::Model;
 
@@ -227,6 +226,52 @@ impl<'a> Cursor<'a> {
             return Err(self.fault());
         };
         if name.len() > 16 {
+            return Err(Refusal::Limit { at: self.at });
+        }
+        self.take();
+        Ok(name)
+    }
+
+    /// Whether a region's name comes next.
+    #[tactic(auto, unfolding(crate::specs::Parser::sees_region))]
+    pub fn sees_region(&self) -> bool
+        ensures { result ≡ spec.sees_region self.now }
+    {
+        self.name().is_some()
+    }
+
+    fn plain_word(&self) -> Option<&'a [u8]>
+        ensures not_end { IsSome result → (first self.now).token ≢ End }
+        ensures value { MatchOption result (spec.word_in (first self.now).token ≡ None) (λ name. spec.word_in (first self.now).token ≡ Some name.now) }
+    {
+        match self.token.kind {
+            Kind::Word => Some(self.token.text),
+            Kind::Region
+            | Kind::Numbered(_)
+            | Kind::Fixed(_)
+            | Kind::NotAscii
+            | Kind::Stray
+            | Kind::End => None,
+        }
+    }
+
+    /// Whether a word that is no keyword comes next.
+    #[tactic(auto, unfolding(crate::specs::Parser::sees_word))]
+    pub fn sees_word(&self) -> bool
+        ensures { result ≡ spec.sees_word self.now }
+    {
+        self.plain_word().is_some()
+    }
+
+    /// A word that is no keyword.
+    #[tactic(auto, unfolding(crate::specs::Parser::word))]
+    pub fn word(&mut self) -> Result<&'a [u8], Refusal>
+        ensures { ReadsAs (λ name. name.now) (spec.word self.old) result self.new }
+    {
+        let Some(name) = self.plain_word() else {
+            return Err(self.fault());
+        };
+        if name.len() > 32 {
             return Err(Refusal::Limit { at: self.at });
         }
         self.take();

@@ -6,10 +6,10 @@ ghost use Rattle.std.specs.Cmp.{partial_order_from_own_ties};
 ghost use Rattle.std.specs.Cmp.Rules.{comparing};
 ghost use Rattle.std.specs.List.{list_all};
 ghost use Rattle.std.specs.Ordering.{as_partial_cmp};
-ghost use Rattle.bc_text.specs.Bytes.{is_run_byte};
+ghost use Rattle.bc_syntax.specs.Bytes.{is_run_byte};
 ghost use Rattle.bc_text.specs.Names.{IsName, NameParts, begins_root, is_root, first_segment, name_text, name_order, is_same_name};
 
-use crate::bytes::{byte_at, from, is_run_byte, run};
+use bc_syntax::{byte_at, from, is_run_byte, run};
 use std::cmp::Ordering;
 use std::fmt;
 use std::marker::Model;

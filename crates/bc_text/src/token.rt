@@ -2,12 +2,12 @@
 ghost use Rattle.std.specs.Prelude.{◌≡◌, ◌≢◌, ◌≤◌, ◌<◌, ◌+◌, ◌^◌, ◌∷◌, ℕ, true, length, slice_index, if◌then◌else◌};
 ghost use Rattle.std.specs.Char.{is_ascii_alphabetic, is_ascii_digit};
 ghost use Rattle.std.specs.List.{list_all};
-ghost use Rattle.bc_text.specs.Bytes.{run};
-ghost use Rattle.bc_text.specs.Token.{Numbered, Stray, shown, is_region_byte, is_number, is_region_name, value, word, run_token, region_token, sign_token, lexeme};
-ghost use Rattle.bc_text.specs.Symbol.{keyword_of, sign_of};
+ghost use Rattle.bc_syntax.specs.Bytes.{run};
+ghost use Rattle.bc_syntax.specs.Words.{is_region_byte, is_number, is_region_name};
+ghost use Rattle.bc_text.specs.Token.{Numbered, Stray, shown, value, word, run_token, region_token, sign_token, lexeme};
+ghost use Rattle.bc_syntax.specs.Symbol.{keyword_of, sign_of};
 
-use crate::bytes::{behind, byte_at, digits_len, region_len, run, run_len};
-use crate::symbol::Symbol;
+use bc_syntax::{Symbol, behind, byte_at, digits_len, region_len, run, run_len};
 
 /// What a number counts.
 #[derive(Clone, Copy, Debug, PartialEq, Eq)]
@@ -47,7 +47,7 @@ impl<'a> Token<'a> {
 }
 
 #[inline(always)]
-#[tactic(auto, unfolding(crate::specs::Token::is_number))]
+#[tactic(auto, unfolding(bc_syntax::specs::Words::is_number))]
 fn is_number(digits: &[u8], are_digits: bool) -> bool
     requires { are_digits ≡ list_all is_ascii_digit digits.now }
     ensures { result ≡ is_number digits.now }
@@ -55,7 +55,7 @@ fn is_number(digits: &[u8], are_digits: bool) -> bool
     are_digits && !digits.is_empty() && (digits.len() == 1 || byte_at(digits, 0) != b'0')
 }
 
-#[tactic(auto, unfolding(crate::specs::Token::is_region_name))]
+#[tactic(auto, unfolding(bc_syntax::specs::Words::is_region_name))]
 fn is_region_name(name: &[u8], are_region_bytes: bool) -> bool
     requires { are_region_bytes ≡ list_all is_region_byte name.now }
     ensures { result ≡ is_region_name name.now }

@@ -4,6 +4,8 @@
 #[cfg(test)]
 mod names;
 #[cfg(test)]
+mod printed;
+#[cfg(test)]
 mod texts;
 #[cfg(test)]
 mod values;

@@ -1,8 +1,6 @@
 //! What a text is read as.
-use bc_text::{
-    Base, Body, Mutability, Operand, Projection, ReadFault, Region, Rvalue, Statement, Terminator,
-    Unit, UnitKind, read_unit,
-};
+use bc_text::{ReadFault, read_unit};
+use bc_syntax::{Base, Body, Mutability, Operand, Projection, Region, Rvalue, Statement, Terminator, Unit, UnitKind};
 use std::alloc::Global;
 use std::test::Fail;
 
@@ -106,8 +104,8 @@ fn a_body_within_the_limits_is_a_unit(rt: HostRuntime) -> Result<(), Fail> {
                 return Ok(());
             };
             let mut body = again.body().clone()?;
-            body.lets = bc_text::Sequence::new(rt.alloc());
-            body.blocks = bc_text::Sequence::new(rt.alloc());
+            body.lets = bc_syntax::Sequence::new(rt.alloc());
+            body.blocks = bc_syntax::Sequence::new(rt.alloc());
             assert!(rt; Unit::new(body).is_none());
         }
         Err(_) => assert!(rt; false, "it is a unit"),

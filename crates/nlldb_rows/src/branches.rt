@@ -2,7 +2,7 @@
 use crate::fixture::{conflict, outcome, point, reports};
 use crate::table::{End, Layer, Line, Lines, Path, Table, unit};
 use bc_judge::BorrowError;
-use bc_text::{Outlives, Region};
+use bc_syntax::{Outlives, Region};
 use std::test::Fail;
 
 const A: Region = Region::Universal(1);
@@ -98,7 +98,7 @@ fn is_answer(
     table: &Table,
     errors: &[BorrowError],
 ) -> Result<bool, Fail> {
-    let found = outcome(alloc, unit(alloc, table)?)?;
+    let found = outcome(alloc, &unit(alloc, table)?)?;
     Ok(reports(&found, errors))
 }
 

@@ -1,9 +1,14 @@
 //! What the tests share: a database with one session, and the outcome of one body in it.
+ghost use Rattle.std.specs.Prelude.{◌≡◌, true, IfOk};
+ghost use Rattle.std.specs.Arc.{arc_value};
+ghost use Rattle.bc_syntax.specs.Served.{served};
+
 use bc_judge::BorrowError;
 use bc_mir::Point;
-use bc_prov::Outcome;
+use bc_prov::{Outcome, outcome_of};
 use bc_share::{Db, History, Session};
-use bc_text::{Name, Unit};
+use bc_syntax::Unit;
+use bc_text::Name;
 use std::alloc::{AllocError, Global};
 use std::sync::Arc;
 use std::test::Fail;
@@ -55,17 +60,30 @@ pub fn close(alloc: Global, db: Db, session: Session) -> Result<History, Fail> {
     Ok(db.close(sessions)?)
 }
 
-/// A unit behind an `Arc`, as a put takes it; fails for want of memory.
-pub fn shared(alloc: Global, unit: Unit) -> Result<Arc<Unit, Global>, Fail> {
-    Ok(Arc::new(alloc, unit).map_err(|_| AllocError)?)
+/// A unit behind an `Arc`, as a put takes it; fails where the database does not serve it, or for want of memory.
+pub fn shared(alloc: Global, unit: Unit) -> Result<Arc<Unit, Global>, Fail>
+    ensures { IfOk result (λ unit. served (arc_value unit) ≡ true) }
+{
+    if !unit.served() {
+        return Err("a unit that is served")?;
+    }
+    match Arc::new(alloc, unit) {
+        Ok(unit) => Ok(unit),
+        Err(_) => Err(AllocError)?,
+    }
 }
 
-/// The outcome of a unit, put as `f` into a new database and asked for.
-pub fn outcome(alloc: Global, unit: Unit) -> Result<Arc<Outcome, Global>, Fail> {
+/// The outcome of a unit, put as `f` into a new database and asked for; fails where the database does not serve it.
+pub fn asked(alloc: Global, unit: Unit) -> Result<Arc<Outcome, Global>, Fail> {
     let f = name(b"f")?;
     let (_db, mut session) = open(alloc, 0, 2)?;
     session.put(f, shared(alloc, unit)?)?;
     Ok(session.ask(&f)?)
+}
+
+/// The outcome of `f` where it holds a unit, which the database need not serve.
+pub fn outcome(alloc: Global, unit: &Unit) -> Result<Outcome, Fail> {
+    Ok(outcome_of(alloc, &name(b"f")?, Some(unit))?)
 }
 
 /// Whether an outcome reports one body with these errors.

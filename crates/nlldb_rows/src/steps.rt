@@ -8,7 +8,8 @@ use bc_loans::{in_scope, loans};
 use bc_mir::{Typed, type_unit};
 use bc_prov::{Outcome, outcome_of};
 use bc_solve::{Values, solve_plain};
-use bc_text::{Mutability, Region, read_unit};
+use bc_syntax::{Mutability, Region};
+use bc_text::read_unit;
 use std::alloc::Global;
 use std::test::Fail;
 

@@ -1,5 +1,5 @@
-//! Bodies given by tables, since the texts that are read have one block and declare no regions.
-use bc_text::{
+//! Bodies given by tables.
+use bc_syntax::{
     Assignment, Base, Block, Body, Borrow, Condition, Header, Mutability, Operand, Outlives, Place,
     Projection, Reference, Region, RegionName, Rvalue, Sequence, ShortSequence, Statement,
     Terminator, Ty, Unit, UnitKind,

@@ -1,5 +1,7 @@
-//! Bodies of one block, given by their texts.
-use crate::fixture::{WRITES_LAST, WRITES_WHILE_BORROWED, conflict, name, outcome, point, reports};
+//! Bodies given by their texts.
+use crate::fixture::{
+    WRITES_LAST, WRITES_WHILE_BORROWED, asked, conflict, name, outcome, point, reports,
+};
 use bc_judge::BorrowError;
 use bc_mir::Where;
 use bc_prov::Outcome;
@@ -22,7 +24,7 @@ fn a_loan_ends_with_the_last_use_of_its_reference(rt: HostRuntime) -> Result<(),
         (DIES_WHILE_BORROWED, conflicts.as_slice()),
     ];
     for (text, errors) in rows {
-        let found = outcome(rt.alloc(), read_unit(rt.alloc(), text)?)?;
+        let found = asked(rt.alloc(), read_unit(rt.alloc(), text)?)?;
         assert!(rt; reports(&found, errors));
     }
     Ok(())
@@ -39,9 +41,78 @@ fn an_ill_unit_is_told_with_its_first_misfit(rt: HostRuntime) -> Result<(), Fail
     ];
     let f = name(b"f")?;
     for (text, index) in rows {
-        let found = outcome(rt.alloc(), read_unit(rt.alloc(), text)?)?;
+        let found = asked(rt.alloc(), read_unit(rt.alloc(), text)?)?;
         let place = Where::At(point(0, index));
         assert!(rt; matches!(&*found, Outcome::Ill(name, at) if *name == f && *at == place));
+    }
+    Ok(())
+}
+
+#[test]
+fn what_is_not_declared_is_ill(rt: HostRuntime) -> Result<(), Fail> {
+    let rows: [(&[u8], Where); 6] = [
+        (b"fn()->S{bb0{goto bb5;}}".as_slice(), Where::Header),
+        (b"fn(&'static S)->int{bb0{return;}}", Where::Header),
+        (b"fn()->int{let _1:S<'?0>;bb0{return;}}", Where::Header),
+        (
+            b"fn()->int{bb0{nop;_0=S<'?1>(1);return;}}",
+            Where::At(point(0, 1)),
+        ),
+        (
+            b"fn()->int{bb0{stop;}bb1{_0=call f(1) bb0;}}",
+            Where::At(point(1, 0)),
+        ),
+        (
+            b"fn(&'static int)->int{bb0{drop _1;drop _1.*;return;}}",
+            Where::At(point(0, 1)),
+        ),
+    ];
+    let f = name(b"f")?;
+    for (text, place) in rows {
+        let found = outcome(rt.alloc(), &read_unit(rt.alloc(), text)?)?;
+        assert!(rt; matches!(found, Outcome::Ill(name, at) if name == f && at == place));
+    }
+    Ok(())
+}
+
+#[test]
+fn a_drop_writes_its_place_and_ends_nothing(rt: HostRuntime) -> Result<(), Fail> {
+    let conflicts = [
+        conflict(point(0, 2), point(0, 1)),
+        conflict(point(0, 3), point(0, 1)),
+    ];
+    let text =
+        b"fn () -> int { let _1: int; let _2: &'?0 int; bb0 { _1 = 1; _2 = &'?0 _1; drop _1; dead _1; _0 = copy _2.*; return; } }".as_slice();
+    let found = outcome(rt.alloc(), &read_unit(rt.alloc(), text)?)?;
+    assert!(rt; reports(&found, &conflicts));
+    let text =
+        b"fn () -> int { let _1: int; let _2: &'?0 int; bb0 { _1 = 1; _2 = &'?0 _1; drop _2; dead _1; return; } }".as_slice();
+    let found = outcome(rt.alloc(), &read_unit(rt.alloc(), text)?)?;
+    assert!(rt; reports(&found, &[]));
+    Ok(())
+}
+
+#[test]
+fn one_block_of_references_to_int_is_served(rt: HostRuntime) -> Result<(), Fail> {
+    let rows: [(&[u8], bool); 12] = [
+        (WRITES_LAST, true),
+        (
+            b"fn(&'static mut int,int)->int{let _3:&'?0 int;bb0{_0=calc(move _2,1);dead _3;nop;stop;}}",
+            true,
+        ),
+        (b"fn<'a>()->int{bb0{return;}}", false),
+        (b"fn where 'static:'static()->int{bb0{return;}}", false),
+        (b"fn()->S{bb0{return;}}", false),
+        (b"fn(&'static S)->int{bb0{return;}}", false),
+        (b"fn()->int{let _1:S;bb0{return;}}", false),
+        (b"fn()->int{bb0{_0=S();return;}}", false),
+        (b"fn()->int{bb0{drop _0;return;}}", false),
+        (b"fn()->int{bb0{goto bb0;}}", false),
+        (b"fn()->int{bb0{_0=call f() bb0;}}", false),
+        (b"fn()->int{bb0{return;}bb1{return;}}", false),
+    ];
+    for (text, served) in rows {
+        assert_eq!(rt; read_unit(rt.alloc(), text)?.served(), served);
     }
     Ok(())
 }

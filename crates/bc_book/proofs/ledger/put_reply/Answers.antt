@@ -1,6 +1,6 @@
 use Rattle.std.proofs.Common.{◌≡◌, sym, ◌∙◌, subst, arith}
 use Rattle.std.specs.BTreeMap.{btree_map_len}
-use Rattle.bc_text.specs.declared.syntax.Body.{Body}
+use Rattle.bc_syntax.specs.declared.syntax.Body.{Body}
 use Rattle.bc_book.specs.Calls.{Suits, HoldsCount}
 use Rattle.bc_book.specs.Ledgers.{state_of}
 use Rattle.bc_book.proofs.Bodies.{counted, absent}

@@ -4,6 +4,7 @@ use Rattle.std.specs.Io.KnownBytes.{Keeps}
 use Rattle.bc_check.specs.Puts.{seen}
 use Rattle.bc_check.specs.Ends.{HasTooManyCalls}
 use Rattle.bc_check.proofs.Ending.{known_is}
+use Rattle.bc_check.proofs.Reading.{served_all}
 use Rattle.bc_check.proofs.command.check.Goals as goal
 
 pub returns-clause-too_many : goal.returns-clause-too_many
@@ -24,3 +25,6 @@ returns-clause-too_many g c e =
       h.1,
       h.2,
     )
+
+pub serve-requires : goal.serve-requires
+serve-requires g c = served_all _ (map seen c.in_ok-puts.puts.items) (rw c.deref.ensures.value at c.in_ok-puts.ensures)

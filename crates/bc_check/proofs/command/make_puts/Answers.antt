@@ -3,6 +3,7 @@ use Rattle.bc_check.specs.declared.stop.Stop.TheVariants.{NoMemory}
 use Rattle.bc_check.specs.Puts.{seen}
 use Rattle.bc_check.specs.Run.{put_call, told}
 use Rattle.bc_check.proofs.Serving.{making_none, making_more, making_part, same_stop}
+use Rattle.bc_check.proofs.Reading.{served_next}
 use Rattle.bc_check.proofs.command.make_puts.Goals as goal
 
 pub loop-put-preserved : goal.loop-put-preserved
@@ -20,3 +21,6 @@ pub returns-in_err-make_put-clause-no_memory : goal.returns-in_err-make_put-clau
 returns-in_err-make_put-clause-no_memory g c e =
     let kept = c.in_err-make_put.ensures.no_memory (same_stop c.from_residual.result c.in_err-make_put.field-0.0 NoMemory c.from_residual.ensures.1 e) in
     making_part put_call _ _ told _ _ _ _ _ _ _ c.loop-put.invariant.made kept.0 kept.1
+
+pub make_put-requires : goal.make_put-requires
+make_put-requires g c = served_next _ _ _ _ (seen c.in-Some.put) c.requires c.loop-put.invariant.made.cut (ap (map seen) c.in-Some.ensures.steps.0)

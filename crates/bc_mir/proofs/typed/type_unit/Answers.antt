@@ -9,4 +9,4 @@ pub invariant_of-result : goal.invariant_of-result
 invariant_of-result c =
     let same : c.in_ok-draft.draft ≡ mir_of c.args.unit.now = rw (← c.body.ensures.value) c.in_ok-draft.ensures in
     let none : misfit c.in_ok-draft.draft ≡ None = sym c.in_ok-misfit.ensures ∙ c.in-None.is in
-    subst IsTyped (sym same) (typed c.args.unit.now c.body.ensures.sized (subst Fits same none))
+    subst IsTyped (sym same) (typed c.args.unit.now c.body.ensures.fits (subst Fits same none))

@@ -1,11 +1,12 @@
 use Rattle.std.proofs.Common.{Result, Ok, Err, subst}
 use Rattle.std.specs.Prelude.{IfOk}
 use Rattle.bc_text.specs.declared.fault.ReadFault.{ReadFault}
-use Rattle.bc_text.specs.declared.syntax.Body.{Body}
+use Rattle.bc_syntax.specs.declared.syntax.Body.{Body}
 use Rattle.std.proofs.Common.{List, ℕ}
 use Rattle.bc_text.specs.Reading.{read, Answers}
-use Rattle.bc_text.specs.Spelling.{Spells, Fits}
-use Rattle.bc_text.proofs.Units.{read_found, read_only}
+use Rattle.bc_text.specs.Spelling.{Spells}
+use Rattle.bc_syntax.specs.Fits.{Fits}
+use Rattle.bc_text.proofs.UnitLaws.{read_found, read_only}
 use Rattle.bc_text.proofs.reader.read_unit.Goals as goal
 
 is_found : (bytes : List ℕ) (result : Result Body ReadFault) → Answers result (read bytes) → IfOk result (λ u. Spells bytes u × Fits u)

@@ -1,6 +1,6 @@
 use Rattle.std.proofs.Common.{◌≡◌, ◌∙◌, List, ℕ, sym, ap, arith}
 use Rattle.std.specs.Prelude.{slice_index}
-use Rattle.bc_text.specs.Symbol.{keyword_of}
+use Rattle.bc_syntax.specs.Symbol.{keyword_of}
 use Rattle.bc_text.specs.Token.{word}
 use Rattle.bc_text.proofs.Runs as runs
 use Rattle.bc_text.proofs.token.letter_token.Goals as goal

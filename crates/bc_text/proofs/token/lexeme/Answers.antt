@@ -2,7 +2,7 @@ use Rattle.std.proofs.Common.{◌≡◌, ◌≢◌, ◌<◌, ◌≤◌, ◌∙�
 use Rattle.std.proofs.lemmas.Bool.Decides.{nat_tests}
 use Rattle.std.specs.Char.{is_ascii_alphabetic}
 use Rattle.std.specs.Prelude.{slice_index}
-use Rattle.bc_text.specs.Bytes.{is_run_byte}
+use Rattle.bc_syntax.specs.Bytes.{is_run_byte}
 use Rattle.bc_text.specs.Token.{Token, shown}
 use Rattle.bc_text.specs.declared.token.Kind.{Kind}
 use Rattle.bc_text.proofs.Runs.{lexeme_digit, lexeme_local, lexeme_letter, lexeme_quoted, lexeme_arrow, lexeme_high, lexeme_sign}

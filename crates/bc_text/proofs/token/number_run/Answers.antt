@@ -1,5 +1,5 @@
 use Rattle.std.proofs.Common.{◌∙◌, ap}
-use Rattle.bc_text.specs.Token.{is_number}
+use Rattle.bc_syntax.specs.Words.{is_number}
 use Rattle.bc_text.proofs.Runs.{digits_split, all_digits}
 use Rattle.bc_text.proofs.token.number_run.Goals as goal
 

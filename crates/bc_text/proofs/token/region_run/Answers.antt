@@ -1,5 +1,5 @@
 use Rattle.std.proofs.Common.{◌∙◌, ap}
-use Rattle.bc_text.specs.Token.{is_region_name}
+use Rattle.bc_syntax.specs.Words.{is_region_name}
 use Rattle.bc_text.proofs.Runs.{region_splits, all_region_bytes}
 use Rattle.bc_text.proofs.token.region_run.Goals as goal
 

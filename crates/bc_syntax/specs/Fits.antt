@@ -1,0 +1,200 @@
+-- What every unit keeps, so that it has a spelling and all its numbers are within their limits.
+use Rattle.std.specs.Prelude.{◌≡◌, ℕ, ◌+◌, ◌≤◌, Bool, true, false, not, ◌&&◌, nat_lt, nat_le, List, [], ◌∷◌, ◌++◌, length, sum_by, ◌==◌, codes}
+use Rattle.std.specs.List.{list_all, list_any, filter}
+use Rattle.std.specs.Str.{bytes_eq}
+use Rattle.bc_syntax.specs.declared.syntax.Region.{Region}
+use Rattle.bc_syntax.specs.declared.syntax.Region.TheVariants.{Universal, Variable}
+use Rattle.bc_syntax.specs.declared.syntax.RegionName.{RegionName}
+use Rattle.bc_syntax.specs.declared.syntax.ItemName.{ItemName}
+use Rattle.bc_syntax.specs.declared.syntax.Instance.{Instance}
+use Rattle.bc_syntax.specs.declared.syntax.Reference.{Reference}
+use Rattle.bc_syntax.specs.declared.syntax.Base.{Base}
+use Rattle.bc_syntax.specs.declared.syntax.Base.TheVariants as bases
+use Rattle.bc_syntax.specs.declared.syntax.Ty.{Ty}
+use Rattle.bc_syntax.specs.declared.syntax.Projection.{Projection}
+use Rattle.bc_syntax.specs.declared.syntax.Projection.TheVariants.{Deref, Field}
+use Rattle.bc_syntax.specs.declared.syntax.Place.{Place}
+use Rattle.bc_syntax.specs.declared.syntax.Operand.{Operand}
+use Rattle.bc_syntax.specs.declared.syntax.Operand.TheVariants as operands
+use Rattle.bc_syntax.specs.declared.syntax.Borrow.{Borrow}
+use Rattle.bc_syntax.specs.declared.syntax.Aggregate.{Aggregate}
+use Rattle.bc_syntax.specs.declared.syntax.Rvalue.{Rvalue}
+use Rattle.bc_syntax.specs.declared.syntax.Rvalue.TheVariants as rvalues
+use Rattle.bc_syntax.specs.declared.syntax.Assignment.{Assignment}
+use Rattle.bc_syntax.specs.declared.syntax.Statement.{Statement}
+use Rattle.bc_syntax.specs.declared.syntax.Statement.TheVariants as statements
+use Rattle.bc_syntax.specs.declared.syntax.Condition.{Condition}
+use Rattle.bc_syntax.specs.declared.syntax.Call.{Call}
+use Rattle.bc_syntax.specs.declared.syntax.Terminator.{Terminator}
+use Rattle.bc_syntax.specs.declared.syntax.Terminator.TheVariants as terminators
+use Rattle.bc_syntax.specs.declared.syntax.Block.{Block}
+use Rattle.bc_syntax.specs.declared.syntax.Outlives.{Outlives}
+use Rattle.bc_syntax.specs.declared.syntax.Header.{Header}
+use Rattle.bc_syntax.specs.declared.syntax.Body.{Body}
+use Rattle.bc_syntax.specs.declared.syntax.StructDeclaration.{StructDeclaration}
+use Rattle.bc_syntax.specs.declared.syntax.ExternDeclaration.{ExternDeclaration}
+use Rattle.bc_syntax.specs.declared.syntax.Declaration.{Declaration}
+use Rattle.bc_syntax.specs.declared.syntax.Declaration.TheVariants as declarations
+use Rattle.bc_syntax.specs.Words.{is_region_name, is_word}
+
+-- how many universal regions a header has: `'static` and those that it declares
+abbrev pub universal_count : Header → ℕ
+universal_count header = length header.regions + 1
+
+-- the types of the locals in order: the result, the parameters, the `let` locals
+abbrev pub locals_of : Body → List Ty
+locals_of body = body.header.result ∷ (body.header.parameters ++ body.lets)
+
+-- how many points blocks have: their statements, and a terminator each
+abbrev pub point_count : List Block → ℕ
+point_count blocks = sum_by (λ block. length block.statements + 1) blocks
+
+-- ---- names and regions
+
+-- a word of at most 32 bytes
+abbrev pub item_fits : ItemName → Bool
+item_fits name = is_word name.bytes && nat_le (length name.bytes) 32
+
+-- a name that may be declared where those before it are
+abbrev pub is_new : List RegionName → RegionName → Bool
+is_new before name = is_region_name name.bytes && nat_le (length name.bytes) 16 && not (bytes_eq name.bytes (codes "static")) && not (list_any (λ (other : RegionName). bytes_eq other.bytes name.bytes) before)
+
+-- names that are declared one behind the other
+abbrev pub are_new : List RegionName → List RegionName → Bool
+are_new before [] = true
+are_new before (name ∷ names) = is_new before name && are_new (before ++ name ∷ []) names
+
+-- A region that may be named where so many are universal; a variable, where there may be one.
+abbrev pub region_fits : (variables : Bool) (universals : ℕ) → Region → Bool
+region_fits variables universals (Universal number) = nat_lt number universals
+region_fits variables universals (Variable number) = variables && nat_le number 1023
+
+abbrev pub regions_fit : Bool → ℕ → List Region → Bool
+regions_fit variables universals regions = list_all (region_fits variables universals) regions && nat_le (length regions) 15
+
+abbrev pub instance_fits : Bool → ℕ → Instance → Bool
+instance_fits variables universals instance = item_fits instance.name && regions_fit variables universals instance.regions
+
+-- a clause between universal regions
+abbrev pub clause_fits : ℕ → Outlives → Bool
+clause_fits universals clause = nat_lt clause.longer universals && nat_lt clause.shorter universals
+
+-- ---- types
+
+abbrev pub reference_fits : Bool → ℕ → Reference → Bool
+reference_fits variables universals reference = region_fits variables universals reference.region
+
+abbrev pub base_fits : Bool → ℕ → Base → Bool
+base_fits variables universals bases.Int = true
+base_fits variables universals (bases.Struct instance) = instance_fits variables universals instance
+
+abbrev pub ty_fits : Bool → ℕ → Ty → Bool
+ty_fits variables universals ty = list_all (reference_fits variables universals) ty.references && nat_le (length ty.references) 7 && base_fits variables universals ty.base
+
+-- ---- places and operands
+
+abbrev pub projection_fits : Projection → Bool
+projection_fits Deref = true
+projection_fits (Field number) = nat_le number 15
+
+abbrev pub place_fits : (locals : ℕ) → Place → Bool
+place_fits locals place = nat_lt place.local locals && list_all projection_fits place.projections && nat_le (length place.projections) 8
+
+abbrev pub operand_fits : ℕ → Operand → Bool
+operand_fits locals (operands.Copy place) = place_fits locals place
+operand_fits locals (operands.Move place) = place_fits locals place
+operand_fits locals (operands.Number number) = nat_le number 4294967295
+
+abbrev pub operands_fit : ℕ → List Operand → Bool
+operands_fit locals os = list_all (operand_fits locals) os && nat_le (length os) 16
+
+-- ---- points
+
+abbrev pub borrow_fits : ℕ → ℕ → Borrow → Bool
+borrow_fits universals locals borrow = reference_fits true universals borrow.reference && place_fits locals borrow.place
+
+abbrev pub aggregate_fits : ℕ → ℕ → Aggregate → Bool
+aggregate_fits universals locals aggregate = instance_fits true universals aggregate.instance && operands_fit locals aggregate.operands
+
+abbrev pub rvalue_fits : (universals locals : ℕ) → Rvalue → Bool
+rvalue_fits universals locals (rvalues.Use operand) = operand_fits locals operand
+rvalue_fits universals locals (rvalues.Borrow borrow) = borrow_fits universals locals borrow
+rvalue_fits universals locals (rvalues.Aggregate aggregate) = aggregate_fits universals locals aggregate
+rvalue_fits universals locals (rvalues.Calc os) = operands_fit locals os
+
+abbrev pub assignment_fits : ℕ → ℕ → Assignment → Bool
+assignment_fits universals locals assignment = place_fits locals assignment.target && rvalue_fits universals locals assignment.value
+
+abbrev pub statement_fits : ℕ → ℕ → Statement → Bool
+statement_fits universals locals (statements.Assign assignment) = assignment_fits universals locals assignment
+statement_fits universals locals (statements.Dead local) = nat_lt local locals
+statement_fits universals locals (statements.Drop place) = place_fits locals place
+statement_fits universals locals statements.Nop = true
+
+abbrev pub condition_fits : ℕ → Condition → Bool
+condition_fits locals condition = operand_fits locals condition.operand && nat_le condition.then 255 && nat_le condition.otherwise 255
+
+abbrev pub call_fits : ℕ → ℕ → Call → Bool
+call_fits universals locals call = place_fits locals call.destination && instance_fits true universals call.function && operands_fit locals call.operands && nat_le call.target 255
+
+abbrev pub terminator_fits : ℕ → ℕ → Terminator → Bool
+terminator_fits universals locals (terminators.Goto label) = nat_le label 255
+terminator_fits universals locals (terminators.If condition) = condition_fits locals condition
+terminator_fits universals locals (terminators.Call call) = call_fits universals locals call
+terminator_fits universals locals terminators.Return = true
+terminator_fits universals locals terminators.Stop = true
+
+abbrev pub block_fits : ℕ → ℕ → Block → Bool
+block_fits universals locals block = list_all (statement_fits universals locals) block.statements && terminator_fits universals locals block.terminator
+
+-- ---- units
+
+abbrev pub clauses_fit : ℕ → List Outlives → Bool
+clauses_fit universals clauses = list_all (clause_fits universals) clauses && nat_le (length clauses) 32
+
+abbrev pub parameters_fit : ℕ → List Ty → Bool
+parameters_fit universals parameters = list_all (ty_fits false universals) parameters && nat_le (length parameters) 16
+
+pub record HeaderFits (header : Header) : Type 0 where
+  pub regions : are_new [] header.regions ≡ true
+  pub universals : universal_count header ≤ 16
+  pub clauses : clauses_fit (universal_count header) header.clauses ≡ true
+  pub parameters : parameters_fit (universal_count header) header.parameters ≡ true
+  pub result : ty_fits false (universal_count header) header.result ≡ true
+
+-- ---- declarations
+
+abbrev pub struct_fits : StructDeclaration → Bool
+struct_fits d = item_fits d.name && are_new [] d.regions && nat_le (length d.regions) 8 && length d.variances == length d.regions && list_all (ty_fits false (length d.regions + 1)) d.fields && nat_le (length d.fields) 16
+
+-- a header with at most so many declared regions
+abbrev pub header_fits : ℕ → Header → Bool
+header_fits limit header = are_new [] header.regions && nat_le (length header.regions) limit && clauses_fit (universal_count header) header.clauses && parameters_fit (universal_count header) header.parameters && ty_fits false (universal_count header) header.result
+
+abbrev pub extern_fits : ExternDeclaration → Bool
+extern_fits d = item_fits d.name && header_fits 8 d.header
+
+abbrev pub declaration_fits : Declaration → Bool
+declaration_fits (declarations.Struct d) = struct_fits d
+declaration_fits (declarations.Extern d) = extern_fits d
+
+abbrev pub is_struct : Declaration → Bool
+is_struct (declarations.Struct d) = true
+is_struct (declarations.Extern d) = false
+
+-- Declarations that have a spelling: at most 64 structs and 64 extern functions.
+pub record TypesFit (ds : List Declaration) : Type 0 where
+  pub declarations : list_all declaration_fits ds ≡ true
+  pub structs : length (filter is_struct ds) ≤ 64
+  pub externs : length ds ≤ length (filter is_struct ds) + 64
+
+-- ---- bodies
+
+pub record Fits (body : Body) : Type 0 where
+  pub header : HeaderFits body.header
+  pub lets : list_all (ty_fits true (universal_count body.header)) body.lets ≡ true
+  pub locals : length (locals_of body) ≤ 256
+  pub some_block : 1 ≤ length body.blocks
+  pub few_blocks : length body.blocks ≤ 256
+  pub points : point_count body.blocks ≤ 4096
+  pub blocks : list_all (block_fits (universal_count body.header) (length (locals_of body))) body.blocks ≡ true

@@ -1,0 +1,6 @@
+pub mod Bytes
+pub mod Symbol
+pub mod Likely
+pub mod Words
+pub mod Fits
+pub mod Served

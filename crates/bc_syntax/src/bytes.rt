@@ -1,0 +1,72 @@
+//! Reading bytes of a text.
+ghost use Rattle.std.specs.Prelude.{◌≡◌, ◌≤◌, length, drop, slice_index, take_while};
+ghost use Rattle.std.specs.Char.{is_ascii_digit};
+ghost use Rattle.bc_syntax.specs.Bytes.{is_run_byte, run};
+ghost use Rattle.bc_syntax.specs.Words.{is_region_byte};
+
+/// The byte at an index, or 0 past the end.
+pub fn byte_at(bytes: &[u8], index: usize) -> u8
+    ensures { result ≡ slice_index bytes.now index }
+{
+    bytes.get(index).copied().unwrap_or(0)
+}
+
+/// The bytes from an index on.
+pub fn from(bytes: &[u8], index: usize) -> &[u8]
+    ensures { result.now ≡ drop index bytes.now }
+{
+    bytes.get(index..).unwrap_or(&[])
+}
+
+/// The bytes behind so many, of which there are enough.
+pub fn behind(bytes: &[u8], count: usize) -> &[u8]
+    requires { count ≤ length bytes.now }
+    ensures { result.now ≡ drop count bytes.now }
+{
+    &bytes[count..]
+}
+
+/// Whether the byte is a letter, a digit or `_`.
+pub fn is_run_byte(byte: u8) -> bool
+    ensures { result ≡ is_run_byte byte }
+{
+    byte.is_ascii_alphanumeric() || byte == b'_'
+}
+
+/// How many digits stand at the front.
+pub fn digits_len(bytes: &[u8]) -> usize
+    ensures count { result ≡ length (take_while is_ascii_digit bytes.now) }
+    ensures within { result ≤ length bytes.now }
+{
+    bytes
+        .iter()
+        .take_while(|byte| byte.is_ascii_digit())
+        .count()
+}
+
+/// How many lowercase letters, digits and `_` stand at the front.
+pub fn region_len(bytes: &[u8]) -> usize
+    ensures count { result ≡ length (take_while is_region_byte bytes.now) }
+    ensures within { result ≤ length bytes.now }
+{
+    bytes
+        .iter()
+        .take_while(|byte| byte.is_ascii_lowercase() || byte.is_ascii_digit() || **byte == b'_')
+        .count()
+}
+
+/// How many letters, digits and `_` stand at the front.
+pub fn run_len(bytes: &[u8]) -> usize
+    ensures count { result ≡ length (run bytes.now) }
+    ensures within { result ≤ length bytes.now }
+{
+    bytes.iter().take_while(|byte| is_run_byte(**byte)).count()
+}
+
+/// The letters, digits and `_` that stand at the front.
+pub fn run(bytes: &[u8]) -> &[u8]
+    ensures run { result.now ≡ run bytes.now }
+    ensures within { length result.now ≤ length bytes.now }
+{
+    &bytes[..run_len(bytes)]
+}

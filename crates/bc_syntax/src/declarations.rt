@@ -1,0 +1,158 @@
+//! Lists of declarations that have a spelling.
+ghost use Rattle.std.specs.Prelude.{◌≡◌, ◌≤◌, ◌↔◌, [], IsTrue, IfSome, IsSome, length};
+ghost use Rattle.std.specs.List.{list_all, filter};
+ghost use Rattle.bc_syntax.specs.Fits as spec;
+ghost use Rattle.bc_syntax.specs.Fits.{TypesFit};
+
+use crate::fits::{Limits, are_new, clauses_fit, item_fits, ty_fits, tys_fit};
+use crate::sequence::Sequence;
+use crate::syntax::{Declaration, ExternDeclaration, Header, StructDeclaration};
+use std::marker::Model;
+
+fn struct_fits(declaration: &StructDeclaration) -> bool
+    ensures { result ≡ spec.struct_fits declaration.now }
+{
+    let regions = declaration.regions.as_slice();
+    if regions.len() > 8 {
+        return false;
+    }
+    let limits = Limits {
+        variables: false,
+        universals: regions.len() + 1,
+        locals: 0,
+    };
+    let fields = declaration.fields.as_slice();
+    item_fits(&declaration.name)
+        && are_new(regions)
+        && declaration.variances.len() == regions.len()
+        && tys_fit(limits, fields)
+        && fields.len() <= 16
+}
+
+/// Whether a header has a spelling where it may declare at most so many regions.
+fn header_fits(header: &Header, limit: usize) -> bool
+    requires { limit ≤ 15 }
+    ensures { result ≡ spec.header_fits limit header.now }
+{
+    let regions = header.regions.as_slice();
+    if regions.len() > limit {
+        return false;
+    }
+    let limits = Limits {
+        variables: false,
+        universals: regions.len() + 1,
+        locals: 0,
+    };
+    let parameters = header.parameters.as_slice();
+    are_new(regions)
+        && clauses_fit(limits.universals, header.clauses.as_slice())
+        && tys_fit(limits, parameters)
+        && parameters.len() <= 16
+        && ty_fits(limits, &header.result)
+}
+
+fn extern_fits(declaration: &ExternDeclaration) -> bool
+    ensures { result ≡ spec.extern_fits declaration.now }
+{
+    item_fits(&declaration.name) && header_fits(&declaration.header, 8)
+}
+
+fn declaration_fits(declaration: &Declaration) -> bool
+    ensures { result ≡ spec.declaration_fits declaration.now }
+{
+    match declaration {
+        Declaration::Struct(declaration) => struct_fits(declaration),
+        Declaration::Extern(declaration) => extern_fits(declaration),
+    }
+}
+
+fn is_struct(declaration: &Declaration) -> bool
+    ensures { result ≡ spec.is_struct declaration.now }
+{
+    match declaration {
+        Declaration::Struct(_) => true,
+        Declaration::Extern(_) => false,
+    }
+}
+
+fn each_fits(declarations: &[Declaration]) -> bool
+    ensures { result ≡ list_all spec.declaration_fits declarations.now }
+{
+    declarations
+        .iter()
+        .all(|declaration| declaration_fits(declaration))
+}
+
+fn struct_count(declarations: &[Declaration]) -> usize
+    ensures count { result ≡ length (filter spec.is_struct declarations.now) }
+    ensures within { result ≤ length declarations.now }
+{
+    let mut count = 0;
+    for declaration in declarations {
+        if is_struct(declaration) {
+            count += 1;
+        }
+    }
+    count
+}
+
+/// Whether declarations have a spelling.
+fn fit(declarations: &[Declaration]) -> bool
+    ensures { IsTrue result ↔ TypesFit declarations.now }
+{
+    let structs = struct_count(declarations);
+    structs <= 64 && declarations.len() - structs <= 64 && each_fits(declarations)
+}
+
+/// Declarations that have a spelling: at most 64 structs and 64 extern functions, names that are words of at most 32
+/// bytes, at most 8 regions each with names of their own, at most 16 fields.
+#[derive(Drop, PartialEq)]
+pub struct Types {
+    declarations: Sequence<Declaration>,
+}
+
+impl Model for Types {
+    ghost use Rattle.std.specs.Prelude.{List};
+    ghost use Rattle.bc_syntax.specs.declared.syntax.Declaration.{Declaration};
+    ghost use Rattle.bc_syntax.specs.Fits.{TypesFit};
+
+    ghost Value = { List Declaration };
+
+    ghost view = { λ t. t.declarations };
+
+    ghost invariant = { λ t. TypesFit t.declarations };
+
+    ghost inverse = { λ declarations. record { declarations = declarations } };
+}
+
+impl Types {
+    /// The types of declarations, or `None` exactly where a number is past its limit, a name is no word, or a region is
+    /// declared twice or not at all.
+    pub fn new(declarations: Sequence<Declaration>) -> Option<Types>
+        ensures declarations { IfSome result (λ types. types ≡ declarations) }
+        ensures fit { IfSome result (λ _. TypesFit declarations) }
+        ensures some { TypesFit declarations → IsSome result }
+    {
+        if fit(declarations.as_slice()) {
+            Some(Types { declarations })
+        } else {
+            None
+        }
+    }
+
+    /// The types of declarations that are known to have a spelling.
+    pub fn of_fitting(declarations: Sequence<Declaration>) -> Types
+        requires { TypesFit declarations }
+        ensures { result ≡ declarations }
+    {
+        Types { declarations }
+    }
+
+    /// The declarations, in order.
+    pub fn declarations(&self) -> &[Declaration]
+        ensures value { result.now ≡ self.now }
+        ensures fit { TypesFit self.now }
+    {
+        self.declarations.as_slice()
+    }
+}

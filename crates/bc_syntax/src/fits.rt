@@ -1,0 +1,347 @@
+//! Whether the numbers of a body are within their limits, its regions and locals declared, and its names words.
+ghost use Rattle.std.specs.Prelude.{◌≡◌, ◌+◌, ◌≤◌, ◌<◌, ◌&&◌, ◌↔◌, ◌++◌, [], IsTrue, nat_le, true, length, sum_by, take, drop, ℕ};
+ghost use Rattle.std.specs.List.{list_all, list_any};
+ghost use Rattle.std.specs.Str.{bytes_eq};
+ghost use Rattle.bc_syntax.specs.Fits as spec;
+ghost use Rattle.bc_syntax.specs.Fits.{Fits, HeaderFits, universal_count as universals_of, locals_of, point_count};
+ghost use Rattle.bc_syntax.specs.declared.syntax.RegionName.{RegionName};
+
+use crate::syntax::{
+    Aggregate, Assignment, Base, Block, Body, Borrow, Call, Condition, Header, Instance, ItemName,
+    Operand, Outlives, Place, Projection, Reference, Region, RegionName, Rvalue, Statement,
+    Terminator, Ty,
+};
+use crate::words::{is_region_name, is_word};
+
+/// What may be named: region variables or not, so many universal regions, and so many locals.
+#[derive(Clone, Copy)]
+pub struct Limits {
+    pub variables: bool,
+    pub universals: usize,
+    pub locals: usize,
+}
+
+pub fn item_fits(name: &ItemName) -> bool
+    ensures { result ≡ spec.item_fits name.now }
+{
+    let bytes = name.bytes.as_slice();
+    is_word(bytes) && bytes.len() <= 32
+}
+
+fn is_among(before: &[RegionName], name: &[u8]) -> bool
+    ensures { result ≡ list_any (λ (other : RegionName). bytes_eq other.bytes name.now) before.now }
+{
+    before.iter().any(|other| other.bytes.as_slice() == name)
+}
+
+/// Whether a region may be declared where those before it are: its name is well formed, has at most 16 bytes, is not
+/// `static` and not among them.
+pub fn is_new(before: &[RegionName], name: &RegionName) -> bool
+    ensures { result ≡ spec.is_new before.now name.now }
+{
+    let bytes = name.bytes.as_slice();
+    is_region_name(bytes)
+        && bytes.len() <= 16
+        && bytes != b"static".as_slice()
+        && !is_among(before, bytes)
+}
+
+pub fn are_new(names: &[RegionName]) -> bool
+    ensures { result ≡ spec.are_new [] names.now }
+{
+    for index in 0..names.len() {
+        if !is_new(&names[..index], &names[index]) {
+            return false;
+        }
+    }
+    true
+}
+
+fn region_fits(limits: Limits, region: Region) -> bool
+    ensures { result ≡ spec.region_fits limits.variables limits.universals region }
+{
+    match region {
+        Region::Universal(number) => usize::from(number) < limits.universals,
+        Region::Variable(number) => limits.variables && number <= 1023,
+    }
+}
+
+fn each_region_fits(limits: Limits, regions: &[Region]) -> bool
+    ensures { result ≡ list_all (spec.region_fits limits.variables limits.universals) regions.now }
+{
+    regions.iter().all(|region| region_fits(limits, *region))
+}
+
+fn regions_fit(limits: Limits, regions: &[Region]) -> bool
+    ensures { result ≡ spec.regions_fit limits.variables limits.universals regions.now }
+{
+    each_region_fits(limits, regions) && regions.len() <= 15
+}
+
+fn instance_fits(limits: Limits, instance: &Instance) -> bool
+    ensures { result ≡ spec.instance_fits limits.variables limits.universals instance.now }
+{
+    item_fits(&instance.name) && regions_fit(limits, instance.regions.as_slice())
+}
+
+fn clause_fits(universals: usize, clause: Outlives) -> bool
+    ensures { result ≡ spec.clause_fits universals clause }
+{
+    usize::from(clause.longer) < universals && usize::from(clause.shorter) < universals
+}
+
+fn each_clause_fits(universals: usize, clauses: &[Outlives]) -> bool
+    ensures { result ≡ list_all (spec.clause_fits universals) clauses.now }
+{
+    clauses
+        .iter()
+        .all(|clause| clause_fits(universals, *clause))
+}
+
+pub fn clauses_fit(universals: usize, clauses: &[Outlives]) -> bool
+    ensures { result ≡ spec.clauses_fit universals clauses.now }
+{
+    each_clause_fits(universals, clauses) && clauses.len() <= 32
+}
+
+fn reference_fits(limits: Limits, reference: Reference) -> bool
+    ensures { result ≡ spec.reference_fits limits.variables limits.universals reference }
+{
+    region_fits(limits, reference.region)
+}
+
+fn base_fits(limits: Limits, base: &Base) -> bool
+    ensures { result ≡ spec.base_fits limits.variables limits.universals base.now }
+{
+    match base {
+        Base::Int => true,
+        Base::Struct(instance) => instance_fits(limits, instance),
+    }
+}
+
+fn references_fit(limits: Limits, references: &[Reference]) -> bool
+    ensures { result ≡ list_all (spec.reference_fits limits.variables limits.universals) references.now }
+{
+    references
+        .iter()
+        .all(|reference| reference_fits(limits, *reference))
+}
+
+pub fn ty_fits(limits: Limits, ty: &Ty) -> bool
+    ensures { result ≡ spec.ty_fits limits.variables limits.universals ty.now }
+{
+    let references = ty.references.as_slice();
+    references_fit(limits, references) && references.len() <= 7 && base_fits(limits, &ty.base)
+}
+
+pub fn tys_fit(limits: Limits, tys: &[Ty]) -> bool
+    ensures { result ≡ list_all (spec.ty_fits limits.variables limits.universals) tys.now }
+{
+    tys.iter().all(|ty| ty_fits(limits, ty))
+}
+
+fn projection_fits(projection: Projection) -> bool
+    ensures { result ≡ spec.projection_fits projection }
+{
+    match projection {
+        Projection::Deref => true,
+        Projection::Field(number) => number <= 15,
+    }
+}
+
+fn projections_fit(projections: &[Projection]) -> bool
+    ensures { result ≡ list_all spec.projection_fits projections.now }
+{
+    projections
+        .iter()
+        .all(|projection| projection_fits(*projection))
+}
+
+fn place_fits(limits: Limits, place: &Place) -> bool
+    ensures { result ≡ spec.place_fits limits.locals place.now }
+{
+    let projections = place.projections.as_slice();
+    usize::from(place.local) < limits.locals
+        && projections_fit(projections)
+        && projections.len() <= 8
+}
+
+fn operand_fits(limits: Limits, operand: &Operand) -> bool
+    ensures { result ≡ spec.operand_fits limits.locals operand.now }
+{
+    match operand {
+        Operand::Copy(place) => place_fits(limits, place),
+        Operand::Move(place) => place_fits(limits, place),
+        Operand::Number(number) => *number <= u32::MAX,
+    }
+}
+
+fn each_operand_fits(limits: Limits, operands: &[Operand]) -> bool
+    ensures { result ≡ list_all (spec.operand_fits limits.locals) operands.now }
+{
+    operands.iter().all(|operand| operand_fits(limits, operand))
+}
+
+fn operands_fit(limits: Limits, operands: &[Operand]) -> bool
+    ensures { result ≡ spec.operands_fit limits.locals operands.now }
+{
+    each_operand_fits(limits, operands) && operands.len() <= 16
+}
+
+fn borrow_fits(limits: Limits, borrow: &Borrow) -> bool
+    requires { limits.variables ≡ true }
+    ensures { result ≡ spec.borrow_fits limits.universals limits.locals borrow.now }
+{
+    reference_fits(limits, borrow.reference) && place_fits(limits, &borrow.place)
+}
+
+fn aggregate_fits(limits: Limits, aggregate: &Aggregate) -> bool
+    requires { limits.variables ≡ true }
+    ensures { result ≡ spec.aggregate_fits limits.universals limits.locals aggregate.now }
+{
+    instance_fits(limits, &aggregate.instance)
+        && operands_fit(limits, aggregate.operands.as_slice())
+}
+
+fn rvalue_fits(limits: Limits, rvalue: &Rvalue) -> bool
+    requires { limits.variables ≡ true }
+    ensures { result ≡ spec.rvalue_fits limits.universals limits.locals rvalue.now }
+{
+    match rvalue {
+        Rvalue::Use(operand) => operand_fits(limits, operand),
+        Rvalue::Borrow(borrow) => borrow_fits(limits, borrow),
+        Rvalue::Aggregate(aggregate) => aggregate_fits(limits, aggregate),
+        Rvalue::Calc(operands) => operands_fit(limits, operands.as_slice()),
+    }
+}
+
+fn assignment_fits(limits: Limits, assignment: &Assignment) -> bool
+    requires { limits.variables ≡ true }
+    ensures { result ≡ spec.assignment_fits limits.universals limits.locals assignment.now }
+{
+    place_fits(limits, &assignment.target) && rvalue_fits(limits, &assignment.value)
+}
+
+fn statement_fits(limits: Limits, statement: &Statement) -> bool
+    requires { limits.variables ≡ true }
+    ensures { result ≡ spec.statement_fits limits.universals limits.locals statement.now }
+{
+    match statement {
+        Statement::Assign(assignment) => assignment_fits(limits, assignment),
+        Statement::Dead(local) => usize::from(*local) < limits.locals,
+        Statement::Drop(place) => place_fits(limits, place),
+        Statement::Nop => true,
+    }
+}
+
+fn condition_fits(limits: Limits, condition: &Condition) -> bool
+    ensures { result ≡ spec.condition_fits limits.locals condition.now }
+{
+    operand_fits(limits, &condition.operand)
+        && condition.then <= u8::MAX
+        && condition.otherwise <= u8::MAX
+}
+
+fn call_fits(limits: Limits, call: &Call) -> bool
+    requires { limits.variables ≡ true }
+    ensures { result ≡ spec.call_fits limits.universals limits.locals call.now }
+{
+    place_fits(limits, &call.destination)
+        && instance_fits(limits, &call.function)
+        && operands_fit(limits, call.operands.as_slice())
+        && call.target <= u8::MAX
+}
+
+fn terminator_fits(limits: Limits, terminator: &Terminator) -> bool
+    requires { limits.variables ≡ true }
+    ensures { result ≡ spec.terminator_fits limits.universals limits.locals terminator.now }
+{
+    match terminator {
+        Terminator::Goto(label) => *label <= u8::MAX,
+        Terminator::If(condition) => condition_fits(limits, condition),
+        Terminator::Call(call) => call_fits(limits, call),
+        Terminator::Return => true,
+        Terminator::Stop => true,
+    }
+}
+
+fn statements_fit(limits: Limits, statements: &[Statement]) -> bool
+    requires { limits.variables ≡ true }
+    ensures { result ≡ list_all (spec.statement_fits limits.universals limits.locals) statements.now }
+{
+    statements
+        .iter()
+        .all(|statement| statement_fits(limits, statement))
+}
+
+fn block_fits(limits: Limits, block: &Block) -> bool
+    requires { limits.variables ≡ true }
+    ensures { result ≡ spec.block_fits limits.universals limits.locals block.now }
+{
+    statements_fit(limits, block.statements.as_slice())
+        && terminator_fits(limits, &block.terminator)
+}
+
+fn blocks_fit(limits: Limits, blocks: &[Block]) -> bool
+    requires { limits.variables ≡ true }
+    ensures { result ≡ list_all (spec.block_fits limits.universals limits.locals) blocks.now }
+{
+    blocks.iter().all(|block| block_fits(limits, block))
+}
+
+/// Whether blocks have at most 4,096 points.
+fn has_few_points(blocks: &[Block]) -> bool
+    ensures { result ≡ nat_le (point_count blocks.now) 4096 }
+{
+    let mut points = 0usize;
+    for block in blocks {
+        let more = block.statements.len();
+        if more >= 4096 - points {
+            return false;
+        }
+        points += more + 1;
+    }
+    true
+}
+
+fn header_fits(header: &Header) -> bool
+    ensures { IsTrue result ↔ HeaderFits header.now }
+{
+    let regions = header.regions.as_slice();
+    if regions.len() > 15 {
+        return false;
+    }
+    let limits = Limits {
+        variables: false,
+        universals: regions.len() + 1,
+        locals: 0,
+    };
+    let parameters = header.parameters.as_slice();
+    are_new(regions)
+        && clauses_fit(limits.universals, header.clauses.as_slice())
+        && tys_fit(limits, parameters)
+        && parameters.len() <= 16
+        && ty_fits(limits, &header.result)
+}
+
+/// Whether a body has a spelling: its numbers are within their limits, its regions and locals are declared, and its
+/// names are words.
+pub fn fits(body: &Body) -> bool
+    ensures { IsTrue result ↔ Fits body.now }
+{
+    let blocks = body.blocks.as_slice();
+    if !header_fits(&body.header) || body.lets.len() > 255 {
+        return false;
+    }
+    let limits = Limits {
+        variables: true,
+        universals: body.header.regions.len() + 1,
+        locals: 1 + body.header.parameters.len() + body.lets.len(),
+    };
+    limits.locals <= 256
+        && 1 <= blocks.len()
+        && blocks.len() <= 256
+        && tys_fit(limits, body.lets.as_slice())
+        && has_few_points(blocks)
+        && blocks_fit(limits, blocks)
+}

@@ -1,0 +1,27 @@
+//! Units and what they are made of: the values that texts spell and the analysis reads, the words that name things, and
+//! the symbols that are always spelled the same.
+#![tactic(auto)]
+
+mod bytes;
+mod declarations;
+mod fits;
+mod sequence;
+mod served;
+mod symbol;
+mod syntax;
+mod unit;
+mod words;
+
+pub use bytes::{behind, byte_at, digits_len, from, is_run_byte, region_len, run, run_len};
+pub use declarations::Types;
+pub use fits::is_new;
+pub use sequence::{Sequence, ShortSequence};
+pub use symbol::{Symbol, same};
+pub use syntax::{
+    Aggregate, Assignment, Base, Block, Body, Borrow, Call, Condition, Declaration,
+    ExternDeclaration, Header, Instance, ItemName, Mutability, Operand, Outlives, Place,
+    Projection, Reference, Region, RegionName, Rvalue, Statement, StructDeclaration, Terminator,
+    Ty, UnitKind, Variance,
+};
+pub use unit::Unit;
+pub use words::{is_number, is_region_name, is_word};

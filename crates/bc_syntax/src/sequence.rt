@@ -1,0 +1,178 @@
+//! Lists inside the values of this crate. A contract sees each as the list of its items alone.
+ghost use Rattle.std.specs.Prelude.{◌≡◌, ◌++◌, ◌∷◌, [], length, List, OnOk, OnErr, IfOk, IsTrue, ◌↔◌};
+
+use smallvec::SmallVec;
+use std::alloc::{AllocError, Global};
+use std::default::MadeWith;
+use std::marker::Model;
+
+/// A list.
+#[derive(Drop)]
+pub struct Sequence<T> {
+    items: Vec<T>,
+}
+
+impl<T> Model for Sequence<T> {
+    ghost Value = { List T };
+
+    ghost view = { λ s. s.items.items };
+}
+
+impl<T> Sequence<T> {
+    /// The empty list. It takes no memory.
+    pub fn new(alloc: Global) -> Self
+        ensures { result ≡ [] }
+    {
+        Sequence {
+            items: Vec::new(alloc),
+        }
+    }
+
+    /// The items, in order.
+    pub fn as_slice(&self) -> &[T]
+        ensures { result.now ≡ self.now }
+    {
+        &self.items
+    }
+
+    /// The items, as they lie in memory.
+    pub fn into_vec(self) -> Vec<T>
+        ensures { result.items ≡ self }
+    {
+        self.items
+    }
+
+    /// How many items there are.
+    pub fn len(&self) -> usize
+        ensures { result ≡ length self.now }
+    {
+        self.items.len()
+    }
+
+    /// Whether there is no item.
+    pub fn is_empty(&self) -> bool
+        ensures { IsTrue result ↔ (self.now ≡ []) }
+    {
+        self.items.is_empty()
+    }
+}
+
+impl<T: Drop> Sequence<T> {
+    /// Puts an item behind the others. Where memory is refused, the list stays as it was.
+    pub fn push(&mut self, item: T) -> Result<(), AllocError>
+        ensures ok { OnOk result (self.new ≡ self.old ++ item ∷ []) }
+        ensures err { OnErr result (self.new ≡ self.old) }
+    {
+        self.items.push(item)?;
+        Ok(())
+    }
+}
+
+impl<T> From<Vec<T>> for Sequence<T> {
+    ghost from_gives = { λ items s. s ≡ items.items };
+
+    fn from(items: Vec<T>) -> Self {
+        Sequence { items }
+    }
+}
+
+impl<T: Clone> Clone for Sequence<T> {
+    ghost use Rattle.std.specs.List.{AllZip};
+
+    ghost is_clone = { λ s t. AllZip T.is_clone s t };
+
+    fn clone(&self) -> Result<Self, AllocError> {
+        Ok(Sequence {
+            items: self.items.clone()?,
+        })
+    }
+}
+
+impl<T: PartialEq> PartialEq for Sequence<T> {
+    ghost use Rattle.std.specs.Cmp.Lexicographic.{pointwise, lists_per};
+
+    ghost eq = { λ s t. pointwise T.eq s t };
+
+    ghost laws = { lists_per T.laws };
+
+    fn eq(&self, other: &Self) -> bool {
+        self.as_slice() == other.as_slice()
+    }
+}
+
+/// A list of at most `N` items as a rule, which then lie in the value itself.
+#[derive(Drop)]
+pub struct ShortSequence<T, const N: usize> {
+    items: SmallVec<T, N>,
+}
+
+impl<T, const N: usize> Model for ShortSequence<T, N> {
+    ghost Value = { List T };
+
+    ghost view = { λ s. s.items.items };
+}
+
+impl<T, const N: usize> ShortSequence<T, N> {
+    /// The items, in order.
+    pub fn as_slice(&self) -> &[T]
+        ensures { result.now ≡ self.now }
+    {
+        self.items.as_slice()
+    }
+}
+
+impl<T: Default + Drop, const N: usize> ShortSequence<T, N> {
+    /// The empty list. It takes no memory.
+    pub fn new(alloc: Global) -> Self
+        ensures { result ≡ [] }
+    {
+        ShortSequence {
+            items: SmallVec::new(alloc),
+        }
+    }
+
+    /// Puts an item behind the others. Where memory is refused, which can be only from item `N` on, the list
+    /// stays as it was.
+    pub fn push(&mut self, item: T) -> Result<(), AllocError>
+        ensures ok { OnOk result (self.new ≡ self.old ++ item ∷ []) }
+        ensures err { OnErr result (self.new ≡ self.old) }
+    {
+        self.items.push(item)?;
+        Ok(())
+    }
+}
+
+impl<T: Copy + Default, const N: usize> ShortSequence<T, N> {
+    /// A list of these items. It takes memory only where there are more than `N`.
+    pub fn of(alloc: Global, items: &[T]) -> Result<Self, AllocError>
+        ensures { IfOk result (λ list. list ≡ items.now) }
+    {
+        Ok(ShortSequence {
+            items: SmallVec::from_slice(alloc, items)?,
+        })
+    }
+}
+
+impl<T: MadeWith<Global> + Clone, const N: usize> Clone for ShortSequence<T, N> {
+    ghost use Rattle.std.specs.List.{AllZip};
+
+    ghost is_clone = { λ s t. AllZip T.is_clone s t };
+
+    fn clone(&self) -> Result<Self, AllocError> {
+        Ok(ShortSequence {
+            items: self.items.clone()?,
+        })
+    }
+}
+
+impl<T: PartialEq, const N: usize> PartialEq for ShortSequence<T, N> {
+    ghost use Rattle.std.specs.Cmp.Lexicographic.{pointwise, lists_per};
+
+    ghost eq = { λ s t. pointwise T.eq s t };
+
+    ghost laws = { lists_per T.laws };
+
+    fn eq(&self, other: &Self) -> bool {
+        self.as_slice() == other.as_slice()
+    }
+}

@@ -1,0 +1,244 @@
+//! Keywords and signs: the tokens that are always spelled the same.
+ghost use Rattle.std.specs.Prelude.{◌≡◌};
+ghost use Rattle.bc_syntax.specs.Symbol.{text, same, keyword_of, sign_of};
+ghost use Rattle.bc_syntax.specs.Likely.{likely_c, likely_i, likely_keyword};
+
+use crate::bytes::byte_at;
+
+/// A keyword or a sign.
+#[derive(Clone, Copy, Debug, PartialEq, Eq)]
+pub enum Symbol {
+    Fn,
+    Closure,
+    Where,
+    Let,
+    Int,
+    Mut,
+    Copy,
+    Move,
+    Calc,
+    Dead,
+    Drop,
+    Nop,
+    Goto,
+    If,
+    Call,
+    Invoke,
+    Return,
+    Stop,
+    Struct,
+    Extern,
+    OpenParen,
+    CloseParen,
+    OpenBrace,
+    CloseBrace,
+    OpenBracket,
+    CloseBracket,
+    Less,
+    Greater,
+    Comma,
+    Semicolon,
+    Colon,
+    Equals,
+    Plus,
+    Ampersand,
+    Dot,
+    Star,
+    Arrow,
+}
+
+/// The symbols that are written as words. Own.
+pub const KEYWORDS: [Symbol; 20] = [
+    Symbol::Fn,
+    Symbol::Closure,
+    Symbol::Where,
+    Symbol::Let,
+    Symbol::Int,
+    Symbol::Mut,
+    Symbol::Copy,
+    Symbol::Move,
+    Symbol::Calc,
+    Symbol::Dead,
+    Symbol::Drop,
+    Symbol::Nop,
+    Symbol::Goto,
+    Symbol::If,
+    Symbol::Call,
+    Symbol::Invoke,
+    Symbol::Return,
+    Symbol::Stop,
+    Symbol::Struct,
+    Symbol::Extern,
+];
+
+/// The signs of one byte.
+pub const SIGNS: [Symbol; 16] = [
+    Symbol::OpenParen,
+    Symbol::CloseParen,
+    Symbol::OpenBrace,
+    Symbol::CloseBrace,
+    Symbol::OpenBracket,
+    Symbol::CloseBracket,
+    Symbol::Less,
+    Symbol::Greater,
+    Symbol::Comma,
+    Symbol::Semicolon,
+    Symbol::Colon,
+    Symbol::Equals,
+    Symbol::Plus,
+    Symbol::Ampersand,
+    Symbol::Dot,
+    Symbol::Star,
+];
+
+/// Whether two symbols are one.
+#[tactic(auto, unfolding(crate::specs::Symbol::same))]
+pub fn same(a: Symbol, b: Symbol) -> bool
+    ensures { result ≡ same a b }
+{
+    a == b
+}
+
+impl Symbol {
+    /// How the symbol is spelled.
+    #[tactic(auto, unfolding(crate::specs::Symbol::text))]
+    pub fn text(self) -> &'static [u8]
+        ensures { result.now ≡ text self }
+    {
+        match self {
+            Symbol::Fn => b"fn",
+            Symbol::Closure => b"closure",
+            Symbol::Where => b"where",
+            Symbol::Let => b"let",
+            Symbol::Int => b"int",
+            Symbol::Mut => b"mut",
+            Symbol::Copy => b"copy",
+            Symbol::Move => b"move",
+            Symbol::Calc => b"calc",
+            Symbol::Dead => b"dead",
+            Symbol::Drop => b"drop",
+            Symbol::Nop => b"nop",
+            Symbol::Goto => b"goto",
+            Symbol::If => b"if",
+            Symbol::Call => b"call",
+            Symbol::Invoke => b"invoke",
+            Symbol::Return => b"return",
+            Symbol::Stop => b"stop",
+            Symbol::Struct => b"struct",
+            Symbol::Extern => b"extern",
+            Symbol::OpenParen => b"(",
+            Symbol::CloseParen => b")",
+            Symbol::OpenBrace => b"{",
+            Symbol::CloseBrace => b"}",
+            Symbol::OpenBracket => b"[",
+            Symbol::CloseBracket => b"]",
+            Symbol::Less => b"<",
+            Symbol::Greater => b">",
+            Symbol::Comma => b",",
+            Symbol::Semicolon => b";",
+            Symbol::Colon => b":",
+            Symbol::Equals => b"=",
+            Symbol::Plus => b"+",
+            Symbol::Ampersand => b"&",
+            Symbol::Dot => b".",
+            Symbol::Star => b"*",
+            Symbol::Arrow => b"->",
+        }
+    }
+
+    /// The keyword that a word is.
+    pub fn of_word(word: &[u8]) -> Option<Symbol>
+        ensures { result ≡ keyword_of word.now }
+    {
+        let keyword = likely_keyword(word)?;
+        (keyword.text() == word).then_some(keyword)
+    }
+
+    /// The sign that a byte is.
+    #[tactic(auto, unfolding(crate::specs::Symbol::sign_of, crate::specs::Symbol::text))]
+    pub fn of_sign(byte: u8) -> Option<Symbol>
+        ensures { result ≡ sign_of byte }
+    {
+        match byte {
+            b'(' => Some(Symbol::OpenParen),
+            b')' => Some(Symbol::CloseParen),
+            b'{' => Some(Symbol::OpenBrace),
+            b'}' => Some(Symbol::CloseBrace),
+            b'[' => Some(Symbol::OpenBracket),
+            b']' => Some(Symbol::CloseBracket),
+            b'<' => Some(Symbol::Less),
+            b'>' => Some(Symbol::Greater),
+            b',' => Some(Symbol::Comma),
+            b';' => Some(Symbol::Semicolon),
+            b':' => Some(Symbol::Colon),
+            b'=' => Some(Symbol::Equals),
+            b'+' => Some(Symbol::Plus),
+            b'&' => Some(Symbol::Ampersand),
+            b'.' => Some(Symbol::Dot),
+            b'*' => Some(Symbol::Star),
+            _ => None,
+        }
+    }
+}
+
+/// The keyword that begins with `c` and has this second and fourth byte.
+fn likely_c(second: u8, fourth: u8) -> Option<Symbol>
+    ensures { result ≡ likely_c second fourth }
+{
+    match second {
+        b'l' => Some(Symbol::Closure),
+        b'o' => Some(Symbol::Copy),
+        _ => match fourth {
+            b'c' => Some(Symbol::Calc),
+            _ => Some(Symbol::Call),
+        },
+    }
+}
+
+/// The keyword that begins with `i` and has this second and third byte.
+fn likely_i(second: u8, third: u8) -> Option<Symbol>
+    ensures { result ≡ likely_i second third }
+{
+    match second {
+        b'f' => Some(Symbol::If),
+        _ => match third {
+            b't' => Some(Symbol::Int),
+            _ => Some(Symbol::Invoke),
+        },
+    }
+}
+
+/// The one keyword that a word may be, by its bytes.
+#[tactic(auto, unfolding(crate::specs::Likely::likely_keyword))]
+fn likely_keyword(word: &[u8]) -> Option<Symbol>
+    ensures { result ≡ likely_keyword word.now }
+{
+    let second = byte_at(word, 1);
+    match byte_at(word, 0) {
+        b'c' => likely_c(second, byte_at(word, 3)),
+        b'd' => Some(if second == b'e' {
+            Symbol::Dead
+        } else {
+            Symbol::Drop
+        }),
+        b'e' => Some(Symbol::Extern),
+        b'f' => Some(Symbol::Fn),
+        b'g' => Some(Symbol::Goto),
+        b'i' => likely_i(second, byte_at(word, 2)),
+        b'l' => Some(Symbol::Let),
+        b'm' => Some(if second == b'u' {
+            Symbol::Mut
+        } else {
+            Symbol::Move
+        }),
+        b'n' => Some(Symbol::Nop),
+        b'r' => Some(Symbol::Return),
+        b's' => Some(if byte_at(word, 2) == b'o' {
+            Symbol::Stop
+        } else {
+            Symbol::Struct
+        }),
+        b'w' => Some(Symbol::Where),
+        _ => None,
+    }
+}

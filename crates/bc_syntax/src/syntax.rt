@@ -1,0 +1,225 @@
+//! Bodies with their headers, as their texts give them: plain data.
+use crate::sequence::{Sequence, ShortSequence};
+
+/// A region: a universal one, by its number, where 0 is `'static` and the declared ones follow in the order of
+/// the header; or a region variable, by its number (RFC 2094, "Region inference").
+#[derive(Clone, Copy, Debug, PartialEq, Eq)]
+pub enum Region {
+    Universal(u8),
+    Variable(u16),
+}
+
+impl Default for Region {
+    fn default() -> Self {
+        Region::Universal(0)
+    }
+}
+
+/// Whether a reference, or a borrow, is shared or mutable.
+#[derive(Clone, Copy, Debug, Default, PartialEq, Eq)]
+pub enum Mutability {
+    #[default]
+    Shared,
+    Mutable,
+}
+
+/// One layer of a type, `&R` or `&R mut`; in a borrow, what is borrowed for.
+#[derive(Clone, Copy, Debug, Default, PartialEq, Eq)]
+pub struct Reference {
+    pub region: Region,
+    pub mutability: Mutability,
+}
+
+/// The name of a struct or of an extern function.
+#[derive(Clone, Drop, PartialEq)]
+pub struct ItemName {
+    pub bytes: ShortSequence<u8, 16>,
+}
+
+/// A declared struct or extern function with regions for its own, in their order.
+#[derive(Clone, Drop, PartialEq)]
+pub struct Instance {
+    pub name: ItemName,
+    pub regions: ShortSequence<Region, 4>,
+}
+
+/// What stands behind all references of a type.
+#[derive(Clone, Drop, PartialEq)]
+pub enum Base {
+    Int,
+    Struct(Instance),
+}
+
+/// A type: its references, the outermost first, and what they lead to.
+#[derive(Clone, Drop, PartialEq)]
+pub struct Ty {
+    pub references: ShortSequence<Reference, 7>,
+    pub base: Base,
+}
+
+/// One step from a place to a part of it.
+#[derive(Clone, Copy, Debug, Default, PartialEq, Eq)]
+pub enum Projection {
+    #[default]
+    Deref,
+    Field(u8),
+}
+
+/// A local, and the projections that lead on from it.
+#[derive(Clone, Drop, PartialEq)]
+pub struct Place {
+    pub local: u8,
+    pub projections: ShortSequence<Projection, 8>,
+}
+
+/// What an rvalue or a terminator reads.
+#[derive(Clone, Drop, PartialEq)]
+pub enum Operand {
+    Copy(Place),
+    Move(Place),
+    Number(u32),
+}
+
+/// `&R P` or `&R mut P`.
+#[derive(Clone, Drop, PartialEq)]
+pub struct Borrow {
+    pub reference: Reference,
+    pub place: Place,
+}
+
+/// A struct made from its fields, in their order.
+#[derive(Clone, Drop, PartialEq)]
+pub struct Aggregate {
+    pub instance: Instance,
+    pub operands: Sequence<Operand>,
+}
+
+/// What an assignment computes.
+#[derive(Clone, Drop, PartialEq)]
+pub enum Rvalue {
+    Use(Operand),
+    Borrow(Borrow),
+    Aggregate(Aggregate),
+    Calc(Sequence<Operand>),
+}
+
+/// `P = rvalue`.
+#[derive(Clone, Drop, PartialEq)]
+pub struct Assignment {
+    pub target: Place,
+    pub value: Rvalue,
+}
+
+/// A point of a block that is not its last. `Dead` ends the storage of a local.
+#[derive(Clone, Drop, PartialEq)]
+pub enum Statement {
+    Assign(Assignment),
+    Dead(u8),
+    Drop(Place),
+    Nop,
+}
+
+/// `if operand then otherwise`, two labels.
+#[derive(Clone, Drop, PartialEq)]
+pub struct Condition {
+    pub operand: Operand,
+    pub then: u8,
+    pub otherwise: u8,
+}
+
+/// `destination = call function(operands) target`, where the target is a label.
+#[derive(Clone, Drop, PartialEq)]
+pub struct Call {
+    pub destination: Place,
+    pub function: Instance,
+    pub operands: Sequence<Operand>,
+    pub target: u8,
+}
+
+/// The last point of a block. Labels are numbers of blocks.
+#[derive(Clone, Drop, PartialEq)]
+pub enum Terminator {
+    Goto(u8),
+    If(Condition),
+    Call(Call),
+    Return,
+    Stop,
+}
+
+/// A block: its statements in order, and its terminator.
+#[derive(Clone, Drop, PartialEq)]
+pub struct Block {
+    pub statements: Sequence<Statement>,
+    pub terminator: Terminator,
+}
+
+/// A `where` clause between universal regions: the value of `longer` contains that of `shorter`.
+#[derive(Clone, Copy, Debug, PartialEq, Eq)]
+pub struct Outlives {
+    pub longer: u8,
+    pub shorter: u8,
+}
+
+/// The name of a declared region, without its `'`.
+#[derive(Clone, Drop, PartialEq)]
+pub struct RegionName {
+    pub bytes: ShortSequence<u8, 16>,
+}
+
+/// What a unit is.
+#[derive(Clone, Copy, Debug, PartialEq, Eq)]
+pub enum UnitKind {
+    Function,
+}
+
+/// What stands before a unit's body. The regions' numbers are 1 and up, in this order.
+#[derive(Clone, Drop, PartialEq)]
+pub struct Header {
+    pub kind: UnitKind,
+    pub regions: Sequence<RegionName>,
+    pub clauses: Sequence<Outlives>,
+    pub parameters: Sequence<Ty>,
+    pub result: Ty,
+}
+
+/// A header with its body. Local 0 has the result's type; then come the parameters, then the `let` locals.
+#[derive(Clone, Drop, PartialEq)]
+pub struct Body {
+    pub header: Header,
+    pub lets: Sequence<Ty>,
+    pub blocks: Sequence<Block>,
+}
+
+/// How a type follows a region parameter of its struct: with it, or with none but the same region (rustc-dev-guide,
+/// "Variance").
+#[derive(Clone, Copy, Debug, PartialEq, Eq)]
+pub enum Variance {
+    Covariant,
+    Invariant,
+}
+
+/// `struct NAME<regions> drop { fields }`: the regions' numbers in the fields' types are 1 and up, in this order, and
+/// each has its variance.
+#[derive(Clone, Drop, PartialEq)]
+pub struct StructDeclaration {
+    pub name: ItemName,
+    pub regions: Sequence<RegionName>,
+    pub variances: Sequence<Variance>,
+    pub has_drop: bool,
+    pub fields: Sequence<Ty>,
+}
+
+/// `extern NAME<regions> where clauses (parameters) -> result`: its header's regions have the numbers 1 and up, in this
+/// order.
+#[derive(Clone, Drop, PartialEq)]
+pub struct ExternDeclaration {
+    pub name: ItemName,
+    pub header: Header,
+}
+
+/// A struct, or a function that is declared alone.
+#[derive(Clone, Drop, PartialEq)]
+pub enum Declaration {
+    Struct(StructDeclaration),
+    Extern(ExternDeclaration),
+}

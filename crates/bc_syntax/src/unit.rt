@@ -1,0 +1,70 @@
+//! Units: bodies that have a spelling.
+ghost use Rattle.std.specs.Prelude.{◌≡◌, IfSome, IsSome};
+ghost use Rattle.bc_syntax.specs.Fits.{Fits};
+ghost use Rattle.bc_syntax.specs.Served.{served as is_served};
+
+use crate::fits::fits;
+use crate::served::served;
+use crate::syntax::Body;
+use std::marker::Model;
+
+/// A body that has a spelling: its numbers are within their limits (at most 256 locals, 256 blocks and one at least,
+/// 4,096 points, 15 declared regions, 32 clauses, 16 parameters and operands in a list, region variables up to 1,023),
+/// its regions and locals are declared, and its names are words.
+#[derive(Drop, PartialEq)]
+pub struct Unit {
+    body: Body,
+}
+
+impl Model for Unit {
+    ghost use Rattle.bc_syntax.specs.declared.syntax.Body.{Body};
+    ghost use Rattle.bc_syntax.specs.Fits.{Fits};
+
+    ghost Value = { Body };
+
+    ghost view = { λ u. u.body };
+
+    ghost invariant = { λ u. Fits u.body };
+
+    ghost inverse = { λ body. record { body = body } };
+}
+
+impl Unit {
+    /// The unit of a body, or `None` exactly where a number is past its limit, a region or local is not declared, or a
+    /// name is no word.
+    pub fn new(body: Body) -> Option<Unit>
+        ensures body { IfSome result (λ unit. unit ≡ body) }
+        ensures fits { IfSome result (λ _. Fits body) }
+        ensures some { Fits body → IsSome result }
+    {
+        if fits(&body) {
+            Some(Unit { body })
+        } else {
+            None
+        }
+    }
+
+    /// The unit of a body that is known to have a spelling.
+    pub fn of_fitting(body: Body) -> Unit
+        requires { Fits body }
+        ensures { result ≡ body }
+    {
+        Unit { body }
+    }
+
+    /// Whether the database serves the unit: it declares no regions and has no clauses, its types lead to `int`, and it
+    /// has one block, which ends with `return` or `stop` and makes no struct and drops nothing. It takes no memory.
+    pub fn served(&self) -> bool
+        ensures { result ≡ is_served self.now }
+    {
+        served(&self.body)
+    }
+
+    /// What the unit is made of.
+    pub fn body(&self) -> &Body
+        ensures value { result.now ≡ self.now }
+        ensures fits { Fits self.now }
+    {
+        &self.body
+    }
+}

@@ -1,0 +1,487 @@
+-- A unit that is read is the one that was spelled, and what was spelled is read again.
+use Rattle.std.proofs.Common.{◌≡◌, ℕ, zero, suc, ◌+◌, ◌≤◌, true, false, cond, ◌&&◌, List, [], ◌∷◌, ◌++◌, length, Ok, Err, refl, sym, ap, ◌∙◌, subst, inl, inr, append_assoc, eqb, ltb, arith}
+use Rattle.std.specs.Prelude.{Result, ◌⊎◌}
+use Rattle.std.specs.List.{flat_map, list_all}
+use Rattle.std.proofs.lemmas.List.{append-nil, length-append}
+use Rattle.std.proofs.lemmas.Bool.{eqb-true, eq-eqb, ltb-false, le-ltb, le-leb, leb-true, and_from, and_parts}
+use Rattle.bc_text.specs.declared.fault.ReadFault.TheVariants.{TooLong}
+use Rattle.bc_text.specs.declared.fault.Refusal.{Refusal}
+use Rattle.bc_syntax.specs.declared.symbol.Symbol.TheVariants as s
+use Rattle.bc_text.specs.declared.token.Numbering.TheVariants as n
+use Rattle.bc_syntax.specs.declared.syntax.RegionName.{RegionName}
+use Rattle.bc_syntax.specs.declared.syntax.Outlives.{Outlives}
+use Rattle.bc_syntax.specs.declared.syntax.Ty.{Ty}
+use Rattle.bc_syntax.specs.declared.syntax.UnitKind.{UnitKind}
+use Rattle.bc_syntax.specs.declared.syntax.UnitKind.TheVariants.{Function}
+use Rattle.bc_syntax.specs.declared.syntax.Block.{Block}
+use Rattle.bc_syntax.specs.declared.syntax.Header.{Header}
+use Rattle.bc_syntax.specs.declared.syntax.Body.{Body}
+use Rattle.bc_syntax.specs.Symbol.{same}
+use Rattle.bc_syntax.specs.Fits.{HeaderFits, Fits, is_new, are_new, clause_fits, clauses_fit, parameters_fit, ty_fits, block_fits, point_count}
+use Rattle.bc_text.specs.Token.{Token, Fixed, Numbered, Word, Region, NotAscii, Stray, End, Tokens, tokens}
+use Rattle.bc_text.specs.Parser.{Outcome, Reads, and_then, sees, sees_region, after, is_end, at_end, numbered, position, expect, pure, fail, fault, opened_list, declared_list}
+use Rattle.bc_text.specs.Universals.{universal_names}
+use Rattle.bc_text.specs.Reading as read
+use Rattle.bc_text.specs.Reading.{answer_of}
+use Rattle.bc_text.specs.Spelling as spell
+use Rattle.bc_text.proofs.Begins.{Begins, join, split, bind_ok, ok_is, chosen, chosen_parser, eaten, eat_again, eat_other, expect_takes, expect_again, numbered_takes, numbered_again, sees_none, sees_numbered_none}
+use Rattle.bc_text.proofs.NameLaws.{Declares, Anything, NoLess, universal_takes, universal_again, new_region_takes, new_region_again}
+use Rattle.bc_text.proofs.TypeLaws.{ty_takes, ty_again, parameters_take, parameters_again}
+use Rattle.bc_text.proofs.Lists.{Spells, Follows, Closes, opened_take, opened_again, opened_none}
+use Rattle.bc_text.proofs.NewLists as new
+use Rattle.bc_text.proofs.NewLists.{declared_list_takes, declared_list_again, are_fitting}
+use Rattle.bc_text.proofs.Ends.{IsText, tokens_are_text, within, ends_there, all_of_it, begins_whole}
+use Rattle.bc_text.proofs.BlockLaws.{blocks_take, blocks_again}
+
+-- ---- clauses
+
+module _ (regions : List RegionName) (declares : Declares regions) where
+  abbrev count : ℕ
+  count = length regions + 1
+
+  clause_takes : (ts : Tokens) (y : Outlives × Tokens) → read.clause regions ts ≡ Ok y → Begins ts (spell.clause regions y.0) y.1 × (clause_fits count y.0 ≡ true)
+  unfolding read.clause
+  clause_takes ts y e =
+      let b = bind_ok (read.universal regions ts) (λ l rest. and_then (expect s.Colon rest) (λ _ mid. and_then (read.universal regions mid) (λ k last. Ok (record { longer = l; shorter = k }, last)))) y e in
+      let c = bind_ok (expect s.Colon b.0.1) (λ _ mid. and_then (read.universal regions mid) (λ k last. Ok (record { longer = b.0.0; shorter = k }, last))) y b.2 in
+      let d = bind_ok (read.universal regions c.0.1) (λ k last. Ok (record { longer = b.0.0; shorter = k }, last)) y c.2 in
+      let l = universal_takes regions ts b.0 b.1 in
+      let k = universal_takes regions c.0.1 d.0 d.1 in
+      let tail = join b.0.1 (spell.symbol s.Colon) c.0.1 (spell.universal regions d.0.0) d.0.1 (expect_takes s.Colon b.0.1 c.0 c.1) k.0 in
+      subst (λ (q : Outlives × Tokens). Begins ts (spell.clause regions q.0) q.1 × (clause_fits count q.0 ≡ true)) (ok_is (record { longer = b.0.0; shorter = d.0.0 }, d.0.1) y d.2)
+      (join ts (spell.universal regions b.0.0) b.0.1 (spell.symbol s.Colon ++ spell.universal regions d.0.0) d.0.1 l.0 tail, and_from (ltb b.0.0 count) (ltb d.0.0 count) l.1 k.1)
+
+  clause_again : (ts : Tokens) (x : Outlives) (rest : Tokens) → Begins ts (spell.clause regions x) rest → clause_fits count x ≡ true → Anything rest → read.clause regions ts ≡ Ok (x, rest)
+  unfolding read.clause
+  clause_again ts x rest b fits ends =
+      let parts = and_parts (ltb x.longer count) (ltb x.shorter count) fits in
+      let a = split ts (spell.universal regions x.longer) (spell.symbol s.Colon ++ spell.universal regions x.shorter) rest b in
+      let c = split a.0 (spell.symbol s.Colon) (spell.universal regions x.shorter) rest a.2 in
+      rw (universal_again regions ts x.longer a.0 declares a.1 parts.0, expect_again s.Colon a.0 c.0 c.1, universal_again regions c.0 x.shorter rest declares c.2 parts.1) refl
+
+  clause_law : Spells (read.clause regions) (spell.clause regions) (clause_fits count) Anything
+  clause_law = record { takes = clause_takes; again = clause_again }
+
+  clauses_take : (ts : Tokens) (y : List Outlives × Tokens) → read.clauses regions ts ≡ Ok y → Begins ts (spell.clauses regions y.0) y.1 × (clauses_fit count y.0 ≡ true)
+  unfolding read.clauses
+  clauses_take ts y e =
+      let list = opened_take (read.clause regions) (spell.clause regions) (clause_fits count) Anything clause_law sees_region 32 s.Where ts y e in
+      let fit = and_from (list_all (clause_fits count) y.0) _ list.1.0 (le-leb (length y.0) 32 list.1.1) in
+      elim list.0 [
+        | inl none ↦ (subst (λ (cs : List Outlives). Begins ts (spell.clauses regions cs) y.1) (sym none.0) (sym none.1), fit)
+        | inr some ↦ (subst (λ (cs : List Outlives). Begins ts (spell.clauses regions cs) y.1) (sym some.2) some.3, fit)
+      ]
+
+  clauses_again : (ts : Tokens) (cs : List Outlives) (rest : Tokens) → Begins ts (spell.clauses regions cs) rest → clauses_fit count cs ≡ true → sees s.Where rest ≡ false → sees s.Comma rest ≡ false → read.clauses regions ts ≡ Ok (cs, rest)
+  unfolding read.clauses
+  clauses_again ts [] rest b fits other comma = opened_none (read.clause regions) (spell.clause regions) (clause_fits count) Anything clause_law sees_region 32 s.Where ts (rw b other) ∙ rw b refl
+  clauses_again ts (c ∷ cs) rest b fits other comma =
+      let parts = and_parts (list_all (clause_fits count) (c ∷ cs)) _ fits in
+      opened_again (read.clause regions) (spell.clause regions) (clause_fits count) Anything clause_law sees_region 32 s.Where (record { comma_ends = λ ts x rest b. tt }) ts c cs rest b (parts.0, leb-true (length (c ∷ cs)) 32 parts.1) tt comma
+
+  -- ---- signatures
+
+  abbrev made : List Outlives → List Ty → Ty → Header
+  made clauses parameters result = record { kind = Function; regions = regions; clauses = clauses; parameters = parameters; result = result }
+
+  -- what stands behind the declared regions
+  abbrev rest_of : Header → List Token
+  rest_of h = spell.clauses regions h.clauses ++ (spell.parameters regions h.parameters ++ (spell.symbol s.Arrow ++ spell.ty regions h.result))
+
+  pub record SignatureFits (h : Header) : Type 0 where
+    pub regions_are : h.regions ≡ regions
+    pub clauses : clauses_fit count h.clauses ≡ true
+    pub parameters : parameters_fit count h.parameters ≡ true
+    pub result : ty_fits false count h.result ≡ true
+
+  pub signature_takes : (ts : Tokens) (y : Header × Tokens) → read.signature regions ts ≡ Ok y → Begins ts (rest_of y.0) y.1 × SignatureFits y.0
+  unfolding read.signature
+  signature_takes ts y e =
+      let b = bind_ok (read.clauses regions ts) (λ cs t1. and_then (read.parameters regions t1) (λ ps t2. and_then (expect s.Arrow t2) (λ _ t3. and_then (read.ty false regions t3) (λ r t4. Ok (made cs ps r, t4))))) y e in
+      let c = bind_ok (read.parameters regions b.0.1) (λ ps t2. and_then (expect s.Arrow t2) (λ _ t3. and_then (read.ty false regions t3) (λ r t4. Ok (made b.0.0 ps r, t4)))) y b.2 in
+      let d = bind_ok (expect s.Arrow c.0.1) (λ _ t3. and_then (read.ty false regions t3) (λ r t4. Ok (made b.0.0 c.0.0 r, t4))) y c.2 in
+      let f = bind_ok (read.ty false regions d.0.1) (λ r t4. Ok (made b.0.0 c.0.0 r, t4)) y d.2 in
+      let cs = clauses_take ts b.0 b.1 in
+      let ps = parameters_take regions b.0.1 c.0 declares c.1 in
+      let r = ty_takes false regions declares d.0.1 f.0 f.1 in
+      let t2 = join c.0.1 (spell.symbol s.Arrow) d.0.1 (spell.ty regions f.0.0) f.0.1 (expect_takes s.Arrow c.0.1 d.0 d.1) r.0 in
+      let t1 = join b.0.1 (spell.parameters regions c.0.0) c.0.1 (spell.symbol s.Arrow ++ spell.ty regions f.0.0) f.0.1 ps.0 t2 in
+      let whole = join ts (spell.clauses regions b.0.0) b.0.1 (spell.parameters regions c.0.0 ++ (spell.symbol s.Arrow ++ spell.ty regions f.0.0)) f.0.1 cs.0 t1 in
+      subst (λ (q : Header × Tokens). Begins ts (rest_of q.0) q.1 × SignatureFits q.0) (ok_is (made b.0.0 c.0.0 f.0.0, f.0.1) y f.2)
+      (whole, record { regions_are = refl; clauses = cs.1; parameters = ps.1; result = r.1 })
+
+  is_function : (kind : UnitKind) → Function ≡ kind
+  is_function Function = refl
+
+  made_is : (h : Header) → h.regions ≡ regions → made h.clauses h.parameters h.result ≡ h
+  made_is h same_regions =
+      ap (λ (rs : List RegionName). record { kind = Function; regions = rs; clauses = h.clauses; parameters = h.parameters; result = h.result }) (sym same_regions)
+      ∙ ap (λ (kind : UnitKind). record { kind = kind; regions = h.regions; clauses = h.clauses; parameters = h.parameters; result = h.result }) (is_function h.kind)
+
+  pub signature_again : (ts : Tokens) (h : Header) (rest : Tokens) → Begins ts (rest_of h) rest → SignatureFits h → NoLess rest → read.signature regions ts ≡ Ok (h, rest)
+  unfolding read.signature same
+  signature_again ts h rest b fits other =
+      let a = split ts (spell.clauses regions h.clauses) (spell.parameters regions h.parameters ++ (spell.symbol s.Arrow ++ spell.ty regions h.result)) rest b in
+      let c = split a.0 (spell.parameters regions h.parameters) (spell.symbol s.Arrow ++ spell.ty regions h.result) rest a.2 in
+      let d = split c.0 (spell.symbol s.Arrow) (spell.ty regions h.result) rest c.2 in
+      let tail = (spell.commas (spell.ty regions) h.parameters ++ spell.symbol s.CloseParen) ++ (spell.symbol s.Arrow ++ spell.ty regions h.result) in
+      let no_where = sees_none s.Where a.0 (Fixed s.OpenParen) tail rest a.2 refl in
+      let no_comma = sees_none s.Comma a.0 (Fixed s.OpenParen) tail rest a.2 refl in
+      rw (
+        clauses_again ts h.clauses a.0 a.1 fits.clauses no_where no_comma,
+        parameters_again regions a.0 h.parameters c.0 declares c.1 fits.parameters,
+        expect_again s.Arrow c.0 d.0 d.1,
+        ty_again false regions declares d.0 h.result rest d.2 fits.result other,
+      ) (ap (λ (k : Header). Ok (k, rest)) (made_is h fits.regions_are))
+
+-- ---- headers
+
+new_law : new.Declares read.new_region spell.region_name is_new Anything
+new_law = record { takes = new_region_takes; again = λ found ts x rest b fits ends. new_region_again found ts x rest b fits }
+
+names_apart : (x : RegionName) (l : List Token) (ts rest : Tokens) → Begins ts (spell.region_name x ++ l) rest → sees s.Greater ts ≡ false
+names_apart x l ts rest b = sees_none s.Greater ts (Region x.bytes) l rest b refl
+
+names_close : Closes spell.region_name Anything s.Greater
+unfolding same
+names_close = record {
+  follows = record { comma_ends = λ ts x rest b. tt };
+  close_ends = λ ts x rest b. tt;
+  close_apart = refl;
+  item_apart = names_apart;
+}
+
+fitting_is : (before names : List RegionName) → are_fitting is_new before names ≡ are_new before names
+fitting_is before [] = refl
+fitting_is before (x ∷ names) = ap (λ b. is_new before x && b) (fitting_is (before ++ x ∷ []) names)
+
+-- a header that declares at most so many regions
+pub record HeaderIs (limit : ℕ) (h : Header) : Type 0 where
+  pub declares : Declares h.regions
+  pub few : length h.regions ≤ limit
+  pub signature : (d : Declares h.regions) → SignatureFits h.regions d h
+
+pub header_of_takes : (limit : ℕ) (ts : Tokens) (y : Header × Tokens) → read.header_of limit ts ≡ Ok y → Begins ts (spell.signature y.0) y.1 × HeaderIs limit y.0
+unfolding read.header_of
+header_of_takes limit ts y e =
+    let b = bind_ok (declared_list sees_region read.new_region limit ts) (λ rs rest. read.signature rs rest) y e in
+    let list = declared_list_takes read.new_region spell.region_name is_new Anything new_law sees_region limit ts b.0 b.1 in
+    let declares : Declares b.0.0 = sym (fitting_is [] b.0.0) ∙ list.1.0 in
+    let g = signature_takes b.0.0 declares b.0.1 y b.2 in
+    let whole = join ts (spell.angled spell.region_name b.0.0) b.0.1 (rest_of b.0.0 declares y.0) y.1 list.0 g.0 in
+    let is = g.1.regions_are in
+    (subst (λ (rs : List RegionName). Begins ts (spell.angled spell.region_name rs ++ (spell.clauses rs y.0.clauses ++ (spell.parameters rs y.0.parameters ++ (spell.symbol s.Arrow ++ spell.ty rs y.0.result)))) y.1) (sym is) whole,
+     record {
+       declares = subst Declares (sym is) declares;
+       few = subst (λ (rs : List RegionName). length rs ≤ limit) (sym is) list.1.1;
+       signature = λ d. record {
+         regions_are = refl;
+         clauses = subst (λ (rs : List RegionName). clauses_fit (length rs + 1) y.0.clauses ≡ true) (sym is) g.1.clauses;
+         parameters = subst (λ (rs : List RegionName). parameters_fit (length rs + 1) y.0.parameters ≡ true) (sym is) g.1.parameters;
+         result = subst (λ (rs : List RegionName). ty_fits false (length rs + 1) y.0.result ≡ true) (sym is) g.1.result;
+       };
+     })
+
+no_less_from : (regions : List RegionName) (cs : List Outlives) (ps : List Ty) (l : List Token) (ts rest : Tokens) → Begins ts (spell.clauses regions cs ++ (spell.parameters regions ps ++ l)) rest → NoLess ts
+unfolding same
+no_less_from regions [] ps l ts rest b = sees_none s.Less ts (Fixed s.OpenParen) ((spell.commas (spell.ty regions) ps ++ spell.symbol s.CloseParen) ++ l) rest b refl
+no_less_from regions (c ∷ cs) ps l ts rest b = sees_none s.Less ts (Fixed s.Where) (spell.commas (spell.clause regions) (c ∷ cs) ++ (spell.parameters regions ps ++ l)) rest b refl
+
+-- no `<` begins what stands behind the declared regions
+no_less : (h : Header) (ts rest : Tokens) → Begins ts (spell.clauses h.regions h.clauses ++ (spell.parameters h.regions h.parameters ++ (spell.symbol s.Arrow ++ spell.ty h.regions h.result))) rest → NoLess ts
+unfolding same
+no_less h ts rest b = no_less_from h.regions h.clauses h.parameters (spell.symbol s.Arrow ++ spell.ty h.regions h.result) ts rest b
+
+pub header_of_again : (limit : ℕ) (ts : Tokens) (h : Header) (rest : Tokens) → Begins ts (spell.signature h) rest → HeaderIs limit h → NoLess rest → read.header_of limit ts ≡ Ok (h, rest)
+unfolding read.header_of
+header_of_again limit ts h rest b fits other =
+    let tail = spell.clauses h.regions h.clauses ++ (spell.parameters h.regions h.parameters ++ (spell.symbol s.Arrow ++ spell.ty h.regions h.result)) in
+    let a = split ts (spell.angled spell.region_name h.regions) tail rest b in
+    rw (declared_list_again read.new_region spell.region_name is_new Anything new_law sees_region limit names_close ts h.regions a.0 a.1 (fitting_is [] h.regions ∙ fits.declares, fits.few) (no_less h a.0 rest a.2))
+    (signature_again h.regions fits.declares a.0 h rest a.2 (fits.signature fits.declares) other)
+
+header_takes : (ts : Tokens) (y : Header × Tokens) → read.header ts ≡ Ok y → Begins ts (spell.header y.0) y.1 × HeaderIs 15 y.0
+unfolding read.header
+header_takes ts y e =
+    let b = bind_ok (expect s.Fn ts) (λ _ rest. read.header_of 15 rest) y e in
+    let g = header_of_takes 15 b.0.1 y b.2 in
+    (join ts (spell.symbol s.Fn) b.0.1 (spell.signature y.0) y.1 (expect_takes s.Fn ts b.0 b.1) g.0, g.1)
+
+header_again : (ts : Tokens) (h : Header) (rest : Tokens) → Begins ts (spell.header h) rest → HeaderIs 15 h → NoLess rest → read.header ts ≡ Ok (h, rest)
+unfolding read.header
+header_again ts h rest b fits other =
+    let a = split ts (spell.symbol s.Fn) (spell.signature h) rest b in
+    rw (expect_again s.Fn ts a.0 a.1) (header_of_again 15 a.0 h rest a.2 fits other)
+
+header_fits : (h : Header) → HeaderIs 15 h → HeaderFits h
+header_fits h is =
+    let g = is.signature is.declares in
+    record { regions = is.declares; universals = omega (arith, is.few); clauses = g.clauses; parameters = g.parameters; result = g.result }
+
+header_is : (h : Header) → HeaderFits h → HeaderIs 15 h
+header_is h fits = record {
+  declares = fits.regions;
+  few = omega (arith, fits.universals);
+  signature = λ d. record { regions_are = refl; clauses = fits.clauses; parameters = fits.parameters; result = fits.result };
+}
+
+-- ---- lets
+
+module _ (regions : List RegionName) (declares : Declares regions) where
+  abbrev ty_is : Ty → Type 0
+  ty_is t = ty_fits true (length regions + 1) t ≡ true
+
+  abbrev typed : Ty → List Token
+  typed t = spell.symbol s.Colon ++ (spell.ty regions t ++ spell.symbol s.Semicolon)
+
+  declared_takes : (ts : Tokens) (y : Ty × Tokens) → read.declared_ty regions ts ≡ Ok y → Begins ts (typed y.0) y.1 × ty_is y.0
+  unfolding read.declared_ty
+  declared_takes ts y e =
+      let b = bind_ok (expect s.Colon ts) (λ _ rest. and_then (read.ty true regions rest) (λ t mid. and_then (expect s.Semicolon mid) (λ _ last. Ok (t, last)))) y e in
+      let c = bind_ok (read.ty true regions b.0.1) (λ t mid. and_then (expect s.Semicolon mid) (λ _ last. Ok (t, last))) y b.2 in
+      let d = bind_ok (expect s.Semicolon c.0.1) (λ _ last. Ok (c.0.0, last)) y c.2 in
+      let t = ty_takes true regions declares b.0.1 c.0 c.1 in
+      let tail = join b.0.1 (spell.ty regions c.0.0) c.0.1 (spell.symbol s.Semicolon) d.0.1 t.0 (expect_takes s.Semicolon c.0.1 d.0 d.1) in
+      subst (λ (q : Ty × Tokens). Begins ts (typed q.0) q.1 × ty_is q.0) (ok_is (c.0.0, d.0.1) y d.2)
+      (join ts (spell.symbol s.Colon) b.0.1 (spell.ty regions c.0.0 ++ spell.symbol s.Semicolon) d.0.1 (expect_takes s.Colon ts b.0 b.1) tail, t.1)
+
+  declared_again : (ts : Tokens) (t : Ty) (rest : Tokens) → Begins ts (typed t) rest → ty_is t → read.declared_ty regions ts ≡ Ok (t, rest)
+  unfolding read.declared_ty same
+  declared_again ts t rest b fits =
+      let a = split ts (spell.symbol s.Colon) (spell.ty regions t ++ spell.symbol s.Semicolon) rest b in
+      let c = split a.0 (spell.ty regions t) (spell.symbol s.Semicolon) rest a.2 in
+      rw (expect_again s.Colon ts a.0 a.1, ty_again true regions declares a.0 t c.0 c.1 fits (sees_none s.Less c.0 (Fixed s.Semicolon) [] rest c.2 refl), expect_again s.Semicolon c.0 rest c.2) refl
+
+  let_takes : (number : ℕ) (ts : Tokens) (y : Ty × Tokens) → read.let_ty regions number ts ≡ Ok y → Begins ts (Numbered n.Local number ∷ typed y.0) y.1 × ty_is y.0 × (number ≤ 255)
+  unfolding read.let_ty
+  let_takes number ts y e =
+      let b = bind_ok (numbered n.Local 255 ts) (λ l. cond (eqb l number) (read.declared_ty regions) (fail (position ts))) y e in
+      let t = numbered_takes n.Local 255 ts b.0 b.1 in
+      elim (chosen_parser (eqb b.0.0 number) (read.declared_ty regions) (fail (position ts)) b.0.1 y b.2) [
+        | inl p ↦
+            let is : b.0.0 ≡ number = eqb-true b.0.0 number p.0 in
+            let d = declared_takes b.0.1 y p.1 in
+            let local : Begins ts (Numbered n.Local number ∷ []) b.0.1 = subst (λ k. Begins ts (Numbered n.Local k ∷ []) b.0.1) is t.0 in
+            (join ts (Numbered n.Local number ∷ []) b.0.1 (typed y.0) y.1 local d.0, d.1, subst (λ k. k ≤ 255) is t.1)
+        | inr p ↦ let bad = p.1 in absurd cc
+      ]
+
+  let_again : (number : ℕ) (ts : Tokens) (t : Ty) (rest : Tokens) → Begins ts (Numbered n.Local number ∷ typed t) rest → ty_is t → number ≤ 255 → read.let_ty regions number ts ≡ Ok (t, rest)
+  unfolding read.let_ty
+  let_again number ts t rest b fits le =
+      let a = split ts (Numbered n.Local number ∷ []) (typed t) rest b in
+      rw (numbered_again n.Local 255 ts number a.0 a.1 le, eq-eqb number number refl) (declared_again a.0 t rest a.2 fits)
+
+  abbrev LetsGoOn : ℕ → List Ty → Tokens → List Ty × Tokens → Type 0
+  LetsGoOn number found ts y = (more : List Ty) × (y.0 ≡ found ++ more) × Begins ts (spell.lets regions (number + length found) more) y.1 × (list_all (ty_fits true (length regions + 1)) more ≡ true) × (number + length found + length more ≤ 256)
+
+  lets_take : (number room : ℕ) (found : List Ty) (ts : Tokens) (y : List Ty × Tokens) → number + length found ≤ 256 → read.lets_from regions number room found ts ≡ Ok y → LetsGoOn number found ts y
+  unfolding read.lets_from read.lets_turn
+  lets_take number zero found ts y few e = absurd cc
+  lets_take number (suc room) found ts y few e =
+      elim (eaten s.Let (λ rest. and_then (read.let_ty regions (number + length found) rest) (λ t last. read.lets_from regions number room (found ++ t ∷ []) last)) (pure found) ts y e) [
+        | inl p ↦
+            let b = bind_ok (read.let_ty regions (number + length found) (after ts)) (λ t last. read.lets_from regions number room (found ++ t ∷ []) last) y p.1 in
+            let t = let_takes (number + length found) (after ts) b.0 b.1 in
+            let one_more : number + length (found ++ b.0.0 ∷ []) ≡ number + length found + 1 = omega (arith, length-append found (b.0.0 ∷ [])) in
+            let more = lets_take number room (found ++ b.0.0 ∷ []) b.0.1 y (omega (arith, t.2)) b.2 in
+            let rest : Begins b.0.1 (spell.lets regions (number + length found + 1) more.0) y.1 = subst (λ k. Begins b.0.1 (spell.lets regions k more.0) y.1) one_more more.2 in
+            let head = join ts (spell.symbol s.Let) (after ts) (Numbered n.Local (number + length found) ∷ typed b.0.0) b.0.1 p.0 t.0 in
+            (b.0.0 ∷ more.0, more.1 ∙ append_assoc found (b.0.0 ∷ []) more.0, join ts (spell.declared regions (number + length found) b.0.0) b.0.1 (spell.lets regions (number + length found + 1) more.0) y.1 head rest,
+             and_from (ty_fits true (length regions + 1) b.0.0) _ t.1 more.3, omega (arith, one_more, more.4))
+        | inr p ↦
+            subst (λ (q : List Ty × Tokens). LetsGoOn number found ts q) (ok_is (found, ts) y p.1) ([], sym (append-nil found), refl, refl, omega arith)
+      ]
+
+  lets_again : (number room : ℕ) (found more : List Ty) (ts rest : Tokens) → Begins ts (spell.lets regions (number + length found) more) rest → list_all (ty_fits true (length regions + 1)) more ≡ true → number + length found + length more ≤ 256 → length more + 1 ≤ room
+      → sees s.Let rest ≡ false → read.lets_from regions number room found ts ≡ Ok (found ++ more, rest)
+  unfolding read.lets_from read.lets_turn
+  lets_again number zero found more ts rest b fits few le other = absurd (omega arith)
+  lets_again number (suc room) found [] ts rest b fits few le other = rw (append-nil found, b) (eat_other s.Let _ (pure found) rest other)
+  lets_again number (suc room) found (t ∷ more) ts rest b fits few le other =
+      let a = split ts (spell.declared regions (number + length found) t) (spell.lets regions (number + length found + 1) more) rest b in
+      let c = split ts (spell.symbol s.Let) (Numbered n.Local (number + length found) ∷ typed t) a.0 a.1 in
+      let parts = and_parts (ty_fits true (length regions + 1) t) _ fits in
+      let one_more : number + length (found ++ t ∷ []) ≡ number + length found + 1 = omega (arith, length-append found (t ∷ [])) in
+      let small : number + length found ≤ 255 = omega arith in
+      let text : Begins a.0 (spell.lets regions (number + length (found ++ t ∷ [])) more) rest = subst (λ k. Begins a.0 (spell.lets regions k more) rest) (sym one_more) a.2 in
+      let few2 : number + length (found ++ t ∷ []) + length more ≤ 256 = omega (arith, one_more) in
+      let le2 : length more + 1 ≤ room = omega arith in
+      eat_again s.Let _ (pure found) ts c.0 c.1
+      ∙ ap (λ o. and_then o (λ z last. read.lets_from regions number room (found ++ z ∷ []) last)) (let_again (number + length found) c.0 t a.0 c.2 parts.0 small)
+      ∙ lets_again number room (found ++ t ∷ []) more a.0 rest text parts.1 few2 le2 other
+      ∙ rw (append_assoc found (t ∷ []) more) refl
+
+-- ---- the end
+
+is_end-true : (token : Token) → is_end token ≡ true → token ≡ End
+is_end-true End e = refl
+is_end-true (Fixed symbol) e = absurd cc
+is_end-true (Numbered k m) e = absurd cc
+is_end-true (Word name) e = absurd cc
+is_end-true (Region name) e = absurd cc
+is_end-true NotAscii e = absurd cc
+is_end-true Stray e = absurd cc
+
+pub end_takes : (ts : Tokens) (y : Unit {0} × Tokens) → at_end ts ≡ Ok y → Begins ts (End ∷ []) (after y.1)
+unfolding at_end
+end_takes [] y e = absurd cc
+end_takes (t ∷ ts) y e =
+    elim (chosen (is_end t.token) (Ok (tt, t ∷ ts)) (Err (fault (t ∷ ts))) (Ok y) e) [
+      | inl p ↦ (is_end-true t.token p.0, ap (λ (q : Unit {0} × Tokens). after q.1) (ok_is (tt, t ∷ ts) y p.1))
+      | inr p ↦ let bad = p.1 in absurd cc
+    ]
+
+pub end_again : (ts rest : Tokens) → Begins ts (End ∷ []) rest → at_end ts ≡ Ok (tt, ts)
+unfolding at_end
+end_again [] rest p = absurd p
+end_again (t ∷ ts) rest p = rw (ap is_end p.0) refl
+
+abbrev closing : List Token
+closing = Fixed s.CloseBrace ∷ (End ∷ [])
+
+-- ---- bodies
+
+abbrev body_tokens : Body → List Token
+body_tokens u = spell.symbol s.OpenBrace ++ (spell.lets u.header.regions (spell.first_let u.header) u.lets ++ (spell.blocks u.header.regions 0 u.blocks ++ closing))
+
+abbrev whole_tokens : Body → List Token
+whole_tokens u = spell.header u.header ++ body_tokens u
+
+abbrev made_of : Header → List Ty → List Block → Body
+made_of h ls bs = record { header = h; lets = ls; blocks = bs }
+
+plus-zero : (k : ℕ) → k + 0 ≡ k
+plus-zero k = omega arith
+
+locals_are : (h : Header) (ls : List Ty) → 1 + length h.parameters + length ls ≡ length (h.result ∷ (h.parameters ++ ls))
+locals_are h ls = omega (arith, length-append h.parameters ls)
+
+body_takes : (h : Header) (ts : Tokens) (y : Body × Tokens) → HeaderFits h → read.body_of h ts ≡ Ok y → (y.0.header ≡ h) × Begins ts (body_tokens y.0) (after y.1) × Fits y.0
+unfolding read.body_of
+body_takes h ts y fits e =
+    let locals : List Ty → ℕ = λ ls. 1 + length h.parameters + length ls in
+    let b = bind_ok (expect s.OpenBrace ts) (λ _ t2. and_then (read.lets_from h.regions (1 + length h.parameters) 256 [] t2) (λ ls t3. and_then (read.blocks h.regions (1 + length h.parameters + length ls) t3) (λ bs t4. and_then (expect s.CloseBrace t4) (λ _ t5. and_then (at_end t5) (λ _ t6. Ok (made_of h ls bs, t6)))))) y e in
+    let c = bind_ok (read.lets_from h.regions (1 + length h.parameters) 256 [] b.0.1) (λ ls t3. and_then (read.blocks h.regions (1 + length h.parameters + length ls) t3) (λ bs t4. and_then (expect s.CloseBrace t4) (λ _ t5. and_then (at_end t5) (λ _ t6. Ok (made_of h ls bs, t6))))) y b.2 in
+    let ls = c.0.0 in
+    let d = bind_ok (read.blocks h.regions (1 + length h.parameters + length ls) c.0.1) (λ bs t4. and_then (expect s.CloseBrace t4) (λ _ t5. and_then (at_end t5) (λ _ t6. Ok (made_of h ls bs, t6)))) y c.2 in
+    let bs = d.0.0 in
+    let f = bind_ok (expect s.CloseBrace d.0.1) (λ _ t5. and_then (at_end t5) (λ _ t6. Ok (made_of h ls bs, t6))) y d.2 in
+    let g = bind_ok (at_end f.0.1) (λ _ t6. Ok (made_of h ls bs, t6)) y f.2 in
+    let parameters = and_parts (list_all (ty_fits false (length h.regions + 1)) h.parameters) _ fits.parameters in
+    let few_parameters = leb-true (length h.parameters) 16 parameters.1 in
+    let few : 1 + length h.parameters + 0 ≤ 256 = omega (arith, few_parameters) in
+    let let_part = lets_take h.regions fits.regions (1 + length h.parameters) 256 [] b.0.1 c.0 few c.1 in
+    let let_text : Begins b.0.1 (spell.lets h.regions (1 + length h.parameters) ls) c.0.1 = subst (λ (l : List Ty). Begins b.0.1 (spell.lets h.regions (1 + length h.parameters) l) c.0.1) (sym let_part.1) (subst (λ k. Begins b.0.1 (spell.lets h.regions k let_part.0) c.0.1) (plus-zero (1 + length h.parameters)) let_part.2) in
+    let let_fits : list_all (ty_fits true (length h.regions + 1)) ls ≡ true = subst (λ (l : List Ty). list_all (ty_fits true (length h.regions + 1)) l ≡ true) (sym let_part.1) let_part.3 in
+    let count : 1 + length h.parameters + length ls ≤ 256 = subst (λ (l : List Ty). 1 + length h.parameters + length l ≤ 256) (sym let_part.1) (omega (arith, let_part.4)) in
+    let block_part = blocks_take h.regions fits.regions (1 + length h.parameters + length ls) count c.0.1 d.0 d.1 in
+    let end = join d.0.1 (spell.symbol s.CloseBrace) f.0.1 (End ∷ []) (after g.0.1) (expect_takes s.CloseBrace d.0.1 f.0 f.1) (end_takes f.0.1 g.0 g.1) in
+    let t3 = join c.0.1 (spell.blocks h.regions 0 bs) d.0.1 closing (after g.0.1) block_part.0 end in
+    let t2 = join b.0.1 (spell.lets h.regions (1 + length h.parameters) ls) c.0.1 (spell.blocks h.regions 0 bs ++ closing) (after g.0.1) let_text t3 in
+    let whole = join ts (spell.symbol s.OpenBrace) b.0.1 (spell.lets h.regions (1 + length h.parameters) ls ++ (spell.blocks h.regions 0 bs ++ closing)) (after g.0.1) (expect_takes s.OpenBrace ts b.0 b.1) t2 in
+    subst (λ (q : Body × Tokens). (q.0.header ≡ h) × Begins ts (body_tokens q.0) (after q.1) × Fits q.0) (ok_is (made_of h ls bs, g.0.1) y g.2)
+    (refl, whole, record {
+      header = fits;
+      lets = let_fits;
+      locals = subst (λ k. k ≤ 256) (locals_are h ls) count;
+      some_block = block_part.4;
+      few_blocks = block_part.3;
+      points = block_part.2;
+      blocks = subst (λ k. list_all (block_fits (length h.regions + 1) k) bs ≡ true) (locals_are h ls) block_part.1;
+    })
+
+-- no `let` begins a block
+no_let_before : (regions : List RegionName) (bs : List Block) → 1 ≤ length bs → (l : List Token) (ts rest : Tokens) → Begins ts (spell.blocks regions 0 bs ++ l) rest → sees s.Let ts ≡ false
+no_let_before regions [] some l ts rest b = absurd (omega arith)
+no_let_before regions (x ∷ bs) some l ts rest b = sees_none s.Let ts (Numbered n.Label 0) ((spell.braced regions x ++ spell.blocks regions 1 bs) ++ l) rest b refl
+
+body_again : (ts : Tokens) (u : Body) (rest : Tokens) → Begins ts (body_tokens u) rest → Fits u → (last : Tokens) × (read.body_of u.header ts ≡ Ok (u, last))
+unfolding read.body_of same
+body_again ts u rest p fits =
+    let h = u.header in
+    let b = split ts (spell.symbol s.OpenBrace) (spell.lets h.regions (1 + length h.parameters) u.lets ++ (spell.blocks h.regions 0 u.blocks ++ closing)) rest p in
+    let c = split b.0 (spell.lets h.regions (1 + length h.parameters) u.lets) (spell.blocks h.regions 0 u.blocks ++ closing) rest b.2 in
+    let d = split c.0 (spell.blocks h.regions 0 u.blocks) closing rest c.2 in
+    let f = split d.0 (spell.symbol s.CloseBrace) (End ∷ []) rest d.2 in
+    let same_count = locals_are h u.lets in
+    let count : 1 + length h.parameters + length u.lets ≤ 256 = subst (λ k. k ≤ 256) (sym same_count) fits.locals in
+    let block_fit : list_all (block_fits (length h.regions + 1) (1 + length h.parameters + length u.lets)) u.blocks ≡ true = subst (λ k. list_all (block_fits (length h.regions + 1) k) u.blocks ≡ true) (sym same_count) fits.blocks in
+    let text : Begins b.0 (spell.lets h.regions (1 + length h.parameters + 0) u.lets) c.0 = subst (λ k. Begins b.0 (spell.lets h.regions k u.lets) c.0) (sym (plus-zero (1 + length h.parameters))) c.1 in
+    let few : 1 + length h.parameters + 0 + length u.lets ≤ 256 = omega (arith, count) in
+    let room : length u.lets + 1 ≤ 256 = omega (arith, count) in
+    let no_let = no_let_before u.header.regions u.blocks fits.some_block closing c.0 rest c.2 in
+    let no_label = sees_numbered_none n.Label d.0 (Fixed s.CloseBrace) (End ∷ []) rest d.2 refl in
+    (
+      f.0,
+      rw (
+        expect_again s.OpenBrace ts b.0 b.1,
+        lets_again h.regions fits.header.regions (1 + length h.parameters) 256 [] u.lets b.0 c.0 text fits.lets few room no_let,
+        blocks_again h.regions fits.header.regions (1 + length h.parameters + length u.lets) count c.0 u.blocks d.0 d.1 block_fit fits.points fits.few_blocks fits.some_block no_label,
+        expect_again s.CloseBrace d.0 f.0 f.1,
+        end_again f.0 rest f.2,
+      ) refl,
+    )
+
+-- ---- units
+
+unit_takes : (ts : Tokens) (y : Body × Tokens) → read.unit ts ≡ Ok y → Begins ts (whole_tokens y.0) (after y.1) × Fits y.0
+unfolding read.unit
+unit_takes ts y e =
+    let a = bind_ok (read.header ts) (λ h rest. read.body_of h rest) y e in
+    let head = header_takes ts a.0 a.1 in
+    let body = body_takes a.0.0 a.0.1 y (header_fits a.0.0 head.1) a.2 in
+    let text : Begins ts (spell.header y.0.header) a.0.1 = subst (λ (h : Header). Begins ts (spell.header h) a.0.1) (sym body.0) head.0 in
+    (join ts (spell.header y.0.header) a.0.1 (body_tokens y.0) (after y.1) text body.1, body.2)
+
+unit_again : (ts : Tokens) (u : Body) (rest : Tokens) → Begins ts (whole_tokens u) rest → Fits u → (last : Tokens) × (read.unit ts ≡ Ok (u, last))
+unfolding read.unit same
+unit_again ts u rest p fits =
+    let a = split ts (spell.header u.header) (body_tokens u) rest p in
+    let brace = sees_none s.Less a.0 (Fixed s.OpenBrace) (spell.lets u.header.regions (spell.first_let u.header) u.lets ++ (spell.blocks u.header.regions 0 u.blocks ++ closing)) rest a.2 refl in
+    let body = body_again a.0 u rest a.2 fits in
+    (body.0, rw (header_again ts u.header a.0 a.1 (header_is u.header fits.header) brace) body.1)
+
+-- what is read has a spelling
+pub body_fits : (ts later : Tokens) (r : Result Body Refusal) (u : Body) → Reads (read.unit ts) r later → r ≡ Ok u → Fits u
+body_fits ts later (Ok b) u reads e =
+    let same_body : b ≡ u = cc in
+    subst Fits same_body (unit_takes ts (b, later) reads).1
+body_fits ts later (Err f) u reads e = absurd cc
+
+-- ---- texts
+
+pub answer_Ok : {A : Type 0} (outcome : Outcome A) (x : A) → answer_of outcome ≡ Ok x → (rest : Tokens) × (outcome ≡ Ok (x, rest))
+answer_Ok (Ok p) x e = let is : p.0 ≡ x = cc in (p.1, ap (λ z. Ok (z, p.1)) is)
+answer_Ok (Err d) x e = absurd cc
+
+-- the whole spelling, and then the end
+closed : (u : Body) → whole_tokens u ≡ spell.unit u ++ End ∷ []
+closed u = simp append_assoc
+
+whole_unit : (ts : Tokens) (u : Body) (rest : Tokens) → IsText ts → Begins ts (spell.unit u ++ End ∷ []) rest → rest ≡ []
+whole_unit ts u rest text p =
+    let c = within ts (spell.unit u) End [] rest text p in
+    ends_there c.0 rest c.1 c.2
+
+-- a text that is read spells what was read
+pub read_found : (bytes : List ℕ) (u : Body) → read.read bytes ≡ Ok u → spell.Spells bytes u × Fits u
+unfolding read.read read.read_whole
+read_found bytes u e =
+    elim (chosen (ltb 1048576 (length bytes)) (Err TooLong) (answer_of (read.unit (tokens 0 0 bytes))) (Ok u) e) [
+      | inl p ↦ let bad = p.1 in absurd cc
+      | inr p ↦
+          let r = answer_Ok (read.unit (tokens 0 0 bytes)) u p.1 in
+          let t = unit_takes (tokens 0 0 bytes) (u, r.0) r.1 in
+          let text : Begins (tokens 0 0 bytes) (spell.unit u ++ End ∷ []) (after r.0) = subst (λ (l : List Token). Begins (tokens 0 0 bytes) l (after r.0)) (closed u) t.0 in
+          let none = whole_unit (tokens 0 0 bytes) u (after r.0) (tokens_are_text 0 0 bytes) text in
+          ((ltb-false 1048576 (length bytes) p.0, all_of_it (tokens 0 0 bytes) (spell.unit u ++ End ∷ []) (subst (λ (l : Tokens). Begins (tokens 0 0 bytes) (spell.unit u ++ End ∷ []) l) none text)), t.1)
+    ]
+
+-- a text that spells a unit is read as it
+pub read_only : (bytes : List ℕ) (u : Body) → spell.Spells bytes u → Fits u → read.read bytes ≡ Ok u
+unfolding read.read read.read_whole
+read_only bytes u spells fits =
+    let text = begins_whole (tokens 0 0 bytes) (spell.unit u ++ End ∷ []) spells.1 in
+    let r = unit_again (tokens 0 0 bytes) u [] (subst (λ (l : List Token). Begins (tokens 0 0 bytes) l []) (sym (closed u)) text) fits in
+    rw (le-ltb 1048576 (length bytes) spells.0, r.1) refl

@@ -1,0 +1,7 @@
+use Rattle.std.proofs.Common.{◌≡◌, ◌-◌, [], length}
+use Rattle.bc_text.specs.Parser.{separated_from, separated_turn, sees_region}
+use Rattle.bc_text.specs.Reading.{clause}
+use Rattle.bc_text.proofs.reader.some_clauses.Given as goal
+
+abbrev pub invariant-loop-turn : goal.invariant-loop-turn
+invariant-loop-turn l = separated_from sees_region (clause l.regions) 32 [] l.initial.cursor ≡ separated_from sees_region (clause l.regions) (32 - l._turn) l.found l.cursor

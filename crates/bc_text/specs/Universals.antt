@@ -1,0 +1,17 @@
+-- The names of universal regions.
+use Rattle.std.specs.Prelude.{ℕ, ◌+◌, List, ◌∷◌, map, codes, Option, Some, None, if◌then◌else◌}
+use Rattle.std.specs.List.{position_from}
+use Rattle.std.specs.Str.{bytes_eq}
+use Rattle.bc_syntax.specs.declared.syntax.RegionName.{RegionName}
+
+-- the names of the universal regions, by their numbers
+abbrev pub universal_names : List RegionName → List (List ℕ)
+universal_names regions = codes "static" ∷ map (λ (name : RegionName). name.bytes) regions
+
+abbrev pub next : Option ℕ → Option ℕ
+next None = None
+next (Some number) = Some (number + 1)
+
+-- the universal region of a name
+unfoldable pub number_of : List RegionName → List ℕ → Option ℕ
+number_of regions name = if bytes_eq name (codes "static") then Some 0 else next (position_from (λ (other : RegionName). bytes_eq other.bytes name) 0 regions)

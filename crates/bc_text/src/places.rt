@@ -1,0 +1,202 @@
+//! Places, operands and what assignments compute.
+ghost use Rattle.std.specs.Prelude.{◌≡◌, ◌≤◌, length, []};
+ghost use Rattle.bc_text.specs.Parser.{Reads, separated_from, closed_list};
+ghost use Rattle.bc_text.specs.Reading as spec;
+
+use crate::cursor::Cursor;
+use crate::fault::Refusal;
+use crate::regions::{instance, refuse_past};
+use crate::token::Numbering;
+use crate::types::reference;
+use bc_syntax::{
+    Aggregate, Borrow, Operand, Place, Projection, RegionName, Rvalue, Sequence, ShortSequence, Symbol,
+};
+use std::alloc::Global;
+
+/// A local that was declared.
+#[tactic(auto, unfolding(crate::specs::Reading::local))]
+pub fn local(cursor: &mut Cursor<'_>, locals: u16) -> Result<u8, Refusal>
+    ensures { Reads (spec.local locals cursor.old) result cursor.new }
+{
+    let at = cursor.position();
+    let local = cursor.numbered(Numbering::Local, 255)?;
+    if local < u32::from(locals) {
+        Ok(local as u8)
+    } else {
+        Err(Refusal::Grammar { at })
+    }
+}
+
+#[tactic(auto, unfolding(crate::specs::Reading::projection))]
+fn projection(cursor: &mut Cursor<'_>) -> Result<Projection, Refusal>
+    ensures { Reads (spec.projection cursor.old) result cursor.new }
+{
+    if cursor.eat(Symbol::Star) {
+        Ok(Projection::Deref)
+    } else {
+        Ok(Projection::Field(cursor.numbered(Numbering::Number, 15)? as u8))
+    }
+}
+
+fn projections(
+    alloc: Global,
+    cursor: &mut Cursor<'_>,
+) -> Result<ShortSequence<Projection, 8>, Refusal>
+    ensures { Reads (spec.projections_from 8 [] cursor.old) result cursor.new }
+{
+    let mut found = ShortSequence::new(alloc);
+    for _turn in 0..8u8 {
+        if !cursor.eat(Symbol::Dot) {
+            return Ok(found);
+        }
+        found.push(projection(cursor)?)?;
+    }
+    if cursor.sees(Symbol::Dot) {
+        return Err(Refusal::Limit {
+            at: cursor.position(),
+        });
+    }
+    Ok(found)
+}
+
+/// A place.
+#[tactic(auto, unfolding(crate::specs::Reading::place))]
+pub fn place(alloc: Global, cursor: &mut Cursor<'_>, locals: u16) -> Result<Place, Refusal>
+    ensures { Reads (spec.place locals cursor.old) result cursor.new }
+{
+    let local = local(cursor, locals)?;
+    let projections = projections(alloc, cursor)?;
+    Ok(Place { local, projections })
+}
+
+#[tactic(auto, unfolding(crate::specs::Reading::moved))]
+fn moved(alloc: Global, cursor: &mut Cursor<'_>, locals: u16) -> Result<Operand, Refusal>
+    ensures { Reads (spec.moved locals cursor.old) result cursor.new }
+{
+    if cursor.eat(Symbol::Move) {
+        Ok(Operand::Move(place(alloc, cursor, locals)?))
+    } else {
+        Ok(Operand::Number(cursor.numbered(Numbering::Number, u32::MAX)?))
+    }
+}
+
+/// An operand.
+#[tactic(auto, unfolding(crate::specs::Reading::operand))]
+pub fn operand(
+    alloc: Global,
+    cursor: &mut Cursor<'_>,
+    locals: u16,
+) -> Result<Operand, Refusal>
+    ensures { Reads (spec.operand locals cursor.old) result cursor.new }
+{
+    if cursor.eat(Symbol::Copy) {
+        Ok(Operand::Copy(place(alloc, cursor, locals)?))
+    } else {
+        moved(alloc, cursor, locals)
+    }
+}
+
+fn begins_operand(cursor: &Cursor<'_>) -> bool
+    ensures { result ≡ spec.begins_operand cursor.now }
+{
+    cursor.sees(Symbol::Copy)
+        || cursor.sees(Symbol::Move)
+        || cursor.sees_numbered(Numbering::Number)
+}
+
+fn some_operands(
+    alloc: Global,
+    cursor: &mut Cursor<'_>,
+    locals: u16,
+) -> Result<Sequence<Operand>, Refusal>
+    ensures { Reads (separated_from spec.begins_operand (spec.operand locals) 16 [] cursor.old) result cursor.new }
+{
+    let mut found = Sequence::new(alloc);
+    for _turn in 0..16u8 {
+        found.push(operand(alloc, cursor, locals)?)?;
+        if !cursor.eat(Symbol::Comma) {
+            return Ok(found);
+        }
+    }
+    Err(refuse_past(begins_operand(cursor), cursor))
+}
+
+/// Operands, with their parentheses.
+#[tactic(auto, unfolding(crate::specs::Parser::closed_list, crate::specs::Reading::operands))]
+pub fn operands(
+    alloc: Global,
+    cursor: &mut Cursor<'_>,
+    locals: u16,
+) -> Result<Sequence<Operand>, Refusal>
+    ensures { Reads (spec.operands locals cursor.old) result cursor.new }
+{
+    cursor.expect(Symbol::OpenParen)?;
+    if cursor.eat(Symbol::CloseParen) {
+        return Ok(Sequence::new(alloc));
+    }
+    let found = some_operands(alloc, cursor, locals)?;
+    cursor.expect(Symbol::CloseParen)?;
+    Ok(found)
+}
+
+#[tactic(auto, unfolding(crate::specs::Reading::borrow))]
+fn borrow(alloc: Global, cursor: &mut Cursor<'_>, regions: &[RegionName], locals: u16) -> Result<Borrow, Refusal>
+    requires { length regions.now ≤ 15 }
+    ensures { Reads (spec.borrow regions.now locals cursor.old) result cursor.new }
+{
+    let reference = reference(cursor, true, regions)?;
+    let place = place(alloc, cursor, locals)?;
+    Ok(Borrow { reference, place })
+}
+
+#[tactic(auto, unfolding(crate::specs::Reading::aggregate))]
+fn aggregate(
+    alloc: Global,
+    cursor: &mut Cursor<'_>,
+    regions: &[RegionName],
+    locals: u16,
+) -> Result<Aggregate, Refusal>
+    requires { length regions.now ≤ 15 }
+    ensures { Reads (spec.aggregate regions.now locals cursor.old) result cursor.new }
+{
+    let instance = instance(alloc, cursor, true, regions)?;
+    let operands = operands(alloc, cursor, locals)?;
+    Ok(Aggregate { instance, operands })
+}
+
+#[tactic(auto, unfolding(crate::specs::Reading::created))]
+fn created(alloc: Global, cursor: &mut Cursor<'_>, regions: &[RegionName], locals: u16) -> Result<Rvalue, Refusal>
+    requires { length regions.now ≤ 15 }
+    ensures { Reads (spec.created regions.now locals cursor.old) result cursor.new }
+{
+    if cursor.sees_word() {
+        Ok(Rvalue::Aggregate(aggregate(alloc, cursor, regions, locals)?))
+    } else {
+        Ok(Rvalue::Use(operand(alloc, cursor, locals)?))
+    }
+}
+
+#[tactic(auto, unfolding(crate::specs::Reading::computed))]
+fn computed(alloc: Global, cursor: &mut Cursor<'_>, regions: &[RegionName], locals: u16) -> Result<Rvalue, Refusal>
+    requires { length regions.now ≤ 15 }
+    ensures { Reads (spec.computed regions.now locals cursor.old) result cursor.new }
+{
+    if cursor.eat(Symbol::Calc) {
+        Ok(Rvalue::Calc(operands(alloc, cursor, locals)?))
+    } else {
+        created(alloc, cursor, regions, locals)
+    }
+}
+
+/// What an assignment computes.
+#[tactic(auto, unfolding(crate::specs::Reading::rvalue))]
+pub fn rvalue(alloc: Global, cursor: &mut Cursor<'_>, regions: &[RegionName], locals: u16) -> Result<Rvalue, Refusal>
+    requires { length regions.now ≤ 15 }
+    ensures { Reads (spec.rvalue regions.now locals cursor.old) result cursor.new }
+{
+    if cursor.eat(Symbol::Ampersand) {
+        Ok(Rvalue::Borrow(borrow(alloc, cursor, regions, locals)?))
+    } else {
+        computed(alloc, cursor, regions, locals)
+    }
+}

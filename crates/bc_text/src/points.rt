@@ -1,0 +1,184 @@
+//! Statements and terminators.
+ghost use Rattle.std.specs.Prelude.{◌≡◌, ◌≤◌, length};
+ghost use Rattle.bc_text.specs.Parser.{Reads};
+ghost use Rattle.bc_text.specs.Reading as spec;
+
+use crate::cursor::Cursor;
+use crate::fault::Refusal;
+use crate::places::{local, operand, operands, place, rvalue};
+use crate::regions::instance;
+use crate::token::Numbering;
+use bc_syntax::{Assignment, Call, Condition, Place, RegionName, Statement, Symbol, Terminator};
+use std::alloc::Global;
+
+/// A statement or a terminator.
+#[derive(Drop)]
+pub enum Point {
+    Statement(Statement),
+    Terminator(Terminator),
+}
+
+/// A label, by its number.
+#[tactic(auto, unfolding(crate::specs::Reading::label))]
+pub fn label(cursor: &mut Cursor<'_>) -> Result<u8, Refusal>
+    ensures { Reads (spec.label cursor.old) result cursor.new }
+{
+    Ok(cursor.numbered(Numbering::Label, 255)? as u8)
+}
+
+#[tactic(auto, unfolding(crate::specs::Reading::called))]
+fn called(
+    alloc: Global,
+    cursor: &mut Cursor<'_>,
+    regions: &[RegionName],
+    locals: u16,
+    destination: Place,
+) -> Result<Call, Refusal>
+    requires { length regions.now ≤ 15 }
+    ensures { Reads (spec.called regions.now locals destination cursor.old) result cursor.new }
+{
+    let function = instance(alloc, cursor, true, regions)?;
+    let operands = operands(alloc, cursor, locals)?;
+    let target = label(cursor)?;
+    Ok(Call {
+        destination,
+        function,
+        operands,
+        target,
+    })
+}
+
+#[tactic(auto, unfolding(crate::specs::Reading::value_of))]
+fn value_of(
+    alloc: Global,
+    cursor: &mut Cursor<'_>,
+    regions: &[RegionName],
+    locals: u16,
+    target: Place,
+) -> Result<Point, Refusal>
+    requires { length regions.now ≤ 15 }
+    ensures { Reads (spec.value_of regions.now locals target cursor.old) result cursor.new }
+{
+    if cursor.eat(Symbol::Call) {
+        let call = called(alloc, cursor, regions, locals, target)?;
+        return Ok(Point::Terminator(Terminator::Call(call)));
+    }
+    let value = rvalue(alloc, cursor, regions, locals)?;
+    let assignment = Assignment { target, value };
+    Ok(Point::Statement(Statement::Assign(assignment)))
+}
+
+#[tactic(auto, unfolding(crate::specs::Reading::assignment))]
+fn assignment(alloc: Global, cursor: &mut Cursor<'_>, regions: &[RegionName], locals: u16) -> Result<Point, Refusal>
+    requires { length regions.now ≤ 15 }
+    ensures { Reads (spec.assignment regions.now locals cursor.old) result cursor.new }
+{
+    let target = place(alloc, cursor, locals)?;
+    cursor.expect(Symbol::Equals)?;
+    value_of(alloc, cursor, regions, locals, target)
+}
+
+#[tactic(auto, unfolding(crate::specs::Reading::active))]
+fn active(alloc: Global, cursor: &mut Cursor<'_>, regions: &[RegionName], locals: u16) -> Result<Point, Refusal>
+    requires { length regions.now ≤ 15 }
+    ensures { Reads (spec.active regions.now locals cursor.old) result cursor.new }
+{
+    if cursor.eat(Symbol::Nop) {
+        Ok(Point::Statement(Statement::Nop))
+    } else {
+        assignment(alloc, cursor, regions, locals)
+    }
+}
+
+#[tactic(auto, unfolding(crate::specs::Reading::dropping))]
+fn dropping(alloc: Global, cursor: &mut Cursor<'_>, regions: &[RegionName], locals: u16) -> Result<Point, Refusal>
+    requires { length regions.now ≤ 15 }
+    ensures { Reads (spec.dropping regions.now locals cursor.old) result cursor.new }
+{
+    if cursor.eat(Symbol::Drop) {
+        let place = place(alloc, cursor, locals)?;
+        Ok(Point::Statement(Statement::Drop(place)))
+    } else {
+        active(alloc, cursor, regions, locals)
+    }
+}
+
+#[tactic(auto, unfolding(crate::specs::Reading::dying))]
+fn dying(alloc: Global, cursor: &mut Cursor<'_>, regions: &[RegionName], locals: u16) -> Result<Point, Refusal>
+    requires { length regions.now ≤ 15 }
+    ensures { Reads (spec.dying regions.now locals cursor.old) result cursor.new }
+{
+    if cursor.eat(Symbol::Dead) {
+        Ok(Point::Statement(Statement::Dead(local(cursor, locals)?)))
+    } else {
+        dropping(alloc, cursor, regions, locals)
+    }
+}
+
+#[tactic(auto, unfolding(crate::specs::Reading::condition))]
+fn condition(
+    alloc: Global,
+    cursor: &mut Cursor<'_>,
+    locals: u16,
+) -> Result<Condition, Refusal>
+    ensures { Reads (spec.condition locals cursor.old) result cursor.new }
+{
+    let operand = operand(alloc, cursor, locals)?;
+    let then = label(cursor)?;
+    let otherwise = label(cursor)?;
+    Ok(Condition {
+        operand,
+        then,
+        otherwise,
+    })
+}
+
+#[tactic(auto, unfolding(crate::specs::Reading::branching))]
+fn branching(alloc: Global, cursor: &mut Cursor<'_>, regions: &[RegionName], locals: u16) -> Result<Point, Refusal>
+    requires { length regions.now ≤ 15 }
+    ensures { Reads (spec.branching regions.now locals cursor.old) result cursor.new }
+{
+    if cursor.eat(Symbol::If) {
+        let condition = condition(alloc, cursor, locals)?;
+        Ok(Point::Terminator(Terminator::If(condition)))
+    } else {
+        dying(alloc, cursor, regions, locals)
+    }
+}
+
+#[tactic(auto, unfolding(crate::specs::Reading::going))]
+fn going(alloc: Global, cursor: &mut Cursor<'_>, regions: &[RegionName], locals: u16) -> Result<Point, Refusal>
+    requires { length regions.now ≤ 15 }
+    ensures { Reads (spec.going regions.now locals cursor.old) result cursor.new }
+{
+    if cursor.eat(Symbol::Goto) {
+        Ok(Point::Terminator(Terminator::Goto(label(cursor)?)))
+    } else {
+        branching(alloc, cursor, regions, locals)
+    }
+}
+
+#[tactic(auto, unfolding(crate::specs::Reading::stopping))]
+fn stopping(alloc: Global, cursor: &mut Cursor<'_>, regions: &[RegionName], locals: u16) -> Result<Point, Refusal>
+    requires { length regions.now ≤ 15 }
+    ensures { Reads (spec.stopping regions.now locals cursor.old) result cursor.new }
+{
+    if cursor.eat(Symbol::Stop) {
+        Ok(Point::Terminator(Terminator::Stop))
+    } else {
+        going(alloc, cursor, regions, locals)
+    }
+}
+
+/// A statement or a terminator.
+#[tactic(auto, unfolding(crate::specs::Reading::point))]
+pub fn read_point(alloc: Global, cursor: &mut Cursor<'_>, regions: &[RegionName], locals: u16) -> Result<Point, Refusal>
+    requires { length regions.now ≤ 15 }
+    ensures { Reads (spec.point regions.now locals cursor.old) result cursor.new }
+{
+    if cursor.eat(Symbol::Return) {
+        Ok(Point::Terminator(Terminator::Return))
+    } else {
+        stopping(alloc, cursor, regions, locals)
+    }
+}
