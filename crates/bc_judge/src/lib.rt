@@ -9,8 +9,6 @@ mod known;
 mod lifetimes;
 mod print;
 mod relevance;
-#[cfg(test)]
-mod tests;
 mod verdict;
 
 pub use error::BorrowError;

@@ -1,117 +1,43 @@
 //! Bodies with branches, loops and declared regions.
 use crate::fixture::{conflict, outcome, point, reports};
-use crate::table::{End, Layer, Line, Lines, Path, Table, unit};
 use bc_judge::BorrowError;
-use bc_syntax::{Outlives, Region};
+use bc_text::read_unit;
+use std::alloc::Global;
 use std::test::Fail;
 
-const A: Region = Region::Universal(1);
+const RETURNED_ON_ONE_BRANCH: &[u8] =
+    b"fn <'a> (&'a mut int, int) -> &'a mut int { let _3: &'?0 mut int; bb0 { _3 = &'?1 mut _1.*; if copy _2 bb1 bb2; } bb1 { _0 = move _3; return; } bb2 { _1.* = 7; _0 = &'?2 mut _1.*; return; } }";
 
-const B: Region = Region::Universal(2);
+const LOOP_ENDS_ITS_LOAN: &[u8] =
+    b"fn <'a> (&'a mut int) -> int { bb0 { _1 = &'?0 mut _1.*; goto bb0; } }";
 
-const RETURNED_ON_ONE_BRANCH: Table = Table {
-    regions: b"a",
-    clauses: &[],
-    parameters: &[&[Layer::Mutable(A)], &[]],
-    result: &[Layer::Mutable(A)],
-    lets: &[&[Layer::Mutable(Region::Variable(0))]],
-    blocks: &[
-        Lines {
-            lines: &[Line::Borrow(Path(3, 0), Layer::Mutable(Region::Variable(1)), Path(1, 1))],
-            end: End::If(2, 1, 2),
-        },
-        Lines {
-            lines: &[Line::Move(Path(0, 0), Path(3, 0))],
-            end: End::Return,
-        },
-        Lines {
-            lines: &[
-                Line::Number(Path(1, 1), 7),
-                Line::Borrow(Path(0, 0), Layer::Mutable(Region::Variable(2)), Path(1, 1)),
-            ],
-            end: End::Return,
-        },
-    ],
-};
+const RESULT_DANGLES: &[u8] =
+    b"fn <'a> () -> &'a int { let _1: int; bb0 { _1 = 1; _0 = &'?0 _1; return; } }";
 
-const LOOP_ENDS_ITS_LOAN: Table = Table {
-    regions: b"a",
-    clauses: &[],
-    parameters: &[&[Layer::Mutable(A)]],
-    result: &[],
-    lets: &[],
-    blocks: &[Lines {
-        lines: &[Line::Borrow(Path(1, 0), Layer::Mutable(Region::Variable(0)), Path(1, 1))],
-        end: End::Goto(0),
-    }],
-};
+const RESULT_IS_THE_CALLERS: &[u8] =
+    b"fn <'a> (&'a int) -> &'a int { bb0 { _0 = &'?0 _1.*; return; } }";
 
-const RESULT_DANGLES: Table = Table {
-    regions: b"a",
-    clauses: &[],
-    parameters: &[],
-    result: &[Layer::Shared(A)],
-    lets: &[&[]],
-    blocks: &[Lines {
-        lines: &[
-            Line::Number(Path(1, 0), 1),
-            Line::Borrow(Path(0, 0), Layer::Shared(Region::Variable(0)), Path(1, 0)),
-        ],
-        end: End::Return,
-    }],
-};
+const RESULT_OF_ANOTHER_LIFETIME: &[u8] =
+    b"fn <'a,'b> (&'a int, &'b int) -> &'a int { bb0 { _0 = copy _2; return; } }";
 
-const RESULT_IS_THE_CALLERS: Table = Table {
-    regions: b"a",
-    clauses: &[],
-    parameters: &[&[Layer::Shared(A)]],
-    result: &[Layer::Shared(A)],
-    lets: &[],
-    blocks: &[Lines {
-        lines: &[Line::Borrow(Path(0, 0), Layer::Shared(Region::Variable(0)), Path(1, 1))],
-        end: End::Return,
-    }],
-};
+const RESULT_OF_A_LONGER_LIFETIME: &[u8] =
+    b"fn <'a,'b> where 'b: 'a (&'a int, &'b int) -> &'a int { bb0 { _0 = copy _2; return; } }";
 
-const RESULT_OF_ANOTHER_LIFETIME: Table = Table {
-    regions: b"ab",
-    clauses: &[],
-    parameters: &[&[Layer::Shared(A)], &[Layer::Shared(B)]],
-    result: &[Layer::Shared(A)],
-    lets: &[],
-    blocks: &[Lines {
-        lines: &[Line::Copy(Path(0, 0), Path(2, 0))],
-        end: End::Return,
-    }],
-};
-
-const RESULT_OF_A_LONGER_LIFETIME: Table = Table {
-    clauses: &[Outlives {
-        longer: 2,
-        shorter: 1,
-    }],
-    ..RESULT_OF_ANOTHER_LIFETIME
-};
-
-fn is_answer(
-    alloc: std::alloc::Global,
-    table: &Table,
-    errors: &[BorrowError],
-) -> Result<bool, Fail> {
-    let found = outcome(alloc, &unit(alloc, table)?)?;
+fn is_answer(alloc: Global, text: &[u8], errors: &[BorrowError]) -> Result<bool, Fail> {
+    let found = outcome(alloc, &read_unit(alloc, text)?)?;
     Ok(reports(&found, errors))
 }
 
 #[test]
 fn a_reborrow_that_one_branch_returns_conflicts_on_the_other(rt: HostRuntime) -> Result<(), Fail> {
     let errors = [conflict(point(2, 0), point(0, 0))];
-    assert!(rt; is_answer(rt.alloc(), &RETURNED_ON_ONE_BRANCH, &errors)?);
+    assert!(rt; is_answer(rt.alloc(), RETURNED_ON_ONE_BRANCH, &errors)?);
     Ok(())
 }
 
 #[test]
 fn an_assignment_in_a_loop_ends_its_own_loan(rt: HostRuntime) -> Result<(), Fail> {
-    assert!(rt; is_answer(rt.alloc(), &LOOP_ENDS_ITS_LOAN, &[])?);
+    assert!(rt; is_answer(rt.alloc(), LOOP_ENDS_ITS_LOAN, &[])?);
     Ok(())
 }
 
@@ -122,8 +48,8 @@ fn a_result_must_not_dangle(rt: HostRuntime) -> Result<(), Fail> {
         access: 1,
         loan: point(0, 1),
     };
-    assert!(rt; is_answer(rt.alloc(), &RESULT_DANGLES, &[dangling])?);
-    assert!(rt; is_answer(rt.alloc(), &RESULT_IS_THE_CALLERS, &[])?);
+    assert!(rt; is_answer(rt.alloc(), RESULT_DANGLES, &[dangling])?);
+    assert!(rt; is_answer(rt.alloc(), RESULT_IS_THE_CALLERS, &[])?);
     Ok(())
 }
 
@@ -133,7 +59,7 @@ fn a_lifetime_error_is_mended_by_its_clause(rt: HostRuntime) -> Result<(), Fail>
         longer: 2,
         shorter: 1,
     };
-    assert!(rt; is_answer(rt.alloc(), &RESULT_OF_ANOTHER_LIFETIME, &[unknown])?);
-    assert!(rt; is_answer(rt.alloc(), &RESULT_OF_A_LONGER_LIFETIME, &[])?);
+    assert!(rt; is_answer(rt.alloc(), RESULT_OF_ANOTHER_LIFETIME, &[unknown])?);
+    assert!(rt; is_answer(rt.alloc(), RESULT_OF_A_LONGER_LIFETIME, &[])?);
     Ok(())
 }

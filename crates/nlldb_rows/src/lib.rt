@@ -10,6 +10,6 @@ mod fixture;
 #[cfg(test)]
 mod steps;
 #[cfg(test)]
-mod table;
-#[cfg(test)]
 mod texts;
+#[cfg(test)]
+mod typing;

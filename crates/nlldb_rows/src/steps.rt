@@ -1,8 +1,7 @@
 //! What each step of the analysis finds.
 use crate::fixture::{WRITES_LAST, WRITES_WHILE_BORROWED, conflict, name, point};
-use crate::table::{End, Layer, Line, Lines, Path, Table, unit};
 use bc_cons::constraints;
-use bc_judge::judge;
+use bc_judge::{judge, known_relations};
 use bc_live::live;
 use bc_loans::{in_scope, loans};
 use bc_mir::{Typed, type_unit};
@@ -13,45 +12,14 @@ use bc_text::read_unit;
 use std::alloc::Global;
 use std::test::Fail;
 
-const READS_BEFORE_IT_WRITES: Table = Table {
-    regions: b"",
-    clauses: &[],
-    parameters: &[&[]],
-    result: &[],
-    lets: &[&[]],
-    blocks: &[
-        Lines {
-            lines: &[],
-            end: End::If(1, 1, 2),
-        },
-        Lines {
-            lines: &[
-                Line::Number(Path(2, 0), 1),
-                Line::Copy(Path(0, 0), Path(2, 0)),
-            ],
-            end: End::Return,
-        },
-        Lines {
-            lines: &[Line::Copy(Path(0, 0), Path(2, 0))],
-            end: End::Return,
-        },
-    ],
-};
+const READS_BEFORE_IT_WRITES: &[u8] =
+    b"fn (int) -> int { let _2: int; bb0 { if copy _1 bb1 bb2; } bb1 { _2 = 1; _0 = copy _2; return; } bb2 { _0 = copy _2; return; } }";
 
-const REBORROWS_THROUGH_A_SHARED_REFERENCE: Table = Table {
-    regions: b"ab",
-    clauses: &[],
-    parameters: &[&[
-        Layer::Shared(Region::Universal(1)),
-        Layer::Shared(Region::Universal(2)),
-    ]],
-    result: &[],
-    lets: &[&[Layer::Shared(Region::Variable(2))]],
-    blocks: &[Lines {
-        lines: &[Line::Borrow(Path(2, 0), Layer::Shared(Region::Variable(2)), Path(1, 2))],
-        end: End::Stop,
-    }],
-};
+const REBORROWS_THROUGH_A_SHARED_REFERENCE: &[u8] =
+    b"fn <'a,'b> (&'a &'b int) -> int { let _2: &'?2 int; bb0 { _2 = &'?2 _1.*.*; stop; } }";
+
+const SECOND_OUTLIVES_THE_FIRST: &[u8] =
+    b"fn <'a,'b> where 'b: 'a () -> int { bb0 { stop; } }";
 
 fn typed(alloc: Global, text: &[u8]) -> Result<Typed, Fail> {
     let unit = read_unit(alloc, text)?;
@@ -67,7 +35,7 @@ fn values(alloc: Global, typed: &Typed) -> Result<Values, Fail> {
 #[test]
 fn a_local_is_live_up_to_its_uses(rt: HostRuntime) -> Result<(), Fail> {
     let alloc = rt.alloc();
-    let typed = type_unit(alloc, &unit(alloc, &READS_BEFORE_IT_WRITES)?)?;
+    let typed = typed(alloc, READS_BEFORE_IT_WRITES)?;
     let live = live(alloc, &typed)?;
     assert_eq!(rt; typed.steps().len(), 6);
     assert_eq!(rt; live.rows().len(), 3);
@@ -83,7 +51,7 @@ fn a_reborrow_is_outlived_by_the_reference_that_it_goes_through(
     rt: HostRuntime,
 ) -> Result<(), Fail> {
     let alloc = rt.alloc();
-    let typed = type_unit(alloc, &unit(alloc, &REBORROWS_THROUGH_A_SHARED_REFERENCE)?)?;
+    let typed = typed(alloc, REBORROWS_THROUGH_A_SHARED_REFERENCE)?;
     let facts = constraints(alloc, &typed, &live(alloc, &typed)?)?;
     assert_eq!(rt; facts.elements(), 5);
     assert!(rt; matches!(facts.pairs(), [pair] if pair.longer == 2 && pair.shorter == 5));
@@ -130,5 +98,17 @@ fn the_outcome_of_a_name_is_of_what_it_holds(rt: HostRuntime) -> Result<(), Fail
     assert!(rt; matches!(outcome_of(alloc, &f, None)?, Outcome::NoBody));
     let unit = read_unit(alloc, WRITES_LAST)?;
     assert!(rt; matches!(outcome_of(alloc, &f, Some(&unit))?, Outcome::Report(_)));
+    Ok(())
+}
+
+#[test]
+fn what_is_known_of_universal_regions_follows_from_the_clauses(
+    rt: HostRuntime,
+) -> Result<(), Fail> {
+    let alloc = rt.alloc();
+    let typed = typed(alloc, SECOND_OUTLIVES_THE_FIRST)?;
+    let known = known_relations(alloc, &typed)?;
+    assert!(rt; known.contains(0, 2) && known.contains(1, 1) && known.contains(2, 1));
+    assert!(rt; !known.contains(1, 2) && !known.contains(1, 0));
     Ok(())
 }
