@@ -230,13 +230,6 @@ fn a_struct_in_a_header_has_up_to_15_regions(rt: HostRuntime) -> Result<(), Fail
             b",'?0>)->int{bb0{return;}}",
             Grammar(125),
         ),
-        Sample(
-            b"fn()->Q<'static",
-            b",'static",
-            15,
-            b">{bb0{return;}}",
-            Limit(128),
-        ),
     ];
     long_units_are_answered(&rt, rt.alloc(), &rows)
 }
@@ -561,13 +554,6 @@ fn points_are_counted_over_all_blocks(rt: HostRuntime) -> Result<(), Fail> {
             b"nop;",
             4_094,
             b"return;}}",
-            Limit(16406),
-        ),
-        Sample(
-            b"fn()->int{bb0{",
-            b"nop;",
-            4_095,
-            b"return;}bb1{goto bb0;}}",
             Limit(16406),
         ),
         Sample(

@@ -70,22 +70,10 @@ fn bodies_of_references_to_int_are_read(rt: HostRuntime) {
 }
 
 #[test]
-fn bodies_with_branches_declared_regions_and_calls_are_read(rt: HostRuntime) {
-    let rows: [(&[u8], Answer); 10] = [
-        (
-            b"fn <'a> (&'a mut int, int) -> &'a mut int { let _3: &'?0 mut int; bb0 { _3 = &'?1 mut _1.*; if copy _2 bb1 bb2; } bb1 { _0 = move _3; return; } bb2 { _1.* = 7; _0 = &'?2 mut _1.*; return; } }",
-            Read,
-        ),
-        (
-            b"fn <'a> (&'a mut int) -> int { bb0 { _1 = &'?0 mut _1.*; goto bb0; } }",
-            Read,
-        ),
+fn bodies_with_declared_regions_are_read(rt: HostRuntime) {
+    let rows: [(&[u8], Answer); 5] = [
         (
             b"fn <'a,'b> (&'a &'b int) -> int { let _2: &'?2 int; bb0 { _2 = &'?2 _1.*.*; stop; } }",
-            Read,
-        ),
-        (
-            b"fn () -> int { let _1: &'?0 mut &'?1 int; bb0 { _0 = call k<'?2,'?3>(move _1) bb1; } bb1 { return; } }",
             Read,
         ),
         (
@@ -102,6 +90,25 @@ fn bodies_with_branches_declared_regions_and_calls_are_read(rt: HostRuntime) {
         ),
         (
             b"fn <'a,'b> where 'b: 'a (&'a int, &'b int) -> &'a int { bb0 { _0 = copy _2; return; } }",
+            Read,
+        ),
+    ];
+    units_are_answered(&rt, rt.alloc(), &rows);
+}
+
+#[test]
+fn bodies_with_branches_structs_and_calls_are_read(rt: HostRuntime) {
+    let rows: [(&[u8], Answer); 5] = [
+        (
+            b"fn <'a> (&'a mut int, int) -> &'a mut int { let _3: &'?0 mut int; bb0 { _3 = &'?1 mut _1.*; if copy _2 bb1 bb2; } bb1 { _0 = move _3; return; } bb2 { _1.* = 7; _0 = &'?2 mut _1.*; return; } }",
+            Read,
+        ),
+        (
+            b"fn <'a> (&'a mut int) -> int { bb0 { _1 = &'?0 mut _1.*; goto bb0; } }",
+            Read,
+        ),
+        (
+            b"fn () -> int { let _1: &'?0 mut &'?1 int; bb0 { _0 = call k<'?2,'?3>(move _1) bb1; } bb1 { return; } }",
             Read,
         ),
         (

@@ -73,32 +73,52 @@ fn block(alloc: Global, terminator: Terminator) -> Block {
     }
 }
 
-fn header(alloc: Global) -> Result<Header, AllocError> {
+fn regions(alloc: Global) -> Result<Sequence<RegionName>, AllocError> {
+    let first = region(alloc, b"a")?;
+    let second = region(alloc, b"b")?;
+    list(alloc, [first, second])
+}
+
+fn clauses(alloc: Global) -> Result<Sequence<Outlives>, AllocError> {
+    let first = Outlives {
+        longer: 1,
+        shorter: 2,
+    };
+    let second = Outlives {
+        longer: 2,
+        shorter: 0,
+    };
+    list(alloc, [first, second])
+}
+
+fn leaf_ty(alloc: Global, references: &[Reference]) -> Result<Ty, AllocError> {
+    let leaf = instance(alloc, b"Leaf", &[])?;
+    ty(alloc, references, Base::Struct(leaf))
+}
+
+fn parameters(alloc: Global) -> Result<Sequence<Ty>, AllocError> {
     let pair = instance(
         alloc,
         b"Pair",
         &[Region::Universal(2), Region::Universal(1)],
     )?;
     let layers = [mutable(Region::Universal(1)), shared(Region::Universal(0))];
-    let whole = ty(alloc, &[], Base::Int)?;
     let pointer = ty(alloc, &layers, Base::Struct(pair))?;
-    let leaf = Base::Struct(instance(alloc, b"Leaf", &[])?);
-    let clauses = [
-        Outlives {
-            longer: 1,
-            shorter: 2,
-        },
-        Outlives {
-            longer: 2,
-            shorter: 0,
-        },
-    ];
+    let whole = ty(alloc, &[], Base::Int)?;
+    list(alloc, [whole, pointer])
+}
+
+fn header(alloc: Global) -> Result<Header, AllocError> {
+    let regions = regions(alloc)?;
+    let clauses = clauses(alloc)?;
+    let parameters = parameters(alloc)?;
+    let result = leaf_ty(alloc, &[shared(Region::Universal(2))])?;
     Ok(Header {
         kind: UnitKind::Function,
-        regions: list(alloc, [region(alloc, b"a")?, region(alloc, b"b")?])?,
-        clauses: list(alloc, clauses)?,
-        parameters: list(alloc, [whole, pointer])?,
-        result: ty(alloc, &[shared(Region::Universal(2))], leaf)?,
+        regions,
+        clauses,
+        parameters,
+        result,
     })
 }
 
@@ -109,66 +129,68 @@ fn lets(alloc: Global) -> Result<Sequence<Ty>, AllocError> {
     list(alloc, [pointer, struct_ty])
 }
 
-fn borrows(alloc: Global) -> Result<[Statement; 2], AllocError> {
+fn mutable_borrow(alloc: Global) -> Result<Statement, AllocError> {
     let behind = [Projection::Deref, Projection::Deref, Projection::Field(4)];
-    let mutably = Borrow {
+    let borrow = Borrow {
         reference: mutable(Region::Variable(8)),
         place: place(alloc, 2, &behind)?,
     };
-    let sharedly = Borrow {
+    Ok(assigned(place(alloc, 3, &[])?, Rvalue::Borrow(borrow)))
+}
+
+fn shared_borrow(alloc: Global) -> Result<Statement, AllocError> {
+    let borrow = Borrow {
         reference: shared(Region::Universal(1)),
         place: place(alloc, 1, &[])?,
     };
-    Ok([
-        assigned(place(alloc, 3, &[])?, Rvalue::Borrow(mutably)),
-        assigned(place(alloc, 3, &[])?, Rvalue::Borrow(sharedly)),
-    ])
+    Ok(assigned(place(alloc, 3, &[])?, Rvalue::Borrow(borrow)))
 }
 
-fn computations(alloc: Global) -> Result<[Statement; 3], AllocError> {
+fn calculation(alloc: Global) -> Result<Statement, AllocError> {
     let copied = Operand::Copy(place(alloc, 1, &[])?);
     let moved = Operand::Move(place(alloc, 3, &[Projection::Deref])?);
     let operands = list(alloc, [copied, moved, Operand::Number(7)])?;
+    Ok(assigned(place(alloc, 0, &[])?, Rvalue::Calc(operands)))
+}
+
+fn creation(alloc: Global) -> Result<Statement, AllocError> {
+    let moved = Operand::Move(place(alloc, 1, &[])?);
     let made = Aggregate {
         instance: instance(
             alloc,
             b"Pair",
             &[Region::Variable(1023), Region::Universal(2)],
         )?,
-        operands: list(
-            alloc,
-            [Operand::Move(place(alloc, 1, &[])?), Operand::Number(5)],
-        )?,
+        operands: list(alloc, [moved, Operand::Number(5)])?,
     };
+    Ok(assigned(place(alloc, 4, &[])?, Rvalue::Aggregate(made)))
+}
+
+fn statements(alloc: Global) -> Result<Sequence<Statement>, AllocError> {
     let number = Rvalue::Use(Operand::Number(4_294_967_295));
-    Ok([
-        assigned(place(alloc, 0, &[])?, Rvalue::Calc(operands)),
-        assigned(place(alloc, 4, &[])?, Rvalue::Aggregate(made)),
-        assigned(place(alloc, 1, &[])?, number),
-    ])
+    list(
+        alloc,
+        [
+            mutable_borrow(alloc)?,
+            shared_borrow(alloc)?,
+            calculation(alloc)?,
+            creation(alloc)?,
+            assigned(place(alloc, 1, &[])?, number),
+            Statement::Dead(3),
+            Statement::Drop(place(alloc, 4, &[Projection::Field(0)])?),
+            Statement::Nop,
+        ],
+    )
 }
 
 fn first_block(alloc: Global) -> Result<Block, AllocError> {
-    let [mutably, sharedly] = borrows(alloc)?;
-    let [calculated, made, number] = computations(alloc)?;
-    let dropped = Statement::Drop(place(alloc, 4, &[Projection::Field(0)])?);
-    let statements = [
-        mutably,
-        sharedly,
-        calculated,
-        made,
-        number,
-        Statement::Dead(3),
-        dropped,
-        Statement::Nop,
-    ];
     let condition = Condition {
         operand: Operand::Copy(place(alloc, 1, &[])?),
         then: 1,
         otherwise: 2,
     };
     Ok(Block {
-        statements: list(alloc, statements)?,
+        statements: statements(alloc)?,
         terminator: Terminator::If(condition),
     })
 }
@@ -193,10 +215,13 @@ fn blocks(alloc: Global) -> Result<Sequence<Block>, AllocError> {
 }
 
 fn unit(alloc: Global) -> Result<Option<Unit>, AllocError> {
+    let header = header(alloc)?;
+    let lets = lets(alloc)?;
+    let blocks = blocks(alloc)?;
     Ok(Unit::new(Body {
-        header: header(alloc)?,
-        lets: lets(alloc)?,
-        blocks: blocks(alloc)?,
+        header,
+        lets,
+        blocks,
     }))
 }
 
@@ -210,50 +235,67 @@ fn leaf(alloc: Global) -> Result<StructDeclaration, AllocError> {
     })
 }
 
-fn list_declaration(alloc: Global) -> Result<StructDeclaration, AllocError> {
+fn fields(alloc: Global) -> Result<Sequence<Ty>, AllocError> {
     let rest = instance(
         alloc,
         b"List",
         &[Region::Universal(2), Region::Universal(0)],
     )?;
-    let first = ty(alloc, &[shared(Region::Universal(1))], Base::Int)?;
     let second = ty(alloc, &[], Base::Struct(rest))?;
+    let first = ty(alloc, &[shared(Region::Universal(1))], Base::Int)?;
+    list(alloc, [first, second])
+}
+
+fn list_declaration(alloc: Global) -> Result<StructDeclaration, AllocError> {
+    let name = item(alloc, b"List")?;
+    let regions = regions(alloc)?;
+    let variances = list(alloc, [Variance::Covariant, Variance::Invariant])?;
+    let fields = fields(alloc)?;
     Ok(StructDeclaration {
-        name: item(alloc, b"List")?,
-        regions: list(alloc, [region(alloc, b"a")?, region(alloc, b"b")?])?,
-        variances: list(alloc, [Variance::Covariant, Variance::Invariant])?,
+        name,
+        regions,
+        variances,
         has_drop: true,
-        fields: list(alloc, [first, second])?,
+        fields,
     })
 }
 
-fn function(alloc: Global) -> Result<ExternDeclaration, AllocError> {
-    let leaf = Base::Struct(instance(alloc, b"Leaf", &[])?);
+fn function_parameters(alloc: Global) -> Result<Sequence<Ty>, AllocError> {
     let pointer = ty(alloc, &[mutable(Region::Universal(1))], Base::Int)?;
+    let whole = ty(alloc, &[], Base::Int)?;
+    list(alloc, [pointer, whole])
+}
+
+fn function_header(alloc: Global) -> Result<Header, AllocError> {
     let clause = Outlives {
         longer: 2,
         shorter: 1,
     };
-    let header = Header {
+    let regions = regions(alloc)?;
+    let clauses = list(alloc, [clause])?;
+    let parameters = function_parameters(alloc)?;
+    let result = leaf_ty(alloc, &[])?;
+    Ok(Header {
         kind: UnitKind::Function,
-        regions: list(alloc, [region(alloc, b"a")?, region(alloc, b"b")?])?,
-        clauses: list(alloc, [clause])?,
-        parameters: list(alloc, [pointer, ty(alloc, &[], Base::Int)?])?,
-        result: ty(alloc, &[], leaf)?,
-    };
-    Ok(ExternDeclaration {
-        name: item(alloc, b"f")?,
-        header,
+        regions,
+        clauses,
+        parameters,
+        result,
     })
 }
 
+fn function(alloc: Global) -> Result<ExternDeclaration, AllocError> {
+    let name = item(alloc, b"f")?;
+    let header = function_header(alloc)?;
+    Ok(ExternDeclaration { name, header })
+}
+
 fn types(alloc: Global) -> Result<Option<Types>, AllocError> {
-    let declarations = [
-        Declaration::Struct(leaf(alloc)?),
-        Declaration::Struct(list_declaration(alloc)?),
-        Declaration::Extern(function(alloc)?),
-    ];
-    Ok(Types::new(list(alloc, declarations)?))
+    let mut declarations = Sequence::new(alloc);
+    declarations.push(Declaration::Struct(leaf(alloc)?))?;
+    declarations.push(Declaration::Struct(list_declaration(alloc)?))?;
+    declarations.push(Declaration::Extern(function(alloc)?))?;
+    Ok(Types::new(declarations))
 }
 
 /// The unit of the text, read again where memory was refused at the first time.
