@@ -42,9 +42,13 @@ fn a_unit_is_printed_with_one_space_between_two_tokens(rt: HostRuntime) {
 
 #[test]
 fn declarations_are_printed_with_one_space_between_two_tokens(rt: HostRuntime) {
-    let rows: [(&[u8], &[u8]); 3] = [
+    let rows: [(&[u8], &[u8]); 4] = [
         (b"", b"\n"),
         (b"struct Leaf{}", b"struct Leaf { }\n"),
+        (
+            b"struct G<+'a>drop{&'a int;}",
+            b"struct G < + 'a > drop { & 'a int ; }\n",
+        ),
         (
             b"struct List<+'a,='b>drop{&'a int;List<'b,'a>;}extern f<'a>where'a:'static(&'a int)->int;",
             b"struct List < + 'a , = 'b > drop { & 'a int ; List < 'b , 'a > ; } extern f < 'a > where 'a : 'static ( & 'a int ) -> int ;\n",

@@ -1,342 +1,264 @@
-//! Texts that are units, and texts that are refused, with the kind and place of the first bad token.
-use bc_text::{MAX_TEXT, ReadFault, read_unit};
-use std::alloc::{AllocError, Global};
-use std::test::Fail;
-
-/// A text: a head, a piece so many times, a tail; and the answer.
-#[derive(Clone, Copy)]
-struct Sample {
-    head: &'static [u8],
-    piece: &'static [u8],
-    times: u32,
-    tail: &'static [u8],
-    answer: &'static str,
-    at: usize,
-}
-
-fn text_of(alloc: Global, row: &Sample) -> Result<Vec<u8>, AllocError> {
-    let mut text = row.head.to_vec(alloc)?;
-    for _turn in 0..row.times {
-        text.extend_from_slice(row.piece)?;
-    }
-    text.extend_from_slice(row.tail)?;
-    Ok(text)
-}
-
-fn told(fault: &ReadFault) -> (&'static str, usize) {
-    match fault {
-        ReadFault::TooLong => ("too long", 0),
-        ReadFault::NotAscii { at } => ("not ascii", *at),
-        ReadFault::Token { at } => ("token", *at),
-        ReadFault::Grammar { at } => ("grammar", *at),
-        ReadFault::Limit { at } => ("limit", *at),
-        ReadFault::NoMemory => ("no memory", 0),
-    }
-}
-
-fn answer_to(alloc: Global, text: &[u8]) -> (&'static str, usize) {
-    match read_unit(alloc, text) {
-        Ok(_) => ("read", 0),
-        Err(fault) => told(&fault),
-    }
-}
+//! Texts of units, and texts that are refused, with the kind and the place of the first bad token.
+use crate::sample::Answer::{Grammar, Limit, NotAscii, Read, Token};
+use crate::sample::{Answer, answer_to_unit, units_are_answered};
 
 #[test]
-fn the_first_bad_token_is_told(rt: HostRuntime) {
-    let rows: [(&[u8], &str, usize); 36] = [
-        (b"fn()->int{bb0{return;}}", "read", 0),
-        (b"fn()->int{bb0{return;}", "grammar", 22),
-        (b"fn()->int{bb0{return;}}x", "grammar", 23),
-        (b"", "grammar", 0),
-        (b"fn()->int{bb1{return;}}", "grammar", 10),
-        (b"fn\t()", "token", 2),
-        (b"fn\xc3", "not ascii", 2),
+fn the_shortest_unit_is_read_and_what_stops_short_or_goes_on_is_refused(rt: HostRuntime) {
+    let rows: [(&[u8], Answer); 13] = [
+        (b"fn()->int{bb0{return;}}", Read),
+        (b"fn()->int{bb0{return;}", Grammar(22)),
+        (b"fn()->int{bb0{return;}}x", Grammar(23)),
+        (b"", Grammar(0)),
+        (b"fn()->int{bb1{return;}}", Grammar(10)),
+        (b"fn\t()", Token(2)),
+        (b"fn\xc3", NotAscii(2)),
         (
             b"fn()->int{let _1:int;bb0{_1=99999999999;return;}}",
-            "limit",
-            28,
+            Limit(28),
         ),
-        (
-            b"fn () -> int { let _1: int; let _2: &'?0 int; bb0 { _1 = 1; _2 = &'?1 _1; _0 = copy _2.*; _1 = 2; return; } }",
-            "read",
-            0,
-        ),
-        (
-            b"fn () -> int { let _1: int; let _2: &'?0 int; bb0 { _1 = 1; _2 = &'?1 _1; _1 = 2; _0 = copy _2.*; return; } }",
-            "read",
-            0,
-        ),
-        (
-            b"fn(int,&'static mut int)->int{bb0{_1=calc(copy _1,move _2.*.3,7);dead _1;nop;stop;}}\n",
-            "read",
-            0,
-        ),
-        (
-            b"fn (int) -> &'static int { bb0 { nop; _0 = copy _1; return; } }",
-            "read",
-            0,
-        ),
-        (b"fn(&&", "grammar", 4),
-        (b"fn(Q)->int{bb0{return;}}", "grammar", 3),
-        (b"fn(&'?0 int)->int{bb0{return;}}", "grammar", 4),
-        (b"fn(&'?1024 int)->int{bb0{return;}}", "grammar", 4),
-        (b"fn(&'a int)->int{bb0{return;}}", "grammar", 4),
-        (b"fn(&'aB int)->int{bb0{return;}}", "token", 4),
-        (b"fn(&'\xc3 int)->int{bb0{return;}}", "token", 4),
-        (b"fn(&'static\xc3 int)->int{bb0{return;}}", "not ascii", 11),
-        (b"fn()-\xc3int", "token", 4),
-        (b"fn()->int{let _1:&'?01 int;bb0{return;}}", "token", 18),
-        (b"fn()->int{let _1:&'?1a int;bb0{return;}}", "token", 18),
-        (b"fn()->int{let _2:int;bb0{return;}}", "grammar", 14),
-        (b"fn()->int{bb01{return;}}", "grammar", 10),
-        (b"fn()->int{bb0{_0=copy _01;return;}}", "token", 22),
-        (b"fn()->int{bb0{_1=2;return;}}", "grammar", 14),
-        (b"fn()->int{bb0{_=2;return;}}", "token", 14),
-        (b"fn()->int{bb0{_0=1a;return;}}", "token", 17),
-        (b"fn()->int{bb0{_0=01;return;}}", "token", 17),
-        (b"fn()->int{bb0{goto bb0;}}", "grammar", 14),
-        (b"fn()->int{bb0{return;}bb1{return;}}", "grammar", 22),
-        (b"fn()->int{bb0{_0=calc(1,);return;}}", "grammar", 24),
-        (b"fn()->int{bb0{return;}} \n\t", "token", 25),
-        (b"fn<'a>()->int{bb0{return;}}", "grammar", 2),
-        (b"closure[]()->int{bb0{return;}}", "grammar", 0),
+        (b"fn(&&", Grammar(4)),
+        (b"fn()->int{bb0{return;}} \n\t", Token(25)),
+        (b"'static", Grammar(0)),
+        (b"fn_", Grammar(0)),
+        (b"closure[]()->int{bb0{return;}}", Grammar(0)),
     ];
-    for (text, answer, at) in rows {
-        let (found, place) = answer_to(rt.alloc(), text);
-        assert_eq!(rt; found, answer);
-        assert_eq!(rt; place, at);
-    }
+    units_are_answered(&rt, rt.alloc(), &rows);
 }
 
 #[test]
 fn each_beginning_has_its_fault(rt: HostRuntime) {
     let text = b"fn()->int{bb0{return;}}".as_slice();
     let places: [usize; 23] = [
-        0, 0, 2, 3, 4, 4, 6, 6, 6, 9, 10, 10, 10, 13, 14, 14, 14, 14, 14, 14, 20, 21, 22,
+        0, 0, 2, 3, 4, 4, 6, 7, 8, 9, 10, 10, 10, 13, 14, 14, 14, 14, 14, 14, 20, 21, 22,
     ];
     for (length, at) in places.iter().enumerate() {
-        let (found, place) = answer_to(rt.alloc(), &text[..length.min(text.len())]);
-        assert_eq!(rt; found, if length == 5 { "token" } else { "grammar" });
-        assert_eq!(rt; place, *at, "{length} bytes");
-    }
-}
-
-fn row(
-    head: &'static [u8],
-    piece: &'static [u8],
-    times: u32,
-    tail: &'static [u8],
-    answer: &'static str,
-    at: usize,
-) -> Sample {
-    Sample {
-        head,
-        piece,
-        times,
-        tail,
-        answer,
-        at,
+        let found = answer_to_unit(rt.alloc(), &text[..length.min(text.len())]);
+        let answer = if length == 5 {
+            Token(*at)
+        } else {
+            Grammar(*at)
+        };
+        assert_eq!(rt; found, answer, "{length} bytes");
     }
 }
 
 #[test]
-fn each_limit_is_met_and_passed_by_one(rt: HostRuntime) -> Result<(), Fail> {
-    let rows = [
-        // the text's length
-        row(b"fn()->int{bb0{return;}}", b" ", 1_048_553, b"", "read", 0),
-        row(
-            b"fn()->int{bb0{return;}}",
-            b" ",
-            1_048_554,
-            b"",
-            "too long",
-            0,
+fn bodies_of_references_to_int_are_read(rt: HostRuntime) {
+    let rows: [(&[u8], Answer); 5] = [
+        (
+            b"fn () -> int { let _1: int; let _2: &'?0 int; bb0 { _1 = 1; _2 = &'?1 _1; _0 = copy _2.*; _1 = 2; return; } }",
+            Read,
         ),
-        row(b"\xc3", b" ", 1_048_576, b"", "too long", 0),
-        // the depth of a type
-        row(
-            b"fn()->int{let _1:",
-            b"&'?0",
-            7,
-            b" int;bb0{return;}}",
-            "read",
-            0,
+        (
+            b"fn () -> int { let _1: int; let _2: &'?0 int; bb0 { _1 = 1; _2 = &'?1 _1; _1 = 2; _0 = copy _2.*; return; } }",
+            Read,
         ),
-        row(
-            b"fn()->int{let _1:",
-            b"&'?0",
-            8,
-            b" int;bb0{return;}}",
-            "limit",
-            50,
+        (
+            b"fn () -> int { let _1: int; let _2: &'?0 mut int; let _3: &'?1 mut int; bb0 { _1 = 1; _2 = &'?0 mut _1; _0 = copy _2.*; _3 = &'?1 mut _1; _0 = copy _3.*; return; } }",
+            Read,
         ),
-        row(
-            b"fn()->int{let _1:",
-            b"&'?0",
-            9,
-            b" int;bb0{return;}}",
-            "limit",
-            49,
+        (
+            b"fn(int,&'static mut int)->int{bb0{_1=calc(copy _1,move _2.*.3,7);dead _1;nop;stop;}}\n",
+            Read,
         ),
-        row(
-            b"fn()->int{let _1:",
-            b"&'?0",
-            8,
-            b" 1;bb0{return;}}",
-            "grammar",
-            50,
+        (
+            b"fn (int) -> &'static int { bb0 { nop; _0 = copy _1; return; } }",
+            Read,
         ),
-        // the numbers of region variables
-        row(
-            b"fn()->int{let _1:&'?1023 int;bb0{return;}}",
-            b"",
-            0,
-            b"",
-            "read",
-            0,
-        ),
-        row(
-            b"fn()->int{let _1:&'?1024 int;bb0{return;}}",
-            b"",
-            0,
-            b"",
-            "limit",
-            18,
-        ),
-        // the length of a region's name
-        row(
-            b"fn(&'",
-            b"a",
-            16,
-            b" int)->int{bb0{return;}}",
-            "grammar",
-            4,
-        ),
-        row(b"fn(&'", b"a", 17, b" int)->int{bb0{return;}}", "limit", 4),
-        // parameters
-        row(b"fn(int", b",int", 15, b")->int{bb0{return;}}", "read", 0),
-        row(b"fn(int", b",int", 16, b")->int{bb0{return;}}", "limit", 67),
-        row(
-            b"fn(int",
-            b",int",
-            15,
-            b",)->int{bb0{return;}}",
-            "grammar",
-            67,
-        ),
-        // operands of one list
-        row(
-            b"fn()->int{bb0{_0=calc(1",
-            b",1",
-            15,
-            b");return;}}",
-            "read",
-            0,
-        ),
-        row(
-            b"fn()->int{bb0{_0=calc(1",
-            b",1",
-            16,
-            b");return;}}",
-            "limit",
-            54,
-        ),
-        // numbers as operands, and as fields
-        row(
-            b"fn()->int{bb0{_0=4294967295;return;}}",
-            b"",
-            0,
-            b"",
-            "read",
-            0,
-        ),
-        row(
-            b"fn()->int{bb0{_0=4294967296;return;}}",
-            b"",
-            0,
-            b"",
-            "limit",
-            17,
-        ),
-        row(b"fn()->int{bb0{_0=1", b"0", 100, b";return;}}", "limit", 17),
-        row(b"fn()->int{bb0{_0.15=1;return;}}", b"", 0, b"", "read", 0),
-        row(b"fn()->int{bb0{_0.16=1;return;}}", b"", 0, b"", "limit", 17),
-        // projections of a place
-        row(b"fn()->int{bb0{_0", b".*", 8, b"=1;return;}}", "read", 0),
-        row(b"fn()->int{bb0{_0", b".*", 9, b"=1;return;}}", "limit", 32),
-        // locals and labels
-        row(
-            b"fn()->int{bb0{_0=copy _255;return;}}",
-            b"",
-            0,
-            b"",
-            "grammar",
-            22,
-        ),
-        row(
-            b"fn()->int{bb0{_0=copy _256;return;}}",
-            b"",
-            0,
-            b"",
-            "limit",
-            22,
-        ),
-        row(
-            b"fn()->int{let _255:int;bb0{return;}}",
-            b"",
-            0,
-            b"",
-            "grammar",
-            14,
-        ),
-        row(
-            b"fn()->int{let _256:int;bb0{return;}}",
-            b"",
-            0,
-            b"",
-            "limit",
-            14,
-        ),
-        row(b"fn()->int{bb255{return;}}", b"", 0, b"", "grammar", 10),
-        row(b"fn()->int{bb256{return;}}", b"", 0, b"", "limit", 10),
-        // points
-        row(b"fn()->int{bb0{", b"nop;", 4095, b"return;}}", "read", 0),
-        row(
-            b"fn()->int{bb0{",
-            b"nop;",
-            4096,
-            b"return;}}",
-            "limit",
-            16398,
-        ),
-        row(b"fn()->int{bb0{", b"nop;", 4096, b"_9=1;}}", "limit", 16398),
-        row(b"fn()->int{bb0{", b"nop;", 4096, b"}}", "grammar", 16398),
     ];
-    for row in rows {
-        let text = text_of(rt.alloc(), &row)?;
-        let (found, place) = answer_to(rt.alloc(), &text);
-        assert_eq!(rt; found, row.answer, "at {}", row.at);
-        assert_eq!(rt; place, row.at);
-    }
-    assert_eq!(rt; MAX_TEXT, 1_048_576);
-    Ok(())
+    units_are_answered(&rt, rt.alloc(), &rows);
 }
 
 #[test]
-fn a_unit_has_up_to_256_locals(rt: HostRuntime) -> Result<(), Fail> {
-    let mut text = b"fn()->int{".as_slice().to_vec(rt.alloc())?;
-    for local in 1..256u16 {
-        let declared = format!(in rt.alloc(); "let _{local}:int;")?;
-        text.extend_from_slice(declared.as_bytes())?;
-    }
-    let many = text.clone()?;
-    text.extend_from_slice(b"bb0{_255=1;return;}}")?;
-    assert_eq!(rt; answer_to(rt.alloc(), &text).0, "read");
-    let at = many.len();
-    let mut text = many;
-    text.extend_from_slice(b"let _256:int;bb0{return;}}")?;
-    let (found, place) = answer_to(rt.alloc(), &text);
-    assert_eq!(rt; found, "limit");
-    assert_eq!(rt; place, at.saturating_add(4));
-    Ok(())
+fn bodies_with_declared_regions_are_read(rt: HostRuntime) {
+    let rows: [(&[u8], Answer); 5] = [
+        (
+            b"fn <'a,'b> (&'a &'b int) -> int { let _2: &'?2 int; bb0 { _2 = &'?2 _1.*.*; stop; } }",
+            Read,
+        ),
+        (
+            b"fn <'a> () -> &'a int { let _1: int; bb0 { _1 = 1; _0 = &'?0 _1; return; } }",
+            Read,
+        ),
+        (
+            b"fn <'a> (&'a int) -> &'a int { bb0 { _0 = &'?0 _1.*; return; } }",
+            Read,
+        ),
+        (
+            b"fn <'a,'b> (&'a int, &'b int) -> &'a int { bb0 { _0 = copy _2; return; } }",
+            Read,
+        ),
+        (
+            b"fn <'a,'b> where 'b: 'a (&'a int, &'b int) -> &'a int { bb0 { _0 = copy _2; return; } }",
+            Read,
+        ),
+    ];
+    units_are_answered(&rt, rt.alloc(), &rows);
+}
+
+#[test]
+fn bodies_with_branches_structs_and_calls_are_read(rt: HostRuntime) {
+    let rows: [(&[u8], Answer); 5] = [
+        (
+            b"fn <'a> (&'a mut int, int) -> &'a mut int { let _3: &'?0 mut int; bb0 { _3 = &'?1 mut _1.*; if copy _2 bb1 bb2; } bb1 { _0 = move _3; return; } bb2 { _1.* = 7; _0 = &'?2 mut _1.*; return; } }",
+            Read,
+        ),
+        (
+            b"fn <'a> (&'a mut int) -> int { bb0 { _1 = &'?0 mut _1.*; goto bb0; } }",
+            Read,
+        ),
+        (
+            b"fn () -> int { let _1: &'?0 mut &'?1 int; bb0 { _0 = call k<'?2,'?3>(move _1) bb1; } bb1 { return; } }",
+            Read,
+        ),
+        (
+            b"fn () -> int { let _1: int; let _2: G<'?0>; let _3: &'?1 int; bb0 { _1 = 1; _3 = &'?1 _1; _2 = G<'?0>(move _3); _1 = 2; drop _2; _0 = 0; return; } }",
+            Read,
+        ),
+        (b"fn (Q) -> int { bb0 { return; } }", Read),
+    ];
+    units_are_answered(&rt, rt.alloc(), &rows);
+}
+
+#[test]
+fn a_run_that_is_no_token_is_told(rt: HostRuntime) {
+    let rows: [(&[u8], Answer); 18] = [
+        (b"fn(&'aB int)->int{bb0{return;}}", Token(4)),
+        (b"fn(&'\xc3 int)->int{bb0{return;}}", Token(4)),
+        (b"fn(&'static\xc3 int)->int{bb0{return;}}", NotAscii(11)),
+        (b"fn()-\xc3int", Token(4)),
+        (b"fn()->\x80", NotAscii(6)),
+        (b"fn()->int{let _1:&'?01 int;bb0{return;}}", Token(18)),
+        (b"fn()->int{let _1:&'?1a int;bb0{return;}}", Token(18)),
+        (b"fn()->int{let _1:&'? int;bb0{return;}}", Token(18)),
+        (b"fn()->int{bb0{_0=copy _01;return;}}", Token(22)),
+        (b"fn()->int{bb0{_=2;return;}}", Token(14)),
+        (b"fn()->int{bb0{_0=1a;return;}}", Token(17)),
+        (b"fn()->int{bb0{_0=01;return;}}", Token(17)),
+        (b"fn<'>()->int{bb0{return;}}", Token(3)),
+        (b"fn<'_a>()->int{bb0{return;}}", Token(3)),
+        (b"fn<'1>()->int{bb0{return;}}", Token(3)),
+        (b"fn()->int!", Token(9)),
+        (b"fn()->_a{", Token(6)),
+        (b"/*", Token(0)),
+    ];
+    units_are_answered(&rt, rt.alloc(), &rows);
+}
+
+#[test]
+fn a_list_has_no_comma_too_many_and_is_not_empty_in_angles(rt: HostRuntime) {
+    let rows: [(&[u8], Answer); 14] = [
+        (b"fn()->int{bb0{_0=calc(1,);return;}}", Grammar(24)),
+        (b"fn()->int{bb0{_0=calc(,1);return;}}", Grammar(22)),
+        (b"fn()->int{bb0{_0=calc(1 2);return;}}", Grammar(24)),
+        (b"fn(int,)->int{bb0{return;}}", Grammar(7)),
+        (b"fn(,int)->int{bb0{return;}}", Grammar(3)),
+        (b"fn(int int)->int{bb0{return;}}", Grammar(7)),
+        (b"fn<>()->int{bb0{return;}}", Grammar(3)),
+        (b"fn<'a,>()->int{bb0{return;}}", Grammar(6)),
+        (b"fn<'a 'b>()->int{bb0{return;}}", Grammar(6)),
+        (b"fn(Q<>)->int{bb0{return;}}", Grammar(5)),
+        (b"fn(Q<'static,>)->int{bb0{return;}}", Grammar(13)),
+        (b"fn where()->int{bb0{return;}}", Grammar(8)),
+        (b"fn<'a>where'a:'a,()->int{bb0{return;}}", Grammar(17)),
+        (b"fn<'a>where'a,'a()->int{bb0{return;}}", Grammar(13)),
+    ];
+    units_are_answered(&rt, rt.alloc(), &rows);
+}
+
+#[test]
+fn a_header_and_its_locals_have_their_order(rt: HostRuntime) {
+    let rows: [(&[u8], Answer); 18] = [
+        (b"fn()<'a>->int{bb0{return;}}", Grammar(4)),
+        (b"fn()where'static:'static->int{bb0{return;}}", Grammar(4)),
+        (
+            b"fn where'static:'static<'a>()->int{bb0{return;}}",
+            Grammar(23),
+        ),
+        (b"fn f()->int{bb0{return;}}", Grammar(3)),
+        (b"fn()int{bb0{return;}}", Grammar(4)),
+        (b"fn()->{bb0{return;}}", Grammar(6)),
+        (b"fn()->int;", Grammar(9)),
+        (b"fn(int mut)->int{bb0{return;}}", Grammar(7)),
+        (b"fn(&mut int)->int{bb0{return;}}", Grammar(4)),
+        (b"fn(&'static mut mut int)->int{bb0{return;}}", Grammar(16)),
+        (b"fn(&int)->int{bb0{return;}}", Grammar(4)),
+        (b"fn()->int{}", Grammar(10)),
+        (b"fn()->int{let _1:int;}", Grammar(21)),
+        (b"fn()->int{let 1:int;bb0{return;}}", Grammar(14)),
+        (b"fn()->int{let _1 int;bb0{return;}}", Grammar(17)),
+        (b"fn()->int{let _1:int bb0{return;}}", Grammar(21)),
+        (b"fn()->int{bb0{return;}let _1:int;}", Grammar(22)),
+        (b"fn()->int{let _1:closure 0;bb0{return;}}", Grammar(17)),
+    ];
+    units_are_answered(&rt, rt.alloc(), &rows);
+}
+
+#[test]
+fn a_block_ends_with_its_one_terminator(rt: HostRuntime) {
+    let rows: [(&[u8], Answer); 12] = [
+        (b"fn()->int{bb0{}}", Grammar(14)),
+        (b"fn()->int{bb0{nop;}}", Grammar(18)),
+        (b"fn()->int{bb0{return}}", Grammar(20)),
+        (b"fn()->int{bb0{return;nop;}}", Grammar(21)),
+        (b"fn()->int{bb0{return;return;}}", Grammar(21)),
+        (b"fn()->int{bb0{_0=call f()bb0;return;}}", Grammar(29)),
+        (b"fn()->int{bb0{if 1 bb0 bb0;stop;}}", Grammar(27)),
+        (b"fn()->int{bb0{;return;}}", Grammar(14)),
+        (b"fn()->int{bb0{let _1:int;return;}}", Grammar(14)),
+        (b"fn()->int{bb0 return;}}", Grammar(14)),
+        (b"fn()->int{bb0{return;};}", Grammar(22)),
+        (b"fn()->int{{return;}}", Grammar(10)),
+    ];
+    units_are_answered(&rt, rt.alloc(), &rows);
+}
+
+#[test]
+fn a_terminator_has_its_labels(rt: HostRuntime) {
+    let rows: [(&[u8], Answer); 14] = [
+        (b"fn()->int{bb0{goto;}}", Grammar(18)),
+        (b"fn()->int{bb0{goto 0;}}", Grammar(19)),
+        (b"fn()->int{bb0{goto bb0 bb0;}}", Grammar(23)),
+        (b"fn()->int{bb0{if bb0 bb0;}}", Grammar(17)),
+        (b"fn()->int{bb0{if 1;}}", Grammar(18)),
+        (b"fn()->int{bb0{if 1 bb0;}}", Grammar(22)),
+        (b"fn()->int{bb0{if 1 bb0,bb0;}}", Grammar(22)),
+        (b"fn()->int{bb0{_0=call f();}}", Grammar(25)),
+        (b"fn()->int{bb0{_0=call f()bb0 bb0;}}", Grammar(29)),
+        (b"fn()->int{bb0{_0=call f bb0;}}", Grammar(24)),
+        (b"fn()->int{bb0{_0=call()bb0;}}", Grammar(21)),
+        (b"fn()->int{bb0{call f()bb0;}}", Grammar(14)),
+        (b"fn()->int{bb0{return _0;}}", Grammar(21)),
+        (b"fn()->int{bb0{_0=invoke _0()bb0;}}", Grammar(17)),
+    ];
+    units_are_answered(&rt, rt.alloc(), &rows);
+}
+
+#[test]
+fn a_statement_has_its_parts(rt: HostRuntime) {
+    let rows: [(&[u8], Answer); 22] = [
+        (b"fn()->int{bb0{_0;return;}}", Grammar(16)),
+        (b"fn()->int{bb0{_0=;return;}}", Grammar(17)),
+        (b"fn()->int{bb0{_0=_0;return;}}", Grammar(17)),
+        (b"fn()->int{bb0{1=_0;return;}}", Grammar(14)),
+        (b"fn()->int{bb0{_0=copy 1;return;}}", Grammar(22)),
+        (b"fn()->int{bb0{_0._0=1;return;}}", Grammar(17)),
+        (b"fn()->int{bb0{_0*=1;return;}}", Grammar(16)),
+        (b"fn()->int{bb0{_0=&_0;return;}}", Grammar(18)),
+        (b"fn()->int{bb0{_0=&'?0 copy _0;return;}}", Grammar(22)),
+        (b"fn()->int{bb0{_0=&'?0;return;}}", Grammar(21)),
+        (b"fn()->int{bb0{drop;return;}}", Grammar(18)),
+        (b"fn()->int{bb0{drop 1;return;}}", Grammar(19)),
+        (b"fn()->int{bb0{dead;return;}}", Grammar(18)),
+        (b"fn()->int{bb0{dead _0.1;return;}}", Grammar(21)),
+        (b"fn()->int{bb0{_0=Q;return;}}", Grammar(18)),
+        (b"fn()->int{bb0{_0=Q<'?0>;return;}}", Grammar(23)),
+        (b"fn()->int{bb0{_0=Q(Q());return;}}", Grammar(19)),
+        (b"fn()->int{bb0{_0=Q{};return;}}", Grammar(18)),
+        (b"fn()->int{bb0{_0=Q() bb0;return;}}", Grammar(21)),
+        (b"fn()->int{bb0{_0=calc<", Grammar(21)),
+        (b"fn()->int{bb0{_0=closure 0();return;}}", Grammar(17)),
+        (b"fn()->int{bb0{f();return;}}", Grammar(14)),
+    ];
+    units_are_answered(&rt, rt.alloc(), &rows);
 }
