@@ -145,9 +145,14 @@ module _ (regions : List RegionName) (declares : Declares regions) (locals : ℕ
       let x = b.0.0 in
       let t = block_takes (length found) left ts b.0 b.1 in
       let more = again (read.left_behind left x) (found ++ x ∷ []) b.0.1 b.2 in
-      let text : Begins b.0.1 (spell.blocks regions (length found + 1) more.0) y.1 = subst (λ k. Begins b.0.1 (spell.blocks regions k more.0) y.1) (one_longer found x) more.2 in
-      (x ∷ more.0, more.1 ∙ append_assoc found (x ∷ []) more.0, join ts (spell.block regions (length found) x) b.0.1 (spell.blocks regions (length found + 1) more.0) y.1 t.0 text,
-       and_from (block_fits count locals x) _ t.1 more.3, omega (arith, more.4, t.2, counted x more.0), omega (arith, more.5))
+      let text : Begins b.0.1 (spell.blocks regions (length found + 1) more.0) y.1 = subst (λ k. Begins b.0.1 (spell.blocks regions k more.0) y.1) (one_longer found x) more.2 in (
+        x ∷ more.0,
+        more.1 ∙ append_assoc found (x ∷ []) more.0,
+        join ts (spell.block regions (length found) x) b.0.1 (spell.blocks regions (length found + 1) more.0) y.1 t.0 text,
+        and_from (block_fits count locals x) _ t.1 more.3,
+        omega (arith, more.4, t.2, counted x more.0),
+        omega (arith, more.5),
+      )
 
   none_taken : (room left : ℕ) (found : List Block) (ts : Tokens) (y : List Block × Tokens) → pure found ts ≡ Ok y → MoreBlocks (suc room) left found ts y
   none_taken room left found ts y e = subst (MoreBlocks (suc room) left found ts) (ok_is (found, ts) y e) ([], sym (append-nil found), refl, refl, omega arith, omega arith)

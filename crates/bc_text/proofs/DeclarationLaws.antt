@@ -167,9 +167,13 @@ module _ (regions : List RegionName) (declares : Declares regions) where
             let c = bind_ok (expect s.Semicolon b.0.1) (λ _ last. read.fields_from regions room (found ++ b.0.0 ∷ []) last) y b.2 in
             let t = ty_takes false regions declares ts b.0 b.1 in
             let more = fields_take room (found ++ b.0.0 ∷ []) c.0.1 y c.2 in
-            let head = join ts (spell.ty regions b.0.0) b.0.1 (spell.symbol s.Semicolon) c.0.1 t.0 (expect_takes s.Semicolon b.0.1 c.0 c.1) in
-            (b.0.0 ∷ more.0, more.1 ∙ append_assoc found (b.0.0 ∷ []) more.0, join ts (spell.field regions b.0.0) c.0.1 (flat_map (spell.field regions) more.0) y.1 head more.2,
-             and_from (ty_fits false (length regions + 1) b.0.0) _ t.1 more.3, omega (arith, more.4))
+            let head = join ts (spell.ty regions b.0.0) b.0.1 (spell.symbol s.Semicolon) c.0.1 t.0 (expect_takes s.Semicolon b.0.1 c.0 c.1) in (
+              b.0.0 ∷ more.0,
+              more.1 ∙ append_assoc found (b.0.0 ∷ []) more.0,
+              join ts (spell.field regions b.0.0) c.0.1 (flat_map (spell.field regions) more.0) y.1 head more.2,
+              and_from (ty_fits false (length regions + 1) b.0.0) _ t.1 more.3,
+              omega (arith, more.4),
+            )
         | inr p ↦ none_taken (suc room) found ts y p.1
       ]
 
@@ -265,15 +269,17 @@ struct_takes ts y e =
     let t2 = join c.0.1 (spell.drop_word has_drop) late (spell.fields d) f.0.1 (drop_takes has_drop c.0.1 late refl refl) fs.0 in
     let t1 = join b.0.1 (spell.angled spell.mark (zip (variances_of marks) (regions_of marks))) c.0.1 (spell.drop_word has_drop ++ spell.fields d) f.0.1 marks_text t2 in
     let whole = join ts (spell.item_name b.0.0) b.0.1 (spell.angled spell.mark (zip (variances_of marks) (regions_of marks)) ++ (spell.drop_word has_drop ++ spell.fields d)) f.0.1 name.0 t1 in
-    subst (λ (q : StructDeclaration × Tokens). Begins ts (spell.struct_rest q.0) q.1 × (struct_fits q.0 ≡ true)) (ok_is (d, f.0.1) y f.2)
-    (whole, struct_fit d (record {
-      name = name.1;
-      regions = declares;
-      few = subst (λ n. n ≤ 8) (sym (length-map marks (λ (m : Mark). m.1))) list.1.1;
-      variances = length-map marks (λ (m : Mark). m.0) ∙ sym (length-map marks (λ (m : Mark). m.1));
-      fields = fs.1;
-      few_fields = fs.2;
-    }))
+    subst (λ (q : StructDeclaration × Tokens). Begins ts (spell.struct_rest q.0) q.1 × (struct_fits q.0 ≡ true)) (ok_is (d, f.0.1) y f.2) (
+      whole,
+      struct_fit d (record {
+        name = name.1;
+        regions = declares;
+        few = subst (λ n. n ≤ 8) (sym (length-map marks (λ (m : Mark). m.1))) list.1.1;
+        variances = length-map marks (λ (m : Mark). m.0) ∙ sym (length-map marks (λ (m : Mark). m.1));
+        fields = fs.1;
+        few_fields = fs.2;
+      }),
+    )
 
 -- what follows the marks of a struct is no `<`
 no_less : (b : Bool) (d : StructDeclaration) (ts rest : Tokens) → Begins ts (spell.drop_word b ++ spell.fields d) rest → NoLess ts
@@ -502,9 +508,10 @@ types_take ts y e =
     let g = declarations_take 129 [] ts b.0 b.1 in
     let text : Begins ts (spell.types b.0.0) b.0.1 = subst (λ (l : List Declaration). Begins ts (spell.types l) b.0.1) (sym g.1) g.2 in
     let few : AreFew b.0.0 = subst AreFew (sym g.1) (are_few [] g.0 (omega arith, omega arith) g.4) in
-    subst (λ (q : List Declaration × Tokens). Begins ts (spell.types q.0 ++ End ∷ []) (after q.1) × TypesFit q.0) (ok_is (b.0.0, c.0.1) y c.2)
-    (join ts (spell.types b.0.0) b.0.1 (End ∷ []) (after c.0.1) text (end_takes b.0.1 c.0 c.1),
-     record { declarations = subst (λ (l : List Declaration). list_all declaration_fits l ≡ true) (sym g.1) g.3; structs = few.0; externs = few.1 })
+    subst (λ (q : List Declaration × Tokens). Begins ts (spell.types q.0 ++ End ∷ []) (after q.1) × TypesFit q.0) (ok_is (b.0.0, c.0.1) y c.2) (
+      join ts (spell.types b.0.0) b.0.1 (End ∷ []) (after c.0.1) text (end_takes b.0.1 c.0 c.1),
+      record { declarations = subst (λ (l : List Declaration). list_all declaration_fits l ≡ true) (sym g.1) g.3; structs = few.0; externs = few.1 },
+    )
 
 no_declaration : (ts rest : Tokens) → Begins ts (End ∷ []) rest → read.begins_declaration ts ≡ false
 no_declaration ts rest b = rw (sees_none s.Struct ts End [] rest b refl, sees_none s.Extern ts End [] rest b refl) refl

@@ -143,7 +143,7 @@ instance_takes variables regions ts y declares e =
     let c = bind_ok (angled_list (read.begins_region variables) (read.region variables regions) 15 b.0.1) (λ rs last. Ok (record { name = b.0.0; regions = rs }, last)) y b.2 in
     let name = item_name_takes ts b.0 b.1 in
     let list = angled_takes (read.region variables regions) (spell.region regions) fits Anything (region_law variables regions declares) (read.begins_region variables) 15 b.0.1 c.0 c.1 in
-        subst (λ (q : Instance × Tokens). Begins ts (spell.instance regions q.0) q.1 × (instance_fits variables (length regions + 1) q.0 ≡ true)) (ok_is (record { name = b.0.0; regions = c.0.0 }, c.0.1) y c.2)
+    subst (λ (q : Instance × Tokens). Begins ts (spell.instance regions q.0) q.1 × (instance_fits variables (length regions + 1) q.0 ≡ true)) (ok_is (record { name = b.0.0; regions = c.0.0 }, c.0.1) y c.2)
     (join ts (spell.item_name b.0.0) b.0.1 (spell.angled (spell.region regions) c.0.0) c.0.1 name.0 list.0, and_from (item_fits b.0.0) _ name.1 (and_from (list_all fits c.0.0) _ list.1.0 (le-leb (length c.0.0) 15 list.1.1)))
 
 pub instance_again : (variables : Bool) (regions : List RegionName) (ts : Tokens) (i : Instance) (rest : Tokens) → Declares regions → Begins ts (spell.instance regions i) rest → instance_fits variables (length regions + 1) i ≡ true → NoLess rest → read.instance variables regions ts ≡ Ok (i, rest)

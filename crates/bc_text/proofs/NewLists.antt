@@ -37,9 +37,14 @@ module _ {A : Type 0} (item : List A → Parser A) (spell : A → List Token) (f
         | inl p ↦
             let more = declared_take room (found ++ b.0.0 ∷ []) (after b.0.1) y p.1 in
             let tail = join b.0.1 (Fixed s.Comma ∷ []) (after b.0.1) (spell more.0 ++ flat_map next more.1) y.1 p.0 more.3 in
-            let text : Begins b.0.1 (flat_map next (more.0 ∷ more.1)) y.1 = tail in
-            (b.0.0, more.0 ∷ more.1, more.2 ∙ append_assoc found (b.0.0 ∷ []) (more.0 ∷ more.1), join ts (spell b.0.0) b.0.1 (flat_map next (more.0 ∷ more.1)) y.1 t.0 text,
-             and_from (fits found b.0.0) (are_fitting fits (found ++ b.0.0 ∷ []) (more.0 ∷ more.1)) t.1 more.4, omega (arith, more.5))
+            let text : Begins b.0.1 (flat_map next (more.0 ∷ more.1)) y.1 = tail in (
+              b.0.0,
+              more.0 ∷ more.1,
+              more.2 ∙ append_assoc found (b.0.0 ∷ []) (more.0 ∷ more.1),
+              join ts (spell b.0.0) b.0.1 (flat_map next (more.0 ∷ more.1)) y.1 t.0 text,
+              and_from (fits found b.0.0) (are_fitting fits (found ++ b.0.0 ∷ []) (more.0 ∷ more.1)) t.1 more.4,
+              omega (arith, more.5),
+            )
         | inr p ↦
             subst (λ (q : List A × Tokens). GoesOn (suc room) found ts q) (ok_is (found ++ b.0.0 ∷ [], b.0.1) y p.1)
             (b.0.0, [], refl, join ts (spell b.0.0) b.0.1 [] b.0.1 t.0 refl, and_from (fits found b.0.0) true t.1 refl, omega arith)

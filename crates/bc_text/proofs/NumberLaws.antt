@@ -28,7 +28,6 @@ bytes_of other = other.bytes
 
 -- ---- from the name to the number
 
-
 found_at : (regions : List RegionName) (name : List ℕ) (i k : ℕ) → position_from (named name) i regions ≡ Some k → (j : ℕ) × (k ≡ i + j) × (j < length regions) × (get_or (map bytes_of regions) j [] ≡ name)
 found_at [] name i k e = absurd cc
 found_at (r ∷ regions) name i k e =

@@ -225,9 +225,10 @@ module _ (regions : List RegionName) (declares : Declares regions) (locals : ℕ
             let value = join b.0.1 (spell.symbol s.Equals) c.0.1 (spell.symbol s.Call ++ spell.called regions d.0.0) d.0.1 equals called in
             let place_text : Begins ts (spell.place d.0.0.destination) b.0.1 = subst (λ (l : Place). Begins ts (spell.place l) b.0.1) (sym x.0) p.0 in
             let place_fit : place_fits locals d.0.0.destination ≡ true = subst (λ (l : Place). place_fits locals l ≡ true) (sym x.0) p.1 in
-            subst (IsPoint ts) (ok_is (read.ending (t.Call d.0.0), d.0.1) y d.2)
-            (join ts (spell.place d.0.0.destination) b.0.1 (spell.symbol s.Equals ++ (spell.symbol s.Call ++ spell.called regions d.0.0)) d.0.1 place_text value,
-             and_from _ _ (and_from _ _ (and_from (place_fits locals d.0.0.destination) (instance_fits true count d.0.0.function) place_fit x.2) x.3) (le-leb d.0.0.target 255 x.4))
+            subst (IsPoint ts) (ok_is (read.ending (t.Call d.0.0), d.0.1) y d.2) (
+              join ts (spell.place d.0.0.destination) b.0.1 (spell.symbol s.Equals ++ (spell.symbol s.Call ++ spell.called regions d.0.0)) d.0.1 place_text value,
+              and_from _ _ (and_from _ _ (and_from (place_fits locals d.0.0.destination) (instance_fits true count d.0.0.function) place_fit x.2) x.3) (le-leb d.0.0.target 255 x.4),
+            )
         | inr q ↦
             let d = bind_ok (read.rvalue regions locals c.0.1) (λ v last. Ok (read.assigned b.0.0 v, last)) y q.1 in
             let v = rvalue_takes c.0.1 d.0 d.1 in

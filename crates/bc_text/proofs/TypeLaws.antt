@@ -142,9 +142,10 @@ module _ (variables : Bool) (regions : List RegionName) (declares : Declares reg
   ty_takes ts y e =
       let g = ty_from_takes 8 [] ts y e in
       let all : list_all (reference_fits variables count) y.0.references ≡ true = subst (λ (l : List Reference). list_all (reference_fits variables count) l ≡ true) (sym g.1) g.3 in
-      let few : length y.0.references ≤ 7 = subst (λ (l : List Reference). length l ≤ 7) (sym g.1) (omega (arith, g.4)) in
-      (subst (λ (l : List Reference). Begins ts (flat_map (spell.behind regions) l ++ spell.base regions y.0.base) y.1) (sym g.1) g.2,
-       and_from _ (base_fits variables count y.0.base) (and_from (list_all (reference_fits variables count) y.0.references) _ all (le-leb (length y.0.references) 7 few)) g.5)
+      let few : length y.0.references ≤ 7 = subst (λ (l : List Reference). length l ≤ 7) (sym g.1) (omega (arith, g.4)) in (
+        subst (λ (l : List Reference). Begins ts (flat_map (spell.behind regions) l ++ spell.base regions y.0.base) y.1) (sym g.1) g.2,
+        and_from _ (base_fits variables count y.0.base) (and_from (list_all (reference_fits variables count) y.0.references) _ all (le-leb (length y.0.references) 7 few)) g.5,
+      )
 
   pub ty_again : (ts : Tokens) (t : Ty) (rest : Tokens) → Begins ts (spell.ty regions t) rest → ty_fits variables count t ≡ true → NoLess rest → read.ty variables regions ts ≡ Ok (t, rest)
   unfolding read.ty
@@ -178,9 +179,10 @@ pub parameters_take : (regions : List RegionName) (ts : Tokens) (y : List Ty × 
 unfolding read.parameters
 parameters_take regions ts y declares e =
     let b = bind_ok (expect s.OpenParen ts) (λ _ rest. closed_list read.begins_ty (read.ty false regions) 16 s.CloseParen rest) y e in
-    let list = list_takes (read.ty false regions) (spell.ty regions) (ty_fits false (length regions + 1)) NoLess (ty_law regions declares) read.begins_ty 16 s.CloseParen b.0.1 y b.2 in
-    (join ts (Fixed s.OpenParen ∷ []) b.0.1 (spell.commas (spell.ty regions) y.0 ++ spell.symbol s.CloseParen) y.1 (expect_takes s.OpenParen ts b.0 b.1) list.0,
-     and_from (list_all (ty_fits false (length regions + 1)) y.0) _ list.1.0 (le-leb (length y.0) 16 list.1.1))
+    let list = list_takes (read.ty false regions) (spell.ty regions) (ty_fits false (length regions + 1)) NoLess (ty_law regions declares) read.begins_ty 16 s.CloseParen b.0.1 y b.2 in (
+      join ts (Fixed s.OpenParen ∷ []) b.0.1 (spell.commas (spell.ty regions) y.0 ++ spell.symbol s.CloseParen) y.1 (expect_takes s.OpenParen ts b.0 b.1) list.0,
+      and_from (list_all (ty_fits false (length regions + 1)) y.0) _ list.1.0 (le-leb (length y.0) 16 list.1.1),
+    )
 
 pub parameters_again : (regions : List RegionName) (ts : Tokens) (ps : List Ty) (rest : Tokens) → Declares regions → Begins ts (spell.parameters regions ps) rest → parameters_fit (length regions + 1) ps ≡ true → read.parameters regions ts ≡ Ok (ps, rest)
 unfolding read.parameters

@@ -169,18 +169,19 @@ header_of_takes limit ts y e =
     let declares : Declares b.0.0 = sym (fitting_is [] b.0.0) ∙ list.1.0 in
     let g = signature_takes b.0.0 declares b.0.1 y b.2 in
     let whole = join ts (spell.angled spell.region_name b.0.0) b.0.1 (rest_of b.0.0 declares y.0) y.1 list.0 g.0 in
-    let is = g.1.regions_are in
-    (subst (λ (rs : List RegionName). Begins ts (spell.angled spell.region_name rs ++ (spell.clauses rs y.0.clauses ++ (spell.parameters rs y.0.parameters ++ (spell.symbol s.Arrow ++ spell.ty rs y.0.result)))) y.1) (sym is) whole,
-     record {
-       declares = subst Declares (sym is) declares;
-       few = subst (λ (rs : List RegionName). length rs ≤ limit) (sym is) list.1.1;
-       signature = λ d. record {
-         regions_are = refl;
-         clauses = subst (λ (rs : List RegionName). clauses_fit (length rs + 1) y.0.clauses ≡ true) (sym is) g.1.clauses;
-         parameters = subst (λ (rs : List RegionName). parameters_fit (length rs + 1) y.0.parameters ≡ true) (sym is) g.1.parameters;
-         result = subst (λ (rs : List RegionName). ty_fits false (length rs + 1) y.0.result ≡ true) (sym is) g.1.result;
-       };
-     })
+    let is = g.1.regions_are in (
+      subst (λ (rs : List RegionName). Begins ts (spell.angled spell.region_name rs ++ (spell.clauses rs y.0.clauses ++ (spell.parameters rs y.0.parameters ++ (spell.symbol s.Arrow ++ spell.ty rs y.0.result)))) y.1) (sym is) whole,
+      record {
+        declares = subst Declares (sym is) declares;
+        few = subst (λ (rs : List RegionName). length rs ≤ limit) (sym is) list.1.1;
+        signature = λ d. record {
+          regions_are = refl;
+          clauses = subst (λ (rs : List RegionName). clauses_fit (length rs + 1) y.0.clauses ≡ true) (sym is) g.1.clauses;
+          parameters = subst (λ (rs : List RegionName). parameters_fit (length rs + 1) y.0.parameters ≡ true) (sym is) g.1.parameters;
+          result = subst (λ (rs : List RegionName). ty_fits false (length rs + 1) y.0.result ≡ true) (sym is) g.1.result;
+        };
+      },
+    )
 
 no_less_from : (regions : List RegionName) (cs : List Outlives) (ps : List Ty) (l : List Token) (ts rest : Tokens) → Begins ts (spell.clauses regions cs ++ (spell.parameters regions ps ++ l)) rest → NoLess ts
 unfolding same
@@ -286,9 +287,13 @@ module _ (regions : List RegionName) (declares : Declares regions) where
             let one_more : number + length (found ++ b.0.0 ∷ []) ≡ number + length found + 1 = omega (arith, length-append found (b.0.0 ∷ [])) in
             let more = lets_take number room (found ++ b.0.0 ∷ []) b.0.1 y (omega (arith, t.2)) b.2 in
             let rest : Begins b.0.1 (spell.lets regions (number + length found + 1) more.0) y.1 = subst (λ k. Begins b.0.1 (spell.lets regions k more.0) y.1) one_more more.2 in
-            let head = join ts (spell.symbol s.Let) (after ts) (Numbered n.Local (number + length found) ∷ typed b.0.0) b.0.1 p.0 t.0 in
-            (b.0.0 ∷ more.0, more.1 ∙ append_assoc found (b.0.0 ∷ []) more.0, join ts (spell.declared regions (number + length found) b.0.0) b.0.1 (spell.lets regions (number + length found + 1) more.0) y.1 head rest,
-             and_from (ty_fits true (length regions + 1) b.0.0) _ t.1 more.3, omega (arith, one_more, more.4))
+            let head = join ts (spell.symbol s.Let) (after ts) (Numbered n.Local (number + length found) ∷ typed b.0.0) b.0.1 p.0 t.0 in (
+              b.0.0 ∷ more.0,
+              more.1 ∙ append_assoc found (b.0.0 ∷ []) more.0,
+              join ts (spell.declared regions (number + length found) b.0.0) b.0.1 (spell.lets regions (number + length found + 1) more.0) y.1 head rest,
+              and_from (ty_fits true (length regions + 1) b.0.0) _ t.1 more.3,
+              omega (arith, one_more, more.4),
+            )
         | inr p ↦
             subst (λ (q : List Ty × Tokens). LetsGoOn number found ts q) (ok_is (found, ts) y p.1) ([], sym (append-nil found), refl, refl, omega arith)
       ]
@@ -380,16 +385,19 @@ body_takes h ts y fits e =
     let t3 = join c.0.1 (spell.blocks h.regions 0 bs) d.0.1 closing (after g.0.1) block_part.0 end in
     let t2 = join b.0.1 (spell.lets h.regions (1 + length h.parameters) ls) c.0.1 (spell.blocks h.regions 0 bs ++ closing) (after g.0.1) let_text t3 in
     let whole = join ts (spell.symbol s.OpenBrace) b.0.1 (spell.lets h.regions (1 + length h.parameters) ls ++ (spell.blocks h.regions 0 bs ++ closing)) (after g.0.1) (expect_takes s.OpenBrace ts b.0 b.1) t2 in
-    subst (λ (q : Body × Tokens). (q.0.header ≡ h) × Begins ts (body_tokens q.0) (after q.1) × Fits q.0) (ok_is (made_of h ls bs, g.0.1) y g.2)
-    (refl, whole, record {
-      header = fits;
-      lets = let_fits;
-      locals = subst (λ k. k ≤ 256) (locals_are h ls) count;
-      some_block = block_part.4;
-      few_blocks = block_part.3;
-      points = block_part.2;
-      blocks = subst (λ k. list_all (block_fits (length h.regions + 1) k) bs ≡ true) (locals_are h ls) block_part.1;
-    })
+    subst (λ (q : Body × Tokens). (q.0.header ≡ h) × Begins ts (body_tokens q.0) (after q.1) × Fits q.0) (ok_is (made_of h ls bs, g.0.1) y g.2) (
+      refl,
+      whole,
+      record {
+        header = fits;
+        lets = let_fits;
+        locals = subst (λ k. k ≤ 256) (locals_are h ls) count;
+        some_block = block_part.4;
+        few_blocks = block_part.3;
+        points = block_part.2;
+        blocks = subst (λ k. list_all (block_fits (length h.regions + 1) k) bs ≡ true) (locals_are h ls) block_part.1;
+      },
+    )
 
 -- no `let` begins a block
 no_let_before : (regions : List RegionName) (bs : List Block) → 1 ≤ length bs → (l : List Token) (ts rest : Tokens) → Begins ts (spell.blocks regions 0 bs ++ l) rest → sees s.Let ts ≡ false
@@ -411,8 +419,7 @@ body_again ts u rest p fits =
     let few : 1 + length h.parameters + 0 + length u.lets ≤ 256 = omega (arith, count) in
     let room : length u.lets + 1 ≤ 256 = omega (arith, count) in
     let no_let = no_let_before u.header.regions u.blocks fits.some_block closing c.0 rest c.2 in
-    let no_label = sees_numbered_none n.Label d.0 (Fixed s.CloseBrace) (End ∷ []) rest d.2 refl in
-    (
+    let no_label = sees_numbered_none n.Label d.0 (Fixed s.CloseBrace) (End ∷ []) rest d.2 refl in (
       f.0,
       rw (
         expect_again s.OpenBrace ts b.0 b.1,

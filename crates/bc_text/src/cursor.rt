@@ -5,8 +5,8 @@ ghost use Rattle.bc_text.specs.Parser as spec;
 ghost use Rattle.bc_text.specs.Parser.{Reads, ReadsAs, first, after};
 
 use crate::fault::Refusal;
-use bc_syntax::{Symbol, behind, same};
 use crate::token::{Kind, Numbering, Token, lexeme};
+use bc_syntax::{Symbol, behind, same};
 use std::marker::Model;
 
 /// The tokens of a text from one of them on.

@@ -162,10 +162,7 @@ fn struct_of(
 }
 
 #[tactic(auto, unfolding(crate::specs::Reading::struct_declaration))]
-fn struct_declaration(
-    alloc: Global,
-    cursor: &mut Cursor<'_>,
-) -> Result<StructDeclaration, Refusal>
+fn struct_declaration(alloc: Global, cursor: &mut Cursor<'_>) -> Result<StructDeclaration, Refusal>
     ensures { Reads (spec.struct_declaration cursor.old) result cursor.new }
 {
     let name = item_name(alloc, cursor)?;
@@ -174,10 +171,7 @@ fn struct_declaration(
 }
 
 #[tactic(auto, unfolding(crate::specs::Reading::extern_declaration))]
-fn extern_declaration(
-    alloc: Global,
-    cursor: &mut Cursor<'_>,
-) -> Result<ExternDeclaration, Refusal>
+fn extern_declaration(alloc: Global, cursor: &mut Cursor<'_>) -> Result<ExternDeclaration, Refusal>
     ensures { Reads (spec.extern_declaration cursor.old) result cursor.new }
 {
     let name = item_name(alloc, cursor)?;

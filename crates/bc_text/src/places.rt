@@ -9,7 +9,8 @@ use crate::regions::{instance, refuse_past};
 use crate::token::Numbering;
 use crate::types::reference;
 use bc_syntax::{
-    Aggregate, Borrow, Operand, Place, Projection, RegionName, Rvalue, Sequence, ShortSequence, Symbol,
+    Aggregate, Borrow, Operand, Place, Projection, RegionName, Rvalue, Sequence, ShortSequence,
+    Symbol,
 };
 use std::alloc::Global;
 
@@ -82,11 +83,7 @@ fn moved(alloc: Global, cursor: &mut Cursor<'_>, locals: u16) -> Result<Operand,
 
 /// An operand.
 #[tactic(auto, unfolding(crate::specs::Reading::operand))]
-pub fn operand(
-    alloc: Global,
-    cursor: &mut Cursor<'_>,
-    locals: u16,
-) -> Result<Operand, Refusal>
+pub fn operand(alloc: Global, cursor: &mut Cursor<'_>, locals: u16) -> Result<Operand, Refusal>
     ensures { Reads (spec.operand locals cursor.old) result cursor.new }
 {
     if cursor.eat(Symbol::Copy) {
@@ -140,7 +137,12 @@ pub fn operands(
 }
 
 #[tactic(auto, unfolding(crate::specs::Reading::borrow))]
-fn borrow(alloc: Global, cursor: &mut Cursor<'_>, regions: &[RegionName], locals: u16) -> Result<Borrow, Refusal>
+fn borrow(
+    alloc: Global,
+    cursor: &mut Cursor<'_>,
+    regions: &[RegionName],
+    locals: u16,
+) -> Result<Borrow, Refusal>
     requires { length regions.now ≤ 15 }
     ensures { Reads (spec.borrow regions.now locals cursor.old) result cursor.new }
 {
@@ -165,7 +167,12 @@ fn aggregate(
 }
 
 #[tactic(auto, unfolding(crate::specs::Reading::created))]
-fn created(alloc: Global, cursor: &mut Cursor<'_>, regions: &[RegionName], locals: u16) -> Result<Rvalue, Refusal>
+fn created(
+    alloc: Global,
+    cursor: &mut Cursor<'_>,
+    regions: &[RegionName],
+    locals: u16,
+) -> Result<Rvalue, Refusal>
     requires { length regions.now ≤ 15 }
     ensures { Reads (spec.created regions.now locals cursor.old) result cursor.new }
 {
@@ -177,7 +184,12 @@ fn created(alloc: Global, cursor: &mut Cursor<'_>, regions: &[RegionName], local
 }
 
 #[tactic(auto, unfolding(crate::specs::Reading::computed))]
-fn computed(alloc: Global, cursor: &mut Cursor<'_>, regions: &[RegionName], locals: u16) -> Result<Rvalue, Refusal>
+fn computed(
+    alloc: Global,
+    cursor: &mut Cursor<'_>,
+    regions: &[RegionName],
+    locals: u16,
+) -> Result<Rvalue, Refusal>
     requires { length regions.now ≤ 15 }
     ensures { Reads (spec.computed regions.now locals cursor.old) result cursor.new }
 {
@@ -190,7 +202,12 @@ fn computed(alloc: Global, cursor: &mut Cursor<'_>, regions: &[RegionName], loca
 
 /// What an assignment computes.
 #[tactic(auto, unfolding(crate::specs::Reading::rvalue))]
-pub fn rvalue(alloc: Global, cursor: &mut Cursor<'_>, regions: &[RegionName], locals: u16) -> Result<Rvalue, Refusal>
+pub fn rvalue(
+    alloc: Global,
+    cursor: &mut Cursor<'_>,
+    regions: &[RegionName],
+    locals: u16,
+) -> Result<Rvalue, Refusal>
     requires { length regions.now ≤ 15 }
     ensures { Reads (spec.rvalue regions.now locals cursor.old) result cursor.new }
 {

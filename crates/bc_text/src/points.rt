@@ -69,7 +69,12 @@ fn value_of(
 }
 
 #[tactic(auto, unfolding(crate::specs::Reading::assignment))]
-fn assignment(alloc: Global, cursor: &mut Cursor<'_>, regions: &[RegionName], locals: u16) -> Result<Point, Refusal>
+fn assignment(
+    alloc: Global,
+    cursor: &mut Cursor<'_>,
+    regions: &[RegionName],
+    locals: u16,
+) -> Result<Point, Refusal>
     requires { length regions.now ≤ 15 }
     ensures { Reads (spec.assignment regions.now locals cursor.old) result cursor.new }
 {
@@ -79,7 +84,12 @@ fn assignment(alloc: Global, cursor: &mut Cursor<'_>, regions: &[RegionName], lo
 }
 
 #[tactic(auto, unfolding(crate::specs::Reading::active))]
-fn active(alloc: Global, cursor: &mut Cursor<'_>, regions: &[RegionName], locals: u16) -> Result<Point, Refusal>
+fn active(
+    alloc: Global,
+    cursor: &mut Cursor<'_>,
+    regions: &[RegionName],
+    locals: u16,
+) -> Result<Point, Refusal>
     requires { length regions.now ≤ 15 }
     ensures { Reads (spec.active regions.now locals cursor.old) result cursor.new }
 {
@@ -91,7 +101,12 @@ fn active(alloc: Global, cursor: &mut Cursor<'_>, regions: &[RegionName], locals
 }
 
 #[tactic(auto, unfolding(crate::specs::Reading::dropping))]
-fn dropping(alloc: Global, cursor: &mut Cursor<'_>, regions: &[RegionName], locals: u16) -> Result<Point, Refusal>
+fn dropping(
+    alloc: Global,
+    cursor: &mut Cursor<'_>,
+    regions: &[RegionName],
+    locals: u16,
+) -> Result<Point, Refusal>
     requires { length regions.now ≤ 15 }
     ensures { Reads (spec.dropping regions.now locals cursor.old) result cursor.new }
 {
@@ -104,7 +119,12 @@ fn dropping(alloc: Global, cursor: &mut Cursor<'_>, regions: &[RegionName], loca
 }
 
 #[tactic(auto, unfolding(crate::specs::Reading::dying))]
-fn dying(alloc: Global, cursor: &mut Cursor<'_>, regions: &[RegionName], locals: u16) -> Result<Point, Refusal>
+fn dying(
+    alloc: Global,
+    cursor: &mut Cursor<'_>,
+    regions: &[RegionName],
+    locals: u16,
+) -> Result<Point, Refusal>
     requires { length regions.now ≤ 15 }
     ensures { Reads (spec.dying regions.now locals cursor.old) result cursor.new }
 {
@@ -116,11 +136,7 @@ fn dying(alloc: Global, cursor: &mut Cursor<'_>, regions: &[RegionName], locals:
 }
 
 #[tactic(auto, unfolding(crate::specs::Reading::condition))]
-fn condition(
-    alloc: Global,
-    cursor: &mut Cursor<'_>,
-    locals: u16,
-) -> Result<Condition, Refusal>
+fn condition(alloc: Global, cursor: &mut Cursor<'_>, locals: u16) -> Result<Condition, Refusal>
     ensures { Reads (spec.condition locals cursor.old) result cursor.new }
 {
     let operand = operand(alloc, cursor, locals)?;
@@ -134,7 +150,12 @@ fn condition(
 }
 
 #[tactic(auto, unfolding(crate::specs::Reading::branching))]
-fn branching(alloc: Global, cursor: &mut Cursor<'_>, regions: &[RegionName], locals: u16) -> Result<Point, Refusal>
+fn branching(
+    alloc: Global,
+    cursor: &mut Cursor<'_>,
+    regions: &[RegionName],
+    locals: u16,
+) -> Result<Point, Refusal>
     requires { length regions.now ≤ 15 }
     ensures { Reads (spec.branching regions.now locals cursor.old) result cursor.new }
 {
@@ -147,7 +168,12 @@ fn branching(alloc: Global, cursor: &mut Cursor<'_>, regions: &[RegionName], loc
 }
 
 #[tactic(auto, unfolding(crate::specs::Reading::going))]
-fn going(alloc: Global, cursor: &mut Cursor<'_>, regions: &[RegionName], locals: u16) -> Result<Point, Refusal>
+fn going(
+    alloc: Global,
+    cursor: &mut Cursor<'_>,
+    regions: &[RegionName],
+    locals: u16,
+) -> Result<Point, Refusal>
     requires { length regions.now ≤ 15 }
     ensures { Reads (spec.going regions.now locals cursor.old) result cursor.new }
 {
@@ -159,7 +185,12 @@ fn going(alloc: Global, cursor: &mut Cursor<'_>, regions: &[RegionName], locals:
 }
 
 #[tactic(auto, unfolding(crate::specs::Reading::stopping))]
-fn stopping(alloc: Global, cursor: &mut Cursor<'_>, regions: &[RegionName], locals: u16) -> Result<Point, Refusal>
+fn stopping(
+    alloc: Global,
+    cursor: &mut Cursor<'_>,
+    regions: &[RegionName],
+    locals: u16,
+) -> Result<Point, Refusal>
     requires { length regions.now ≤ 15 }
     ensures { Reads (spec.stopping regions.now locals cursor.old) result cursor.new }
 {
@@ -172,7 +203,12 @@ fn stopping(alloc: Global, cursor: &mut Cursor<'_>, regions: &[RegionName], loca
 
 /// A statement or a terminator.
 #[tactic(auto, unfolding(crate::specs::Reading::point))]
-pub fn read_point(alloc: Global, cursor: &mut Cursor<'_>, regions: &[RegionName], locals: u16) -> Result<Point, Refusal>
+pub fn read_point(
+    alloc: Global,
+    cursor: &mut Cursor<'_>,
+    regions: &[RegionName],
+    locals: u16,
+) -> Result<Point, Refusal>
     requires { length regions.now ≤ 15 }
     ensures { Reads (spec.point regions.now locals cursor.old) result cursor.new }
 {

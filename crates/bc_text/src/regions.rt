@@ -6,8 +6,8 @@ ghost use Rattle.bc_text.specs.Reading as spec;
 
 use crate::cursor::Cursor;
 use crate::fault::Refusal;
-use crate::universals::number_of;
 use crate::token::Numbering;
+use crate::universals::number_of;
 use bc_syntax::{
     Instance, ItemName, Region, RegionName, Sequence, ShortSequence, Symbol, is_new, is_word,
 };
@@ -42,7 +42,11 @@ pub fn universal(cursor: &mut Cursor<'_>, regions: &[RegionName]) -> Result<u8, 
 
 /// A region, by its number.
 #[tactic(auto, unfolding(crate::specs::Reading::region))]
-pub fn region(cursor: &mut Cursor<'_>, variables: bool, regions: &[RegionName]) -> Result<Region, Refusal>
+pub fn region(
+    cursor: &mut Cursor<'_>,
+    variables: bool,
+    regions: &[RegionName],
+) -> Result<Region, Refusal>
     requires { length regions.now ≤ 15 }
     ensures { Reads (spec.region variables regions.now cursor.old) result cursor.new }
 {

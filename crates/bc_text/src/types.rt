@@ -22,7 +22,11 @@ fn mutability(cursor: &mut Cursor<'_>) -> Mutability
 
 /// What stands behind a `&`: a region, and `mut` or not.
 #[tactic(auto, unfolding(crate::specs::Reading::reference))]
-pub fn reference(cursor: &mut Cursor<'_>, variables: bool, regions: &[RegionName]) -> Result<Reference, Refusal>
+pub fn reference(
+    cursor: &mut Cursor<'_>,
+    variables: bool,
+    regions: &[RegionName],
+) -> Result<Reference, Refusal>
     requires { length regions.now ≤ 15 }
     ensures { Reads (spec.reference variables regions.now cursor.old) result cursor.new }
 {
@@ -39,7 +43,12 @@ pub fn begins_ty(cursor: &Cursor<'_>) -> bool
 }
 
 #[tactic(auto, unfolding(crate::specs::Reading::base))]
-fn base(alloc: Global, cursor: &mut Cursor<'_>, variables: bool, regions: &[RegionName]) -> Result<Base, Refusal>
+fn base(
+    alloc: Global,
+    cursor: &mut Cursor<'_>,
+    variables: bool,
+    regions: &[RegionName],
+) -> Result<Base, Refusal>
     requires { length regions.now ≤ 15 }
     ensures { Reads (spec.base variables regions.now cursor.old) result cursor.new }
 {
@@ -52,7 +61,12 @@ fn base(alloc: Global, cursor: &mut Cursor<'_>, variables: bool, regions: &[Regi
 
 /// A type.
 #[tactic(auto, unfolding(crate::specs::Reading::ty))]
-pub fn ty(alloc: Global, cursor: &mut Cursor<'_>, variables: bool, regions: &[RegionName]) -> Result<Ty, Refusal>
+pub fn ty(
+    alloc: Global,
+    cursor: &mut Cursor<'_>,
+    variables: bool,
+    regions: &[RegionName],
+) -> Result<Ty, Refusal>
     requires { length regions.now ≤ 15 }
     ensures { Reads (spec.ty variables regions.now cursor.old) result cursor.new }
 {

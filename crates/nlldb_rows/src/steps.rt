@@ -18,8 +18,7 @@ const READS_BEFORE_IT_WRITES: &[u8] =
 const REBORROWS_THROUGH_A_SHARED_REFERENCE: &[u8] =
     b"fn <'a,'b> (&'a &'b int) -> int { let _2: &'?2 int; bb0 { _2 = &'?2 _1.*.*; stop; } }";
 
-const SECOND_OUTLIVES_THE_FIRST: &[u8] =
-    b"fn <'a,'b> where 'b: 'a () -> int { bb0 { stop; } }";
+const SECOND_OUTLIVES_THE_FIRST: &[u8] = b"fn <'a,'b> where 'b: 'a () -> int { bb0 { stop; } }";
 
 fn typed(alloc: Global, text: &[u8]) -> Result<Typed, Fail> {
     let unit = read_unit(alloc, text)?;

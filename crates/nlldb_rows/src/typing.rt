@@ -17,12 +17,18 @@ fn index_of_fault(alloc: Global, text: &[u8]) -> Result<Option<usize>, Fail> {
 fn the_first_misfit_of_a_block_is_told(rt: HostRuntime) -> Result<(), Fail> {
     let rows: [(&[u8], Option<usize>); 7] = [
         (b"fn(int)->int{bb0{_0=copy _1;dead _1;return;}}", None),
-        (b"fn(int)->&'static int{bb0{nop;_0=copy _1;return;}}", Some(1)),
+        (
+            b"fn(int)->&'static int{bb0{nop;_0=copy _1;return;}}",
+            Some(1),
+        ),
         (b"fn()->int{bb0{_0.15=1;return;}}", Some(0)),
         (b"fn()->int{bb0{nop;nop;goto bb1;}}", Some(2)),
         (b"fn()->int{bb0{nop;if 1 bb0 bb1;}}", Some(1)),
         (b"fn(&'static int)->int{bb0{_1.*=1;return;}}", Some(0)),
-        (b"fn(&'static int)->int{bb0{_0=calc(copy _1);return;}}", Some(0)),
+        (
+            b"fn(&'static int)->int{bb0{_0=calc(copy _1);return;}}",
+            Some(0),
+        ),
     ];
     for (text, index) in rows {
         assert_eq!(rt; index_of_fault(rt.alloc(), text)?, index);
@@ -63,7 +69,11 @@ fn behind_a_mutable_reference_both_ways_are_demanded(rt: HostRuntime) -> Result<
     let typed = typed(rt.alloc(), text)?;
     let mut constraints = Vec::new(rt.alloc());
     if let [_, first, second] = typed.locals() {
-        typed.push_subtype(&mut constraints, first.references.as_slice(), second.references.as_slice())?;
+        typed.push_subtype(
+            &mut constraints,
+            first.references.as_slice(),
+            second.references.as_slice(),
+        )?;
     }
     assert_eq!(rt; constraints.len(), 3);
     Ok(())
