@@ -1,7 +1,7 @@
 use Rattle.std.proofs.Common.{◌≡◌, ◌<◌, ◌+◌, ◌∷◌, ◌∙◌, length, sym, ap, arith}
 use Rattle.std.proofs.lemmas.Grind.{common_steps}
 use Rattle.std.proofs.lemmas.List.Folds.{length-prefix_len}
-use Rattle.bc_text.specs.Token.{is_blank, Tokens, placed, shown}
+use Rattle.bc_text.specs.Token.{is_blank, placed, shown}
 use Rattle.bc_text.specs.Cursor.{following}
 use Rattle.bc_text.specs.declared.token.Kind.{Kind}
 use Rattle.bc_text.proofs.Cuts.{ends, begins_here, cuts, goes_past}
