@@ -155,6 +155,7 @@ impl Symbol {
     }
 
     /// The sign that a byte is.
+    #[inline(always)]
     #[tactic(auto, unfolding(crate::specs::Symbol::sign_of, crate::specs::Symbol::text))]
     pub fn of_sign(byte: u8) -> Option<Symbol>
         ensures { result ≡ sign_of byte }

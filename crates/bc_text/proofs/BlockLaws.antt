@@ -14,8 +14,8 @@ use Rattle.bc_syntax.specs.declared.syntax.Terminator.{Terminator}
 use Rattle.bc_syntax.specs.declared.syntax.Block.{Block}
 use Rattle.bc_syntax.specs.Symbol.{same}
 use Rattle.bc_syntax.specs.Fits.{statement_fits, terminator_fits, block_fits, point_count}
-use Rattle.bc_text.specs.Token.{Token, Fixed, Numbered, Tokens}
-use Rattle.bc_text.specs.Parser.{and_then, sees, sees_numbered, after, numbered, position, expect, pure, fail}
+use Rattle.bc_text.specs.Token.{Token, Fixed, Tokens}
+use Rattle.bc_text.specs.Parser.{and_then, sees_numbered, numbered, position, expect, pure, fail}
 use Rattle.bc_text.specs.Reading as read
 use Rattle.bc_text.specs.Spelling as spell
 use Rattle.bc_text.proofs.Begins.{Begins, join, split, bind_ok, ok_is, chosen, chosen_parser, expect_takes, expect_again, numbered_takes, numbered_again, sees_none, sees_numbered_same, no_value}

@@ -1,16 +1,15 @@
 -- Declarations that are read are those that were spelled, and what was spelled is read again.
-use Rattle.std.proofs.Common.{◌≡◌, ℕ, zero, suc, ◌+◌, ◌-◌, ◌<◌, ◌≤◌, Bool, true, false, cond, ◌&&◌, ◌||◌, List, [], ◌∷◌, ◌++◌, length, map, Ok, Err, refl, sym, ap, ◌∙◌, subst, inl, inr, append_assoc, eqb, ltb, arith}
+use Rattle.std.proofs.Common.{◌≡◌, ℕ, zero, suc, ◌+◌, ◌-◌, ◌<◌, ◌≤◌, Bool, true, false, cond, ◌&&◌, List, [], ◌∷◌, ◌++◌, length, Ok, Err, refl, sym, ap, ◌∙◌, subst, inl, inr, append_assoc, ltb, arith}
 use Rattle.std.specs.Prelude.{Result}
-use Rattle.std.specs.List.{flat_map, list_all, filter, zip}
+use Rattle.std.specs.List.{flat_map, list_all, zip}
 use Rattle.std.proofs.lemmas.List.{append-nil, length-append, length-map}
-use Rattle.std.proofs.lemmas.Bool.{cases_Bool, eqb-true, eq-eqb, ltb-true, lt-ltb, ltb-false, le-ltb, le-leb, leb-true, and_from, and_parts}
+use Rattle.std.proofs.lemmas.Bool.{eqb-true, eq-eqb, ltb-true, lt-ltb, ltb-false, le-ltb, le-leb, leb-true, and_from, and_parts}
 use Rattle.std.proofs.lemmas.Slice.Zip.{firsts-zip, seconds-zip}
 use Rattle.bc_text.specs.declared.fault.ReadFault.TheVariants.{TooLong}
 use Rattle.bc_text.specs.declared.fault.Refusal.{Refusal}
 use Rattle.bc_syntax.specs.declared.symbol.Symbol.{Symbol}
 use Rattle.bc_syntax.specs.declared.symbol.Symbol.TheVariants as s
 use Rattle.bc_syntax.specs.declared.syntax.RegionName.{RegionName}
-use Rattle.bc_syntax.specs.declared.syntax.Instance.{Instance}
 use Rattle.bc_syntax.specs.declared.syntax.Base.{Base}
 use Rattle.bc_syntax.specs.declared.syntax.Base.TheVariants as bases
 use Rattle.bc_syntax.specs.declared.syntax.Reference.{Reference}
@@ -25,19 +24,19 @@ use Rattle.bc_syntax.specs.declared.syntax.Declaration.{Declaration}
 use Rattle.bc_syntax.specs.declared.syntax.Declaration.TheVariants as declarations
 use Rattle.bc_syntax.specs.Symbol.{same}
 use Rattle.bc_syntax.specs.Fits.{is_new, are_new, item_fits, ty_fits, struct_fits, header_fits, extern_fits, declaration_fits, is_struct, clauses_fit, parameters_fit, TypesFit}
-use Rattle.bc_text.specs.Token.{Token, Fixed, Word, Region, End, Tokens, tokens}
+use Rattle.bc_text.specs.Token.{Token, Fixed, Word, End, Tokens, tokens}
 use Rattle.bc_text.specs.Parser.{Outcome, Parser, Reads, and_then, sees, sees_word, after, at_end, expect, pure, declared_list, is_fixed}
 use Rattle.bc_text.specs.Reading as read
 use Rattle.bc_text.specs.Reading.{Marks, variances_of, regions_of, structs_in, answer_of}
 use Rattle.bc_text.specs.Spelling as spell
-use Rattle.bc_text.proofs.Begins.{Begins, join, split, bind_ok, ok_is, chosen, eaten, eat_again, eat_other, expect_takes, expect_again, sees_takes, sees_again, sees_none, sees_word_same, sees_word_none, no_value}
+use Rattle.bc_text.proofs.Begins.{Begins, join, split, bind_ok, ok_is, chosen, eaten, eat_again, eat_other, expect_takes, expect_again, sees_takes, sees_again, sees_none, sees_word_same, sees_word_none}
 use Rattle.bc_text.proofs.NameLaws.{Declares, Anything, NoLess, new_region_takes, new_region_again, item_name_takes, item_name_again}
 use Rattle.bc_text.proofs.TypeLaws.{ty_takes, ty_again}
 use Rattle.bc_text.proofs.Lists.{Closes}
 use Rattle.bc_text.proofs.NewLists as new
 use Rattle.bc_text.proofs.NewLists.{declared_list_takes, declared_list_again, are_fitting}
 use Rattle.bc_text.proofs.UnitLaws.{HeaderIs, header_of_takes, header_of_again, end_takes, end_again, answer_Ok}
-use Rattle.bc_text.proofs.Ends.{IsText, tokens_are_text, within, ends_there, all_of_it, begins_whole}
+use Rattle.bc_text.proofs.Ends.{tokens_are_text, within, ends_there, all_of_it, begins_whole}
 
 -- ---- marks
 

@@ -1,5 +1,5 @@
 -- Regions, names and instances that are read are those that were spelled, and what was spelled is read again.
-use Rattle.std.proofs.Common.{◌≡◌, ℕ, ◌≤◌, Bool, true, false, cond, ◌&&◌, ◌+◌, ltb, List, [], ◌∷◌, ◌++◌, length, Option, Some, None, Ok, refl, sym, ap, ◌∙◌, subst, inl, inr, arith}
+use Rattle.std.proofs.Common.{◌≡◌, ℕ, Bool, true, false, cond, ◌&&◌, ◌+◌, ltb, List, [], ◌∷◌, ◌++◌, length, Option, Some, None, Ok, refl, sym, ap, subst, inl, inr}
 use Rattle.std.specs.Prelude.{get_or}
 use Rattle.std.proofs.lemmas.Bool.{and_from, and_parts, leb-true, le-leb}
 use Rattle.bc_syntax.specs.declared.symbol.Symbol.TheVariants as s
@@ -11,17 +11,17 @@ use Rattle.bc_syntax.specs.declared.syntax.ItemName.{ItemName}
 use Rattle.bc_syntax.specs.declared.syntax.Instance.{Instance}
 use Rattle.bc_syntax.specs.Symbol.{same}
 use Rattle.bc_syntax.specs.Words.{is_word}
-use Rattle.bc_syntax.specs.Fits.{is_new, are_new, region_fits, regions_fit, item_fits, instance_fits}
+use Rattle.bc_syntax.specs.Fits.{is_new, are_new, region_fits, item_fits, instance_fits}
 use Rattle.std.specs.List.{list_all}
-use Rattle.bc_text.specs.Token.{Token, Fixed, Numbered, Word, Tokens}
+use Rattle.bc_text.specs.Token.{Token, Numbered, Tokens}
 use Rattle.bc_text.specs.Token.{Region as Named}
 use Rattle.bc_text.specs.Universals.{universal_names, number_of}
-use Rattle.bc_text.specs.Parser.{and_then, sees, sees_numbered, numbered, region_name, word, position, pure, fail, is_fixed, angled_list}
+use Rattle.bc_text.specs.Parser.{and_then, sees, sees_numbered, numbered, region_name, word, position, pure, fail, angled_list}
 use Rattle.bc_text.specs.Reading as read
 use Rattle.bc_text.specs.Spelling as spell
 use Rattle.bc_text.proofs.Begins.{Begins, join, split, bind_ok, ok_is, chosen, chosen_parser, numbered_takes, numbered_again, region_name_takes, region_name_again, word_takes, word_again, sees_none, sees_numbered_same, sees_numbered_none}
-use Rattle.bc_text.proofs.NumberLaws.{number_found, number_again, new_is, IsNew}
-use Rattle.bc_text.proofs.Lists.{Spells, Follows, Closes, angled_takes, angled_again}
+use Rattle.bc_text.proofs.NumberLaws.{number_found, number_again, new_is}
+use Rattle.bc_text.proofs.Lists.{Spells, Closes, angled_takes, angled_again}
 
 -- the declared regions have names of their own
 abbrev pub Declares : List RegionName → Type 0

@@ -1,5 +1,5 @@
 -- A statement or a terminator that is read is the one that was spelled, and what was spelled is read again.
-use Rattle.std.proofs.Common.{◌≡◌, ℕ, ◌+◌, ◌≤◌, true, false, cond, ltb, ◌&&◌, List, [], ◌∷◌, ◌++◌, length, Ok, refl, sym, ap, ◌∙◌, subst, inl, inr, append_assoc, arith}
+use Rattle.std.proofs.Common.{◌≡◌, ℕ, ◌+◌, ◌≤◌, true, false, List, [], ◌∷◌, ◌++◌, length, Ok, refl, sym, ap, ◌∙◌, subst, inl, inr}
 use Rattle.std.specs.Prelude.{Bool}
 use Rattle.std.specs.List.{flat_map}
 use Rattle.std.proofs.lemmas.Bool.{leb-true, le-leb, and_from, and_parts}
@@ -27,7 +27,7 @@ use Rattle.bc_syntax.specs.declared.syntax.Terminator.TheVariants as t
 use Rattle.bc_syntax.specs.Symbol.{same}
 use Rattle.bc_syntax.specs.Fits.{instance_fits, reference_fits, place_fits, operand_fits, operands_fit, borrow_fits, aggregate_fits, rvalue_fits, statement_fits, condition_fits, call_fits, terminator_fits}
 use Rattle.bc_text.specs.Token.{Token, Fixed, Numbered, Word, Tokens}
-use Rattle.bc_text.specs.Parser.{and_then, sees, sees_word, is_fixed, after, numbered, expect, pure}
+use Rattle.bc_text.specs.Parser.{and_then, sees, sees_word, is_fixed, after, expect, pure}
 use Rattle.bc_text.specs.Reading as read
 use Rattle.bc_text.specs.Spelling as spell
 use Rattle.bc_text.proofs.Begins.{Begins, join, split, bind_ok, ok_is, chosen, eaten, eat_again, eat_other, expect_takes, expect_again, numbered_takes, numbered_again, sees_none, sees_word_same, sees_word_none}

@@ -1,6 +1,6 @@
 -- Runs that are gone over once, and the tokens that they are.
-use Rattle.std.proofs.Common.{◌≡◌, ◌≢◌, ℕ, zero, suc, ◌+◌, ◌<◌, ◌≤◌, Bool, true, false, cond, List, [], ◌∷◌, length, take, drop, get_or, refl, sym, ap, ◌∙◌, subst, arith, inl, inr}
-use Rattle.std.specs.Prelude.{slice_index, ◌==◌, ◌&&◌, eqb, nat_le, take_while}
+use Rattle.std.proofs.Common.{◌≡◌, ◌≢◌, ℕ, suc, ◌+◌, ◌<◌, ◌≤◌, Bool, true, false, cond, List, [], ◌∷◌, length, take, drop, refl, sym, ap, ◌∙◌, arith, inl, inr}
+use Rattle.std.specs.Prelude.{slice_index, ◌==◌, ◌&&◌, ◌||◌, not, eqb, nat_le, take_while}
 use Rattle.std.specs.Char.{is_ascii_digit, is_ascii_alphabetic}
 use Rattle.std.specs.List.{list_all, prefix_len}
 use Rattle.std.proofs.lemmas.Bool.{and_parts, cases_Bool}
@@ -83,6 +83,15 @@ digits_split = splits is_ascii_digit digit_in_run
 pub all_digits : (bytes rest : List ℕ) (front others : ℕ) → front ≡ length (take_while is_ascii_digit bytes) → rest ≡ drop front bytes
     → others ≡ length (run rest) → eqb others 0 ≡ list_all is_ascii_digit (take (front + others) bytes)
 all_digits = all_front is_ascii_digit digit_in_run
+
+-- a run that is a number ends with its digits
+pub number_ends : (r : List ℕ) (others : ℕ) → eqb others 0 ≡ list_all is_ascii_digit r → is_number r ≡ true → others ≡ 0
+unfolding is_number
+number_ends r others all number =
+    let front = and_parts (list_all is_ascii_digit r && nat_le 1 (length r)) (length r == 1 || not (slice_index r 0 == 48)) number in
+    let digits : list_all is_ascii_digit r ≡ true = (and_parts (list_all is_ascii_digit r) (nat_le 1 (length r)) front.0).0 in
+    let none : eqb others 0 ≡ true = all ∙ digits in
+    grind (arith, nat_tests, none)
 
 pub region_splits : (bytes rest : List ℕ) (front others : ℕ) → front ≡ length (take_while is_region_byte bytes) → rest ≡ drop front bytes
     → others ≡ length (run rest) → take (front + others) bytes ≡ run bytes

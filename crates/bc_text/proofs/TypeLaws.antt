@@ -1,5 +1,5 @@
 -- A type that is read is the one that was spelled, and what was spelled is read again.
-use Rattle.std.proofs.Common.{◌≡◌, ℕ, zero, suc, ◌+◌, ◌≤◌, Bool, true, false, cond, ◌&&◌, List, [], ◌∷◌, ◌++◌, length, Ok, refl, sym, ap, ◌∙◌, subst, inl, inr, append_assoc, arith}
+use Rattle.std.proofs.Common.{◌≡◌, ℕ, zero, suc, ◌+◌, ◌≤◌, Bool, true, false, List, [], ◌∷◌, ◌++◌, length, Ok, refl, sym, ap, ◌∙◌, subst, inl, inr, append_assoc, arith}
 use Rattle.std.specs.List.{flat_map, list_all}
 use Rattle.std.proofs.lemmas.Bool.{and_from, and_parts, leb-true, le-leb}
 use Rattle.std.proofs.lemmas.List.{append-nil}
@@ -10,7 +10,6 @@ use Rattle.bc_syntax.specs.declared.syntax.Mutability.TheVariants.{Shared, Mutab
 use Rattle.bc_syntax.specs.declared.syntax.Reference.{Reference}
 use Rattle.bc_syntax.specs.declared.syntax.Base.{Base}
 use Rattle.bc_syntax.specs.declared.syntax.Base.TheVariants as bases
-use Rattle.bc_syntax.specs.declared.syntax.Instance.{Instance}
 use Rattle.bc_syntax.specs.declared.syntax.Ty.{Ty}
 use Rattle.bc_syntax.specs.Symbol.{same}
 use Rattle.bc_syntax.specs.Fits.{reference_fits, base_fits, ty_fits, parameters_fit}
@@ -20,7 +19,7 @@ use Rattle.bc_text.specs.Reading as read
 use Rattle.bc_text.specs.Spelling as spell
 use Rattle.bc_text.proofs.Begins.{Begins, join, split, bind_ok, ok_is, eaten, eat_again, eat_other, expect_takes, expect_again, sees_none, no_value}
 use Rattle.bc_text.proofs.NameLaws.{Declares, NoLess, region_takes, region_again, instance_takes, instance_again}
-use Rattle.bc_text.proofs.Lists.{Spells, Follows, Closes, list_takes, list_again}
+use Rattle.bc_text.proofs.Lists.{Spells, Closes, list_takes, list_again}
 
 -- ---- references
 

@@ -1,7 +1,7 @@
 -- A unit that is read is the one that was spelled, and what was spelled is read again.
 use Rattle.std.proofs.Common.{◌≡◌, ℕ, zero, suc, ◌+◌, ◌≤◌, true, false, cond, ◌&&◌, List, [], ◌∷◌, ◌++◌, length, Ok, Err, refl, sym, ap, ◌∙◌, subst, inl, inr, append_assoc, eqb, ltb, arith}
-use Rattle.std.specs.Prelude.{Result, ◌⊎◌}
-use Rattle.std.specs.List.{flat_map, list_all}
+use Rattle.std.specs.Prelude.{Result}
+use Rattle.std.specs.List.{list_all}
 use Rattle.std.proofs.lemmas.List.{append-nil, length-append}
 use Rattle.std.proofs.lemmas.Bool.{eqb-true, eq-eqb, ltb-false, le-ltb, le-leb, leb-true, and_from, and_parts}
 use Rattle.bc_text.specs.declared.fault.ReadFault.TheVariants.{TooLong}
@@ -17,17 +17,16 @@ use Rattle.bc_syntax.specs.declared.syntax.Block.{Block}
 use Rattle.bc_syntax.specs.declared.syntax.Header.{Header}
 use Rattle.bc_syntax.specs.declared.syntax.Body.{Body}
 use Rattle.bc_syntax.specs.Symbol.{same}
-use Rattle.bc_syntax.specs.Fits.{HeaderFits, Fits, is_new, are_new, clause_fits, clauses_fit, parameters_fit, ty_fits, block_fits, point_count}
+use Rattle.bc_syntax.specs.Fits.{HeaderFits, Fits, is_new, are_new, clause_fits, clauses_fit, parameters_fit, ty_fits, block_fits}
 use Rattle.bc_text.specs.Token.{Token, Fixed, Numbered, Word, Region, NotAscii, Stray, End, Tokens, tokens}
-use Rattle.bc_text.specs.Parser.{Outcome, Reads, and_then, sees, sees_region, after, is_end, at_end, numbered, position, expect, pure, fail, fault, opened_list, declared_list}
-use Rattle.bc_text.specs.Universals.{universal_names}
+use Rattle.bc_text.specs.Parser.{Outcome, Reads, and_then, sees, sees_region, after, is_end, at_end, numbered, position, expect, pure, fail, fault, declared_list}
 use Rattle.bc_text.specs.Reading as read
 use Rattle.bc_text.specs.Reading.{answer_of}
 use Rattle.bc_text.specs.Spelling as spell
 use Rattle.bc_text.proofs.Begins.{Begins, join, split, bind_ok, ok_is, chosen, chosen_parser, eaten, eat_again, eat_other, expect_takes, expect_again, numbered_takes, numbered_again, sees_none, sees_numbered_none}
 use Rattle.bc_text.proofs.NameLaws.{Declares, Anything, NoLess, universal_takes, universal_again, new_region_takes, new_region_again}
 use Rattle.bc_text.proofs.TypeLaws.{ty_takes, ty_again, parameters_take, parameters_again}
-use Rattle.bc_text.proofs.Lists.{Spells, Follows, Closes, opened_take, opened_again, opened_none}
+use Rattle.bc_text.proofs.Lists.{Spells, Closes, opened_take, opened_again, opened_none}
 use Rattle.bc_text.proofs.NewLists as new
 use Rattle.bc_text.proofs.NewLists.{declared_list_takes, declared_list_again, are_fitting}
 use Rattle.bc_text.proofs.Ends.{IsText, tokens_are_text, within, ends_there, all_of_it, begins_whole}

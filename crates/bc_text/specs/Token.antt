@@ -1,7 +1,6 @@
 -- Tokens, and the tokens of a text.
-use Rattle.std.specs.Prelude.{ℕ, zero, suc, ◌+◌, ◌-◌, Bool, not, ◌||◌, ◌&&◌, if◌then◌else◌, ◌==◌, nat_le, List, [], ◌∷◌, length, drop, slice_index, Option, Some, None, fold, ◌*◌}
-use Rattle.std.specs.Char.{is_ascii_digit, is_ascii_alphabetic, is_ascii_lowercase}
-use Rattle.std.specs.List.{list_all}
+use Rattle.std.specs.Prelude.{◌≡◌, ◌≤◌, ◌^◌, ◌⊎◌, ⊤, ℕ, zero, suc, ◌+◌, ◌-◌, Bool, ◌||◌, ◌&&◌, if◌then◌else◌, ◌==◌, nat_le, List, [], ◌∷◌, length, drop, slice_index, Option, Some, None, fold, ◌*◌}
+use Rattle.std.specs.Char.{is_ascii_alphabetic}
 use Rattle.bc_syntax.specs.declared.symbol.Symbol.{Symbol}
 use Rattle.bc_syntax.specs.declared.symbol.Symbol.TheVariants.{Arrow}
 use Rattle.bc_text.specs.declared.token.Numbering.{Numbering}
@@ -105,3 +104,16 @@ shown kinds.Region text = Region text
 shown kinds.NotAscii text = NotAscii
 shown kinds.Stray text = Stray
 shown kinds.End text = End
+
+-- What a token keeps of what its digits count: just that, or any number from 2 ^ 32 on where it is one of these.
+abbrev pub Counts : (number counted : ℕ) → Type 0
+Counts number counted = (number ≡ counted) ⊎ ((2 ^ 32 ≤ number) × (2 ^ 32 ≤ counted))
+
+abbrev pub Keeps : Kind → List ℕ → ℕ → Type 0
+Keeps (kinds.Numbered numbering) text number = Counts number (value text)
+Keeps (kinds.Fixed symbol) text number = ⊤
+Keeps kinds.Word text number = ⊤
+Keeps kinds.Region text number = ⊤
+Keeps kinds.NotAscii text number = ⊤
+Keeps kinds.Stray text number = ⊤
+Keeps kinds.End text number = ⊤

@@ -1,11 +1,15 @@
 //! A cursor over the tokens of a text, which cuts each as it is reached.
-ghost use Rattle.std.specs.Prelude.{◌≡◌, ◌≢◌, ◌≤◌, ◌<◌, ◌+◌, ◌^◌, ℕ, length, Some, None, nat_le, true, IsSome, if◌then◌else◌, IfOk, MatchOption, take_while};
-ghost use Rattle.bc_text.specs.Token.{End, tokens, value, is_blank};
+ghost use Rattle.std.specs.Prelude.{◌≡◌, ◌≢◌, ◌≤◌, ◌<◌, ◌+◌, ◌^◌, ℕ, length, slice_index, Some, None, nat_le, true, false, IsSome, if◌then◌else◌, IfOk, MatchOption, take_while};
+ghost use Rattle.std.specs.Char.{is_ascii_alphabetic, is_ascii_digit};
+ghost use Rattle.bc_text.specs.Token.{End, Keeps, Numbered, tokens, shown, lexeme, value, is_blank};
+ghost use Rattle.bc_text.specs.declared.token.Numbering.{Numbering};
 ghost use Rattle.bc_text.specs.Parser as spec;
 ghost use Rattle.bc_text.specs.Parser.{Reads, ReadsAs, first, after};
 
 use crate::fault::Refusal;
-use crate::token::{Kind, Numbering, Token, lexeme};
+use crate::token::{
+    Kind, Numbering, Token, letter_lexeme, local_lexeme, number_lexeme, quoted_lexeme, sign_lexeme,
+};
 use bc_syntax::{Symbol, behind, same};
 use std::marker::Model;
 
@@ -24,11 +28,11 @@ impl<'a> Model for Cursor<'a> {
 
     ghost Value = { Tokens };
 
-    ghost use Rattle.bc_text.specs.Cursor.{tokens_ahead, PlacesFit};
+    ghost use Rattle.bc_text.specs.Cursor.{tokens_ahead, IsCursor};
 
     ghost view = { tokens_ahead };
 
-    ghost invariant = { PlacesFit };
+    ghost invariant = { IsCursor };
 }
 
 fn blanks(text: &[u8]) -> usize
@@ -38,20 +42,6 @@ fn blanks(text: &[u8]) -> usize
     text.iter()
         .take_while(|byte| **byte == b' ' || **byte == b'\n')
         .count()
-}
-
-/// The number that digits spell, if it is within the limit.
-fn value_within(digits: &[u8], limit: u32) -> Option<u32>
-    ensures { result ≡ (if nat_le (value digits.now) limit then Some (value digits.now) else None) }
-{
-    let mut value = 0u64;
-    for byte in digits {
-        value = value * 10 + u64::from(byte.saturating_sub(b'0'));
-        if value > u64::from(limit) {
-            return None;
-        }
-    }
-    Some(value as u32)
 }
 
 #[tactic(auto, unfolding(crate::specs::Parser::same_numbering))]
@@ -114,10 +104,89 @@ impl<'a> Cursor<'a> {
             self.end = self.at;
             return;
         }
-        let (token, len) = lexeme(text);
+        self.cut(text);
+    }
+
+    /// Cuts the token at the front of a text, which lies where the next token is to begin. Its first byte tells its
+    /// form. Forms that are gone over a byte at a time are cut in functions of their own: they keep more values than
+    /// the processor has registers to spare, which a sign needs not to pay for.
+    #[inline(always)]
+    fn cut(&mut self, text: &'a [u8])
+        requires some { 0 < length text.now }
+        requires ink { is_blank (slice_index text.now 0) ≡ false }
+        requires fits { spec.position self.old + length text.now < 2 ^ 64 }
+        ensures { self.new ≡ tokens 0 (spec.position self.old) text.now }
+    {
+        let first = text[0];
+        if first.is_ascii_alphabetic() {
+            self.cut_letters(text);
+        } else if first.is_ascii_digit() {
+            self.cut_number(text);
+        } else if first == b'_' {
+            self.cut_local(text);
+        } else if first == b'\'' {
+            self.cut_quoted(text);
+        } else {
+            let (token, len) = sign_lexeme(text);
+            self.put(token, len, text);
+        }
+    }
+
+    #[inline(never)]
+    fn cut_letters(&mut self, text: &'a [u8])
+        requires form { is_ascii_alphabetic (slice_index text.now 0) ≡ true }
+        requires fits { spec.position self.old + length text.now < 2 ^ 64 }
+        ensures { self.new ≡ tokens 0 (spec.position self.old) text.now }
+    {
+        let (token, len) = letter_lexeme(text);
+        self.put(token, len, text);
+    }
+
+    #[inline(never)]
+    fn cut_number(&mut self, text: &'a [u8])
+        requires form { is_ascii_digit (slice_index text.now 0) ≡ true }
+        requires fits { spec.position self.old + length text.now < 2 ^ 64 }
+        ensures { self.new ≡ tokens 0 (spec.position self.old) text.now }
+    {
+        let (token, len) = number_lexeme(text);
+        self.put(token, len, text);
+    }
+
+    #[inline(never)]
+    fn cut_local(&mut self, text: &'a [u8])
+        requires form { slice_index text.now 0 ≡ 95 }
+        requires fits { spec.position self.old + length text.now < 2 ^ 64 }
+        ensures { self.new ≡ tokens 0 (spec.position self.old) text.now }
+    {
+        let (token, len) = local_lexeme(text);
+        self.put(token, len, text);
+    }
+
+    #[inline(never)]
+    fn cut_quoted(&mut self, text: &'a [u8])
+        requires form { slice_index text.now 0 ≡ 39 }
+        requires fits { spec.position self.old + length text.now < 2 ^ 64 }
+        ensures { self.new ≡ tokens 0 (spec.position self.old) text.now }
+    {
+        let (token, len) = quoted_lexeme(text);
+        self.put(token, len, text);
+    }
+
+    /// Puts the token at the front of a text, which has so many bytes of it.
+    #[inline(always)]
+    fn put(&mut self, token: Token<'a>, len: usize, text: &'a [u8])
+        requires token { (shown token.kind token.text.now, len) ≡ lexeme text.now }
+        requires some { 0 < len }
+        requires within { len ≤ length text.now }
+        requires not_end { token.kind ≢ Kind.End }
+        requires keeps { Keeps token.kind token.text.now token.number }
+        requires ink { is_blank (slice_index text.now 0) ≡ false }
+        requires fits { spec.position self.old + length text.now < 2 ^ 64 }
+        ensures { self.new ≡ tokens 0 (spec.position self.old) text.now }
+    {
         self.token = token;
-        self.rest = behind(text, len);
         self.end = self.at + len;
+        self.rest = behind(text, len);
     }
 
     /// Whether this symbol comes next. Own.
@@ -162,19 +231,19 @@ impl<'a> Cursor<'a> {
         Ok(())
     }
 
-    fn digits(&self, numbering: Numbering) -> Option<&'a [u8]>
-        ensures not_end { IsSome result → (first self.now).token ≢ End }
-        ensures value { MatchOption result (spec.number_in numbering (first self.now).token ≡ None) (λ digits. spec.number_in numbering (first self.now).token ≡ Some (value digits.now)) }
+    #[tactic(auto, unfolding(crate::specs::Parser::sees_numbered))]
+    fn is_numbered(&self, numbering: Numbering) -> bool
+        ensures value { result ≡ spec.sees_numbered numbering self.now }
+        ensures not_end { result ≡ true → (first self.now).token ≢ End }
     {
         match self.token.kind {
-            Kind::Numbered(found) if same_numbering(found, numbering) => Some(self.token.text),
-            Kind::Numbered(_)
-            | Kind::Fixed(_)
+            Kind::Numbered(found) => same_numbering(found, numbering),
+            Kind::Fixed(_)
             | Kind::NotAscii
             | Kind::Stray
             | Kind::Word
             | Kind::Region
-            | Kind::End => None,
+            | Kind::End => false,
         }
     }
 
@@ -184,14 +253,25 @@ impl<'a> Cursor<'a> {
         ensures reads { Reads (spec.numbered numbering limit self.old) result self.new }
         ensures within { IfOk result (λ n. n ≤ limit) }
     {
-        let Some(digits) = self.digits(numbering) else {
+        if !self.is_numbered(numbering) {
             return Err(self.fault());
-        };
-        let Some(value) = value_within(digits, limit) else {
+        }
+        let Some(value) = self.value_within(limit) else {
             return Err(Refusal::Limit { at: self.at });
         };
         self.take();
         Ok(value)
+    }
+
+    /// The next token's number, if it is within the limit.
+    fn value_within(&self, limit: u32) -> Option<u32>
+        ensures { (numbering : Numbering) → (n : ℕ) → (first self.now).token ≡ Numbered numbering n → result ≡ (if nat_le n limit then Some n else None) }
+    {
+        if self.token.number <= u64::from(limit) {
+            Some(self.token.number as u32)
+        } else {
+            None
+        }
     }
 
     /// Whether the next token is of this numbering.
@@ -199,7 +279,7 @@ impl<'a> Cursor<'a> {
     pub fn sees_numbered(&self, numbering: Numbering) -> bool
         ensures { result ≡ spec.sees_numbered numbering self.now }
     {
-        self.digits(numbering).is_some()
+        self.is_numbered(numbering)
     }
 
     fn name(&self) -> Option<&'a [u8]>

@@ -15,6 +15,7 @@ use bc_syntax::{
 use std::alloc::Global;
 
 /// A local that was declared.
+#[inline(always)]
 #[tactic(auto, unfolding(crate::specs::Reading::local))]
 pub fn local(cursor: &mut Cursor<'_>, locals: u16) -> Result<u8, Refusal>
     ensures { Reads (spec.local locals cursor.old) result cursor.new }
@@ -28,6 +29,7 @@ pub fn local(cursor: &mut Cursor<'_>, locals: u16) -> Result<u8, Refusal>
     }
 }
 
+#[inline(always)]
 #[tactic(auto, unfolding(crate::specs::Reading::projection))]
 fn projection(cursor: &mut Cursor<'_>) -> Result<Projection, Refusal>
     ensures { Reads (spec.projection cursor.old) result cursor.new }
@@ -39,6 +41,7 @@ fn projection(cursor: &mut Cursor<'_>) -> Result<Projection, Refusal>
     }
 }
 
+#[inline(always)]
 fn projections(
     alloc: Global,
     cursor: &mut Cursor<'_>,
@@ -61,6 +64,7 @@ fn projections(
 }
 
 /// A place.
+#[inline(always)]
 #[tactic(auto, unfolding(crate::specs::Reading::place))]
 pub fn place(alloc: Global, cursor: &mut Cursor<'_>, locals: u16) -> Result<Place, Refusal>
     ensures { Reads (spec.place locals cursor.old) result cursor.new }
@@ -70,6 +74,7 @@ pub fn place(alloc: Global, cursor: &mut Cursor<'_>, locals: u16) -> Result<Plac
     Ok(Place { local, projections })
 }
 
+#[inline(always)]
 #[tactic(auto, unfolding(crate::specs::Reading::moved))]
 fn moved(alloc: Global, cursor: &mut Cursor<'_>, locals: u16) -> Result<Operand, Refusal>
     ensures { Reads (spec.moved locals cursor.old) result cursor.new }
@@ -82,6 +87,7 @@ fn moved(alloc: Global, cursor: &mut Cursor<'_>, locals: u16) -> Result<Operand,
 }
 
 /// An operand.
+#[inline(always)]
 #[tactic(auto, unfolding(crate::specs::Reading::operand))]
 pub fn operand(alloc: Global, cursor: &mut Cursor<'_>, locals: u16) -> Result<Operand, Refusal>
     ensures { Reads (spec.operand locals cursor.old) result cursor.new }

@@ -1,6 +1,6 @@
 use Rattle.std.proofs.Common.{rules, arith, ◌∙◌}
 use Rattle.std.proofs.lemmas.Grind.{common_steps}
-use Rattle.bc_text.specs.Reading.{blocks, blocks_from, blocks_turn}
+use Rattle.bc_text.specs.Reading.{blocks_from, blocks_turn}
 use Rattle.bc_text.proofs.Turns.{one_more, no_more, blocks_go, blocks_stop}
 use Rattle.bc_text.proofs.blocks.blocks.Goals as goal
 

@@ -1,5 +1,5 @@
 use Rattle.std.proofs.Common.{◌≡◌, ◌-◌, [], length}
-use Rattle.bc_text.specs.Reading.{block_from, block_turn}
+use Rattle.bc_text.specs.Reading.{block_from}
 use Rattle.bc_text.proofs.blocks.points.Given as goal
 
 abbrev pub invariant-loop-turn : goal.invariant-loop-turn

@@ -2,7 +2,7 @@ use Rattle.std.proofs.Common.{rules, arith, ◌∙◌}
 use Rattle.std.proofs.lemmas.Grind.{common_steps}
 use Rattle.bc_text.specs.Reading.{declarations_from, declarations_turn}
 use Rattle.bc_text.proofs.Turns.{one_more, no_more, declarations_go, declarations_stop}
-use Rattle.bc_text.proofs.DeclarationLaws.{structs_more, structs_few}
+use Rattle.bc_text.proofs.DeclarationLaws.{structs_few}
 use Rattle.bc_text.proofs.declarations.declarations.Goals as goal
 
 pub returns-then-not-begins_declaration : goal.returns-then-not-begins_declaration

@@ -1,5 +1,5 @@
-use Rattle.std.proofs.Common.{◌≡◌, ◌-◌, [], length}
-use Rattle.bc_text.specs.Reading.{projections_from, projections_turn}
+use Rattle.std.proofs.Common.{◌≡◌, ◌-◌, []}
+use Rattle.bc_text.specs.Reading.{projections_from}
 use Rattle.bc_text.proofs.places.projections.Given as goal
 
 abbrev pub invariant-loop-turn : goal.invariant-loop-turn

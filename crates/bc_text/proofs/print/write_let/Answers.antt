@@ -1,4 +1,4 @@
-use Rattle.std.proofs.Common.{◌++◌, ◌∷◌, []}
+use Rattle.std.proofs.Common.{◌++◌, ◌∷◌}
 use Rattle.std.proofs.lemmas.Result.{on_ok_weaker}
 use Rattle.bc_syntax.specs.declared.symbol.Symbol.TheVariants as s
 use Rattle.bc_text.specs.declared.token.Numbering.TheVariants as n

@@ -1,4 +1,3 @@
-use Rattle.bc_syntax.specs.declared.symbol.Symbol.TheVariants as s
 use Rattle.std.proofs.lemmas.Result.{on_ok_weaker}
 use Rattle.bc_text.specs.Spelling as spell
 use Rattle.bc_text.proofs.Printings.{writes_both}

@@ -1,5 +1,4 @@
 use Rattle.std.proofs.Common.{◌++◌}
-use Rattle.bc_syntax.specs.declared.symbol.Symbol.TheVariants as s
 use Rattle.std.proofs.lemmas.Result.{on_ok_weaker}
 use Rattle.bc_text.specs.Spelling as spell
 use Rattle.bc_text.proofs.Printings.{writes_both}

@@ -1,5 +1,5 @@
-use Rattle.std.proofs.Common.{◌≡◌, ◌-◌, [], length}
-use Rattle.bc_text.specs.Reading.{ty, ty_from, ty_turn}
+use Rattle.std.proofs.Common.{◌≡◌, ◌-◌, []}
+use Rattle.bc_text.specs.Reading.{ty_from}
 use Rattle.bc_text.proofs.types.ty.Given as goal
 
 abbrev pub invariant-loop-turn : goal.invariant-loop-turn

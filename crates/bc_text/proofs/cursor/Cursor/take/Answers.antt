@@ -1,24 +1,26 @@
 use Rattle.std.proofs.Common.{◌≡◌, ◌<◌, ◌+◌, ◌∷◌, ◌∙◌, length, sym, ap, arith}
 use Rattle.std.proofs.lemmas.Grind.{common_steps}
 use Rattle.std.proofs.lemmas.List.Folds.{length-prefix_len}
-use Rattle.bc_text.specs.Token.{is_blank, Tokens, placed, shown}
+use Rattle.bc_text.specs.Token.{is_blank, placed, shown}
 use Rattle.bc_text.specs.Cursor.{following}
 use Rattle.bc_text.specs.declared.token.Kind.{Kind}
-use Rattle.bc_text.proofs.Cuts.{ends, cuts, goes_past}
+use Rattle.bc_text.proofs.Cuts.{ends, begins_here, cuts, goes_past}
 use Rattle.bc_text.proofs.cursor.Cursor.take.Goals as goal
 
 pub returns-then-is_empty : goal.returns-then-is_empty
 returns-then-is_empty c =
     let none : length c.behind-text.result.now ≡ 0 = grind (arith, common_steps) in
-    ap (λ (k : Kind). placed (shown k c.bare-self-inside.result.text.now) (c.self.inside.end + c.blanks-blanks.result) ∷ following k (c.self.inside.end + c.blanks-blanks.result) c.behind-text.result.now) c.bare-self-inside.ensures
+    ap (λ (k : Kind). placed (shown k c.bare-self-inside.result.text.now) (c.self.inside.end + c.blanks-blanks.result) ∷ following k (c.self.inside.end + c.blanks-blanks.result) c.behind-text.result.now) c.bare-self-inside.ensures.kind
     ∙ ends c.self.inside.end c.blanks-blanks.result c.self.inside.rest.now c.behind-text.result.now (c.blanks-blanks.ensures.count ∙ length-prefix_len is_blank c.self.inside.rest.now) c.behind-text.ensures none
     ∙ goes_past c.args.self.now c.self.inside.token.kind c.self.inside.token.text.now c.self.inside.at c.self.inside.end c.self.inside.rest.now (sym c.self.view_is) c.requires
 
+pub cut-requires-clause-ink : goal.cut-requires-clause-ink
+cut-requires-clause-ink c =
+    let some : 0 < length c.behind-text.result.now = grind (arith, common_steps) in
+    begins_here c.blanks-blanks.result c.self.inside.rest.now c.behind-text.result.now (c.blanks-blanks.ensures.count ∙ length-prefix_len is_blank c.self.inside.rest.now) c.behind-text.ensures some
+
 pub returns : goal.returns
 returns c =
-    let some : 0 < length c.behind-text.result.now = grind (arith, common_steps) in
-    let cut = c.lexeme-len.ensures in
-    let token = c.lexeme-len.result.0 in
-    cuts c.self.inside.end c.blanks-blanks.result c.self.inside.rest.now c.behind-text.result.now token.kind token.text.now c.lexeme-len.result.1 c.behind-self-inside.result.now
-    (c.blanks-blanks.ensures.count ∙ length-prefix_len is_blank c.self.inside.rest.now) c.behind-text.ensures some cut.token cut.some cut.within cut.not_end c.behind-self-inside.ensures
+    c.cut.ensures
+    ∙ cuts c.self.inside.end c.blanks-blanks.result c.self.inside.rest.now c.behind-text.result.now (c.blanks-blanks.ensures.count ∙ length-prefix_len is_blank c.self.inside.rest.now) c.behind-text.ensures
     ∙ goes_past c.args.self.now c.self.inside.token.kind c.self.inside.token.text.now c.self.inside.at c.self.inside.end c.self.inside.rest.now (sym c.self.view_is) c.requires
