@@ -70,7 +70,7 @@ fn what_is_not_declared_is_ill(rt: HostRuntime) -> Result<(), Fail> {
     let f = name(b"f")?;
     for (text, place) in rows {
         let found = outcome(rt.alloc(), &read_unit(rt.alloc(), text)?)?;
-        assert!(rt; matches!(found, Outcome::Ill(name, at) if name == f && at == place));
+        assert!(rt; matches!(&found, Outcome::Ill(name, at) if *name == f && *at == place));
     }
     Ok(())
 }
