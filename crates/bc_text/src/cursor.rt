@@ -238,12 +238,8 @@ impl<'a> Cursor<'a> {
     {
         match self.token.kind {
             Kind::Numbered(found) => same_numbering(found, numbering),
-            Kind::Fixed(_)
-            | Kind::NotAscii
-            | Kind::Stray
-            | Kind::Word
-            | Kind::Region
-            | Kind::End => false,
+            Kind::Fixed(_) | Kind::NotAscii | Kind::Stray | Kind::Word | Kind::Region | Kind::End =>
+                false,
         }
     }
 
