@@ -21,6 +21,7 @@ pub struct Limits {
     pub locals: usize,
 }
 
+/// Whether a struct or an extern function may have this name: a word of at most 32 bytes that is no keyword (own).
 pub fn item_fits(name: &ItemName) -> bool
     ensures { result ≡ spec.item_fits name.now }
 {
@@ -46,6 +47,7 @@ pub fn is_new(before: &[RegionName], name: &RegionName) -> bool
         && !is_among(before, bytes)
 }
 
+/// Whether these regions may be declared one behind the other: names of at most 16 bytes, none twice and not `'static` (own).
 pub fn are_new(names: &[RegionName]) -> bool
     ensures { result ≡ spec.are_new [] names.now }
 {
@@ -98,6 +100,7 @@ fn each_clause_fits(universals: usize, clauses: &[Outlives]) -> bool
         .all(|clause| clause_fits(universals, *clause))
 }
 
+/// Whether these are at most 32 clauses between regions below this number of universal ones (own).
 pub fn clauses_fit(universals: usize, clauses: &[Outlives]) -> bool
     ensures { result ≡ spec.clauses_fit universals clauses.now }
 {
@@ -127,6 +130,8 @@ fn references_fit(limits: Limits, references: &[Reference]) -> bool
         .all(|reference| reference_fits(limits, *reference))
 }
 
+/// Whether a type has a spelling within the limits: at most seven references, regions that may stand there, and a base
+/// that has one (own).
 pub fn ty_fits(limits: Limits, ty: &Ty) -> bool
     ensures { result ≡ spec.ty_fits limits.variables limits.universals ty.now }
 {
@@ -134,6 +139,7 @@ pub fn ty_fits(limits: Limits, ty: &Ty) -> bool
     references_fit(limits, references) && references.len() <= 7 && base_fits(limits, &ty.base)
 }
 
+/// Whether each of these types has a spelling within the limits (own).
 pub fn tys_fit(limits: Limits, tys: &[Ty]) -> bool
     ensures { result ≡ list_all (spec.ty_fits limits.variables limits.universals) tys.now }
 {
