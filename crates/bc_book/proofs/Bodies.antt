@@ -1,4 +1,4 @@
--- The bodies that are held, as a state.
+-- What is held, as a state.
 use Rattle.std.proofs.Common.{◌≡◌, ℕ, ◌<◌, ◌≤◌, Bool, true, false, cond, List, [], ◌∷◌, ◌++◌, length, refl, sym, ap, ◌∙◌, subst, arith, Option, Some, None, length-append}
 use Rattle.std.specs.Bool.{Decides}
 use Rattle.std.specs.Prelude.{is_some}
@@ -14,13 +14,12 @@ use Rattle.std.proofs.lemmas.Map.Made.{AllPairs-from_IsDistinct}
 use Rattle.std.proofs.lemmas.Map.Views.{btree_map_contains_key_iff}
 use Rattle.bc_text.specs.Names.{NameParts, name_order, is_same_name}
 use Rattle.bc_text.proofs.Equality.{name, exact_names, names_total}
+use Rattle.bc_syntax.specs.declared.syntax.Declaration.{Declaration}
 use Rattle.bc_syntax.specs.declared.syntax.Body.{Body}
 use Rattle.bc_book.specs.declared.call.Entry.{Entry}
 use Rattle.bc_book.specs.declared.call.PutReply.{PutReply}
-use Rattle.bc_book.specs.declared.call.Call.TheVariants.{Put}
-use Rattle.bc_book.specs.declared.call.Reply.TheVariants as replies
-use Rattle.bc_book.specs.Calls.{State, HoldsCount, with_body, stores, next, after, IsNext, IsPutReply}
-use Rattle.bc_book.specs.Ledgers.{state_of, AreCounts, IsKept}
+use Rattle.bc_book.specs.Calls.{State, Bodies, HoldsCount, with_body, stores, next, after, after_put, IsNext, IsPutReply}
+use Rattle.bc_book.specs.Ledgers.{bodies_of, AreCounts, IsKept}
 use Rattle.bc_book.proofs.Histories.{legal_snoc, after-snoc}
 
 equal_only : (o : Ordering) → is_eq o ≡ true → o ≡ Equal
@@ -32,7 +31,7 @@ pub same_name : (a b : NameParts) → Decides (eq_by_cmp name_order a b) (a ≡ 
 same_name a b = (λ e. exact_names a b (equal_only (name_order a b) e), λ e. ap (λ (x : NameParts). is_eq (name_order a x)) (sym e) ∙ ap is_eq (tied_itself names_total a))
 
 -- the number of bodies in a map is the number of names that hold one
-pub counted : (m : BTreeMap NameParts Body) → IsOrdered name_order m → HoldsCount (state_of m) (btree_map_len m)
+pub counted : (m : BTreeMap NameParts Body) → IsOrdered name_order m → HoldsCount (bodies_of m) (btree_map_len m)
 counted m ordered = (
   keys m,
   AllPairs-from_IsDistinct same_name (keys m) (IsDistinct-from_sorted name_order (keys m) ordered),
@@ -47,41 +46,44 @@ absent (Some a) e = absurd (cc)
 -- a body that goes into the map, where the reply says that it is stored
 pub stored : (m m' : BTreeMap NameParts Body) (n : NameParts) (b u : Body) (r : PutReply) (other : NameParts) → stores r ≡ true → u ≡ b
     → get name_order m' other ≡ cond (is_at (name_order n) other) (Some u) (get name_order m other)
-    → state_of m' other ≡ next (state_of m) (Put n b) (replies.Put r) other
+    → bodies_of m' other ≡ after_put (bodies_of m) n b r other
 stored m m' n b u r other put same is =
     is ∙ ap (λ (t : Bool). cond t (Some u) (get name_order m other)) (same_from_decides _ _ (same_name n other) (name n other))
     ∙ ap (λ (x : Body). cond (is_same_name n other) (Some x) (get name_order m other)) same
-    ∙ sym (ap (λ (t : Bool). cond t (with_body (state_of m) n b) (state_of m) other) put)
+    ∙ sym (ap (λ (t : Bool). cond t (with_body (bodies_of m) n b) (bodies_of m) other) put)
 
--- the reply that a map gives is the state's, where the map is the state
-pub same_state : (m : BTreeMap NameParts Body) (s : State) → ((n : NameParts) → state_of m n ≡ s n) → state_of m ≡ s
-same_state m s same = λ i n. same n i
+-- the reply that a map gives is the state's, where the map is the state's
+pub same_bodies : (m : BTreeMap NameParts Body) (s : Bodies) → ((n : NameParts) → bodies_of m n ≡ s n) → bodies_of m ≡ s
+same_bodies m s same = λ i n. same n i
 
-pub same_reply : (s t : State) (n : NameParts) (a b : Body) (r : PutReply) → s ≡ t → a ≡ b → IsPutReply s n a r → IsPutReply t n b r
-same_reply s t n a b r states bodies reply = subst (λ (p : State × Body). IsPutReply p.0 n p.1 r) (λ i. (states i, bodies i)) reply
+pub same_reply : (s t : Bodies) (n : NameParts) (a b : Body) (r : PutReply) → s ≡ t → a ≡ b → IsPutReply s n a r → IsPutReply t n b r
+same_reply s t n a b r states bodies reply = subst (λ (p : Bodies × Body). IsPutReply p.0 n p.1 r) (λ i. (states i, bodies i)) reply
 
 -- one more entry
-pub kept_snoc : (capacity : ℕ) (h : List Entry) (counts counts' : List ℕ) (m m' : BTreeMap NameParts Body) (e : Entry)
-    → IsKept capacity h counts m → length h < capacity → IsNext h e → AreCounts counts' (h ++ e ∷ [])
-    → ((n : NameParts) → state_of m' n ≡ next (after h) e.event.call e.event.reply n) → btree_map_len m' ≤ 256
-    → IsKept capacity (h ++ e ∷ []) counts' m'
-kept_snoc capacity h counts counts' m m' e kept below fits counted holds few = record {
+pub kept_snoc : (capacity : ℕ) (h : List Entry) (counts counts' : List ℕ) (ds ds' : List Declaration) (m m' : BTreeMap NameParts Body) (e : Entry)
+    → IsKept capacity h counts ds m → length h < capacity → IsNext h e → AreCounts counts' (h ++ e ∷ [])
+    → ds' ≡ (next (after h) e.event.call e.event.reply).types
+    → ((n : NameParts) → bodies_of m' n ≡ (next (after h) e.event.call e.event.reply).bodies n) → btree_map_len m' ≤ 256
+    → IsKept capacity (h ++ e ∷ []) counts' ds' m'
+kept_snoc capacity h counts counts' ds ds' m m' e kept below fits counted types holds few = record {
   legal = legal_snoc h e kept.legal fits;
   bounded = kept.bounded;
   short = (let longer = length-append h (e ∷ []) in omega (arith, longer));
   counted = counted;
-  holds = λ n. holds n ∙ ap (λ (s : State). s n) (sym (after-snoc h e));
+  types = types ∙ ap (λ (s : State). s.types) (sym (after-snoc h e));
+  holds = λ n. holds n ∙ ap (λ (s : State). s.bodies n) (sym (after-snoc h e));
   few = few;
 }
 
--- the same history, with other bodies that are the same state
-pub kept_same : (capacity : ℕ) (h : List Entry) (counts : List ℕ) (m m' : BTreeMap NameParts Body)
-    → IsKept capacity h counts m → ((n : NameParts) → state_of m' n ≡ state_of m n) → btree_map_len m' ≤ 256 → IsKept capacity h counts m'
-kept_same capacity h counts m m' kept same few = record {
+-- the same history, with other bodies that are the same map
+pub kept_same : (capacity : ℕ) (h : List Entry) (counts : List ℕ) (ds : List Declaration) (m m' : BTreeMap NameParts Body)
+    → IsKept capacity h counts ds m → ((n : NameParts) → bodies_of m' n ≡ bodies_of m n) → btree_map_len m' ≤ 256 → IsKept capacity h counts ds m'
+kept_same capacity h counts ds m m' kept same few = record {
   legal = kept.legal;
   bounded = kept.bounded;
   short = kept.short;
   counted = kept.counted;
+  types = kept.types;
   holds = λ n. same n ∙ kept.holds n;
   few = few;
 }

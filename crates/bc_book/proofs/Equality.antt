@@ -3,7 +3,8 @@ use Rattle.std.proofs.Common.{◌≡◌, false, true≢false, refl, sym, ap}
 use Rattle.std.specs.Bool.{Decides}
 use Rattle.std.proofs.lemmas.Bool.Decides.{Decides-and, Decides-like}
 use Rattle.bc_text.proofs.Equality.{name}
-use Rattle.bc_syntax.proofs.Equality.{body}
+use Rattle.std.proofs.lemmas.Slice.Eq.{slice_eq-Decides}
+use Rattle.bc_syntax.proofs.Equality.{body, declaration}
 use Rattle.bc_prov.proofs.Equality.{outcome}
 use Rattle.bc_book.specs.declared.call.Call.{Call}
 use Rattle.bc_book.specs.declared.call.Call.TheVariants as calls
@@ -21,8 +22,13 @@ apart : {P : Type 0} → (P → ⊥) → Decides false P
 apart never = (λ f. absurd (true≢false (sym f)), λ p. absurd (never p))
 
 pub call : (a b : Call) → Decides ((call_impl.ghosts).eq a b) (a ≡ b)
+call (calls.Types x) (calls.Types y) = Decides-like _ (λ p i. calls.Types (p i)) (λ e. cc) (slice_eq-Decides declaration x y _ refl)
+call (calls.Types x) (calls.Put y0 y1) = apart (λ e. absurd (cc))
+call (calls.Types x) (calls.Ask y) = apart (λ e. absurd (cc))
+call (calls.Put x0 x1) (calls.Types y) = apart (λ e. absurd (cc))
 call (calls.Put x0 x1) (calls.Put y0 y1) = Decides-like _ (λ p i. calls.Put (p.0 i) (p.1 i)) (λ e. (cc, cc)) (Decides-and _ _ (name x0 y0) (body x1 y1))
 call (calls.Put x0 x1) (calls.Ask y) = apart (λ e. absurd (cc))
+call (calls.Ask x) (calls.Types y) = apart (λ e. absurd (cc))
 call (calls.Ask x) (calls.Put y0 y1) = apart (λ e. absurd (cc))
 call (calls.Ask x) (calls.Ask y) = Decides-like _ (λ p i. calls.Ask (p i)) (λ e. cc) (name x y)
 
@@ -45,8 +51,13 @@ put_reply put_replies.WrongKind put_replies.Full = apart (λ e. absurd (cc))
 put_reply put_replies.WrongKind put_replies.WrongKind = (λ _. refl, λ _. refl)
 
 pub reply : (a b : Reply) → Decides ((reply_impl.ghosts).eq a b) (a ≡ b)
+reply replies.Stored replies.Stored = (λ _. refl, λ _. refl)
+reply replies.Stored (replies.Put y) = apart (λ e. absurd (cc))
+reply replies.Stored (replies.Outcome y) = apart (λ e. absurd (cc))
+reply (replies.Put x) replies.Stored = apart (λ e. absurd (cc))
 reply (replies.Put x) (replies.Put y) = Decides-like _ (λ p i. replies.Put (p i)) (λ e. cc) (put_reply x y)
 reply (replies.Put x) (replies.Outcome y) = apart (λ e. absurd (cc))
+reply (replies.Outcome x) replies.Stored = apart (λ e. absurd (cc))
 reply (replies.Outcome x) (replies.Put y) = apart (λ e. absurd (cc))
 reply (replies.Outcome x) (replies.Outcome y) = Decides-like _ (λ p i. replies.Outcome (p i)) (λ e. cc) (outcome x y)
 

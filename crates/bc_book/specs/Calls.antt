@@ -1,13 +1,15 @@
--- A map from names to bodies that knows of no memo, and the histories of one thread over it.
+-- Declarations and a map from names to bodies, which know of no memo, and the histories of one thread over them.
 use Rattle.std.specs.Prelude.{◌≡◌, ◌≢◌, ◌==◌, ◌↔◌, ◌<◌, ℕ, Bool, true, false, Option, Some, None, IsSome, List, [], ◌∷◌, ◌++◌, length, map, filter, fold, count_by, if◌then◌else◌}
 use Rattle.std.specs.List.{AllPairs, Contains}
 use Rattle.bc_text.specs.Names.{NameParts, is_same_name}
+use Rattle.bc_syntax.specs.declared.syntax.Declaration.{Declaration}
 use Rattle.bc_syntax.specs.declared.syntax.Body.{Body}
 use Rattle.bc_syntax.specs.declared.syntax.UnitKind.{UnitKind}
 use Rattle.bc_syntax.specs.declared.syntax.UnitKind.TheVariants.{Function}
+use Rattle.bc_prov.specs.declared.outcome.Outcome.{Outcome}
 use Rattle.bc_prov.specs.Outcome.{IsOutcome}
 use Rattle.bc_book.specs.declared.call.Call.{Call}
-use Rattle.bc_book.specs.declared.call.Call.TheVariants.{Put, Ask}
+use Rattle.bc_book.specs.declared.call.Call.TheVariants.{Types, Put, Ask}
 use Rattle.bc_book.specs.declared.call.PutReply.{PutReply}
 use Rattle.bc_book.specs.declared.call.PutReply.TheVariants.{Added, Replaced, Full, WrongKind}
 use Rattle.bc_book.specs.declared.call.Reply.{Reply}
@@ -16,39 +18,58 @@ use Rattle.bc_book.specs.declared.call.Event.{Event}
 use Rattle.bc_book.specs.declared.call.Entry.{Entry}
 
 -- the body at each name, if there is one
-abbrev pub State : Type 0
-State = NameParts → Option Body
+abbrev pub Bodies : Type 0
+Bodies = NameParts → Option Body
 
+-- what is held: declarations, and bodies under their names
+pub record State : Type 0 where
+  pub types : List Declaration
+  pub bodies : Bodies
+
+-- no declaration and no body
 abbrev pub opening : State
-opening name = None
+opening = record { types = []; bodies = λ name. None }
 
--- the state with this body at a name
-abbrev pub with_body : State → NameParts → Body → State
-with_body state name body = λ other. if is_same_name name other then Some body else state other
+-- the state with these declarations in place of its own
+abbrev pub with_types : State → List Declaration → State
+with_types state types = record { types = types; bodies = state.bodies }
+
+-- the bodies with this one at a name
+abbrev pub with_body : Bodies → NameParts → Body → Bodies
+with_body bodies name body = λ other. if is_same_name name other then Some body else bodies other
 
 -- so many names hold a body: so many, all different, are just those that do
-abbrev pub HoldsCount : State → ℕ → Type 0
-HoldsCount state count =
+abbrev pub HoldsCount : Bodies → ℕ → Type 0
+HoldsCount bodies count =
     (names : List NameParts) × AllPairs (λ a b. a ≢ b) names
-    × ((name : NameParts) → IsSome (state name) ↔ Contains names name) × (length names ≡ count)
+    × ((name : NameParts) → IsSome (bodies name) ↔ Contains names name) × (length names ≡ count)
 
 -- a function has a root as its name
 abbrev pub Suits : UnitKind → NameParts → Type 0
 Suits Function name = name.segments ≡ []
 
 -- the reply to a put of a body at a name
-abbrev pub IsPutReply : State → NameParts → Body → PutReply → Type 0
-IsPutReply state name body WrongKind = ¬ Suits body.header.kind name
-IsPutReply state name body Full = Suits body.header.kind name × (state name ≡ None) × HoldsCount state 256
-IsPutReply state name body Replaced = Suits body.header.kind name × IsSome (state name)
-IsPutReply state name body Added = Suits body.header.kind name × (state name ≡ None) × ((count : ℕ) × (count < 256) × HoldsCount state count)
+abbrev pub IsPutReply : Bodies → NameParts → Body → PutReply → Type 0
+IsPutReply bodies name body WrongKind = ¬ Suits body.header.kind name
+IsPutReply bodies name body Full = Suits body.header.kind name × (bodies name ≡ None) × HoldsCount bodies 256
+IsPutReply bodies name body Replaced = Suits body.header.kind name × IsSome (bodies name)
+IsPutReply bodies name body Added = Suits body.header.kind name × (bodies name ≡ None) × ((count : ℕ) × (count < 256) × HoldsCount bodies count)
 
--- the reply to a call: an Ask's is the outcome of what its name holds
+-- the outcome of a name: of what it holds, under the declarations that are held
+abbrev pub IsOutcomeIn : State → NameParts → Outcome → Type 0
+IsOutcomeIn state name outcome = IsOutcome state.types (state.bodies name) name outcome
+
+-- the reply to a call: declarations are stored, and an Ask's reply is the outcome of its name
 abbrev pub IsReply : State → Call → Reply → Type 0
-IsReply state (Put name body) (replies.Put reply) = IsPutReply state name body reply
+IsReply state (Types types) replies.Stored = Unit {0}
+IsReply state (Types types) (replies.Put reply) = ⊥
+IsReply state (Types types) (replies.Outcome outcome) = ⊥
+IsReply state (Put name body) replies.Stored = ⊥
+IsReply state (Put name body) (replies.Put reply) = IsPutReply state.bodies name body reply
 IsReply state (Put name body) (replies.Outcome outcome) = ⊥
+IsReply state (Ask name) replies.Stored = ⊥
 IsReply state (Ask name) (replies.Put reply) = ⊥
-IsReply state (Ask name) (replies.Outcome outcome) = IsOutcome (state name) name outcome
+IsReply state (Ask name) (replies.Outcome outcome) = IsOutcomeIn state name outcome
 
 -- a put with this reply stored its body
 abbrev pub stores : PutReply → Bool
@@ -57,9 +78,15 @@ stores Replaced = true
 stores Full = false
 stores WrongKind = false
 
+-- the bodies after a put with its reply
+abbrev pub after_put : Bodies → NameParts → Body → PutReply → Bodies
+after_put bodies name body reply = if stores reply then with_body bodies name body else bodies
+
 -- the state after a call with its reply
 abbrev pub next : State → Call → Reply → State
-next state (Put name body) (replies.Put reply) = if stores reply then with_body state name body else state
+next state (Types types) reply = with_types state types
+next state (Put name body) replies.Stored = state
+next state (Put name body) (replies.Put reply) = record { types = state.types; bodies = after_put state.bodies name body reply }
 next state (Put name body) (replies.Outcome outcome) = state
 next state (Ask name) reply = state
 

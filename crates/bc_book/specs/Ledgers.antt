@@ -1,12 +1,13 @@
--- A history as it is kept, with the bodies that it leaves.
+-- A history as it is kept, with the declarations and the bodies that it leaves.
 use Rattle.std.specs.Prelude.{◌≡◌, ℕ, ◌^◌, ◌<◌, ◌≤◌, List, [], ◌∷◌, ◌++◌, length, slice_index}
 use Rattle.std.specs.BTreeMap.{BTreeMap, get, btree_map_len}
 use Rattle.bc_text.specs.Names.{NameParts, name_order}
+use Rattle.bc_syntax.specs.declared.syntax.Declaration.{Declaration}
 use Rattle.bc_syntax.specs.declared.syntax.Body.{Body}
 use Rattle.bc_book.specs.declared.call.Call.{Call}
 use Rattle.bc_book.specs.declared.call.Reply.{Reply}
 use Rattle.bc_book.specs.declared.call.Entry.{Entry}
-use Rattle.bc_book.specs.Calls.{State, after, count_of, IsReply, IsLegal}
+use Rattle.bc_book.specs.Calls.{Bodies, after, count_of, IsReply, IsLegal}
 
 -- how many entries there may be, those that there are, and for how many more there is memory
 pub record LedgerView : Type 0 where
@@ -15,23 +16,24 @@ pub record LedgerView : Type 0 where
   pub room : ℕ
 
 -- the body that a map has at each name
-abbrev pub state_of : BTreeMap NameParts Body → State
-state_of held = λ name. get name_order held name
+abbrev pub bodies_of : BTreeMap NameParts Body → Bodies
+bodies_of held = λ name. get name_order held name
 
 -- how many entries each of 16 sessions has
 abbrev pub AreCounts : List ℕ → List Entry → Type 0
 AreCounts counts h = (session : ℕ) → session < 16 → slice_index counts session ≡ count_of session h
 
--- the history is legal and not too long, and the counts and the bodies are those that it leaves
-pub record IsKept (capacity : ℕ) (h : List Entry) (counts : List ℕ) (held : BTreeMap NameParts Body) : Type 0 where
+-- the history is legal and not too long, and the counts, the declarations and the bodies are those that it leaves
+pub record IsKept (capacity : ℕ) (h : List Entry) (counts : List ℕ) (declared : List Declaration) (held : BTreeMap NameParts Body) : Type 0 where
   pub legal : IsLegal h
   pub bounded : capacity < 2 ^ 32
   pub short : length h ≤ capacity
   pub counted : AreCounts counts h
-  pub holds : (name : NameParts) → state_of held name ≡ after h name
+  pub types : declared ≡ (after h).types
+  pub holds : (name : NameParts) → bodies_of held name ≡ (after h).bodies name
   pub few : btree_map_len held ≤ 256
 
--- the one entry is added, with its session's next number: the call, and the reply that the bodies held give it
+-- the one entry is added, with its session's next number: the call, and the reply that what is held gives it
 pub record Appends (session : ℕ) (call : Call) (reply : Reply) (old new : LedgerView) : Type 0 where
   pub right : IsReply (after old.entries) call reply
   pub capacity : new.capacity ≡ old.capacity

@@ -4,12 +4,13 @@ ghost use Rattle.bc_book.specs.Calls.{stores};
 
 use crate::shared::Shared;
 use bc_prov::Outcome;
-use bc_syntax::Unit;
+use bc_syntax::{Types, Unit};
 use bc_text::Name;
 
 /// What a session asks for.
 #[derive(Drop, PartialEq)]
 pub enum Call {
+    Types(Shared<Types>),
     Put(Name, Shared<Unit>),
     Ask(Name),
 }
@@ -36,9 +37,10 @@ impl PutReply {
     }
 }
 
-/// The reply to a call of its kind.
+/// The reply to a call of its kind: declarations are stored, a put has its reply, and an Ask its outcome.
 #[derive(Drop, PartialEq)]
 pub enum Reply {
+    Stored,
     Put(PutReply),
     Outcome(Shared<Outcome>),
 }

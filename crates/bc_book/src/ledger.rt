@@ -1,16 +1,15 @@
-//! The history of a database, and the bodies that it leaves.
+//! The history of a database, and the declarations and the bodies that it leaves.
 ghost use Rattle.std.specs.Prelude.{◌≡◌, ◌↔◌, ◌+◌, ◌<◌, ◌≤◌, ◌^◌, [], ◌∷◌, ◌++◌, length, is_some, IsSome, IfOk, OnOk, OnErr, IfErr, IsTrue, vec_capacity, vec_len};
 ghost use Rattle.std.specs.Option.{option_copied};
 ghost use Rattle.std.specs.BTreeMap.{btree_map_len, get};
 ghost use Rattle.bc_text.specs.Names.{name_order};
-ghost use Rattle.bc_prov.specs.Outcome.{IsOutcome};
-ghost use Rattle.bc_book.specs.Calls.{IsLegal, IsPutReply, Suits, after, count_of, next};
-ghost use Rattle.bc_book.specs.Ledgers.{Appends, AreCounts, state_of};
+ghost use Rattle.bc_book.specs.Calls.{IsLegal, IsOutcomeIn, IsPutReply, Suits, after, after_put, count_of};
+ghost use Rattle.bc_book.specs.Ledgers.{Appends, AreCounts, bodies_of};
 
 use crate::call::{Call, Entry, Event, PutReply, Reply};
 use crate::shared::Shared;
 use bc_prov::{Outcome, outcome_of};
-use bc_syntax::{Unit, UnitKind};
+use bc_syntax::{Sequence, Types, Unit, UnitKind};
 use bc_text::Name;
 use std::alloc::{AllocError, Global};
 use std::collections::BTreeMap;
@@ -46,12 +45,13 @@ impl From<AllocError> for Refusal {
 /// The bodies that are held, by their names.
 type Bodies = BTreeMap<Name, Shared<Unit>>;
 
-/// A legal history, which may have so many entries, and the bodies that it leaves.
+/// A legal history, which may have so many entries, and the declarations and the bodies that it leaves.
 #[derive(Drop)]
 pub struct Ledger {
     capacity: u32,
     history: Vec<Entry>,
     counts: [u32; MOST_SESSIONS],
+    types: Shared<Types>,
     bodies: Bodies,
 }
 
@@ -63,20 +63,22 @@ impl Model for Ledger {
 
     ghost view = { λ l. record { capacity = l.capacity; entries = l.history.items; room = vec_capacity l.history - l.history.len } };
 
-    ghost invariant = { λ l. IsKept l.capacity l.history.items l.counts l.bodies };
+    ghost invariant = { λ l. IsKept l.capacity l.history.items l.counts l.types l.bodies };
 }
 
 impl Ledger {
-    /// An empty history. It takes no memory.
-    pub fn new(alloc: Global, capacity: u32) -> Ledger
-        ensures { (result.capacity ≡ capacity) × (result.entries ≡ []) }
+    /// An empty history, with no declaration and no body. `AllocError` only where memory was refused.
+    pub fn new(alloc: Global, capacity: u32) -> Result<Ledger, AllocError>
+        ensures { IfOk result (λ ledger. (ledger.capacity ≡ capacity) × (ledger.entries ≡ [])) }
     {
-        Ledger {
+        let types = no_types(alloc)?;
+        Ok(Ledger {
             capacity,
             history: Vec::new(alloc),
             counts: [0; MOST_SESSIONS],
+            types,
             bodies: BTreeMap::new(alloc),
-        }
+        })
     }
 
     /// Makes room for one entry. `HistoryFull` exactly where the history is as long as it may be.
@@ -93,6 +95,25 @@ impl Ledger {
             Ok(()) => Ok(()),
             Err(_) => Err(Refusal::NoMemory),
         }
+    }
+
+    /// Enters a session's declarations, which are held from now on in place of those before. `AllocError` only where
+    /// memory was refused; then nothing has changed.
+    pub fn put_types(&mut self, session: u8, types: Shared<Types>) -> Result<(), AllocError>
+        requires session { session < 16 }
+        requires room { 0 < self.old.room }
+        requires below { length self.old.entries < self.old.capacity }
+        ensures ok { OnOk result (Appends session (Call.Types types) Reply.Stored self.old self.new) }
+        ensures err { OnErr result ((self.new.capacity ≡ self.old.capacity) × (self.new.entries ≡ self.old.entries)) }
+    {
+        let held = types.clone()?;
+        self.types = held;
+        let event = Event {
+            call: Call::Types(types),
+            reply: Reply::Stored,
+        };
+        enter(&mut self.history, &mut self.counts, session, event);
+        Ok(())
     }
 
     /// Enters a session's put, with the reply that the bodies held give it. `AllocError` only where memory was
@@ -119,11 +140,12 @@ impl Ledger {
         Ok(reply)
     }
 
-    /// The outcome of a name. `AllocError` only where memory was refused.
+    /// The outcome of a name, under the declarations held. `AllocError` only where memory was refused.
     pub fn outcome(&self, alloc: Global, name: &Name) -> Result<Shared<Outcome>, AllocError>
-        ensures { IfOk result (λ outcome. IsOutcome (after self.now.entries name.now) name.now outcome) }
+        ensures { IfOk result (λ outcome. IsOutcomeIn (after self.now.entries) name.now outcome) }
     {
-        let outcome = outcome_of(alloc, name, held_unit(&self.bodies, name))?;
+        let held = held_unit(&self.bodies, name);
+        let outcome = outcome_of(alloc, name, self.types.get(), held)?;
         match Arc::new(alloc, outcome) {
             Ok(outcome) => Ok(Shared::new(outcome)),
             Err(_) => Err(AllocError),
@@ -135,7 +157,7 @@ impl Ledger {
         requires session { session < 16 }
         requires room { 0 < self.old.room }
         requires below { length self.old.entries < self.old.capacity }
-        requires outcome { IsOutcome (after self.old.entries name) name outcome }
+        requires outcome { IsOutcomeIn (after self.old.entries) name outcome }
         ensures { Appends session (Call.Ask name) (Reply.Outcome outcome) self.old self.new }
     {
         let event = Event {
@@ -154,6 +176,17 @@ impl Ledger {
     }
 }
 
+// No declarations.
+fn no_types(alloc: Global) -> Result<Shared<Types>, AllocError>
+    ensures { IfOk result (λ types. types ≡ []) }
+{
+    let types = Types::of_fitting(Sequence::new(alloc));
+    match Arc::new(alloc, types) {
+        Ok(types) => Ok(Shared::new(types)),
+        Err(_) => Err(AllocError),
+    }
+}
+
 // Whether a unit of this kind may have the name.
 fn suits(kind: UnitKind, name: &Name) -> bool
     ensures { IsTrue result ↔ Suits kind name.now }
@@ -166,7 +199,7 @@ fn suits(kind: UnitKind, name: &Name) -> bool
 // The reply to a put, where so many bodies are held.
 fn put_reply(bodies: &Bodies, name: &Name, unit: &Unit) -> PutReply
     requires { btree_map_len bodies.now ≤ 256 }
-    ensures reply { IsPutReply (state_of bodies.now) name.now unit.now result }
+    ensures reply { IsPutReply (bodies_of bodies.now) name.now unit.now result }
     ensures few { result ≡ PutReply.Added → btree_map_len bodies.now < 256 }
 {
     if !suits(unit.body().header.kind, name) {
@@ -190,11 +223,11 @@ fn store(
     reply: PutReply,
 ) -> Result<(), AllocError>
     requires few { btree_map_len bodies.old ≤ 256 }
-    requires reply { IsPutReply (state_of bodies.old) name unit.now reply }
+    requires reply { IsPutReply (bodies_of bodies.old) name unit.now reply }
     requires added { reply ≡ PutReply.Added → btree_map_len bodies.old < 256 }
-    ensures ok { OnOk result ((other : _) → state_of bodies.new other ≡ next (state_of bodies.old) (Call.Put name unit.now) (Reply.Put reply) other) }
+    ensures ok { OnOk result ((other : _) → bodies_of bodies.new other ≡ after_put (bodies_of bodies.old) name unit.now reply other) }
     ensures few { btree_map_len bodies.new ≤ 256 }
-    ensures err { OnErr result ((other : _) → state_of bodies.new other ≡ state_of bodies.old other) }
+    ensures err { OnErr result ((other : _) → bodies_of bodies.new other ≡ bodies_of bodies.old other) }
 {
     if !reply.stores() {
         return Ok(());
@@ -208,7 +241,7 @@ fn store(
 
 // The unit that a name holds, if there is one.
 fn held_unit<'a>(bodies: &'a Bodies, name: &Name) -> Option<&'a Unit>
-    ensures { option_copied result ≡ state_of bodies.now name.now }
+    ensures { option_copied result ≡ bodies_of bodies.now name.now }
 {
     match bodies.get(name) {
         Some(unit) => Some(unit.get()),

@@ -1,18 +1,17 @@
 -- Names that are gathered in their order.
-use Rattle.std.proofs.Common.{◌≡◌, ℕ, zero, suc, ◌<◌, ◌≤◌, ◌+◌, List, [], ◌∷◌, length, get_or, map, refl, sym, ap, ◌∙◌, subst, arith, Ordering, Less, Equal, Greater, inl, inr}
+use Rattle.std.proofs.Common.{◌≡◌, ℕ, zero, suc, ◌<◌, ◌≤◌, ◌+◌, List, [], ◌∷◌, ◌++◌, length, get_or, take, map, Option, Some, None, refl, sym, ap, ◌∙◌, subst, arith, Ordering, Less, Equal, Greater, inl, inr}
 use Rattle.std.specs.List.{All, Contains}
 use Rattle.std.specs.List.Sorted.{IsStrictlySortedBy}
-use borrow.Author.Count.{below_more}
 use Rattle.std.specs.Ordering.{match_ordering, ordering_then, nat_cmp}
 use Rattle.std.specs.Cmp.Lexicographic.{slice_cmp}
 use Rattle.std.specs.BTreeSet.{insert_key}
-use Rattle.std.proofs.lemmas.List.Elements.{Contains-append_right, Contains-append_cases}
+use Rattle.std.proofs.lemmas.List.{map-append, take_more, take_all}
+use Rattle.std.proofs.lemmas.List.Elements.{All-contains, All-contains_itself, Contains-append_left, Contains-append_right, Contains-append_cases}
 use Rattle.std.proofs.lemmas.Map.Lookups.{CmpEqualImpliesEq, exact_bytes}
-use Rattle.std.proofs.lemmas.List.{get_or-map, length-map}
 use Rattle.std.proofs.lemmas.Map.Views.{All-insert_key}
 use Rattle.bc_text.specs.Names.{NameParts, name_order}
-use Rattle.bc_check.specs.Puts.{Placed}
-use Rattle.bc_check.specs.Asked.{IsRootPut, AreAsked}
+use Rattle.bc_book.specs.declared.call.Call.{Call}
+use Rattle.bc_check.specs.Asked.{root_put, AreAsked}
 
 at_head : {X : Type 0} (x : X) (xs : List X) → Contains (x ∷ xs) x
 at_head x xs = (0, omega arith, refl)
@@ -31,13 +30,13 @@ chosen P Equal a b c x y z = y refl
 chosen P Greater a b c x y z = z
 
 -- a name that is put in is there
-pub put_in : {X : Type 0} (cmp : X → X → Ordering) → CmpEqualImpliesEq cmp → (k : X) (ks : List X) → Contains (insert_key cmp ks k) k
+put_in : {X : Type 0} (cmp : X → X → Ordering) → CmpEqualImpliesEq cmp → (k : X) (ks : List X) → Contains (insert_key cmp ks k) k
 put_in cmp exact k [] = at_head k []
 put_in cmp exact k (x ∷ ks) =
     chosen (λ xs. Contains xs k) (cmp k x) _ _ _ (at_head k (x ∷ ks)) (λ e. subst (λ y. Contains (y ∷ ks) k) (exact k x e) (at_head k ks)) (in_tail x k _ (put_in cmp exact k ks))
 
 -- and those that were there stay
-pub stays_in : {X : Type 0} (cmp : X → X → Ordering) (k q : X) (ks : List X) → Contains ks q → Contains (insert_key cmp ks k) q
+stays_in : {X : Type 0} (cmp : X → X → Ordering) (k q : X) (ks : List X) → Contains ks q → Contains (insert_key cmp ks k) q
 stays_in cmp k q [] h = absurd (omega (arith, h.1))
 stays_in cmp k q (x ∷ ks) h =
     chosen (λ xs. Contains xs q) (cmp k x) _ _ _ (in_tail k q (x ∷ ks) h) (λ _. h) (elim (Contains-append_cases (x ∷ []) ks q h) [
@@ -57,45 +56,64 @@ name_exact a b h =
     let named : List ℕ → List ℕ → NameParts = λ root segments. record { root = root; segments = segments } in
     ap (λ (root : List ℕ). named root a.segments) (exact_bytes a.root b.root e.0) ∙ ap (λ (segments : List ℕ). named b.root segments) (exact_bytes a.segments b.segments e.1)
 
--- of so many puts the names are gathered
-pub record AreGathered (puts : List Placed) (i : ℕ) (names : List NameParts) : Type 0 where
-  pub ascending : IsStrictlySortedBy name_order names
-  pub put : All (IsRootPut puts) names
-  pub every : (k : ℕ) → k < i → (d : Placed) → (get_or puts k d).name.segments ≡ [] → Contains names (get_or puts k d).name
+same_some : {X : Type 0} (x y : X) → Some x ≡ Some y → x ≡ y
+same_some x y e = cc
 
-pub gathered_none : (puts : List Placed) (names : List NameParts) → names ≡ [] → IsStrictlySortedBy name_order names → AreGathered puts 0 names
-gathered_none puts names none sorted = record {
+-- the roots of one call more
+roots-snoc : (calls : List Call) (call : Call) (found : Option NameParts) → root_put call ≡ found → map root_put (calls ++ call ∷ []) ≡ map root_put calls ++ found ∷ []
+roots-snoc calls call found is = map-append root_put calls (call ∷ []) ∙ ap (λ (o : Option NameParts). map root_put calls ++ o ∷ []) is
+
+pub asked_none : (calls : List Call) (names : List NameParts) → names ≡ [] → IsStrictlySortedBy name_order names → AreAsked (take 0 calls) names
+asked_none calls names none sorted = record {
   ascending = sorted;
-  put = λ k d h. absurd (omega (arith, h, ap length none));
-  every = λ k h d e. absurd (omega (arith, h));
+  exact = λ name. (λ h. absurd (omega (arith, h.1, ap length none)), λ h. absurd (omega (arith, h.1)));
 }
-
-name_at : (puts : List Placed) (i : ℕ) (put : Placed) → i < length puts → ((d : Placed) → get_or puts i d ≡ put) → Contains (map (λ (p : Placed). p.name) puts) put.name
-name_at puts i put below at =
-    (i, omega (arith, length-map puts (λ (p : Placed). p.name)), get_or-map (λ (p : Placed). p.name) puts i put put.name below ∙ ap (λ (p : Placed). p.name) (at put))
 
 -- one root name more
-pub gathered_more : (puts : List Placed) (i : ℕ) (put : Placed) (names new : List NameParts) → AreGathered puts i names → i < length puts → ((d : Placed) → get_or puts i d ≡ put) → put.name.segments ≡ [] → new ≡ insert_key name_order names put.name → IsStrictlySortedBy name_order new → AreGathered puts (i + 1) new
-gathered_more puts i put names new h below at root is sorted = record {
-  ascending = sorted;
-  put = subst (λ ns. All (IsRootPut puts) ns) (sym is) (All-insert_key name_order put.name (IsRootPut puts) names h.put (root, name_at puts i put below at));
-  every = below_more (λ k. (d : Placed) → (get_or puts k d).name.segments ≡ [] → Contains new (get_or puts k d).name) i
-      (λ k less d e. subst (λ ns. Contains ns (get_or puts k d).name) (sym is) (stays_in name_order put.name (get_or puts k d).name names (h.every k less d e)))
-      (λ d e. subst (λ ns. Contains ns (get_or puts i d).name) (sym is) (subst (λ (p : Placed). Contains (insert_key name_order names put.name) p.name) (sym (at d)) (put_in name_order name_exact put.name names)));
-}
+added : (calls : List Call) (call : Call) (name : NameParts) (names new : List NameParts) → AreAsked calls names → root_put call ≡ Some name → new ≡ insert_key name_order names name → IsStrictlySortedBy name_order new → AreAsked (calls ++ call ∷ []) new
+added calls call name names new h root is sorted =
+    let roots = map root_put calls in
+    let more : map root_put (calls ++ call ∷ []) ≡ roots ++ Some name ∷ [] = roots-snoc calls call (Some name) root in
+    let P : NameParts → Type 0 = λ q. Contains (roots ++ Some name ∷ []) (Some q) in
+    let old : All P names = λ k d below. Contains-append_left roots (Some name ∷ []) (Some (get_or names k d)) ((h.exact (get_or names k d)).0 (All-contains_itself names k d below)) in
+    let all : All P new = subst (All P) (sym is) (All-insert_key name_order name P names old (Contains-append_right roots (Some name ∷ []) (Some name) (at_head (Some name) []))) in
+    record {
+      ascending = sorted;
+      exact = λ q. (
+        λ there. subst (λ (l : List (Option NameParts)). Contains l (Some q)) (sym more) (All-contains P new q all there),
+        λ there. subst (λ (l : List NameParts). Contains l q) (sym is) (elim (Contains-append_cases roots (Some name ∷ []) (Some q) (subst (λ (l : List (Option NameParts)). Contains l (Some q)) more there)) [
+          | inl before ↦ stays_in name_order name q names ((h.exact q).1 before)
+          | inr one ↦ subst (λ (n : NameParts). Contains (insert_key name_order names name) n) (same_some name q (the_one (Some name) (Some q) one)) (put_in name_order name_exact name names)
+        ]),
+      );
+    }
 
--- a name that is no root is left out
-pub gathered_same : (puts : List Placed) (i : ℕ) (put : Placed) (names : List NameParts) → AreGathered puts i names → ((d : Placed) → get_or puts i d ≡ put) → ¬ (put.name.segments ≡ []) → AreGathered puts (i + 1) names
-gathered_same puts i put names h at other = record {
-  ascending = h.ascending;
-  put = h.put;
-  every = below_more (λ k. (d : Placed) → (get_or puts k d).name.segments ≡ [] → Contains names (get_or puts k d).name) i h.every
-      (λ d e. absurd (other (ap (λ (p : Placed). p.name.segments) (sym (at d)) ∙ e)));
-}
+-- a call that puts nothing under a root is left out
+left_out : (calls : List Call) (call : Call) (names : List NameParts) → AreAsked calls names → root_put call ≡ None → AreAsked (calls ++ call ∷ []) names
+left_out calls call names h none =
+    let roots = map root_put calls in
+    let more : map root_put (calls ++ call ∷ []) ≡ roots ++ None ∷ [] = roots-snoc calls call None none in
+    record {
+      ascending = h.ascending;
+      exact = λ q. (
+        λ there. subst (λ (l : List (Option NameParts)). Contains l (Some q)) (sym more) (Contains-append_left roots (None ∷ []) (Some q) ((h.exact q).0 there)),
+        λ there. elim (Contains-append_cases roots (None ∷ []) (Some q) (subst (λ (l : List (Option NameParts)). Contains l (Some q)) more there)) [
+          | inl before ↦ (h.exact q).1 before
+          | inr one ↦ (let never : None ≡ Some q = the_one None (Some q) one in absurd cc)
+        ],
+      );
+    }
 
-pub gathered_all : (puts : List Placed) (i : ℕ) (names : List NameParts) → AreGathered puts i names → length puts ≤ i → AreAsked puts names
-gathered_all puts i names h all = record {
-  ascending = h.ascending;
-  put = h.put;
-  every = λ k d below. h.every k (omega arith) d;
-}
+one_more : (calls : List Call) (i : ℕ) (call : Call) → i < length calls → ((d : Call) → get_or calls i d ≡ call) → take (i + 1) calls ≡ take i calls ++ call ∷ []
+one_more calls i call below at = take_more calls i call below ∙ ap (λ (c : Call). take i calls ++ c ∷ []) (at call)
+
+pub asked_more : (calls : List Call) (i : ℕ) (call : Call) (name : NameParts) (names new : List NameParts) → AreAsked (take i calls) names → i < length calls → ((d : Call) → get_or calls i d ≡ call) → root_put call ≡ Some name → new ≡ insert_key name_order names name → IsStrictlySortedBy name_order new → AreAsked (take (i + 1) calls) new
+asked_more calls i call name names new h below at root is sorted =
+    subst (λ (l : List Call). AreAsked l new) (sym (one_more calls i call below at)) (added (take i calls) call name names new h root is sorted)
+
+pub asked_same : (calls : List Call) (i : ℕ) (call : Call) (names : List NameParts) → AreAsked (take i calls) names → i < length calls → ((d : Call) → get_or calls i d ≡ call) → root_put call ≡ None → AreAsked (take (i + 1) calls) names
+asked_same calls i call names h below at none =
+    subst (λ (l : List Call). AreAsked l names) (sym (one_more calls i call below at)) (left_out (take i calls) call names h none)
+
+pub asked_all : (calls : List Call) (i : ℕ) (names : List NameParts) → AreAsked (take i calls) names → length calls ≤ i → AreAsked calls names
+asked_all calls i names h all = subst (λ (l : List Call). AreAsked l names) (take_all i calls all) h

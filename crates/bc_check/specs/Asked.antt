@@ -1,16 +1,18 @@
 -- The names that a file asks.
-use Rattle.std.specs.Prelude.{◌≡◌, List, [], map}
-use Rattle.std.specs.List.{All, Contains}
+use Rattle.std.specs.Prelude.{◌≡◌, ◌↔◌, ◌==◌, Option, Some, None, List, length, map, if◌then◌else◌}
+use Rattle.std.specs.List.{Contains}
 use Rattle.std.specs.List.Sorted.{IsStrictlySortedBy}
 use Rattle.bc_text.specs.Names.{NameParts, name_order}
-use Rattle.bc_check.specs.Puts.{Placed}
+use Rattle.bc_book.specs.declared.call.Call.{Call}
+use Rattle.bc_book.specs.declared.call.Call.TheVariants.{Types, Put, Ask}
 
--- the name is a root, and some body is put under it
-abbrev pub IsRootPut : List Placed → NameParts → Type 0
-IsRootPut puts name = (name.segments ≡ []) × Contains (map (λ (put : Placed). put.name) puts) name
+-- the root name under which a call puts a body, if it puts one under a root
+abbrev pub root_put : Call → Option NameParts
+root_put (Types types) = None
+root_put (Put name body) = if length name.segments == 0 then Some name else None
+root_put (Ask name) = None
 
--- the root names that are put, in the order of names, each once
-pub record AreAsked (puts : List Placed) (names : List NameParts) : Type 0 where
+-- the root names under which bodies are put, in the order of names, each once
+pub record AreAsked (made : List Call) (names : List NameParts) : Type 0 where
   pub ascending : IsStrictlySortedBy name_order names
-  pub put : All (IsRootPut puts) names
-  pub every : All (λ (put : Placed). put.name.segments ≡ [] → Contains names put.name) puts
+  pub exact : (name : NameParts) → Contains names name ↔ Contains (map root_put made) (Some name)

@@ -2,21 +2,23 @@
 use Rattle.std.specs.Prelude.{◌≡◌, ◌⊎◌, ℕ, ◌+◌, ◌<◌, Option, List, [], length}
 use Rattle.std.specs.Io.KnownBytes.{Appends}
 use Rattle.bc_text.specs.Names.{NameParts}
+use Rattle.bc_book.specs.declared.call.Call.{Call}
 use Rattle.bc_check.specs.declared.fault.FileFault.{FileFault}
 use Rattle.bc_check.specs.Text.{line}
 use Rattle.bc_check.specs.Parts.{sections_of}
-use Rattle.bc_check.specs.Puts.{Placed, ArePuts, IsFirstFault}
+use Rattle.bc_check.specs.Changes.{MakeAll, IsFirstFault}
 use Rattle.bc_check.specs.Asked.{AreAsked}
 use Rattle.bc_check.specs.Faults.{message}
 use Rattle.bc_check.specs.Served.{Runs, Begins}
 
--- each section put its body, each root name that is put was asked, and what belongs to these calls was printed
+-- each section made its call, each root name under which one put a body was asked, and what belongs to these calls was
+-- printed
 pub record Checked (file : List ℕ) (exit : ℕ) (out out' err err' : Option (List ℕ)) : Type 0 where
-  pub puts : List Placed
+  pub made : List Call
   pub names : List NameParts
-  pub good : ArePuts (sections_of file) puts
-  pub asked : AreAsked puts names
-  pub runs : Runs puts names exit out out' err err'
+  pub good : MakeAll (sections_of file) made
+  pub asked : AreAsked made names
+  pub runs : Runs made names exit out out' err err'
 
 -- the file has a fault: its first one is told, and nothing else is printed
 pub record Faulted (file : List ℕ) (exit : ℕ) (out out' err err' : Option (List ℕ)) : Type 0 where
@@ -31,16 +33,16 @@ IsEnd file exit out out' err err' = Checked file exit out out' err err' ⊎ Faul
 
 -- a file without a fault that makes more than 1,000,000 calls
 pub record HasTooManyCalls (file : List ℕ) : Type 0 where
-  pub puts : List Placed
+  pub made : List Call
   pub names : List NameParts
-  pub good : ArePuts (sections_of file) puts
-  pub asked : AreAsked puts names
-  pub many : 1000000 < length puts + length names
+  pub good : MakeAll (sections_of file) made
+  pub asked : AreAsked made names
+  pub many : 1000000 < length made + length names
 
 -- a file without a fault of whose calls a beginning was made, and what belongs to these was printed
 pub record HasBegun (file : List ℕ) (out out' err err' : Option (List ℕ)) : Type 0 where
-  pub puts : List Placed
+  pub made : List Call
   pub names : List NameParts
-  pub good : ArePuts (sections_of file) puts
-  pub asked : AreAsked puts names
-  pub begins : Begins puts names out out' err err'
+  pub good : MakeAll (sections_of file) made
+  pub asked : AreAsked made names
+  pub begins : Begins made names out out' err err'

@@ -1,7 +1,7 @@
 -- How faults of a file are printed.
 use Rattle.std.specs.Prelude.{ℕ, List, ◌++◌, decimal, codes}
 use Rattle.bc_check.specs.declared.fault.FaultKind.{FaultKind}
-use Rattle.bc_check.specs.declared.fault.FaultKind.TheVariants.{BadHeader, TooLong, NotAscii, Token, Grammar, Limit, NotServed}
+use Rattle.bc_check.specs.declared.fault.FaultKind.TheVariants.{BadHeader, TooLong, NotAscii, Token, Grammar, Limit}
 use Rattle.bc_check.specs.declared.fault.FileFault.{FileFault}
 
 -- what is wrong with a section
@@ -12,7 +12,6 @@ kind_text (NotAscii at) = codes "not ascii at " ++ decimal at
 kind_text (Token at) = codes "token at " ++ decimal at
 kind_text (Grammar at) = codes "grammar at " ++ decimal at
 kind_text (Limit at) = codes "limit at " ++ decimal at
-kind_text NotServed = codes "not served"
 
 -- the line of a fault, without its end
 abbrev pub message : FileFault → List ℕ

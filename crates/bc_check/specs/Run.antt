@@ -4,9 +4,9 @@ use Rattle.std.specs.List.{All, list_all}
 use Rattle.bc_text.specs.Names.{NameParts, name_text}
 use Rattle.bc_prov.specs.declared.outcome.BodyErrors.{BodyErrors}
 use Rattle.bc_prov.specs.declared.outcome.Outcome.{Outcome}
-use Rattle.bc_prov.specs.declared.outcome.Outcome.TheVariants.{NoBody, Ill, Report}
+use Rattle.bc_prov.specs.declared.outcome.Outcome.TheVariants.{NoBody, BadTypes, Ill, Report}
 use Rattle.bc_book.specs.declared.call.Call.{Call}
-use Rattle.bc_book.specs.declared.call.Call.TheVariants.{Put, Ask}
+use Rattle.bc_book.specs.declared.call.Call.TheVariants.{Types, Put, Ask}
 use Rattle.bc_book.specs.declared.call.PutReply.{PutReply}
 use Rattle.bc_book.specs.declared.call.PutReply.TheVariants.{Added, Replaced, Full, WrongKind}
 use Rattle.bc_book.specs.declared.call.Reply.{Reply}
@@ -15,15 +15,11 @@ use Rattle.bc_book.specs.declared.call.Event.{Event}
 use Rattle.bc_book.specs.declared.call.Entry.{Entry}
 use Rattle.bc_book.specs.Calls.{IsLegal, calls}
 use Rattle.bc_check.specs.Text.{line}
-use Rattle.bc_check.specs.Puts.{Placed}
 use Rattle.bc_check.specs.Report.{report}
 
-abbrev pub put_call : Placed → Call
-put_call put = Put put.name put.body
-
--- the calls of a file: a put of each of its bodies, then an Ask of each of its names
-abbrev pub calls_of : List Placed → List NameParts → List Call
-calls_of puts names = map put_call puts ++ map Ask names
+-- the calls of a file: those of its sections, then an Ask of each of its names
+abbrev pub calls_of : List Call → List NameParts → List Call
+calls_of made names = made ++ map Ask names
 
 -- the line of a put that stored nothing
 abbrev pub refused_line : NameParts → PutReply → List ℕ
@@ -38,13 +34,17 @@ answer_lines name outcome = line (codes "ask " ++ name_text name) ++ report outc
 
 -- what is printed of a call on standard error
 abbrev pub told_of : Call → Reply → List ℕ
+told_of (Types types) reply = []
+told_of (Put name body) replies.Stored = []
 told_of (Put name body) (replies.Put reply) = refused_line name reply
 told_of (Put name body) (replies.Outcome outcome) = []
 told_of (Ask name) reply = []
 
 -- what is printed of a call on standard output
 abbrev pub shown_of : Call → Reply → List ℕ
+shown_of (Types types) reply = []
 shown_of (Put name body) reply = []
+shown_of (Ask name) replies.Stored = []
 shown_of (Ask name) (replies.Put reply) = []
 shown_of (Ask name) (replies.Outcome outcome) = answer_lines name outcome
 
@@ -68,10 +68,13 @@ are_clean bodies = list_all (λ (body : BodyErrors). length body.errors == 0) bo
 -- 2 for an outcome that is no report, 1 for a report with an error
 abbrev pub outcome_status : Outcome → ℕ
 outcome_status NoBody = 2
+outcome_status (BadTypes index) = 2
 outcome_status (Ill name place) = 2
 outcome_status (Report bodies) = if are_clean bodies then 0 else 1
 
+-- 0 for declarations that are stored
 abbrev pub reply_status : Reply → ℕ
+reply_status replies.Stored = 0
 reply_status (replies.Put reply) = put_status reply
 reply_status (replies.Outcome outcome) = outcome_status outcome
 

@@ -2,17 +2,16 @@
 ghost use Rattle.std.specs.Prelude.{◌≡◌, ◌≤◌, ◌<◌, ◌+◌, ◌⊎◌, true, Err, OnOk, IfSome, IfOk, IfErr, IsErrOf, length, map, max};
 ghost use Rattle.std.specs.Io.KnownBytes.{Appends, Keeps};
 ghost use Rattle.bc_book.specs.declared.call.Call.TheVariants as calls;
-ghost use Rattle.bc_syntax.specs.Served.{served};
 ghost use Rattle.bc_check.specs.declared.fault.FileFault.{FileFault};
 ghost use Rattle.bc_check.specs.Parts.{sections_of};
-ghost use Rattle.bc_check.specs.Puts.{seen, are_served, IsFirstFault};
+ghost use Rattle.bc_check.specs.Changes.{seen, IsFirstFault};
 ghost use Rattle.bc_check.specs.Stops.{is_of_calls};
 ghost use Rattle.bc_check.specs.Ends.{Checked, HasBegun, HasTooManyCalls, IsEnd};
-ghost use Rattle.bc_check.specs.Run.{put_call, refused_line, answer_lines, told, shown, put_status, are_clean, outcome_status};
+ghost use Rattle.bc_check.specs.Run.{refused_line, answer_lines, told, shown, put_status, are_clean, outcome_status};
 ghost use Rattle.bc_check.specs.Served.{Serves, Served, ServedPart, Runs, Begins};
 
 use crate::asked::find_asked;
-use crate::file::{Put, read_puts};
+use crate::file::{Change, read_changes};
 use crate::input::{LIMIT, read_whole};
 use crate::print::write_report;
 use crate::stop::{Stop, stop_with};
@@ -25,7 +24,7 @@ use std::collections::BTreeSet;
 use std::io;
 use std::io::{Read, Write};
 
-/// How many calls there may be: a put for each section, and an Ask for each name.
+/// How many calls there may be: one for each section, and an Ask for each name.
 const MOST_CALLS: usize = 1_000_000;
 
 /// The status of a put with this reply.
@@ -52,7 +51,7 @@ fn outcome_status(outcome: &Outcome) -> u8
     ensures range { result ≤ 2 }
 {
     match outcome {
-        Outcome::NoBody | Outcome::Ill(_, _) => 2,
+        Outcome::NoBody | Outcome::BadTypes(_) | Outcome::Ill(_, _) => 2,
         Outcome::Report(bodies) => { if are_clean(bodies.as_slice()) { 0 } else { 1 } }
     }
 }
@@ -76,20 +75,26 @@ fn write_answer<O: Write>(name: &Name, outcome: &Outcome, out: &mut O) -> io::Re
     write_report(outcome, out)
 }
 
-/// Puts a body, and tells of it where it is not stored. The status of the put.
-fn make_put<E: Write>(session: &mut Session, put: Put, err: &mut E) -> Result<u8, Stop>
-    requires { served (seen put).body ≡ true }
+/// Makes a change, and tells of a body that is not stored. The status of the call.
+fn make_change<E: Write>(session: &mut Session, change: Change, err: &mut E) -> Result<u8, Stop>
     ensures no_memory { IsErrOf result Stop.NoMemory → (session.new ≡ session.old) × Keeps (E.contents err.old) (E.contents err.new) }
-    ensures served { IfOk result (λ status. Serves (put_call (seen put)) told status session.old session.new (E.contents err.old) (E.contents err.new)) }
+    ensures served { IfOk result (λ status. Serves (seen change) told status session.old session.new (E.contents err.old) (E.contents err.new)) }
     ensures range { IfOk result (λ status. status ≤ 2) }
     ensures stop { IfErr result (λ stop. (stop ≡ Stop.CannotTell) ⊎ (stop ≡ Stop.NoMemory) ⊎ (stop ≡ Stop.HistoryFull)) }
 {
-    let Put { name, unit } = put;
-    let reply = session.put(name, unit)?;
-    if write_refusal(&name, reply, err).is_err() {
-        return Err(Stop::CannotTell);
+    match change {
+        Change::Types(types) => {
+            session.put_types(types)?;
+            Ok(0)
+        }
+        Change::Put(name, unit) => {
+            let reply = session.put(name, unit)?;
+            if write_refusal(&name, reply, err).is_err() {
+                return Err(Stop::CannotTell);
+            }
+            Ok(put_status(reply))
+        }
     }
-    Ok(put_status(reply))
 }
 
 /// Asks a name, and prints its report. The status of the outcome.
@@ -106,17 +111,20 @@ fn make_ask<O: Write>(session: &mut Session, name: &Name, out: &mut O) -> Result
     Ok(outcome_status(&outcome))
 }
 
-/// Puts the bodies in order. The greatest status of the puts.
-fn make_puts<E: Write>(session: &mut Session, puts: Vec<Put>, err: &mut E) -> Result<u8, Stop>
-    requires { are_served (map seen puts.items) ≡ true }
-    ensures served { IfOk result (λ status. Served (map put_call (map seen puts.items)) told status session.old session.new (E.contents err.old) (E.contents err.new)) }
-    ensures no_memory { IsErrOf result Stop.NoMemory → ServedPart (map put_call (map seen puts.items)) told session.old session.new (E.contents err.old) (E.contents err.new) }
+/// Makes the changes in order. The greatest status of the calls.
+fn make_changes<E: Write>(
+    session: &mut Session,
+    changes: Vec<Change>,
+    err: &mut E,
+) -> Result<u8, Stop>
+    ensures served { IfOk result (λ status. Served (map seen changes.items) told status session.old session.new (E.contents err.old) (E.contents err.new)) }
+    ensures no_memory { IsErrOf result Stop.NoMemory → ServedPart (map seen changes.items) told session.old session.new (E.contents err.old) (E.contents err.new) }
     ensures range { IfOk result (λ status. status ≤ 2) }
     ensures stop { IfErr result (λ stop. (stop ≡ Stop.CannotTell) ⊎ (stop ≡ Stop.NoMemory) ⊎ (stop ≡ Stop.HistoryFull)) }
 {
     let mut status: u8 = 0;
-    for put in puts {
-        status = status.max(make_put(session, put, err)?);
+    for change in changes {
+        status = status.max(make_change(session, change, err)?);
     }
     Ok(status)
 }
@@ -142,47 +150,46 @@ fn make_asks<O: Write>(
     }
 }
 
-/// How many entries the history may have: one for each put and each Ask, and one at least. `TooManyCalls` exactly
+/// How many entries the history may have: one for each change and each Ask, and one at least. `TooManyCalls` exactly
 /// where there are more than 1,000,000 of them.
-fn find_capacity(puts: usize, names: usize) -> Result<u32, Stop>
-    ensures fits { IfOk result (λ capacity. (capacity ≡ max 1 (puts + names)) × (puts + names ≤ 1000000)) }
-    ensures stop { IfErr result (λ stop. (stop ≡ Stop.TooManyCalls) × (1000000 < puts + names)) }
+fn find_capacity(changes: usize, names: usize) -> Result<u32, Stop>
+    ensures fits { IfOk result (λ capacity. (capacity ≡ max 1 (changes + names)) × (changes + names ≤ 1000000)) }
+    ensures stop { IfErr result (λ stop. (stop ≡ Stop.TooManyCalls) × (1000000 < changes + names)) }
 {
-    if puts > MOST_CALLS || names > MOST_CALLS - puts {
+    if changes > MOST_CALLS || names > MOST_CALLS - changes {
         return Err(Stop::TooManyCalls);
     }
-    Ok((puts + names).max(1) as u32)
+    Ok((changes + names).max(1) as u32)
 }
 
-/// Opens a database, puts the bodies in order, asks the names in order and closes. The greatest status of the
+/// Opens a database, makes the changes in order, asks the names in order and closes. The greatest status of the
 /// calls. `TooManyCalls` exactly where there are more than 1,000,000 of them.
 fn serve<O: Write, E: Write>(
     alloc: Global,
-    puts: Vec<Put>,
+    changes: Vec<Change>,
     names: &BTreeSet<Name>,
     out: &mut O,
     err: &mut E,
 ) -> Result<u8, Stop>
-    requires { are_served (map seen puts.items) ≡ true }
-    ensures done { IfOk result (λ status. Runs (map seen puts.items) names.now.keys status (O.contents out.old) (O.contents out.new) (E.contents err.old) (E.contents err.new)) }
+    ensures done { IfOk result (λ status. Runs (map seen changes.items) names.now.keys status (O.contents out.old) (O.contents out.new) (E.contents err.old) (E.contents err.new)) }
     ensures range { IfOk result (λ status. status ≤ 2) }
-    ensures too_many { IsErrOf result Stop.TooManyCalls → (1000000 < length puts.items + length names.now.keys) × Keeps (O.contents out.old) (O.contents out.new) × Keeps (E.contents err.old) (E.contents err.new) }
-    ensures no_memory { IsErrOf result Stop.NoMemory → Begins (map seen puts.items) names.now.keys (O.contents out.old) (O.contents out.new) (E.contents err.old) (E.contents err.new) }
+    ensures too_many { IsErrOf result Stop.TooManyCalls → (1000000 < length changes.items + length names.now.keys) × Keeps (O.contents out.old) (O.contents out.new) × Keeps (E.contents err.old) (E.contents err.new) }
+    ensures no_memory { IsErrOf result Stop.NoMemory → Begins (map seen changes.items) names.now.keys (O.contents out.old) (O.contents out.new) (E.contents err.old) (E.contents err.new) }
     ensures other { IfErr result (λ stop. is_of_calls stop ≡ true) }
 {
-    let capacity = find_capacity(puts.len(), names.len())?;
+    let capacity = find_capacity(changes.len(), names.len())?;
     let (db, mut sessions) = Db::open(alloc, 0, capacity, 1)?;
     let Some(mut session) = sessions.pop() else {
         return Err(Stop::Foreign);
     };
-    let put = make_puts(&mut session, puts, err)?;
+    let changed = make_changes(&mut session, changes, err)?;
     let asked = make_asks(&mut session, names, out)?;
     sessions.push(session)?;
     db.close(sessions)?;
-    Ok(put.max(asked))
+    Ok(changed.max(asked))
 }
 
-/// Reads the whole input, puts its bodies and asks its names, and prints what belongs to each call. The greatest
+/// Reads the whole input, makes its changes and asks its names, and prints what belongs to each call. The greatest
 /// status of the calls.
 ///
 /// Stops with `CannotRead` where the input cannot be read or is over 16 MiB; with `File` at its first fault; with
@@ -206,9 +213,9 @@ fn check<I: Read, O: Write, E: Write>(
         ⊎ IfSome (I.remaining input.old) (λ file. (length file ≤ LIMIT) × HasBegun file (O.contents out.old) (O.contents out.new) (E.contents err.old) (E.contents err.new)) }
 {
     let file = read_whole(alloc, input)?;
-    let puts = read_puts(alloc, &file)?;
-    let names = find_asked(alloc, &puts)?;
-    serve(alloc, puts, &names, out, err)
+    let changes = read_changes(alloc, &file)?;
+    let names = find_asked(alloc, &changes)?;
+    serve(alloc, changes, &names, out, err)
 }
 
 /// The whole command `check` on the input named `file`: writes reports on `out` and faults on `err`, and gives the

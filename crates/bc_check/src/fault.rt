@@ -13,8 +13,6 @@ pub enum FaultKind {
     Token { at: usize },
     Grammar { at: usize },
     Limit { at: usize },
-    /// The database does not serve the unit.
-    NotServed,
 }
 
 /// A fault of a file: the number of the section's header line, from 1, and what is wrong with the section.
@@ -35,7 +33,6 @@ impl fmt::Display for FaultKind {
             FaultKind::Token { at } => write!(f, "token at {at}"),
             FaultKind::Grammar { at } => write!(f, "grammar at {at}"),
             FaultKind::Limit { at } => write!(f, "limit at {at}"),
-            FaultKind::NotServed => write!(f, "not served"),
         }
     }
 }

@@ -1,7 +1,9 @@
-//! The command `check`: a file cut into its sections, put and asked, and what is printed of it.
+//! The command `check`: a file cut into its sections, stored and asked, and what is printed of it.
 #![tactic(auto)]
 
 mod asked;
+#[cfg(test)]
+mod bodies;
 mod command;
 mod fault;
 mod file;
@@ -16,7 +18,7 @@ mod tests;
 
 pub use command::check_over;
 pub use fault::{FaultKind, FileFault};
-pub use file::Put;
+pub use file::Change;
 pub use print::write_report;
 pub use section::{Section, Sections};
 pub use stop::{Stop, stop_with};

@@ -5,11 +5,19 @@ use bc_text::MAX_TEXT;
 use std::test::Fail;
 
 /// A file, and what the command leaves of it.
-struct Row {
-    file: &'static [u8],
-    out: &'static [u8],
-    err: &'static [u8],
-    status: u8,
+pub struct Row {
+    pub file: &'static [u8],
+    pub out: &'static [u8],
+    pub err: &'static [u8],
+    pub status: u8,
+}
+
+/// Whether the command leaves of a file what the row says.
+pub fn leaves(rt: &HostRuntime, row: &Row) -> bool {
+    let ending = run_whole(rt, row.file);
+    ending.out.as_slice() == row.out
+        && ending.err.as_slice() == row.err
+        && ending.status == row.status
 }
 
 /// A local is written while it is borrowed.
@@ -61,13 +69,62 @@ const ALL: Row = Row {
     status: 2,
 };
 
+/// A parameter marked `+` stands inside the pointee of a mutable reference, so that no name is looked at.
+const BAD_DECLARATION: Row = Row {
+    file: b"@put g\nfn (int) -> &'static int { bb0 { nop; _0 = copy _1; return; } }\n@types\nstruct H<+'a> { &'static mut &'a int; }\n@put f\nfn()->int{bb0{return;}}\n@put h/0\nfn()->int{bb0{return;}}\n",
+    out: b"ask f\nbad declaration 0\nask g\nbad declaration 0\n",
+    err: b"put h/0 wrongkind\n",
+    status: 2,
+};
+
+/// The same parameter marked `=`.
+const GOOD_DECLARATION: Row = Row {
+    file: b"@put f\nfn()->int{bb0{return;}}\n@types\nstruct H<='a> { &'static mut &'a int; }\n",
+    out: b"ask f\nf 0\n",
+    err: b"",
+    status: 0,
+};
+
+/// The second declaration of a name is the bad one.
+const SECOND_IS_BAD: Row = Row {
+    file: b"@types\nstruct A { int; } struct A { int; } struct A { int; }\n@put f\nfn()->int{bb0{return;}}",
+    out: b"ask f\nbad declaration 1\n",
+    err: b"",
+    status: 2,
+};
+
+/// The declarations that were stored last are those that an Ask is answered by.
+const DECLARATIONS_REPLACED: Row = Row {
+    file: b"@types\nstruct A { A; }\n@put f\nfn()->int{bb0{return;}}\n@types\n",
+    out: b"ask f\nf 0\n",
+    err: b"",
+    status: 0,
+};
+
+/// Declarations alone are stored, and nothing is asked.
+const DECLARATIONS_ALONE: Row = Row {
+    file: b"@types\nstruct A { A; }\n@types",
+    out: b"",
+    err: b"",
+    status: 0,
+};
+
 #[test]
 fn each_file_has_its_reports_and_its_status(rt: HostRuntime) {
-    for row in [&CONFLICT, &REPAIRED, &IN_TURN, &ILL, &REPLACED, &ALL] {
-        let ending = run_whole(&rt, row.file);
-        assert_eq!(rt; ending.out.as_slice(), row.out);
-        assert_eq!(rt; ending.err.as_slice(), row.err);
-        assert_eq!(rt; ending.status, row.status);
+    for row in [
+        &CONFLICT,
+        &REPAIRED,
+        &IN_TURN,
+        &ILL,
+        &REPLACED,
+        &ALL,
+        &BAD_DECLARATION,
+        &GOOD_DECLARATION,
+        &SECOND_IS_BAD,
+        &DECLARATIONS_REPLACED,
+        &DECLARATIONS_ALONE,
+    ] {
+        assert!(rt; leaves(&rt, row));
     }
 }
 
@@ -140,4 +197,23 @@ fn each_stop_has_its_line_and_its_status(rt: HostRuntime) {
         assert_eq!(rt; stop_with("demo", &stop, &mut err), status);
         assert_eq!(rt; err.as_slice(), line);
     }
+}
+
+#[test]
+fn sections_of_declarations_are_calls(rt: HostRuntime) -> Result<(), Fail> {
+    let mut file = b"@put f\nfn()->int{bb0{stop;}}\n"
+        .as_slice()
+        .to_vec(rt.alloc())?;
+    for _section in 0..999_998 {
+        file.extend_from_slice(b"@types\n")?;
+    }
+    let most = run(&rt, &file, 1 << 20, NEVER, NEVER, NEVER);
+    assert_eq!(rt; most.out.as_slice(), b"ask f\nf 0\n" as &[u8]);
+    assert_eq!(rt; most.status, 0);
+    file.extend_from_slice(b"@types\n")?;
+    let more = run(&rt, &file, 1 << 20, NEVER, NEVER, NEVER);
+    assert_eq!(rt; more.err.as_slice(), b"too many calls\n" as &[u8]);
+    assert_eq!(rt; more.status, 3);
+    assert!(rt; more.out.is_empty());
+    Ok(())
 }

@@ -68,9 +68,10 @@ impl Write for Output {
 /// The number of no call.
 pub const NEVER: u32 = u32::MAX;
 
-/// A borrow that ends before its local is written again, put under three names of which one is no root.
+/// A borrow that ends before its local is written again, put under three names of which one is no root, and behind a
+/// declaration.
 const FILE: &[u8] =
-    b"@put g\nfn () -> int { let _1: int; let _2: &'?0 int; bb0 { _1 = 1; _2 = &'?1 _1; _0 = copy _2.*; _1 = 2; return; } }\n@put f/0\nfn()->int{bb0{return;}}\n@put f\n\nfn()->int{bb0{_0=1;return;}}\n@put g\nfn()->int{bb0{_0=1;return;}}";
+    b"@types\nstruct S { int; }\n@put g\nfn () -> int { let _1: int; let _2: &'?0 int; bb0 { _1 = 1; _2 = &'?1 _1; _0 = copy _2.*; _1 = 2; return; } }\n@put f/0\nfn()->int{bb0{return;}}\n@put f\n\nfn()->int{bb0{_0=1;return;}}\n@put g\nfn()->int{bb0{_0=1;return;}}";
 
 const REPORTS: &[u8] = b"ask f\nf 0\nask g\ng 0\n";
 
@@ -155,7 +156,30 @@ fn tells_the_first_fault(rt: HostRuntime) -> Result<(), Fail> {
         ),
         (b"@put  f\nfn()->int{bb0{return;}}", b"line 1: bad header\n"),
         (b"@put f \nfn()->int{bb0{return;}}", b"line 1: bad header\n"),
-        (b"@types\n", b"line 1: bad header\n"),
+        (b"@types \n", b"line 1: bad header\n"),
+        (b"@types\r\n", b"line 1: bad header\n"),
+        (b"@Types\n", b"line 1: bad header\n"),
+        (b"@types f\n", b"line 1: bad header\n"),
+        (b"@type\n", b"line 1: bad header\n"),
+        (
+            b"@types\nstruct S {}\n@types\nstruct S { int }",
+            b"line 3: grammar at 15\n",
+        ),
+        (
+            b"@types\nfn()->int{bb0{return;}}",
+            b"line 1: grammar at 0\n",
+        ),
+        (b"@put f\nstruct S { int; }", b"line 1: grammar at 0\n"),
+        (b"@types\nextern f\t() -> int;", b"line 1: token at 8\n"),
+        (b"@types\n\xC3", b"line 1: not ascii at 0\n"),
+        (
+            b"@types\nstruct aaaaaaaaaaaaaaaaaaaaaaaaaaaaaaaaa { int; }",
+            b"line 1: limit at 7\n",
+        ),
+        (
+            b"@types\nstruct H<+'a> { &'static mut &'a int; }\n@put f\nfn",
+            b"line 3: grammar at 2\n",
+        ),
         (b"@0 ask f\n", b"line 1: bad header\n"),
         (b"@put f", b"line 1: grammar at 0\n"),
         (
@@ -171,26 +195,6 @@ fn tells_the_first_fault(rt: HostRuntime) -> Result<(), Fail> {
         (
             b"@put f\nfn()->int{bb0{return;}}\n\n@put g\nfn\n@x\n",
             b"line 4: grammar at 3\n",
-        ),
-        (
-            b"@put f\nfn()->int{bb0{return;}}\n@put g\nfn()->int{bb0{goto bb0;}}\n@x\n",
-            b"line 3: not served\n",
-        ),
-        (
-            b"@put f\nfn<'a>()->int{bb0{return;}}",
-            b"line 1: not served\n",
-        ),
-        (
-            b"@put f\nfn()->S{bb0{return;}}\n@x",
-            b"line 1: not served\n",
-        ),
-        (
-            b"@put f\nfn()->int{bb0{drop _0;return;}}",
-            b"line 1: not served\n",
-        ),
-        (
-            b"@put f\nfn()->int{bb0{stop;}bb1{stop;}}",
-            b"line 1: not served\n",
         ),
         (
             b"@x\n@put f\nfn()->int{bb0{goto bb0;}}",

@@ -1,16 +1,17 @@
 -- The rows of start elements, one region after another, and past the last.
 use Rattle.std.proofs.Common.{◌≡◌, ℕ, ◌+◌, ◌<◌, ◌≤◌, inl, inr, Bool, true, false, ◌&&◌, nat_lt, ◌==◌, List, [], ◌∷◌, ◌++◌, length, get_or, refl, sym, ap, ◌∙◌, subst, arith}
-use Rattle.std.specs.List.{list_any, enumerate_from}
+use Rattle.std.specs.List.{All, list_any, enumerate_from}
 use Rattle.std.proofs.lemmas.Bool.{cases_lt, le-ltb, ne_eqb}
 use Rattle.std.proofs.lemmas.List.{get_or_past, get_or_append_left, get_or-append-add}
 use Rattle.std.proofs.lemmas.List.Elements.{All-head, All-tail}
 use Rattle.std.proofs.Math.Nat.{eq-or-lt_of_le}
 use Rattle.bc_syntax.specs.declared.syntax.Ty.{Ty}
-use Rattle.bc_syntax.specs.declared.syntax.Reference.{Reference}
+use Rattle.bc_syntax.specs.declared.syntax.Region.{Region}
 use Rattle.bc_flow.specs.BitSet.{has}
 use Rattle.bc_flow.specs.Flow.{row, holds}
 use Rattle.bc_mir.specs.Mir.{Mir}
 use Rattle.bc_mir.specs.Regions.{region_number}
+use Rattle.bc_cons.specs.Mentions.{regions_of}
 use Rattle.bc_cons.specs.Starts.{mentions, starts_with}
 use Rattle.bc_cons.specs.Below.{TyIsBelow, TysAreBelow}
 
@@ -30,20 +31,20 @@ starts_more wanted rows new n count is before r e below =
           ap (λ s. has s e) (get_or_append_left rows (new ∷ []) [] r within) ∙ before r e less
     ]
 
--- a region whose number is past those of a type does not stand in it
-unmentioned : (u bound r : ℕ) (rs : List Reference) → bound ≤ r → TyIsBelow u bound rs → list_any (λ (q : Reference). region_number u q.region == r) rs ≡ false
+-- a region whose number is past those of regions is none of them
+unmentioned : (u bound r : ℕ) (rs : List Region) → bound ≤ r → All (λ (q : Region). region_number u q < bound) rs → list_any (λ (q : Region). region_number u q == r) rs ≡ false
 unmentioned u bound r [] past below = refl
 unmentioned u bound r (q ∷ rs) past below =
-    let here = All-head (λ (x : Reference). region_number u x.region < bound) q rs below in
-    let apart : region_number u q.region == r ≡ false = ne_eqb (region_number u q.region) r (λ e. absurd (omega (arith, e, here, past))) in
-    rw apart (unmentioned u bound r rs past (All-tail (λ (x : Reference). region_number u x.region < bound) q rs below))
+    let here = All-head (λ (x : Region). region_number u x < bound) q rs below in
+    let apart : region_number u q == r ≡ false = ne_eqb (region_number u q) r (λ e. absurd (omega (arith, e, here, past))) in
+    rw apart (unmentioned u bound r rs past (All-tail (λ (x : Region). region_number u x < bound) q rs below))
 
 unstarted : (u bound r p n : ℕ) (live : ℕ → ℕ → Bool) (tys : List Ty) → bound ≤ r → TysAreBelow u bound tys →
     list_any (λ (here : ℕ × Ty). mentions u r here.1 && live here.0 p) (enumerate_from n tys) ≡ false
 unstarted u bound r p n live [] past below = refl
 unstarted u bound r p n live (ty ∷ tys) past below =
-    let here = All-head (λ (t : Ty). TyIsBelow u bound t.references) ty tys below in
-    rw (unmentioned u bound r ty.references past here) (unstarted u bound r p (n + 1) live tys past (All-tail (λ (t : Ty). TyIsBelow u bound t.references) ty tys below))
+    let here = All-head (λ (t : Ty). TyIsBelow u bound t) ty tys below in
+    rw (unmentioned u bound r (regions_of ty) past here) (unstarted u bound r p (n + 1) live tys past (All-tail (λ (t : Ty). TyIsBelow u bound t) ty tys below))
 
 nothing_and : (b : Bool) → (b && false) ≡ false
 nothing_and true = refl

@@ -1,10 +1,11 @@
--- The outlives constraints of a body: (longer, shorter) says that the value of the longer region contains that of the shorter.
-use Rattle.std.specs.Prelude.{ℕ, Bool, false, not, ◌==◌, if◌then◌else◌, Option, Some, None, List, [], ◌∷◌, ◌++◌, map, filter}
+-- The outlives constraints of a body: the value of the longer region contains that of the shorter.
+use Rattle.std.specs.Prelude.{ℕ, Bool, false, not, ◌==◌, List, [], ◌++◌, map, filter}
 use Rattle.std.specs.List.{flat_map}
 use Rattle.bc_syntax.specs.declared.syntax.Ty.{Ty}
 use Rattle.bc_syntax.specs.declared.syntax.Region.{Region}
 use Rattle.bc_syntax.specs.declared.syntax.Region.TheVariants.{Universal, Variable}
 use Rattle.bc_syntax.specs.declared.syntax.Reference.{Reference}
+use Rattle.bc_syntax.specs.declared.syntax.Declaration.{Declaration}
 use Rattle.bc_syntax.specs.declared.syntax.Rvalue.{Rvalue}
 use Rattle.bc_syntax.specs.declared.syntax.Rvalue.TheVariants.{Use, Borrow, Aggregate, Calc}
 use Rattle.bc_syntax.specs.declared.syntax.Statement.TheVariants.{Assign, Dead, Drop, Nop}
@@ -12,55 +13,35 @@ use Rattle.bc_syntax.specs.declared.syntax.Terminator.TheVariants.{Goto, If, Cal
 use Rattle.bc_mir.specs.declared.mir.Step.{Step}
 use Rattle.bc_mir.specs.declared.mir.Instruction.{Instruction}
 use Rattle.bc_mir.specs.declared.mir.Instruction.TheVariants.{Statement, Terminator}
+use Rattle.bc_mir.specs.declared.subtype.Constraint.{Constraint as RegionConstraint}
 use Rattle.bc_mir.specs.Mir.{Mir}
-use Rattle.bc_mir.specs.Places.{is_mutable, place_type, dereferenced, from_last_shared}
+use Rattle.bc_mir.specs.Pairs.{assignment_pairs, call_pairs}
+use Rattle.bc_mir.specs.Places.{from_last_shared}
+use Rattle.bc_mir.specs.PlaceTypes.{references_of_place}
 use Rattle.bc_mir.specs.Regions.{region_number}
-use Rattle.bc_mir.specs.Typing.{rvalue_type}
+use Rattle.bc_mir.specs.Subtype.{outlives}
 use Rattle.bc_cons.specs.declared.facts.Constraint.{Constraint}
 
--- a region and one that it outlives: (longer, shorter)
-abbrev pub Pair : Type 0
-Pair = Region × Region
-
--- the pairs that T = U needs: those of T <: U and those of U <: T
-abbrev pub equate : List Reference → List Reference → List Pair
-equate [] us = []
-equate (t ∷ ts) [] = []
-equate (t ∷ ts) (u ∷ us) = (t.region, u.region) ∷ (u.region, t.region) ∷ equate ts us
-
--- the pairs that T <: U needs: a reference is covariant in its region and in what it leads to, but behind a mutable
--- one the types are to be equal
-abbrev pub sub : List Reference → List Reference → List Pair
-sub [] us = []
-sub (t ∷ ts) [] = []
-sub (t ∷ ts) (u ∷ us) = (t.region, u.region) ∷ (if is_mutable t.mutability then equate ts us else sub ts us)
-
-abbrev pub sub_types : Option (List Reference) → Option (List Reference) → List Pair
-sub_types (Some value) (Some target) = sub value target
-sub_types (Some value) None = []
-sub_types None target = []
-
 -- a reborrow: each supporting prefix that dereferences a reference of region b, borrowed for r, gives (b, r)
-abbrev pub reborrow_pairs : List Ty → Rvalue → List Pair
-reborrow_pairs locals (Use operand) = []
-reborrow_pairs locals (Borrow borrow) =
-    map (λ (reference : Reference). (reference.region, borrow.reference.region)) (from_last_shared (dereferenced locals borrow.place))
-reborrow_pairs locals (Aggregate aggregate) = []
-reborrow_pairs locals (Calc operands) = []
+abbrev pub reborrow_pairs : List Declaration → List Ty → Rvalue → List RegionConstraint
+reborrow_pairs types locals (Use operand) = []
+reborrow_pairs types locals (Borrow borrow) =
+    map (λ (reference : Reference). outlives reference.region borrow.reference.region) (from_last_shared (references_of_place types locals borrow.place))
+reborrow_pairs types locals (Aggregate aggregate) = []
+reborrow_pairs types locals (Calc operands) = []
 
--- the pairs of a point: the value of an assignment is a subtype of its target, and a borrow may be a reborrow; no body
--- that fits makes a struct or calls a function, since none is declared
-abbrev pub pairs_at : List Ty → Instruction → List Pair
-pairs_at locals (Statement (Assign assignment)) =
-    sub_types (rvalue_type locals assignment.value) (place_type locals assignment.target) ++ reborrow_pairs locals assignment.value
-pairs_at locals (Statement (Dead local)) = []
-pairs_at locals (Statement (Drop place)) = []
-pairs_at locals (Statement Nop) = []
-pairs_at locals (Terminator (Goto label)) = []
-pairs_at locals (Terminator (If condition)) = []
-pairs_at locals (Terminator (Call call)) = []
-pairs_at locals (Terminator Return) = []
-pairs_at locals (Terminator Stop) = []
+-- the pairs of a point: those of an assignment, whose borrow may be a reborrow, and those of a call
+abbrev pub pairs_at : List Declaration → List Ty → Instruction → List RegionConstraint
+pairs_at types locals (Statement (Assign assignment)) =
+    assignment_pairs types locals assignment ++ reborrow_pairs types locals assignment.value
+pairs_at types locals (Statement (Dead local)) = []
+pairs_at types locals (Statement (Drop place)) = []
+pairs_at types locals (Statement Nop) = []
+pairs_at types locals (Terminator (Goto label)) = []
+pairs_at types locals (Terminator (If condition)) = []
+pairs_at types locals (Terminator (Call call)) = call_pairs types locals call
+pairs_at types locals (Terminator Return) = []
+pairs_at types locals (Terminator Stop) = []
 
 abbrev pub same_region : Region → Region → Bool
 same_region (Universal u) (Universal v) = u == v
@@ -69,16 +50,16 @@ same_region (Universal u) (Variable v) = false
 same_region (Variable v) (Universal u) = false
 
 -- a region and itself make no constraint
-abbrev pub differ : Pair → Bool
-differ pair = not (same_region pair.0 pair.1)
+abbrev pub differ : RegionConstraint → Bool
+differ pair = not (same_region pair.longer pair.shorter)
 
 -- the pairs of all points
-abbrev pub all_pairs : Mir → List Pair
-all_pairs mir = flat_map (λ (step : Step). pairs_at mir.locals step.instruction) mir.steps
+abbrev pub all_pairs : Mir → List RegionConstraint
+all_pairs mir = flat_map (λ (step : Step). pairs_at mir.types mir.locals step.instruction) mir.steps
 
 -- a pair by the numbers of its regions
-abbrev pub numbered : ℕ → Pair → Constraint
-numbered universals pair = record { longer = region_number universals pair.0; shorter = region_number universals pair.1 }
+abbrev pub numbered : ℕ → RegionConstraint → Constraint
+numbered universals pair = record { longer = region_number universals pair.longer; shorter = region_number universals pair.shorter }
 
 -- the constraints of a body, by the numbers of the regions
 abbrev pub constraints_of : Mir → List Constraint

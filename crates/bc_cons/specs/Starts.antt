@@ -3,9 +3,10 @@
 use Rattle.std.specs.Prelude.{ℕ, ◌+◌, Bool, ◌&&◌, ◌||◌, ◌==◌, nat_lt, if◌then◌else◌, List, length}
 use Rattle.std.specs.List.{list_any, enumerate_from}
 use Rattle.bc_syntax.specs.declared.syntax.Ty.{Ty}
-use Rattle.bc_syntax.specs.declared.syntax.Reference.{Reference}
+use Rattle.bc_syntax.specs.declared.syntax.Region.{Region}
 use Rattle.bc_mir.specs.Mir.{Mir}
 use Rattle.bc_mir.specs.Regions.{region_number}
+use Rattle.bc_cons.specs.Mentions.{regions_of}
 
 -- a universal region starts with all points and its own end, and `'static` with all ends
 abbrev pub universal_start : ℕ → ℕ → ℕ → ℕ → Bool
@@ -14,7 +15,7 @@ universal_start universals points region element =
 
 -- a type in which a region stands
 abbrev pub mentions : ℕ → ℕ → Ty → Bool
-mentions universals region ty = list_any (λ (reference : Reference). region_number universals reference.region == region) ty.references
+mentions universals region ty = list_any (λ (other : Region). region_number universals other == region) (regions_of ty)
 
 -- a variable starts with the points on whose entry a local is live in whose type it stands
 abbrev pub variable_start : ℕ → List Ty → (ℕ → ℕ → Bool) → ℕ → ℕ → Bool

@@ -11,7 +11,7 @@ use crate::facts::{Constraint, Facts};
 use crate::pairs::push_pairs_at;
 use crate::starts::start_rows;
 use bc_live::LiveSets;
-use bc_mir::{Step, Typed, region_number};
+use bc_mir::{Constraint as RegionConstraint, GoodTypes, Step, Typed, region_number};
 use bc_syntax::{Region, Ty};
 use std::alloc::{AllocError, Global};
 
@@ -24,42 +24,43 @@ fn is_same_region(first: Region, second: Region) -> bool
 /// The pairs of points, in order.
 fn pairs_of_steps(
     alloc: Global,
+    types: &GoodTypes,
     locals: &[Ty],
     steps: &[Step],
-) -> Result<Vec<(Region, Region)>, AllocError>
-    ensures { IfOk result (λ pairs. pairs.items ≡ flat_map (λ step. pairs_at locals.now step.instruction) steps.now) }
+) -> Result<Vec<RegionConstraint>, AllocError>
+    ensures { IfOk result (λ pairs. pairs.items ≡ flat_map (λ step. pairs_at types.now locals.now step.instruction) steps.now) }
 {
     let mut pairs = Vec::new(alloc);
     for step in steps {
-        push_pairs_at(alloc, &mut pairs, locals, &step.instruction)?;
+        push_pairs_at(alloc, &mut pairs, types, locals, &step.instruction)?;
     }
     Ok(pairs)
 }
 
 /// Those of two regions.
-fn differing(alloc: Global, pairs: &[(Region, Region)]) -> Result<Vec<(Region, Region)>, AllocError>
+fn differing(alloc: Global, pairs: &[RegionConstraint]) -> Result<Vec<RegionConstraint>, AllocError>
     ensures { IfOk result (λ kept. kept.items ≡ filter differ pairs.now) }
 {
     pairs
         .iter()
         .copied()
-        .filter(|pair| !is_same_region(pair.0, pair.1))
+        .filter(|pair| !is_same_region(pair.longer, pair.shorter))
         .collect(alloc)
 }
 
-fn constraint(universals: u8, pair: (Region, Region)) -> Constraint
+fn constraint(universals: u8, pair: RegionConstraint) -> Constraint
     ensures { result ≡ numbered universals pair }
 {
     Constraint {
-        longer: region_number(universals, pair.0),
-        shorter: region_number(universals, pair.1),
+        longer: region_number(universals, pair.longer),
+        shorter: region_number(universals, pair.shorter),
     }
 }
 
 fn by_number(
     alloc: Global,
     universals: u8,
-    pairs: &[(Region, Region)],
+    pairs: &[RegionConstraint],
 ) -> Result<Vec<Constraint>, AllocError>
     ensures { IfOk result (λ constraints. constraints.items ≡ map (numbered universals) pairs.now) }
 {
@@ -83,7 +84,7 @@ pub fn constraints(alloc: Global, typed: &Typed, live: &LiveSets) -> Result<Fact
     let universals = typed.universals();
     let pairs = differing(
         alloc,
-        &pairs_of_steps(alloc, typed.locals(), typed.steps())?,
+        &pairs_of_steps(alloc, typed.types(), typed.locals(), typed.steps())?,
     )?;
     let declared = types_bound(universals, usize::from(universals), typed.locals());
     let regions = pairs_bound(universals, declared, &pairs);

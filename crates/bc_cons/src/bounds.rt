@@ -1,13 +1,25 @@
 //! How many regions a body has, by the numbers that it uses.
 ghost use Rattle.std.specs.Prelude.{◌≡◌};
-ghost use Rattle.bc_cons.specs.Bounds.{type_bound as bound_of_type, types_bound as bound_of_types, pairs_bound as bound_of_pairs};
+ghost use Rattle.bc_cons.specs.Mentions.{regions_of_references, regions_of_base, regions_of};
+ghost use Rattle.bc_cons.specs.Bounds.{regions_bound as bound_of_regions, types_bound as bound_of_types, pairs_bound as bound_of_pairs};
 
-use bc_mir::region_number;
-use bc_syntax::{Reference, Region, Ty};
+use bc_mir::{Constraint as RegionConstraint, region_number};
+use bc_syntax::{Base, Reference, Region, Ty};
 
-/// One more than the greatest number of a region in a type, or `least` where that is more.
-fn type_bound(universals: u8, least: usize, references: &[Reference]) -> usize
-    ensures { result ≡ bound_of_type universals least references.now }
+/// One more than the greatest number of the regions, or `least` where that is more.
+fn regions_bound(universals: u8, least: usize, regions: &[Region]) -> usize
+    ensures { result ≡ bound_of_regions universals least regions.now }
+{
+    let mut bound = least;
+    for region in regions {
+        bound = bound.max(region_number(universals, *region) + 1);
+    }
+    bound
+}
+
+/// The same for the regions of references.
+fn references_bound(universals: u8, least: usize, references: &[Reference]) -> usize
+    ensures { result ≡ bound_of_regions universals least (regions_of_references references.now) }
 {
     let mut bound = least;
     for reference in references {
@@ -16,26 +28,44 @@ fn type_bound(universals: u8, least: usize, references: &[Reference]) -> usize
     bound
 }
 
-/// One more than the greatest number of a region in the types of locals, or `least` where that is more.
+/// The same for the arguments of a struct.
+fn base_bound(universals: u8, least: usize, base: &Base) -> usize
+    ensures { result ≡ bound_of_regions universals least (regions_of_base base.now) }
+{
+    match base {
+        Base::Int => least,
+        Base::Struct(instance) => regions_bound(universals, least, instance.regions.as_slice()),
+    }
+}
+
+/// The same for the regions that stand in a type.
+fn type_bound(universals: u8, least: usize, ty: &Ty) -> usize
+    ensures { result ≡ bound_of_regions universals least (regions_of ty.now) }
+{
+    let bound = references_bound(universals, least, ty.references.as_slice());
+    base_bound(universals, bound, &ty.base)
+}
+
+/// The same for the regions that stand in the types of locals.
 pub(crate) fn types_bound(universals: u8, least: usize, locals: &[Ty]) -> usize
     ensures { result ≡ bound_of_types universals least locals.now }
 {
     let mut bound = least;
     for ty in locals {
-        bound = type_bound(universals, bound, ty.references.as_slice());
+        bound = type_bound(universals, bound, ty);
     }
     bound
 }
 
-/// One more than the greatest number of a region in pairs, or `least` where that is more.
-pub(crate) fn pairs_bound(universals: u8, least: usize, pairs: &[(Region, Region)]) -> usize
+/// The same for the regions of pairs.
+pub(crate) fn pairs_bound(universals: u8, least: usize, pairs: &[RegionConstraint]) -> usize
     ensures { result ≡ bound_of_pairs universals least pairs.now }
 {
     let mut bound = least;
-    for (longer, shorter) in pairs {
+    for pair in pairs {
         bound = bound
-            .max(region_number(universals, *longer) + 1)
-            .max(region_number(universals, *shorter) + 1);
+            .max(region_number(universals, pair.longer) + 1)
+            .max(region_number(universals, pair.shorter) + 1);
     }
     bound
 }

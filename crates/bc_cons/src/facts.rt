@@ -15,6 +15,7 @@ pub struct Constraint {
 }
 
 /// For each region the elements that it starts with, and the constraints between regions.
+/// (RFC 2094, "Liveness constraints" and "Subtyping".)
 #[derive(Drop)]
 pub struct Facts {
     starts: Vec<BitSet>,
@@ -34,6 +35,7 @@ impl Model for Facts {
 
 impl Facts {
     /// The facts with these start rows, one of so many elements for each region, and these constraints between them.
+    /// (Own.)
     pub fn new(starts: Vec<BitSet>, pairs: Vec<Constraint>, elements: usize) -> Self
         requires starts { HaveSize elements starts.items }
         requires pairs { ArePairsWithin (length starts.items) pairs.items }
@@ -49,6 +51,7 @@ impl Facts {
     }
 
     /// How many regions there are.
+    /// (Own.)
     pub fn regions(&self) -> usize
         ensures { result ≡ length self.now.starts }
     {
@@ -56,6 +59,7 @@ impl Facts {
     }
 
     /// How many elements there are.
+    /// (Own.)
     pub fn elements(&self) -> usize
         ensures { result ≡ self.now.elements }
     {
@@ -63,6 +67,7 @@ impl Facts {
     }
 
     /// The start rows: for each region the set of the elements that it starts with.
+    /// (Own.)
     pub fn starts(&self) -> &[BitSet]
         ensures starts { result.now ≡ self.now.starts }
         ensures sizes { HaveSize self.now.elements self.now.starts }
@@ -71,6 +76,7 @@ impl Facts {
     }
 
     /// The constraints, each a pair of regions.
+    /// (Own.)
     pub fn pairs(&self) -> &[Constraint]
         ensures pairs { result.now ≡ self.now.pairs }
         ensures within { ArePairsWithin (length self.now.starts) self.now.pairs }
@@ -79,6 +85,7 @@ impl Facts {
     }
 
     /// Whether a region starts with an element. Both are numbers below their counts. It takes no memory.
+    /// (Own.)
     pub fn starts_with(&self, region: usize, element: usize) -> bool
         requires region { region < length self.now.starts }
         requires element { element < self.now.elements }

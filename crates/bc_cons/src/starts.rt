@@ -1,15 +1,17 @@
 //! The rows of the elements that regions start with.
 ghost use Rattle.std.specs.Prelude.{◌≡◌, ◌==◌, ◌+◌, ◌<◌, ◌≤◌, ◌&&◌, ◌||◌, ℕ, nat_lt, length, IfOk};
+ghost use Rattle.std.specs.List.{list_any};
 ghost use Rattle.bc_flow.specs.BitSet.{has};
 ghost use Rattle.bc_flow.specs.Flow.{holds, HaveSize};
 ghost use Rattle.bc_cons.specs.Starts.{universal_start, mentions as mention_test, variable_start, starts_with};
 ghost use Rattle.bc_cons.specs.Below.{TysAreBelow};
+ghost use Rattle.bc_cons.specs.Mentions.{regions_of_base};
 ghost use Rattle.bc_mir.specs.Regions.{region_number as number_of};
 
 use bc_flow::BitSet;
 use bc_live::LiveSets;
 use bc_mir::{Typed, region_number};
-use bc_syntax::{Region, Ty};
+use bc_syntax::{Base, Reference, Region, Ty};
 use std::alloc::{AllocError, Global};
 
 /// What a universal region starts with.
@@ -41,15 +43,39 @@ fn is_numbered(universals: u8, region: Region, number: usize) -> bool
     region_number(universals, region) == number
 }
 
+/// Whether a region stands among regions.
+fn stands_among(universals: u8, region: usize, regions: &[Region]) -> bool
+    ensures { result ≡ list_any (λ other. number_of universals other == region) regions.now }
+{
+    regions
+        .iter()
+        .any(|other| is_numbered(universals, *other, region))
+}
+
+/// Whether a region is that of a reference.
+fn stands_in_references(universals: u8, region: usize, references: &[Reference]) -> bool
+    ensures { result ≡ list_any (λ reference. number_of universals reference.region == region) references.now }
+{
+    references.iter().any(|reference| is_numbered(universals, reference.region, region))
+}
+
+/// Whether a region is an argument of a struct.
+fn stands_in_base(universals: u8, region: usize, base: &Base) -> bool
+    ensures { result ≡ list_any (λ other. number_of universals other == region) (regions_of_base base.now) }
+{
+    match base {
+        Base::Int => false,
+        Base::Struct(instance) => { stands_among(universals, region, instance.regions.as_slice()) }
+    }
+}
+
 /// Whether a region stands in a type.
+#[tactic(auto, using(crate::proofs::Mentioning::mentioned))]
 fn mentions(universals: u8, region: usize, ty: &Ty) -> bool
     ensures { result ≡ mention_test universals region ty.now }
 {
-    ty.references.as_slice().iter().any(|reference| is_numbered(
-        universals,
-        reference.region,
-        region,
-    ))
+    stands_in_references(universals, region, ty.references.as_slice())
+        || stands_in_base(universals, region, &ty.base)
 }
 
 /// Adds the points on whose entry a local is live.

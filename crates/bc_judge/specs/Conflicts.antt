@@ -3,6 +3,7 @@ use Rattle.std.specs.Prelude.{ℕ, Bool, true, false, ◌&&◌, ◌||◌, if◌t
 use Rattle.std.specs.List.{flat_map, enumerate_from}
 use Rattle.std.specs.Option.{option_map_or}
 use Rattle.bc_syntax.specs.declared.syntax.Ty.{Ty}
+use Rattle.bc_syntax.specs.declared.syntax.Declaration.{Declaration}
 use Rattle.bc_syntax.specs.declared.syntax.Place.{Place}
 use Rattle.bc_mir.specs.declared.access.Access.{Access}
 use Rattle.bc_mir.specs.declared.access.Depth.{Depth}
@@ -13,25 +14,26 @@ use Rattle.bc_mir.specs.declared.mir.Point.{Point}
 use Rattle.bc_mir.specs.declared.mir.Step.{Step}
 use Rattle.bc_mir.specs.declared.loan.Loan.{Loan}
 use Rattle.bc_mir.specs.Mir.{Mir}
-use Rattle.bc_mir.specs.Places.{is_mutable, is_prefix, is_shallow_prefix, is_supporting_prefix}
+use Rattle.bc_mir.specs.Places.{is_mutable, is_prefix, is_shallow_prefix}
+use Rattle.bc_mir.specs.Supports.{supports}
 use Rattle.bc_mir.specs.Accesses.{accesses_of}
 use Rattle.bc_loans.specs.Loans.{loans_of}
 use Rattle.bc_judge.specs.declared.error.BorrowError.{BorrowError}
 use Rattle.bc_judge.specs.declared.error.BorrowError.TheVariants.{Conflict}
 
 -- an access of this depth to a place reaches a loan of a path
-abbrev pub is_relevant_at : List Ty → Depth → Place → Place → Bool
-is_relevant_at locals Shallow place path = is_prefix path place || is_shallow_prefix place path
-is_relevant_at locals Deep place path = is_prefix path place || is_supporting_prefix locals place path
+abbrev pub is_relevant_at : List Declaration → List Ty → Depth → Place → Place → Bool
+is_relevant_at types locals Shallow place path = is_prefix path place || is_shallow_prefix place path
+is_relevant_at types locals Deep place path = is_prefix path place || supports types locals place path
 
 abbrev pub is_write : AccessKind → Bool
 is_write Read = false
 is_write Write = true
 
 -- a relevant access conflicts with a loan unless the access reads and the loan is shared
-abbrev pub is_conflict : List Ty → Access → Loan → Bool
-is_conflict locals access loan =
-    (is_write access.kind || is_mutable loan.mutability) && is_relevant_at locals access.depth access.place loan.path
+abbrev pub is_conflict : List Declaration → List Ty → Access → Loan → Bool
+is_conflict types locals access loan =
+    (is_write access.kind || is_mutable loan.mutability) && is_relevant_at types locals access.depth access.place loan.path
 
 -- a point, by its number, as it is printed
 abbrev pub point_of : List Step → ℕ → Point
@@ -44,7 +46,7 @@ ScopeTest = ℕ → ℕ → Bool
 -- the conflict of a numbered access of a point with a numbered loan, if they conflict and the loan is in scope there
 abbrev pub conflict_with : Mir → (ℕ → Bool) → Point → ℕ × Access → ℕ × (ℕ × Loan) → List BorrowError
 conflict_with mir in_scope at access loan =
-    if in_scope loan.0 && is_conflict mir.locals access.1 loan.1.1
+    if in_scope loan.0 && is_conflict mir.types mir.locals access.1 loan.1.1
     then Conflict at access.0 (point_of mir.steps loan.1.0) ∷ []
     else []
 

@@ -44,8 +44,8 @@ from_match P (Some step) h = (step, refl, h)
 
 pub use_is_listed : (mir : Mir) (p l : ℕ) → Lists (use_entries mir) p l ↔ Uses mir l p
 use_is_listed mir p l = (
-  λ h. let a = from_entries uses_of mir.steps (record { node = p; fact = l }) h in to_match (λ here. Contains (uses_of here) l) (slice_get mir.steps p) a.0 a.1 a.2,
-  λ h. in_entries uses_of mir.steps p l (from_match (λ here. Contains (uses_of here) l) (slice_get mir.steps p) h),
+  λ h. let a = from_entries (uses_of mir) mir.steps (record { node = p; fact = l }) h in to_match (λ here. Contains (uses_of mir here) l) (slice_get mir.steps p) a.0 a.1 a.2,
+  λ h. in_entries (uses_of mir) mir.steps p l (from_match (λ here. Contains (uses_of mir here) l) (slice_get mir.steps p) h),
 )
 
 from_listed : (o : Option ℕ) (l : ℕ) → Contains (listed o) l → o ≡ Some l

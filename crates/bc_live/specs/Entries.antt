@@ -14,15 +14,15 @@ abbrev pub listed : Option ℕ → List ℕ
 listed (Some local) = local ∷ []
 listed None = []
 
-abbrev pub uses_at : ℕ × Step → List Entry
-uses_at here = entries_at here.0 (uses_of here.1.instruction)
+abbrev pub uses_at : Mir → ℕ × Step → List Entry
+uses_at mir here = entries_at here.0 (uses_of mir here.1.instruction)
 
 abbrev pub definitions_at : ℕ × Step → List Entry
 definitions_at here = entries_at here.0 (listed (defines_of here.1.instruction))
 
 -- what each point uses, and what each point defines
 abbrev pub use_entries : Mir → List Entry
-use_entries mir = flat_map uses_at (enumerate_from 0 mir.steps)
+use_entries mir = flat_map (uses_at mir) (enumerate_from 0 mir.steps)
 
 abbrev pub definition_entries : Mir → List Entry
 definition_entries mir = flat_map definitions_at (enumerate_from 0 mir.steps)

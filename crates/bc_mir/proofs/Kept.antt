@@ -5,6 +5,7 @@ use Rattle.std.proofs.lemmas.List.Folds.{list_all-append}
 use Rattle.std.proofs.lemmas.List.Sums.{sum_by-cons}
 use Rattle.std.specs.List.{All, list_all, flat_map, enumerate_from}
 use Rattle.bc_syntax.specs.declared.syntax.Body.{Body}
+use Rattle.bc_syntax.specs.declared.syntax.Declaration.{Declaration}
 use Rattle.bc_syntax.specs.declared.syntax.Block.{Block}
 use Rattle.bc_syntax.specs.declared.syntax.Statement.{Statement as Simple}
 use Rattle.bc_syntax.specs.declared.syntax.Terminator.{Terminator as Ending}
@@ -16,7 +17,8 @@ use Rattle.bc_flow.specs.Graph.{AreWithin}
 use Rattle.bc_mir.specs.declared.mir.Instruction.{Instruction}
 use Rattle.bc_mir.specs.declared.mir.Instruction.TheVariants.{Statement, Terminator}
 use Rattle.bc_mir.specs.Mir.{Mir, mir_of, block_steps, steps_from, entries_from, successors_of, edges_of_step, edges_of}
-use Rattle.bc_mir.specs.Typing.{is_int_operand, fits_at, first_unfit, Fits}
+use Rattle.bc_mir.specs.Rules.{is_operand_int}
+use Rattle.bc_mir.specs.Typing.{fits_at, first_unfit, Fits}
 use Rattle.bc_mir.specs.Typed.{instruction_fits, steps_fit, IsTyped}
 use Rattle.bc_mir.proofs.Mirs.{length-block_steps}
 use Rattle.bc_mir.proofs.Fitting.{test_passed, no_unfit}
@@ -29,11 +31,6 @@ length-steps_from n (block ∷ blocks) =
     let here = length-block_steps n 0 block.statements block.terminator in
     let rest = length-steps_from (n + 1) blocks in
     omega (arith, length-append (block_steps n 0 block.statements block.terminator) (steps_from (n + 1) blocks), sum_by-cons (λ (b : Block). length b.statements + 1) block blocks)
-
--- there are as many first points as blocks
-pub length-entries_from : (first : ℕ) (blocks : List Block) → length (entries_from first blocks) ≡ length blocks
-length-entries_from first [] = refl
-length-entries_from first (block ∷ blocks) = omega (arith, length-entries_from (first + length block.statements + 1) blocks)
 
 -- each first point is one of the blocks' points
 pub entries-within : (first label : ℕ) (blocks : List Block) → label < length (entries_from first blocks) → get_or (entries_from first blocks) label 0 < first + point_count blocks
@@ -77,12 +74,15 @@ terminator-within mir p (Goto label) entered below fits =
     let joined : IsWithin (length mir.steps) (edge_to mir p label) = (below, entered label (ltb-true label (length mir.entries) fits)) in
     All-cons (IsWithin (length mir.steps)) (edge_to mir p label) [] joined (All-nil (IsWithin (length mir.steps)))
 terminator-within mir p (If condition) entered below fits =
-    let labels = (and_parts (is_int_operand mir.locals condition.operand) _ fits).1 in
+    let labels = (and_parts (is_operand_int mir.types mir.locals condition.operand) _ fits).1 in
     let both = and_parts (ltb condition.then (length mir.entries)) (ltb condition.otherwise (length mir.entries)) labels in
     let first : IsWithin (length mir.steps) (edge_to mir p condition.then) = (below, entered condition.then (ltb-true condition.then (length mir.entries) both.0)) in
     let second : IsWithin (length mir.steps) (edge_to mir p condition.otherwise) = (below, entered condition.otherwise (ltb-true condition.otherwise (length mir.entries) both.1)) in
     All-cons (IsWithin (length mir.steps)) (edge_to mir p condition.then) (edge_to mir p condition.otherwise ∷ []) first (All-cons (IsWithin (length mir.steps)) (edge_to mir p condition.otherwise) [] second (All-nil (IsWithin (length mir.steps))))
-terminator-within mir p (Call call) entered below fits = cc
+terminator-within mir p (Call call) entered below fits =
+    let label = (and_parts (ltb call.target (length mir.entries)) _ fits).0 in
+    let joined : IsWithin (length mir.steps) (edge_to mir p call.target) = (below, entered call.target (ltb-true call.target (length mir.entries) label)) in
+    All-cons (IsWithin (length mir.steps)) (edge_to mir p call.target) [] joined (All-nil (IsWithin (length mir.steps)))
 terminator-within mir p Return entered below fits = All-nil (IsWithin (length mir.steps))
 terminator-within mir p Stop entered below fits = All-nil (IsWithin (length mir.steps))
 
@@ -127,9 +127,9 @@ types-fit body sized =
     (list_all-append (ty_fits true n) body.header.parameters body.lets ∙ and_from _ _ (types-wider n body.header.parameters parameters) sized.lets)
 
 -- a unit that fits is typed
-pub typed : (body : Body) → Sized body → Fits (mir_of body) → IsTyped (mir_of body)
-typed body sized fits =
-    let mir = mir_of body in
+pub typed : (types : List Declaration) (body : Body) → Sized body → Fits (mir_of types body) → IsTyped (mir_of types body)
+typed types body sized fits =
+    let mir = mir_of types body in
     let count : length mir.steps ≡ point_count body.blocks = length-steps_from 0 body.blocks in
     record {
       fits = fits;
@@ -146,8 +146,8 @@ typed body sized fits =
     }
 
 -- every edge of a body that fits joins two of its points
-pub edges-join : (body : Body) → Fits (mir_of body) → AreWithin (edges_of (mir_of body)) (length (mir_of body).steps)
-edges-join body fits =
-    let mir = mir_of body in
+pub edges-join : (types : List Declaration) (body : Body) → Fits (mir_of types body) → AreWithin (edges_of (mir_of types body)) (length (mir_of types body).steps)
+edges-join types body fits =
+    let mir = mir_of types body in
     let count : length mir.steps ≡ point_count body.blocks = length-steps_from 0 body.blocks in
     edges-within mir 0 mir.steps (λ label below. omega (arith, count, entries-within 0 label body.blocks below)) (omega arith) (steps-go-on 0 body.blocks) (no_unfit mir fits)

@@ -7,3 +7,11 @@ pub mod Chains
 pub mod Supported
 pub mod Entries
 pub mod Finding
+pub mod Known
+pub mod Dropping
+pub mod Adding
+pub mod Growing
+pub mod Replacing
+pub mod Supporting
+pub mod Supporters
+pub mod FindingSupporters

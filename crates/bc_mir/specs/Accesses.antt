@@ -1,9 +1,12 @@
 -- What each point does: its accesses in order, and the locals that it uses and defines.
 use Rattle.std.specs.Prelude.{ℕ, Bool, true, false, Option, Some, None, List, [], ◌∷◌, ◌++◌, length, map, if◌then◌else◌}
 use Rattle.std.specs.List.{flat_map, range_with_len}
+use Rattle.std.specs.Option.{option_map_or}
 use Rattle.bc_syntax.specs.declared.syntax.Mutability.{Mutability}
 use Rattle.bc_syntax.specs.declared.syntax.Mutability.TheVariants.{Shared, Mutable}
 use Rattle.bc_syntax.specs.declared.syntax.Projection.{Projection}
+use Rattle.bc_syntax.specs.declared.syntax.Ty.{Ty}
+use Rattle.bc_syntax.specs.declared.syntax.Declaration.{Declaration}
 use Rattle.bc_syntax.specs.declared.syntax.Place.{Place}
 use Rattle.bc_syntax.specs.declared.syntax.Operand.{Operand}
 use Rattle.bc_syntax.specs.declared.syntax.Operand.TheVariants.{Copy, Move, Number}
@@ -21,6 +24,8 @@ use Rattle.bc_mir.specs.declared.access.Depth.TheVariants.{Shallow, Deep}
 use Rattle.bc_mir.specs.declared.access.AccessKind.{AccessKind}
 use Rattle.bc_mir.specs.declared.access.AccessKind.TheVariants.{Read, Write}
 use Rattle.bc_mir.specs.Mir.{Mir}
+use Rattle.bc_mir.specs.Drops.{holds_drop}
+use Rattle.bc_mir.specs.PlaceTypes.{type_of_place}
 
 -- a local alone, as a place
 abbrev pub local_place : ℕ → Place
@@ -46,13 +51,26 @@ rvalue_accesses (Borrow borrow) = access_of Deep (borrow_access borrow.reference
 rvalue_accesses (Aggregate aggregate) = flat_map operand_accesses aggregate.operands
 rvalue_accesses (Calc operands) = flat_map operand_accesses operands
 
--- the access of a target is the last of its point; no type holds a drop, so that `drop` reaches its place alone
-abbrev pub statement_accesses : Simple → List Access
-statement_accesses (Assign assignment) =
+-- the type of a place holds a drop
+abbrev pub runs_drop : List Declaration → List Ty → Place → Bool
+runs_drop types locals place = option_map_or (holds_drop types) (type_of_place types locals place) false
+
+-- where the type holds a drop, dropping the place writes what is behind it too
+abbrev pub drop_access : List Declaration → List Ty → Place → Access
+drop_access types locals place =
+    if runs_drop types locals place then access_of Deep Write place else access_of Shallow Write place
+
+-- where the type holds a drop, dropping the place uses its local
+abbrev pub drop_uses : List Declaration → List Ty → Place → List ℕ
+drop_uses types locals place = if runs_drop types locals place then place.local ∷ [] else []
+
+-- the access of a target is the last of its point
+abbrev pub statement_accesses : List Declaration → List Ty → Simple → List Access
+statement_accesses types locals (Assign assignment) =
     rvalue_accesses assignment.value ++ access_of Shallow Write assignment.target ∷ []
-statement_accesses (Dead local) = access_of Shallow Write (local_place local) ∷ []
-statement_accesses (Drop place) = access_of Shallow Write place ∷ []
-statement_accesses Nop = []
+statement_accesses types locals (Dead local) = access_of Shallow Write (local_place local) ∷ []
+statement_accesses types locals (Drop place) = drop_access types locals place ∷ []
+statement_accesses types locals Nop = []
 
 -- `return` writes every local in order
 abbrev pub return_accesses : ℕ → List Access
@@ -68,7 +86,7 @@ terminator_accesses locals Stop = []
 
 -- the accesses of a point in order, where this happens
 abbrev pub accesses_of : Mir → Instruction → List Access
-accesses_of mir (Statement statement) = statement_accesses statement
+accesses_of mir (Statement statement) = statement_accesses mir.types mir.locals statement
 accesses_of mir (Terminator terminator) = terminator_accesses (length mir.locals) terminator
 
 -- the place that a point overwrites
@@ -111,16 +129,16 @@ abbrev pub target_defines : Place → Option ℕ
 target_defines place = if is_local place then Some place.local else None
 
 -- the locals that a point uses
-abbrev pub uses_of : Instruction → List ℕ
-uses_of (Statement (Assign assignment)) = rvalue_uses assignment.value ++ target_uses assignment.target
-uses_of (Statement (Dead local)) = []
-uses_of (Statement (Drop place)) = []
-uses_of (Statement Nop) = []
-uses_of (Terminator (Goto label)) = []
-uses_of (Terminator (If condition)) = operand_uses condition.operand
-uses_of (Terminator (Call call)) = flat_map operand_uses call.operands ++ target_uses call.destination
-uses_of (Terminator Return) = 0 ∷ []
-uses_of (Terminator Stop) = []
+abbrev pub uses_of : Mir → Instruction → List ℕ
+uses_of mir (Statement (Assign assignment)) = rvalue_uses assignment.value ++ target_uses assignment.target
+uses_of mir (Statement (Dead local)) = []
+uses_of mir (Statement (Drop place)) = drop_uses mir.types mir.locals place
+uses_of mir (Statement Nop) = []
+uses_of mir (Terminator (Goto label)) = []
+uses_of mir (Terminator (If condition)) = operand_uses condition.operand
+uses_of mir (Terminator (Call call)) = flat_map operand_uses call.operands ++ target_uses call.destination
+uses_of mir (Terminator Return) = 0 ∷ []
+uses_of mir (Terminator Stop) = []
 
 -- the local that a point defines
 abbrev pub defines_of : Instruction → Option ℕ

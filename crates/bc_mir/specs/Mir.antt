@@ -5,6 +5,7 @@ use Rattle.bc_syntax.specs.declared.syntax.Body.{Body}
 use Rattle.bc_syntax.specs.declared.syntax.Block.{Block}
 use Rattle.bc_syntax.specs.declared.syntax.Ty.{Ty}
 use Rattle.bc_syntax.specs.declared.syntax.Outlives.{Outlives}
+use Rattle.bc_syntax.specs.declared.syntax.Declaration.{Declaration}
 use Rattle.bc_syntax.specs.declared.syntax.Statement.{Statement as Simple}
 use Rattle.bc_syntax.specs.declared.syntax.Terminator.{Terminator as Ending}
 use Rattle.bc_syntax.specs.declared.syntax.Terminator.TheVariants.{Goto, If, Call, Return, Stop}
@@ -14,9 +15,10 @@ use Rattle.bc_mir.specs.declared.mir.Step.{Step}
 use Rattle.bc_mir.specs.declared.mir.Instruction.{Instruction}
 use Rattle.bc_mir.specs.declared.mir.Instruction.TheVariants.{Statement, Terminator}
 
--- how many universal regions there are, the clauses between them, the types of the locals, the points with
+-- the declarations, how many universal regions there are, the clauses between them, the types of the locals, the points with
 -- what happens at each, and for each block its first point. A point is its number in the list of all points
 pub record Mir : Type 0 where
+  pub types : List Declaration
   pub universals : ℕ
   pub clauses : List Outlives
   pub locals : List Ty
@@ -43,8 +45,9 @@ abbrev pub entries_from : ℕ → List Block → List ℕ
 entries_from first [] = []
 entries_from first (block ∷ blocks) = first ∷ entries_from (first + length block.statements + 1) blocks
 
-abbrev pub mir_of : Body → Mir
-mir_of body = record {
+abbrev pub mir_of : List Declaration → Body → Mir
+mir_of types body = record {
+  types = types;
   universals = universal_count body.header;
   clauses = body.header.clauses;
   locals = locals_of body;

@@ -1,8 +1,7 @@
--- Types of places, and prefixes. A type is the list of its references, the outermost first, round `int`.
-use Rattle.std.specs.Prelude.{Bool, true, false, ◌==◌, if◌then◌else◌, Option, Some, None, option_and_then, is_some, List, [], ◌∷◌, slice_get}
+-- Prefixes of places.
+use Rattle.std.specs.Prelude.{Bool, true, false, not, ◌==◌, if◌then◌else◌, Option, Some, None, is_some, List, [], ◌∷◌}
 use Rattle.std.specs.List.{list_all}
 use Rattle.std.specs.Option.{option_map_or}
-use Rattle.bc_syntax.specs.declared.syntax.Ty.{Ty}
 use Rattle.bc_syntax.specs.declared.syntax.Place.{Place}
 use Rattle.bc_syntax.specs.declared.syntax.Reference.{Reference}
 use Rattle.bc_syntax.specs.declared.syntax.Mutability.{Mutability}
@@ -18,36 +17,9 @@ is_mutable Shared = false
 abbrev pub are_mutable : List Reference → Bool
 are_mutable references = list_all (λ (reference : Reference). is_mutable reference.mutability) references
 
-abbrev pub pointee : List Reference → Option (List Reference)
-pointee [] = None
-pointee (reference ∷ references) = Some references
-
--- the type behind one projection: `.*` takes the pointee of a reference, and no type has fields
-abbrev pub project : Projection → List Reference → Option (List Reference)
-project Deref ty = pointee ty
-project (Field k) ty = None
-
--- the type behind projections in turn
-abbrev pub type_along : List Projection → List Reference → Option (List Reference)
-type_along [] ty = Some ty
-type_along (projection ∷ projections) ty = option_and_then (type_along projections) (project projection ty)
-
--- the type of a place is that of its local, behind each projection in turn
-abbrev pub place_type : List Ty → Place → Option (List Reference)
-place_type locals place =
-    option_and_then (λ (local : Ty). type_along place.projections local.references) (slice_get locals place.local)
-
--- the references that projections dereference, in order
-abbrev pub dereferenced_along : List Projection → List Reference → List Reference
-dereferenced_along [] ty = []
-dereferenced_along (Deref ∷ projections) [] = []
-dereferenced_along (Deref ∷ projections) (reference ∷ ty) = reference ∷ dereferenced_along projections ty
-dereferenced_along (Field k ∷ projections) ty = []
-
--- the references that a place dereferences, in order
-abbrev pub dereferenced : List Ty → Place → List Reference
-dereferenced locals place =
-    option_map_or (λ (local : Ty). dereferenced_along place.projections local.references) (slice_get locals place.local) []
+abbrev pub same_mutability : Mutability → Mutability → Bool
+same_mutability Shared other = not (is_mutable other)
+same_mutability Mutable other = is_mutable other
 
 -- the references that the supporting prefixes of a place dereference: from the last shared one on
 abbrev pub from_last_shared : List Reference → List Reference
@@ -86,12 +58,3 @@ has_no_deref place = list_all is_field place.projections
 -- a prefix for which fields alone were taken away
 abbrev pub is_shallow_prefix : Place → Place → Bool
 is_shallow_prefix prefix place = option_map_or (list_all is_field) (rest_of prefix place) false
-
--- from a place on, projections dereference no shared reference
-abbrev pub passes_only_mutable : List Ty → Place → List Projection → Bool
-passes_only_mutable locals prefix rest =
-    option_map_or (λ ty. are_mutable (dereferenced_along rest ty)) (place_type locals prefix) false
-
--- a prefix for which no dereference of a shared reference was taken away
-abbrev pub is_supporting_prefix : List Ty → Place → Place → Bool
-is_supporting_prefix locals prefix place = option_map_or (passes_only_mutable locals prefix) (rest_of prefix place) false

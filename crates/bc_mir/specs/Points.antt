@@ -19,7 +19,7 @@ HappensAt mir P p = MatchOption (slice_get mir.steps p) ⊥ (λ step. P step.ins
 
 -- a point uses a local
 abbrev pub Uses : Mir → ℕ → ℕ → Type 0
-Uses mir local = HappensAt mir (λ here. Contains (uses_of here) local)
+Uses mir local = HappensAt mir (λ here. Contains (uses_of mir here) local)
 
 -- a point defines a local
 abbrev pub Defines : Mir → ℕ → ℕ → Type 0

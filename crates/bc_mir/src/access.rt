@@ -1,11 +1,13 @@
 //! The accesses of points (RFC 2094, "Borrow checker phase 2").
 ghost use Rattle.std.specs.Prelude.{◌≡◌, ◌≤◌, ◌++◌, ◌∷◌, [], length, IfOk, OnOk};
 ghost use Rattle.std.specs.List.{flat_map};
-ghost use Rattle.bc_mir.specs.Accesses.{local_place as place_of_local, access_of, operand_accesses, borrow_access as kind_of_borrow, rvalue_accesses, statement_accesses, return_accesses, terminator_accesses, accesses_of};
+ghost use Rattle.bc_mir.specs.Accesses.{local_place as place_of_local, access_of, operand_accesses, borrow_access as kind_of_borrow, rvalue_accesses, runs_drop as drop_run, drop_access, statement_accesses, return_accesses, terminator_accesses, accesses_of};
 
+use crate::good_types::GoodTypes;
 use crate::mir::Instruction;
+use crate::place_types::type_of_place;
 use crate::typed::Typed;
-use bc_syntax::{Mutability, Operand, Place, Rvalue, ShortSequence, Statement, Terminator};
+use bc_syntax::{Mutability, Operand, Place, Rvalue, ShortSequence, Statement, Terminator, Ty};
 use std::alloc::{AllocError, Global};
 
 /// Whether an access reaches what is behind the place too (RFC 2094, "Borrow checker phase 2").
@@ -16,6 +18,7 @@ pub enum Depth {
 }
 
 /// What an access does to its place.
+/// (RFC 2094, "Borrow checker phase 2: reporting errors".)
 #[derive(Clone, Copy, Debug, PartialEq, Eq)]
 pub enum AccessKind {
     Read,
@@ -23,6 +26,7 @@ pub enum AccessKind {
 }
 
 /// An access of a point to a place.
+/// (RFC 2094, "Borrow checker phase 2: reporting errors".)
 #[derive(Drop)]
 pub struct Access {
     pub place: Place,
@@ -111,12 +115,52 @@ fn push_write(accesses: &mut Vec<Access>, place: Place) -> Result<(), AllocError
     push_access(accesses, Depth::Shallow, AccessKind::Write, place)
 }
 
+/// Whether the type of a place holds a drop.
+pub(crate) fn runs_drop(
+    alloc: Global,
+    types: &GoodTypes,
+    locals: &[Ty],
+    place: &Place,
+) -> Result<bool, AllocError>
+    ensures { IfOk result (λ runs. runs ≡ drop_run types.now locals.now place.now) }
+{
+    match type_of_place(alloc, types, locals, place)? {
+        Some(ty) => Ok(types.holds_drop(&ty)),
+        None => Ok(false),
+    }
+}
+
+/// Appends the access of a drop: it reaches what is behind the place where the place's type holds a drop.
+fn push_drop(
+    alloc: Global,
+    accesses: &mut Vec<Access>,
+    types: &GoodTypes,
+    locals: &[Ty],
+    place: &Place,
+) -> Result<(), AllocError>
+    ensures { OnOk result (accesses.new.items ≡ accesses.old.items ++ drop_access types.now locals.now place.now ∷ []) }
+{
+    let depth = if runs_drop(alloc, types, locals, place)? {
+        Depth::Deep
+    } else {
+        Depth::Shallow
+    };
+    accesses.push(Access {
+        place: copy_place(place)?,
+        depth,
+        kind: AccessKind::Write,
+    })?;
+    Ok(())
+}
+
 fn push_statement(
     alloc: Global,
     accesses: &mut Vec<Access>,
+    types: &GoodTypes,
+    locals: &[Ty],
     statement: &Statement,
 ) -> Result<(), AllocError>
-    ensures { OnOk result (accesses.new.items ≡ accesses.old.items ++ statement_accesses statement.now) }
+    ensures { OnOk result (accesses.new.items ≡ accesses.old.items ++ statement_accesses types.now locals.now statement.now) }
 {
     match statement {
         Statement::Assign(assignment) => {
@@ -124,7 +168,7 @@ fn push_statement(
             push_write(accesses, copy_place(&assignment.target)?)
         }
         Statement::Dead(local) => push_write(accesses, local_place(alloc, *local)),
-        Statement::Drop(place) => push_write(accesses, copy_place(place)?),
+        Statement::Drop(place) => push_drop(alloc, accesses, types, locals, place),
         Statement::Nop => Ok(()),
     }
 }
@@ -162,6 +206,7 @@ fn push_terminator(
 impl Typed {
     /// Appends the accesses of a point of this unit in order, by what happens there, so that a list serves many
     /// points.
+    /// (RFC 2094, "Borrow checker phase 2: reporting errors".)
     pub fn push_accesses(
         &self,
         alloc: Global,
@@ -171,7 +216,9 @@ impl Typed {
         ensures { OnOk result (accesses.new.items ≡ accesses.old.items ++ accesses_of self.now instruction.now) }
     {
         match instruction {
-            Instruction::Statement(statement) => push_statement(alloc, accesses, statement),
+            Instruction::Statement(statement) => {
+                push_statement(alloc, accesses, self.types(), self.locals(), statement)
+            }
             Instruction::Terminator(terminator) => {
                 push_terminator(alloc, accesses, self.locals().len(), terminator)
             }
@@ -180,6 +227,7 @@ impl Typed {
 
     /// The accesses of a point of this unit in order, by what happens there. The number of an access is its place
     /// in this list.
+    /// (RFC 2094, "Borrow checker phase 2: reporting errors".)
     pub fn accesses(
         &self,
         alloc: Global,

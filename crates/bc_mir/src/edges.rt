@@ -3,8 +3,10 @@ ghost use Rattle.std.specs.Prelude.{◌≡◌, ◌<◌, ◌+◌, ◌^◌, ◌++�
 ghost use Rattle.bc_flow.specs.Graph.{AreWithin};
 ghost use Rattle.bc_flow.specs.declared.graph.Edge.{Edge};
 ghost use Rattle.bc_mir.specs.Mir.{labels_of, successors_of, edges_of};
-ghost use Rattle.bc_mir.specs.Typing.{fits_terminator, fits_at};
+ghost use Rattle.bc_mir.specs.Rules.{terminator_keeps_rules};
+ghost use Rattle.bc_mir.specs.Typing.{fits_at};
 
+use crate::good_types::GoodTypes;
 use crate::mir::{Draft, Instruction};
 use crate::typed::Typed;
 use bc_flow::Edge;
@@ -30,12 +32,13 @@ fn push_edge(
 
 fn push_terminator_edges(
     edges: &mut Vec<Edge>,
+    types: &GoodTypes,
     locals: &[Ty],
     entries: &[usize],
     point: usize,
     terminator: &Terminator,
 ) -> Result<(), AllocError>
-    requires { fits_terminator locals.now (length entries.now) terminator.now ≡ true }
+    requires { terminator_keeps_rules types.now locals.now (length entries.now) terminator.now ≡ true }
     ensures { OnOk result (edges.new.items
         ≡ edges.old.items ++ map (λ q. record { from = point; to = q }) (map (slice_index entries.now) (labels_of terminator.now))) }
 {
@@ -73,6 +76,7 @@ impl Draft {
             }
             Instruction::Terminator(terminator) => push_terminator_edges(
                 edges,
+                &self.types,
                 self.locals.as_slice(),
                 self.entries.as_slice(),
                 point,
@@ -85,6 +89,7 @@ impl Draft {
 impl Typed {
     /// The edges between points, each of which joins two of the unit's points: from a point to the next of its
     /// block, and from a terminator to the first point of each of its labels.
+    /// (RFC 2094, "Control-flow graph".)
     pub fn edges(&self, alloc: Global) -> Result<Vec<Edge>, AllocError>
         ensures value { IfOk result (λ edges. edges.items ≡ edges_of self.now) }
         ensures within { AreWithin (edges_of self.now) (length self.now.steps) }

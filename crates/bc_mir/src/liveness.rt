@@ -1,10 +1,13 @@
 //! The locals that points use and define (RFC 2094, "Liveness").
 ghost use Rattle.std.specs.Prelude.{◌≡◌, ◌++◌, OnOk, IfOk};
 ghost use Rattle.std.specs.List.{flat_map};
-ghost use Rattle.bc_mir.specs.Accesses.{operand_uses, rvalue_uses, is_local as local_test, target_uses, target_defines, uses_of, defines_of};
+ghost use Rattle.bc_mir.specs.Accesses.{operand_uses, rvalue_uses, is_local as local_test, target_uses, target_defines, drop_uses, uses_of, defines_of};
 
+use crate::access::runs_drop;
+use crate::good_types::GoodTypes;
 use crate::mir::Instruction;
-use bc_syntax::{Operand, Place, Rvalue, Statement, Terminator};
+use crate::typed::Typed;
+use bc_syntax::{Operand, Place, Rvalue, Statement, Terminator, Ty};
 use std::alloc::{AllocError, Global};
 
 fn push_operand(locals: &mut Vec<u8>, operand: &Operand) -> Result<(), AllocError>
@@ -55,38 +58,66 @@ fn push_target(locals: &mut Vec<u8>, place: &Place) -> Result<(), AllocError>
     Ok(())
 }
 
-/// Appends the locals that a point uses, in the order in which it does; a local stands as often as it is used.
-pub fn push_uses(locals: &mut Vec<u8>, instruction: &Instruction) -> Result<(), AllocError>
-    ensures { OnOk result (locals.new.items ≡ locals.old.items ++ uses_of instruction.now) }
+/// Appends the local that a drop uses: its place's, where the place's type holds a drop.
+fn push_drop(
+    alloc: Global,
+    used: &mut Vec<u8>,
+    types: &GoodTypes,
+    locals: &[Ty],
+    place: &Place,
+) -> Result<(), AllocError>
+    ensures { OnOk result (used.new.items ≡ used.old.items ++ drop_uses types.now locals.now place.now) }
 {
-    match instruction {
-        Instruction::Statement(Statement::Assign(assignment)) => {
-            push_rvalue(locals, &assignment.value)?;
-            push_target(locals, &assignment.target)
-        }
-        Instruction::Terminator(Terminator::If(condition)) => {
-            push_operand(locals, &condition.operand)
-        }
-        Instruction::Terminator(Terminator::Call(call)) => {
-            push_operands(locals, call.operands.as_slice())?;
-            push_target(locals, &call.destination)
-        }
-        Instruction::Terminator(Terminator::Return) => {
-            locals.push(0)?;
-            Ok(())
-        }
-        Instruction::Statement(Statement::Dead(_) | Statement::Drop(_) | Statement::Nop)
-        | Instruction::Terminator(Terminator::Goto(_) | Terminator::Stop) => Ok(()),
+    if runs_drop(alloc, types, locals, place)? {
+        used.push(place.local)?;
     }
+    Ok(())
 }
 
-/// The locals that a point uses, in the order in which it does; a local stands as often as it is used.
-pub fn uses(alloc: Global, instruction: &Instruction) -> Result<Vec<u8>, AllocError>
-    ensures { IfOk result (λ locals. locals.items ≡ uses_of instruction.now) }
-{
-    let mut locals = Vec::new(alloc);
-    push_uses(&mut locals, instruction)?;
-    Ok(locals)
+impl Typed {
+    /// Appends the locals that a point of this unit uses, in the order in which it does; a local stands as often as it is
+    /// used.
+    fn push_uses(
+        &self,
+        alloc: Global,
+        used: &mut Vec<u8>,
+        instruction: &Instruction,
+    ) -> Result<(), AllocError>
+        ensures { OnOk result (used.new.items ≡ used.old.items ++ uses_of self.now instruction.now) }
+    {
+        match instruction {
+            Instruction::Statement(Statement::Assign(assignment)) => {
+                push_rvalue(used, &assignment.value)?;
+                push_target(used, &assignment.target)
+            }
+            Instruction::Statement(Statement::Drop(place)) => {
+                push_drop(alloc, used, self.types(), self.locals(), place)
+            }
+            Instruction::Terminator(Terminator::If(condition)) => {
+                push_operand(used, &condition.operand)
+            }
+            Instruction::Terminator(Terminator::Call(call)) => {
+                push_operands(used, call.operands.as_slice())?;
+                push_target(used, &call.destination)
+            }
+            Instruction::Terminator(Terminator::Return) => {
+                used.push(0)?;
+                Ok(())
+            }
+            Instruction::Statement(Statement::Dead(_) | Statement::Nop)
+            | Instruction::Terminator(Terminator::Goto(_) | Terminator::Stop) => Ok(()),
+        }
+    }
+
+    /// The locals that a point of this unit uses, in the order in which it does; a local stands as often as it is used.
+    /// (RFC 2094, "Liveness".)
+    pub fn uses(&self, alloc: Global, instruction: &Instruction) -> Result<Vec<u8>, AllocError>
+        ensures { IfOk result (λ used. used.items ≡ uses_of self.now instruction.now) }
+    {
+        let mut used = Vec::new(alloc);
+        self.push_uses(alloc, &mut used, instruction)?;
+        Ok(used)
+    }
 }
 
 fn defined_by(target: &Place) -> Option<u8>
@@ -100,6 +131,7 @@ fn defined_by(target: &Place) -> Option<u8>
 }
 
 /// The local that a point defines, if it defines one.
+/// (RFC 2094, "Liveness".)
 pub fn defines(instruction: &Instruction) -> Option<u8>
     ensures { result ≡ defines_of instruction.now }
 {

@@ -1,11 +1,10 @@
-//! Loans: what borrows make, and what overwrites their paths.
+//! Loans: what borrows make.
 ghost use Rattle.std.specs.Prelude.{◌≡◌, IfOk};
-ghost use Rattle.bc_mir.specs.Points.{loan_of as loan_made, kills as kill_test};
+ghost use Rattle.bc_mir.specs.Points.{loan_of as loan_made};
 
 use crate::access::copy_place;
 use crate::mir::Instruction;
-use crate::places::is_prefix;
-use bc_syntax::{Mutability, Place, Region, Rvalue, Statement, Terminator};
+use bc_syntax::{Mutability, Place, Region, Rvalue, Statement};
 use std::alloc::AllocError;
 
 /// What a borrow makes: its region, whether it is shared or mutable, and the path that is borrowed (RFC 2094,
@@ -18,6 +17,7 @@ pub struct Loan {
 }
 
 /// The loan that a point makes, or `None` where it is no borrow.
+/// (RFC 2094, "Borrow checker phase 1: computing loans in scope".)
 pub fn loan_of(instruction: &Instruction) -> Result<Option<Loan>, AllocError>
     ensures { IfOk result (λ loan. loan ≡ loan_made instruction.now) }
 {
@@ -32,23 +32,5 @@ pub fn loan_of(instruction: &Instruction) -> Result<Option<Loan>, AllocError>
         },
         Instruction::Statement(Statement::Dead(_) | Statement::Drop(_) | Statement::Nop)
         | Instruction::Terminator(_) => Ok(None),
-    }
-}
-
-/// Whether a point overwrites a prefix of a path, which ends the loans of that path (RFC 2094, "Borrow checker
-/// phase 1").
-pub fn kills(instruction: &Instruction, path: &Place) -> bool
-    ensures { result ≡ kill_test path.now instruction.now }
-{
-    match instruction {
-        Instruction::Statement(Statement::Assign(assignment)) => {
-            is_prefix(&assignment.target, path)
-        }
-        Instruction::Statement(Statement::Dead(local)) => *local == path.local,
-        Instruction::Terminator(Terminator::Call(call)) => is_prefix(&call.destination, path),
-        Instruction::Statement(Statement::Drop(_) | Statement::Nop)
-        | Instruction::Terminator(
-            Terminator::Goto(_) | Terminator::If(_) | Terminator::Return | Terminator::Stop,
-        ) => false,
     }
 }

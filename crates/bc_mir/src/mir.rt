@@ -1,11 +1,14 @@
 //! The points of a unit in one list.
 ghost use Rattle.std.specs.Prelude.{◌≡◌, ◌≤◌, ◌++◌, IfOk, OnOk};
+ghost use Rattle.std.specs.Arc.{arc_value};
 ghost use Rattle.bc_syntax.specs.Fits.{universal_count, locals_of};
 ghost use Rattle.bc_mir.specs.Mir.{block_steps, mir_of};
 
+use crate::good_types::GoodTypes;
 use bc_syntax::{Block, Body, Outlives, Sequence, Statement, Terminator, Ty};
 use std::alloc::{AllocError, Global};
 use std::marker::Model;
+use std::sync::Arc;
 
 /// A point as it is printed: a statement of a block, or its terminator, which comes last (RFC 2094,
 /// "Control-flow graph").
@@ -16,6 +19,7 @@ pub struct Point {
 }
 
 /// What happens at a point.
+/// (RFC 2094, "The MIR".)
 #[derive(Drop)]
 pub enum Instruction {
     Statement(Statement),
@@ -23,6 +27,7 @@ pub enum Instruction {
 }
 
 /// A point with what happens there.
+/// (RFC 2094, "The MIR".)
 #[derive(Drop)]
 pub struct Step {
     pub point: Point,
@@ -32,6 +37,7 @@ pub struct Step {
 /// A unit with its points in one list, typed or not.
 #[derive(Drop)]
 pub(crate) struct Draft {
+    pub(crate) types: Arc<GoodTypes, Global>,
     pub(crate) universals: u8,
     pub(crate) clauses: Sequence<Outlives>,
     pub(crate) locals: Vec<Ty>,
@@ -40,11 +46,13 @@ pub(crate) struct Draft {
 }
 
 impl Model for Draft {
+    ghost use Rattle.std.specs.Arc.{arc_value};
     ghost use Rattle.bc_mir.specs.Mir.{Mir};
 
     ghost Value = { Mir };
 
     ghost view = { λ d. record {
+      types = arc_value d.types;
       universals = d.universals;
       clauses = d.clauses;
       locals = d.locals.items;
@@ -65,13 +73,13 @@ fn copy_terminator(terminator: &Terminator) -> Result<Terminator, AllocError>
     terminator.clone()
 }
 
-fn copy_clauses(clauses: &Sequence<Outlives>) -> Result<Sequence<Outlives>, AllocError>
+pub(crate) fn copy_clauses(clauses: &Sequence<Outlives>) -> Result<Sequence<Outlives>, AllocError>
     ensures { IfOk result (λ copy. copy ≡ clauses.now) }
 {
     clauses.clone()
 }
 
-fn copy_type(ty: &Ty) -> Result<Ty, AllocError>
+pub(crate) fn copy_type(ty: &Ty) -> Result<Ty, AllocError>
     ensures { IfOk result (λ copy. copy ≡ ty.now) }
 {
     ty.clone()
@@ -125,9 +133,13 @@ fn push_block(steps: &mut Vec<Step>, number: usize, block: &Block) -> Result<(),
 
 impl Draft {
     /// Lists the points of a body.
-    pub(crate) fn of(alloc: Global, body: &Body) -> Result<Draft, AllocError>
+    pub(crate) fn of(
+        alloc: Global,
+        types: Arc<GoodTypes, Global>,
+        body: &Body,
+    ) -> Result<Draft, AllocError>
         requires { universal_count body.now.header ≤ 16 }
-        ensures { IfOk result (λ draft. draft ≡ mir_of body.now) }
+        ensures { IfOk result (λ draft. draft ≡ mir_of (arc_value types) body.now) }
     {
         let mut steps = Vec::new(alloc);
         let mut entries = Vec::new(alloc);
@@ -136,6 +148,7 @@ impl Draft {
             push_block(&mut steps, number, block)?;
         }
         Ok(Draft {
+            types,
             universals: (body.header.regions.len() + 1) as u8,
             clauses: copy_clauses(&body.header.clauses)?,
             locals: local_types(alloc, body)?,

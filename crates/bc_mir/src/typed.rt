@@ -1,20 +1,26 @@
 //! Units that keep every typing rule.
 ghost use Rattle.std.specs.Prelude.{◌≡◌, ◌≤◌, true, length, IfOk, OnOk};
 ghost use Rattle.std.specs.List.{list_all};
+ghost use Rattle.std.specs.Arc.{arc_value};
 ghost use Rattle.bc_syntax.specs.Fits.{clause_fits, ty_fits};
 ghost use Rattle.bc_mir.specs.Mir.{mir_of};
+ghost use Rattle.bc_mir.specs.PlaceTypes.{type_of_place as place_type};
 ghost use Rattle.bc_mir.specs.Typing.{first_unfit as first_misfit, misfit as misfit_of, Fits};
 ghost use Rattle.bc_mir.specs.Typed.{IsTyped, steps_fit};
 ghost use Rattle.bc_mir.specs.declared.typed.Where.{Where};
 
+use crate::good_types::GoodTypes;
 use crate::mir::{Draft, Point, Step};
+use crate::place_types::type_of_place;
 use crate::typing::{fits_at, fits_header};
-use bc_syntax::{Outlives, Ty, Unit};
+use bc_syntax::{Header, Outlives, Place, Ty, Unit};
 use std::alloc::{AllocError, Global};
 use std::marker::Model;
+use std::sync::Arc;
 use thiserror::Error;
 
 /// Where a unit breaks a typing rule first: its header, else its least point.
+/// (Own.)
 #[derive(Clone, Copy, Debug, PartialEq, Eq)]
 pub enum Where {
     Header,
@@ -22,6 +28,7 @@ pub enum Where {
 }
 
 /// Why a unit is not typed.
+/// (Own.)
 #[derive(Clone, Copy, Debug, PartialEq, Eq, Error)]
 pub enum IllFault {
     #[error("a typing rule fails")]
@@ -63,6 +70,7 @@ fn misfit(alloc: Global, draft: &Draft) -> Result<Option<Where>, AllocError>
 }
 
 /// A unit that keeps every typing rule, with its points in one list. It borrows nothing.
+/// (Own.)
 #[derive(Drop)]
 pub struct Typed {
     pub(crate) draft: Draft,
@@ -81,6 +89,7 @@ impl Model for Typed {
 
 impl Typed {
     /// How many universal regions there are, 1 to 16: `'static` and the declared ones.
+    /// (Own.)
     pub fn universals(&self) -> u8
         ensures value { result ≡ self.now.universals }
         ensures typed { IsTyped self.now }
@@ -88,7 +97,16 @@ impl Typed {
         self.draft.universals
     }
 
+    /// The declarations over which the unit is typed.
+    /// (Own.)
+    pub fn types(&self) -> &GoodTypes
+        ensures { result.now ≡ self.now.types }
+    {
+        &self.draft.types
+    }
+
     /// The `where` clauses, between universal regions.
+    /// (Own.)
     pub fn clauses(&self) -> &[Outlives]
         ensures value { result.now ≡ self.now.clauses }
         ensures declared { list_all (clause_fits self.now.universals) result.now ≡ true }
@@ -97,6 +115,7 @@ impl Typed {
     }
 
     /// The types of the locals, 1 to 256, in which each region is declared.
+    /// (Own.)
     pub fn locals(&self) -> &[Ty]
         ensures value { result.now ≡ self.now.locals }
         ensures some { 1 ≤ length result.now }
@@ -106,7 +125,21 @@ impl Typed {
         self.draft.locals.as_slice()
     }
 
+    /// The type of a place: that of its local, behind each projection in turn; `None` where it has none. The error is want of
+    /// memory alone. (RFC 2094, "The MIR".)
+    pub fn place_type(&self, alloc: Global, place: &Place) -> Result<Option<Ty>, AllocError>
+        ensures { IfOk result (λ ty. ty ≡ place_type self.now.types self.now.locals place.now) }
+    {
+        type_of_place(
+            alloc,
+            &self.draft.types,
+            self.draft.locals.as_slice(),
+            place,
+        )
+    }
+
     /// The points in order, 1 to 4,096, each with what happens there. No rule fails at any of them.
+    /// (Own.)
     pub fn steps(&self) -> &[Step]
         ensures value { result.now ≡ self.now.steps }
         ensures some { 1 ≤ length result.now }
@@ -118,15 +151,37 @@ impl Typed {
     }
 }
 
-/// Types a unit (the rules are own, over the language of RFC 2094, "The MIR"). It answers `Ill` with the place of
-/// the first misfit where a rule fails: the header if a header rule fails, else the least point at which a rule
-/// fails; and `NoMemory` only where memory was refused.
-pub fn type_unit(alloc: Global, unit: &Unit) -> Result<Typed, IllFault>
-    ensures ok { IfOk result (λ typed. typed ≡ mir_of unit.now) }
-    ensures fits { OnOk result (Fits (mir_of unit.now)) }
-    ensures ill { (place : Where) → result ≡ Err (IllFault.Ill place) → misfit_of (mir_of unit.now) ≡ Some place }
+/// The same declarations, kept by one more.
+fn share(types: &Arc<GoodTypes, Global>) -> Result<Arc<GoodTypes, Global>, AllocError>
+    ensures { IfOk result (λ shared. arc_value shared ≡ arc_value types.now) }
 {
-    let draft = Draft::of(alloc, unit.body())?;
+    Arc::try_clone(types)
+}
+
+/// The number of a child, and the header of its unit: what typing has to know of a closure.
+/// (Own.)
+#[derive(Clone, Copy)]
+pub struct KidHeader<'a> {
+    pub number: u8,
+    pub header: &'a Header,
+}
+
+/// Types a unit over declarations and the headers of its children, of which there are none until closures are read (the rules
+/// are own, over the language of RFC 2094, "The MIR"). It answers `Ill` with the place of the first misfit where a rule fails:
+/// the header if a header rule fails, else the least point at which a rule fails; and `NoMemory` only where memory was refused.
+pub fn type_unit(
+    alloc: Global,
+    types: &Arc<GoodTypes, Global>,
+    unit: &Unit,
+    _kids: &[KidHeader<'_>],
+) -> Result<Typed, IllFault>
+    requires kids { length _kids.now ≡ 0 }
+    ensures ok { IfOk result (λ typed. typed ≡ mir_of (arc_value types.now) unit.now) }
+    ensures fits { OnOk result (Fits (mir_of (arc_value types.now) unit.now)) }
+    ensures ill { (place : Where) → result ≡ Err (IllFault.Ill place) → misfit_of (mir_of (arc_value types.now) unit.now) ≡ Some place }
+{
+    let shared = share(types)?;
+    let draft = Draft::of(alloc, shared, unit.body())?;
     match misfit(alloc, &draft)? {
         None => Ok(Typed { draft }),
         Some(place) => Err(IllFault::Ill(place)),

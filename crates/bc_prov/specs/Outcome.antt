@@ -1,13 +1,15 @@
 -- What an Ask finds.
-use Rattle.std.specs.Prelude.{◌≡◌, Option, Some, None, List, [], ◌∷◌}
+use Rattle.std.specs.Prelude.{◌≡◌, ℕ, Option, Some, None, List, [], ◌∷◌}
+use Rattle.bc_syntax.specs.declared.syntax.Declaration.{Declaration}
 use Rattle.bc_syntax.specs.declared.syntax.Body.{Body}
 use Rattle.bc_text.specs.Names.{NameParts}
 use Rattle.bc_mir.specs.declared.typed.Where.{Where}
+use Rattle.bc_mir.specs.Declarations.{first_bad}
 use Rattle.bc_mir.specs.Mir.{Mir, mir_of}
 use Rattle.bc_mir.specs.Typing.{misfit}
 use Rattle.bc_judge.specs.declared.error.BorrowError.{BorrowError}
 use Rattle.bc_prov.specs.declared.outcome.Outcome.{Outcome}
-use Rattle.bc_prov.specs.declared.outcome.Outcome.TheVariants.{NoBody, Ill, Report}
+use Rattle.bc_prov.specs.declared.outcome.Outcome.TheVariants.{NoBody, BadTypes, Ill, Report}
 use Rattle.bc_prov.specs.Errors.{AreErrorsOf}
 
 -- the report of one body
@@ -19,7 +21,12 @@ abbrev pub IsOutcomeOf : NameParts → Mir → Option Where → Outcome → Type
 IsOutcomeOf name mir (Some place) outcome = outcome ≡ Ill name place
 IsOutcomeOf name mir None outcome = (errors : List BorrowError) × AreErrorsOf mir errors × (outcome ≡ report_of name errors)
 
--- the outcome of a name that holds this body, or none
-abbrev pub IsOutcome : Option Body → NameParts → Outcome → Type 0
-IsOutcome None name outcome = outcome ≡ NoBody
-IsOutcome (Some body) name outcome = IsOutcomeOf name (mir_of body) (misfit (mir_of body)) outcome
+-- the outcome of a name that holds this body, or none, where this declaration is the first bad one, or none is bad
+abbrev pub IsOutcomeBehind : Option ℕ → List Declaration → Option Body → NameParts → Outcome → Type 0
+IsOutcomeBehind (Some index) types held name outcome = outcome ≡ BadTypes index
+IsOutcomeBehind None types None name outcome = outcome ≡ NoBody
+IsOutcomeBehind None types (Some body) name outcome = IsOutcomeOf name (mir_of types body) (misfit (mir_of types body)) outcome
+
+-- the outcome under these declarations of a name that holds this body, or none: the first bad declaration before all else
+abbrev pub IsOutcome : List Declaration → Option Body → NameParts → Outcome → Type 0
+IsOutcome types held name outcome = IsOutcomeBehind (first_bad types) types held name outcome

@@ -1,18 +1,22 @@
 //! What an Ask finds.
-ghost use Rattle.std.specs.Prelude.{◌≡◌, IfOk};
+ghost use Rattle.std.specs.Prelude.{◌≡◌, IfOk, None};
+ghost use Rattle.std.specs.Arc.{arc_value};
 ghost use Rattle.std.specs.Option.{option_copied};
+ghost use Rattle.bc_mir.specs.Mir.{mir_of};
+ghost use Rattle.bc_mir.specs.Typing.{misfit};
 ghost use Rattle.bc_prov.specs.Errors.{AreErrorsOf};
-ghost use Rattle.bc_prov.specs.Outcome.{IsOutcome, report_of};
+ghost use Rattle.bc_prov.specs.Outcome.{IsOutcome, IsOutcomeBehind, IsOutcomeOf, report_of};
 
 use bc_cons::constraints;
 use bc_judge::{BorrowError, judge};
 use bc_live::live;
 use bc_loans::in_scope;
-use bc_mir::{IllFault, Typed, Where, type_unit};
+use bc_mir::{CheckTypes, DeclFault, GoodTypes, IllFault, Typed, Where, type_unit};
 use bc_solve::solve_plain;
-use bc_syntax::{Sequence, Unit};
+use bc_syntax::{Sequence, Types, Unit};
 use bc_text::Name;
 use std::alloc::{AllocError, Global};
+use std::sync::Arc;
 
 /// A body, and its errors in order.
 #[derive(Drop, PartialEq)]
@@ -21,11 +25,12 @@ pub struct BodyErrors {
     pub errors: Sequence<BorrowError>,
 }
 
-/// What an Ask finds: that no body is held, that a unit breaks a typing rule and where, or the bodies with their
-/// errors.
+/// What an Ask finds: that no body is held, that a declaration is bad and which is the first, counted from 0, that a
+/// unit breaks a typing rule and where, or the bodies with their errors.
 #[derive(Drop, PartialEq)]
 pub enum Outcome {
     NoBody,
+    BadTypes(usize),
     Ill(Name, Where),
     Report(Sequence<BodyErrors>),
 }
@@ -54,16 +59,16 @@ fn report(alloc: Global, name: &Name, errors: Sequence<BorrowError>) -> Result<O
     Ok(Outcome::Report(bodies))
 }
 
-/// The outcome of a name where this unit is held, or none: `NoBody` where none is held, `Ill` with the least misfit
-/// where the unit breaks a typing rule, and else the report of the body's errors. Answers `AllocError` only where
-/// memory was refused. (Own; the errors are RFC 2094's.)
-pub fn outcome_of(alloc: Global, name: &Name, held: Option<&Unit>) -> Result<Outcome, AllocError>
-    ensures { IfOk result (IsOutcome (option_copied held.entry) name.now) }
+/// The outcome of a name that holds a unit, over declarations of which none is bad.
+fn outcome_over(
+    alloc: Global,
+    name: &Name,
+    types: &Arc<GoodTypes, Global>,
+    unit: &Unit,
+) -> Result<Outcome, AllocError>
+    ensures { IfOk result (IsOutcomeOf name.now (mir_of (arc_value types.now) unit.now) (misfit (mir_of (arc_value types.now) unit.now))) }
 {
-    let Some(unit) = held else {
-        return Ok(Outcome::NoBody);
-    };
-    match type_unit(alloc, unit) {
+    match type_unit(alloc, types, unit, &[]) {
         Ok(typed) => {
             let errors = errors_of(alloc, &typed)?;
             let outcome = report(alloc, name, errors)?;
@@ -71,5 +76,42 @@ pub fn outcome_of(alloc: Global, name: &Name, held: Option<&Unit>) -> Result<Out
         }
         Err(IllFault::Ill(place)) => Ok(Outcome::Ill(*name, place)),
         Err(IllFault::NoMemory) => Err(AllocError),
+    }
+}
+
+/// The outcome of a name where this unit is held, or none, over declarations of which none is bad.
+fn outcome_among(
+    alloc: Global,
+    name: &Name,
+    types: GoodTypes,
+    held: Option<&Unit>,
+) -> Result<Outcome, AllocError>
+    ensures { IfOk result (IsOutcomeBehind None types (option_copied held.entry) name.now) }
+{
+    let Some(unit) = held else {
+        return Ok(Outcome::NoBody);
+    };
+    match Arc::new(alloc, types) {
+        Ok(types) => outcome_over(alloc, name, &types, unit),
+        Err(_) => Err(AllocError),
+    }
+}
+
+/// The outcome of a name under these declarations, where this unit is held, or none: `BadTypes` of the first bad
+/// declaration where one is bad, else `NoBody` where no unit is held, else `Ill` with the least misfit where the unit
+/// breaks a typing rule, and else the report of the body's errors. Answers `AllocError` only where memory was refused.
+/// (Own; the errors are RFC 2094's.)
+pub fn outcome_of(
+    alloc: Global,
+    name: &Name,
+    types: &Types,
+    held: Option<&Unit>,
+) -> Result<Outcome, AllocError>
+    ensures { IfOk result (IsOutcome types.now (option_copied held.entry) name.now) }
+{
+    match types.check(alloc) {
+        Ok(types) => outcome_among(alloc, name, types, held),
+        Err(DeclFault::BadDecl { index }) => Ok(Outcome::BadTypes(index)),
+        Err(DeclFault::NoMemory) => Err(AllocError),
     }
 }

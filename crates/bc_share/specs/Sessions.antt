@@ -19,7 +19,7 @@ pub record SessionView : Type 0 where
 abbrev pub new_session : ℕ → ℕ → ℕ → SessionView
 new_session tag number capacity = record { tag = tag; number = number; own = []; capacity = capacity; entries = [] }
 
--- The call was made, with this reply, which is the one that the bodies held give it: the session's own list is
+-- The call was made, with this reply, which is the one that what is held gives it: the session's own list is
 -- longer by the call with its reply, and the history by that one entry, with its session's next number.
 pub record Tells (call : Call) (reply : Reply) (old new : SessionView) : Type 0 where
   pub right : IsReply (after old.entries) call reply

@@ -96,8 +96,11 @@ impl Db {
         if capacity == 0 || capacity > MOST_ENTRIES || sessions != 1 {
             return Err(OpenFault::Range);
         }
+        let Ok(session) = Session::new(alloc, tag, 0, capacity) else {
+            return Err(OpenFault::NoMemory);
+        };
         let mut opened = Vec::new(alloc);
-        match opened.push(Session::new(alloc, tag, 0, capacity)) {
+        match opened.push(session) {
             Ok(()) => Ok((Db { tag }, opened)),
             Err(_) => Err(OpenFault::NoMemory),
         }

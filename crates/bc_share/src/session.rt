@@ -1,15 +1,14 @@
 //! What one session does, and its own list of that.
-ghost use Rattle.std.specs.Prelude.{◌≡◌, ◌↔◌, ◌<◌, [], true, length, IfOk, IfErr, OnOk, OnErr, vec_capacity, vec_len};
+ghost use Rattle.std.specs.Prelude.{◌≡◌, ◌↔◌, ◌<◌, [], length, IfOk, IfErr, OnOk, OnErr, vec_capacity, vec_len};
 ghost use Rattle.std.specs.Arc.{arc_value};
-ghost use Rattle.bc_syntax.specs.Served.{served};
 ghost use Rattle.bc_book.specs.Calls.{IsLegal};
 ghost use Rattle.bc_share.specs.Sessions.{Tells, new_session};
 
 use bc_book::{Call, Entry, Event, Ledger, PutReply, Refusal, Reply, Shared};
 use bc_prov::Outcome;
-use bc_syntax::Unit;
+use bc_syntax::{Types, Unit};
 use bc_text::Name;
-use std::alloc::Global;
+use std::alloc::{AllocError, Global};
 use std::marker::Model;
 use std::sync::Arc;
 
@@ -35,28 +34,54 @@ impl Model for Session {
 }
 
 impl Session {
-    /// A session that has made no call, with a history that has no entry. It takes no memory.
-    pub(crate) fn new(alloc: Global, tag: u64, number: u8, capacity: u32) -> Session
+    /// A session that has made no call, with a history that has no entry. `AllocError` only where memory was refused.
+    pub(crate) fn new(
+        alloc: Global,
+        tag: u64,
+        number: u8,
+        capacity: u32,
+    ) -> Result<Session, AllocError>
         requires { number < 16 }
-        ensures { result ≡ new_session tag number capacity }
+        ensures { IfOk result (λ session. session ≡ new_session tag number capacity) }
     {
-        Session {
+        let ledger = Ledger::new(alloc, capacity)?;
+        Ok(Session {
             alloc,
             tag,
             number,
             own: Vec::new(alloc),
-            ledger: Ledger::new(alloc, capacity),
-        }
+            ledger,
+        })
     }
 
-    /// Stores a unit under a name, one that the database serves.
+    /// Stores declarations, which each Ask from now on is answered by, in place of those before (own). They may be bad:
+    /// an Ask tells so.
+    ///
+    /// Refused with `HistoryFull` exactly where the history has as many entries as it may have, and with `NoMemory`
+    /// only where memory was refused; the session and the history are then as they were.
+    pub fn put_types(&mut self, types: Arc<Types, Global>) -> Result<(), Refusal>
+        ensures told { OnOk result (Tells (Call.Types (arc_value types)) Reply.Stored self.old self.new) }
+        ensures refused { OnErr result (self.new ≡ self.old) }
+        ensures full { IfErr result (λ r. r ≡ Refusal.HistoryFull ↔ length self.old.entries ≡ self.old.capacity) }
+    {
+        make_room(&mut self.ledger, &mut self.own)?;
+        let types = Shared::new(types);
+        let mine = types.clone()?;
+        self.ledger.put_types(self.number, types)?;
+        self.own.push_reserved(Event {
+            call: Call::Types(mine),
+            reply: Reply::Stored,
+        });
+        Ok(())
+    }
+
+    /// Stores a unit under a name.
     ///
     /// Replies `WrongKind` where the name is not one for such a unit, else `Full` where the name is new and 256
     /// bodies are held, else `Replaced` or `Added` (own). Refused with `HistoryFull` exactly where the history has
     /// as many entries as it may have, and with `NoMemory` only where memory was refused; the session and the
     /// history are then as they were.
     pub fn put(&mut self, name: Name, unit: Arc<Unit, Global>) -> Result<PutReply, Refusal>
-        requires { served (arc_value unit) ≡ true }
         ensures told { IfOk result (λ reply. Tells (Call.Put name (arc_value unit)) (Reply.Put reply) self.old self.new) }
         ensures refused { OnErr result (self.new ≡ self.old) }
         ensures full { IfErr result (λ r. r ≡ Refusal.HistoryFull ↔ length self.old.entries ≡ self.old.capacity) }
@@ -72,7 +97,8 @@ impl Session {
         Ok(reply)
     }
 
-    /// Whether the body under a name is borrow-correct now: the outcome of what the name holds.
+    /// Whether the body under a name is borrow-correct now: the outcome of what the name holds, under the declarations
+    /// that are held.
     ///
     /// Refused with `HistoryFull` exactly where the history has as many entries as it may have, and with `NoMemory`
     /// only where memory was refused; the session and the history are then as they were.

@@ -1,12 +1,9 @@
-ghost use Rattle.std.specs.Prelude.{◌≡◌, true, IfOk};
-ghost use Rattle.std.specs.Arc.{arc_value};
-ghost use Rattle.bc_syntax.specs.Served.{served};
-
 use crate::{CloseFault, Db, OpenFault, Session};
 use bc_book::{Call, PutReply, Refusal, Reply};
 use bc_prov::Outcome;
 use bc_syntax::{
-    Base, Block, Body, Header, Sequence, ShortSequence, Terminator, Ty, Unit, UnitKind,
+    Base, Block, Body, Declaration, Header, ItemName, Sequence, ShortSequence, StructDeclaration,
+    Terminator, Ty, Types, Unit, UnitKind,
 };
 use bc_text::Name;
 use std::alloc::{AllocError, Global};
@@ -21,9 +18,7 @@ fn int(alloc: Global) -> Ty {
 }
 
 /// `fn () -> int { bb0 { return; } }`, or with `stop` for `return`.
-fn unit(alloc: Global, terminator: Terminator) -> Result<Arc<Unit, Global>, Fail>
-    ensures { IfOk result (λ unit. served (arc_value unit) ≡ true) }
-{
+fn unit(alloc: Global, terminator: Terminator) -> Result<Arc<Unit, Global>, Fail> {
     let mut blocks = Sequence::new(alloc);
     blocks.push(Block {
         statements: Sequence::new(alloc),
@@ -45,11 +40,33 @@ fn unit(alloc: Global, terminator: Terminator) -> Result<Arc<Unit, Global>, Fail
     let Some(unit) = Unit::new(body) else {
         return Err("a unit")?;
     };
-    if !unit.served() {
-        return Err("a unit that is served")?;
-    }
     match Arc::new(alloc, unit) {
         Ok(unit) => Ok(unit),
+        Err(_) => Err(AllocError)?,
+    }
+}
+
+/// `struct A { int; }`, so many times.
+fn structs(alloc: Global, count: u8) -> Result<Arc<Types, Global>, Fail> {
+    let mut declarations = Sequence::new(alloc);
+    for _number in 0..count {
+        let mut bytes = ShortSequence::new(alloc);
+        bytes.push(b'A')?;
+        let mut fields = Sequence::new(alloc);
+        fields.push(int(alloc))?;
+        declarations.push(Declaration::Struct(StructDeclaration {
+            name: ItemName { bytes },
+            regions: Sequence::new(alloc),
+            variances: Sequence::new(alloc),
+            has_drop: false,
+            fields,
+        }))?;
+    }
+    let Some(types) = Types::new(declarations) else {
+        return Err("declarations")?;
+    };
+    match Arc::new(alloc, types) {
+        Ok(types) => Ok(types),
         Err(_) => Err(AllocError)?,
     }
 }
@@ -105,6 +122,32 @@ fn the_history_has_each_call_with_its_reply(rt: HostRuntime) -> Result<(), Fail>
     let asked = &entries[3].event;
     assert!(rt; matches!(&asked.call, Call::Ask(name) if *name == f));
     assert!(rt; matches!(&asked.reply, Reply::Outcome(found) if *found.get() == *outcome));
+    Ok(())
+}
+
+#[test]
+fn an_ask_is_answered_by_the_declarations_held_then(rt: HostRuntime) -> Result<(), Fail> {
+    let f = name(b"f")?;
+    let (db, mut session) = open(rt.alloc(), 0, 6)?;
+    session.put_types(structs(rt.alloc(), 2)?)?;
+    assert!(rt; matches!(*session.ask(&f)?, Outcome::BadTypes(1)));
+    session.put_types(structs(rt.alloc(), 1)?)?;
+    assert!(rt; matches!(*session.ask(&f)?, Outcome::NoBody));
+    session.put_types(structs(rt.alloc(), 3)?)?;
+    assert!(rt; matches!(*session.ask(&f)?, Outcome::BadTypes(1)));
+    assert_eq!(rt;
+        session.put_types(structs(rt.alloc(), 0)?),
+        Err(Refusal::HistoryFull)
+    );
+    let history = close(rt.alloc(), db, session)?;
+    let entries = history.entries();
+    assert_eq!(rt; entries.len(), 6);
+    let stored = &entries[2].event;
+    assert!(rt;
+        matches!(&stored.call, Call::Types(types) if types.get().declarations().len() == 1)
+    );
+    assert!(rt; matches!(&stored.reply, Reply::Stored));
+    assert_eq!(rt; entries[2].number, 2);
     Ok(())
 }
 

@@ -1,6 +1,6 @@
 -- The one keyword that a word may be is the one that it is, if it is one.
-use Rattle.std.proofs.Common.{◌≡◌, ℕ, Bool, true, false, cond, List, [], ◌∷◌, refl, sym, ap, ◌∙◌, subst, arith, slice_index}
-use Rattle.std.specs.Prelude.{Option, Some, None, IfSome, find}
+use Rattle.std.proofs.Common.{◌≡◌, ℕ, Bool, true, false, cond, List, [], ◌∷◌, refl, sym, ap, ◌∙◌, subst, arith}
+use Rattle.std.specs.Prelude.{Option, Some, None, find}
 use Rattle.std.specs.Bool.{then_some}
 use Rattle.std.specs.List.{AllByRecursion}
 use Rattle.std.specs.Str.{bytes_eq}
@@ -9,12 +9,12 @@ use Rattle.bc_syntax.specs.declared.symbol.Symbol.{Symbol}
 use Rattle.bc_syntax.specs.declared.symbol.Symbol.TheVariants as symbols
 use Rattle.bc_syntax.specs.declared.symbol.TheConstants.{KEYWORDS}
 use Rattle.bc_syntax.specs.Symbol.{text, keyword_of}
-use Rattle.bc_syntax.specs.Likely.{likely_keyword, likely_by}
+use Rattle.bc_syntax.specs.Likely.{likely_keyword}
 
-is_text : (xs ys : List ℕ) → bytes_eq xs ys ≡ true → xs ≡ ys
+pub is_text : (xs ys : List ℕ) → bytes_eq xs ys ≡ true → xs ≡ ys
 is_text xs ys e = grind (arith, bytes_eq-Decides xs ys, e)
 
-found_in : {X : Type 0} (p : X → Bool) (P : X → Type 0) (xs : List X) → AllByRecursion P xs → (x : X) → find p xs ≡ Some x → (p x ≡ true) × P x
+pub found_in : {X : Type 0} (p : X → Bool) (P : X → Type 0) (xs : List X) → AllByRecursion P xs → (x : X) → find p xs ≡ Some x → (p x ≡ true) × P x
 found_in p P [] all x e = absurd cc
 found_in {X} p P (y ∷ ys) all x e = by (found_in p P ys all.1 x) (p y) refl e
   where

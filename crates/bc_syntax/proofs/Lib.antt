@@ -1,2 +1,3 @@
 pub mod Keywords
+pub mod Fronts
 pub mod Equality

@@ -3,4 +3,3 @@ pub mod Symbol
 pub mod Likely
 pub mod Words
 pub mod Fits
-pub mod Served

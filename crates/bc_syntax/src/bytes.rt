@@ -1,5 +1,7 @@
 //! Reading bytes of a text.
-ghost use Rattle.std.specs.Prelude.{◌≡◌, ◌≤◌, length, drop, slice_index, take_while};
+ghost use Rattle.std.specs.Prelude.{◌≡◌, ◌≤◌, true, length, drop, slice_index, take_while};
+ghost use Rattle.std.specs.List.{list_all};
+ghost use Rattle.std.specs.Str.{bytes_eq};
 ghost use Rattle.std.specs.Char.{is_ascii_digit};
 ghost use Rattle.bc_syntax.specs.Bytes.{is_run_byte, run};
 ghost use Rattle.bc_syntax.specs.Words.{is_region_byte};
@@ -30,7 +32,8 @@ pub fn behind(bytes: &[u8], count: usize) -> &[u8]
 pub fn is_run_byte(byte: u8) -> bool
     ensures { result ≡ is_run_byte byte }
 {
-    byte.is_ascii_alphanumeric() || byte == b'_'
+    // Most bytes that end a run are below the digits.
+    byte >= b'0' && (byte.is_ascii_alphanumeric() || byte == b'_')
 }
 
 /// How many digits stand at the front.
@@ -69,4 +72,12 @@ pub fn run(bytes: &[u8]) -> &[u8]
     ensures within { length result.now ≤ length bytes.now }
 {
     &bytes[..run_len(bytes)]
+}
+
+/// Whether the letters, digits and `_` at the front are this word, which has no others.
+pub(crate) fn runs_as(bytes: &[u8], word: &[u8]) -> bool
+    requires { list_all is_run_byte word.now ≡ true }
+    ensures { result ≡ bytes_eq word.now (run bytes.now) }
+{
+    bytes.starts_with(word) && !is_run_byte(byte_at(bytes, word.len()))
 }

@@ -6,7 +6,6 @@ mod bytes;
 mod declarations;
 mod fits;
 mod sequence;
-mod served;
 mod symbol;
 mod syntax;
 mod unit;

@@ -1,9 +1,10 @@
 //! Keywords and signs: the tokens that are always spelled the same.
-ghost use Rattle.std.specs.Prelude.{◌≡◌};
+ghost use Rattle.std.specs.Prelude.{◌≡◌, nat_lt, None, IfSome, if◌then◌else◌};
+ghost use Rattle.bc_syntax.specs.Bytes.{run};
 ghost use Rattle.bc_syntax.specs.Symbol.{text, same, keyword_of, sign_of};
 ghost use Rattle.bc_syntax.specs.Likely.{likely_c, likely_i, likely_keyword};
 
-use crate::bytes::byte_at;
+use crate::bytes::{byte_at, runs_as};
 
 /// A keyword or a sign.
 #[derive(Clone, Copy, Debug, PartialEq, Eq)]
@@ -154,19 +155,25 @@ impl Symbol {
         (keyword.text() == word).then_some(keyword)
     }
 
-    /// The sign that a byte is.
+    /// The keyword that the letters, digits and `_` at the front of a text are. They are not gone over for it.
+    pub fn of_run(bytes: &[u8]) -> Option<Symbol>
+        ensures value { result ≡ keyword_of (run bytes.now) }
+        ensures spelled { IfSome result (λ keyword. run bytes.now ≡ text keyword) }
+    {
+        let keyword = likely_keyword(bytes)?;
+        runs_as(bytes, keyword.text()).then_some(keyword)
+    }
+
+    /// The sign that a byte below `?` is: most signs of a text are. They lie so near one another that a table tells
+    /// them.
     #[inline(always)]
     #[tactic(auto, unfolding(crate::specs::Symbol::sign_of, crate::specs::Symbol::text))]
-    pub fn of_sign(byte: u8) -> Option<Symbol>
-        ensures { result ≡ sign_of byte }
+    pub fn of_low_sign(byte: u8) -> Option<Symbol>
+        ensures { result ≡ (if nat_lt byte 63 then sign_of byte else None) }
     {
         match byte {
             b'(' => Some(Symbol::OpenParen),
             b')' => Some(Symbol::CloseParen),
-            b'{' => Some(Symbol::OpenBrace),
-            b'}' => Some(Symbol::CloseBrace),
-            b'[' => Some(Symbol::OpenBracket),
-            b']' => Some(Symbol::CloseBracket),
             b'<' => Some(Symbol::Less),
             b'>' => Some(Symbol::Greater),
             b',' => Some(Symbol::Comma),
@@ -178,6 +185,21 @@ impl Symbol {
             b'.' => Some(Symbol::Dot),
             b'*' => Some(Symbol::Star),
             _ => None,
+        }
+    }
+
+    /// The sign that a byte is.
+    #[inline(always)]
+    #[tactic(auto, unfolding(crate::specs::Symbol::sign_of, crate::specs::Symbol::text))]
+    pub fn of_sign(byte: u8) -> Option<Symbol>
+        ensures { result ≡ sign_of byte }
+    {
+        match byte {
+            b'{' => Some(Symbol::OpenBrace),
+            b'}' => Some(Symbol::CloseBrace),
+            b'[' => Some(Symbol::OpenBracket),
+            b']' => Some(Symbol::CloseBracket),
+            _ => Symbol::of_low_sign(byte),
         }
     }
 }

@@ -80,6 +80,12 @@ pub enum Operand {
     Number(u32),
 }
 
+impl Default for Operand {
+    fn default() -> Self {
+        Operand::Number(0)
+    }
+}
+
 /// `&R P` or `&R mut P`.
 #[derive(Clone, Drop, PartialEq)]
 pub struct Borrow {
@@ -91,7 +97,7 @@ pub struct Borrow {
 #[derive(Clone, Drop, PartialEq)]
 pub struct Aggregate {
     pub instance: Instance,
-    pub operands: Sequence<Operand>,
+    pub operands: ShortSequence<Operand, 2>,
 }
 
 /// What an assignment computes.
@@ -100,7 +106,7 @@ pub enum Rvalue {
     Use(Operand),
     Borrow(Borrow),
     Aggregate(Aggregate),
-    Calc(Sequence<Operand>),
+    Calc(ShortSequence<Operand, 2>),
 }
 
 /// `P = rvalue`.
@@ -132,7 +138,7 @@ pub struct Condition {
 pub struct Call {
     pub destination: Place,
     pub function: Instance,
-    pub operands: Sequence<Operand>,
+    pub operands: ShortSequence<Operand, 2>,
     pub target: u8,
 }
 

@@ -1,10 +1,8 @@
 //! Units: bodies that have a spelling.
 ghost use Rattle.std.specs.Prelude.{◌≡◌, IfSome, IsSome};
 ghost use Rattle.bc_syntax.specs.Fits.{Fits};
-ghost use Rattle.bc_syntax.specs.Served.{served as is_served};
 
 use crate::fits::fits;
-use crate::served::served;
 use crate::syntax::Body;
 use std::marker::Model;
 
@@ -50,14 +48,6 @@ impl Unit {
         ensures { result ≡ body }
     {
         Unit { body }
-    }
-
-    /// Whether the database serves the unit: it declares no regions and has no clauses, its types lead to `int`, and it
-    /// has one block, which ends with `return` or `stop` and makes no struct and drops nothing. It takes no memory.
-    pub fn served(&self) -> bool
-        ensures { result ≡ is_served self.now }
-    {
-        served(&self.body)
     }
 
     /// What the unit is made of.

@@ -6,7 +6,7 @@ use Rattle.std.proofs.lemmas.List.{append-nil, length-append, length-map}
 use Rattle.std.proofs.lemmas.Bool.{eqb-true, eq-eqb, ltb-true, lt-ltb, ltb-false, le-ltb, le-leb, leb-true, and_from, and_parts}
 use Rattle.std.proofs.lemmas.Slice.Zip.{firsts-zip, seconds-zip}
 use Rattle.bc_text.specs.declared.fault.ReadFault.TheVariants.{TooLong}
-use Rattle.bc_text.specs.declared.fault.Refusal.{Refusal}
+use Rattle.bc_tokens.specs.declared.refusal.Refusal.{Refusal}
 use Rattle.bc_syntax.specs.declared.symbol.Symbol.{Symbol}
 use Rattle.bc_syntax.specs.declared.symbol.Symbol.TheVariants as s
 use Rattle.bc_syntax.specs.declared.syntax.RegionName.{RegionName}
@@ -24,11 +24,13 @@ use Rattle.bc_syntax.specs.declared.syntax.Declaration.{Declaration}
 use Rattle.bc_syntax.specs.declared.syntax.Declaration.TheVariants as declarations
 use Rattle.bc_syntax.specs.Symbol.{same}
 use Rattle.bc_syntax.specs.Fits.{is_new, are_new, item_fits, ty_fits, struct_fits, header_fits, extern_fits, declaration_fits, is_struct, clauses_fit, parameters_fit, TypesFit}
-use Rattle.bc_text.specs.Token.{Token, Fixed, Word, End, Tokens, tokens}
-use Rattle.bc_text.specs.Parser.{Outcome, Parser, Reads, and_then, sees, sees_word, after, at_end, expect, pure, declared_list, is_fixed}
+use Rattle.bc_print.specs.Token.{Token, Fixed, Word, End}
+use Rattle.bc_tokens.specs.Token.{Tokens, tokens}
+use Rattle.bc_tokens.specs.Parser.{Outcome, Parser, Reads, and_then, sees, sees_word, after, at_end, expect, pure, declared_list, is_fixed}
 use Rattle.bc_text.specs.Reading as read
 use Rattle.bc_text.specs.Reading.{Marks, variances_of, regions_of, structs_in, answer_of}
-use Rattle.bc_text.specs.Spelling as spell
+use Rattle.bc_print.specs.Spelling as spell
+use Rattle.bc_text.specs.Spells as texts
 use Rattle.bc_text.proofs.Begins.{Begins, join, split, bind_ok, ok_is, chosen, eaten, eat_again, eat_other, expect_takes, expect_again, sees_takes, sees_again, sees_none, sees_word_same, sees_word_none}
 use Rattle.bc_text.proofs.NameLaws.{Declares, Anything, NoLess, new_region_takes, new_region_again, item_name_takes, item_name_again}
 use Rattle.bc_text.proofs.TypeLaws.{ty_takes, ty_again}
@@ -251,7 +253,7 @@ drop_takes true ts rest seen e = subst (λ (l : Tokens). Begins ts (Fixed s.Drop
 drop_takes false ts rest seen e = e
 
 struct_takes : (ts : Tokens) (y : StructDeclaration × Tokens) → read.struct_declaration ts ≡ Ok y → Begins ts (spell.struct_rest y.0) y.1 × (struct_fits y.0 ≡ true)
-unfolding read.struct_declaration read.struct_of Rattle.bc_text.specs.Parser.after_symbol
+unfolding read.struct_declaration read.struct_of Rattle.bc_tokens.specs.Parser.after_symbol
 struct_takes ts y e =
     let b = bind_ok (read.item_name ts) (λ name rest. and_then (declared_list read.begins_mark read.mark 8 rest) (λ marks mid. read.struct_of name marks mid)) y e in
     let c = bind_ok (declared_list read.begins_mark read.mark 8 b.0.1) (λ marks mid. read.struct_of b.0.0 marks mid) y b.2 in
@@ -289,7 +291,7 @@ no_less true d ts rest p = sees_none s.Less ts (Fixed s.Drop) (spell.fields d) r
 -- what a struct is read as behind its marks, with the word `drop` and without
 fields_behind : (b : Bool) (d : StructDeclaration) (marks : Marks) → regions_of marks ≡ d.regions → variances_of marks ≡ d.variances → StructIs d → d.has_drop ≡ b → (ts rest : Tokens) → Begins ts (spell.drop_word b ++ spell.fields d) rest
     → read.struct_of d.name marks ts ≡ Ok (d, rest)
-unfolding read.struct_of Rattle.bc_text.specs.Parser.after_symbol same
+unfolding read.struct_of Rattle.bc_tokens.specs.Parser.after_symbol same
 fields_behind true d marks seconds firsts is e ts rest p =
     let a = split ts (spell.symbol s.Drop) (spell.fields d) rest p in
     let seen = sees_again s.Drop ts a.0 a.1 in
@@ -530,7 +532,7 @@ types_fit ts later (Ok x) ds reads e =
 types_fit ts later (Err f) ds reads e = absurd cc
 
 -- a text that is read spells what was read
-pub types_found : (bytes : List ℕ) (ds : List Declaration) → read.read_types bytes ≡ Ok ds → spell.SpellsTypes bytes ds × TypesFit ds
+pub types_found : (bytes : List ℕ) (ds : List Declaration) → read.read_types bytes ≡ Ok ds → texts.SpellsTypes bytes ds × TypesFit ds
 unfolding read.read_types read.read_whole
 types_found bytes ds e =
     elim (chosen (ltb 1048576 (length bytes)) (Err TooLong) (answer_of (read.types (tokens 0 0 bytes))) (Ok ds) e) [
@@ -544,7 +546,7 @@ types_found bytes ds e =
     ]
 
 -- a text that spells declarations is read as them
-pub types_only : (bytes : List ℕ) (ds : List Declaration) → spell.SpellsTypes bytes ds → TypesFit ds → read.read_types bytes ≡ Ok ds
+pub types_only : (bytes : List ℕ) (ds : List Declaration) → texts.SpellsTypes bytes ds → TypesFit ds → read.read_types bytes ≡ Ok ds
 unfolding read.read_types read.read_whole
 types_only bytes ds spells fits =
     let r = types_again (tokens 0 0 bytes) ds [] (begins_whole (tokens 0 0 bytes) (spell.types ds ++ End ∷ []) spells.1) fits in

@@ -2,9 +2,6 @@ pub mod Equality
 pub mod Cells
 pub mod Segments
 pub mod Ascii
-pub mod Cuts
-pub mod Numbers
-pub mod Runs
 pub mod Turns
 pub mod Begins
 pub mod NumberLaws
@@ -18,7 +15,4 @@ pub mod BlockLaws
 pub mod Ends
 pub mod UnitLaws
 pub mod DeclarationLaws
-pub mod Printings
-pub mod Lexemes
-pub mod Printed
 pub mod Whole

@@ -3,9 +3,10 @@ use Rattle.std.proofs.Common.{◌≡◌, ℕ, zero, suc, ◌+◌, ◌≤◌, Boo
 use Rattle.std.specs.List.{flat_map}
 use Rattle.std.proofs.lemmas.Bool.{and_from, and_parts}
 use Rattle.bc_syntax.specs.declared.symbol.Symbol.TheVariants as s
-use Rattle.bc_text.specs.Token.{Token, Fixed, Tokens}
-use Rattle.bc_text.specs.Parser.{Parser, and_then, sees, after, after_symbol, expect, pure, declared_from, declared_turn, declared_list}
-use Rattle.bc_text.specs.Spelling.{symbol, commas, angled}
+use Rattle.bc_print.specs.Token.{Token, Fixed}
+use Rattle.bc_tokens.specs.Token.{Tokens}
+use Rattle.bc_tokens.specs.Parser.{Parser, and_then, sees, after, after_symbol, expect, pure, declared_from, declared_turn, declared_list}
+use Rattle.bc_print.specs.Spelling.{symbol, commas, angled}
 use Rattle.bc_text.proofs.Begins.{Begins, join, split, bind_ok, ok_is, eaten, eat_again, eat_other, expect_takes, expect_again, sees_none, no_value}
 use Rattle.bc_text.proofs.Lists.{Follows, Closes}
 

@@ -7,7 +7,8 @@ use Rattle.std.proofs.lemmas.Bool.{cases_Bool, and_parts, leb-true, ltb-true, lt
 use Rattle.std.proofs.lemmas.Slice.Eq.{bytes_eq-Decides}
 use Rattle.bc_syntax.specs.declared.syntax.RegionName.{RegionName}
 use Rattle.bc_syntax.specs.Fits.{is_new, are_new}
-use Rattle.bc_text.specs.Universals.{universal_names, number_of, next}
+use Rattle.bc_print.specs.Universals.{universal_names}
+use Rattle.bc_text.specs.Universals.{number_of, next}
 
 pub is_text : (xs ys : List ℕ) → bytes_eq xs ys ≡ true → xs ≡ ys
 is_text xs ys e = grind (arith, bytes_eq-Decides xs ys, e)

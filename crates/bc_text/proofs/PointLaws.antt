@@ -6,7 +6,7 @@ use Rattle.std.proofs.lemmas.Bool.{leb-true, le-leb, and_from, and_parts}
 use Rattle.std.proofs.lemmas.List.{append-nil}
 use Rattle.bc_syntax.specs.declared.symbol.Symbol.{Symbol}
 use Rattle.bc_syntax.specs.declared.symbol.Symbol.TheVariants as s
-use Rattle.bc_text.specs.declared.token.Numbering.TheVariants as n
+use Rattle.bc_print.specs.declared.numbering.Numbering.TheVariants as n
 use Rattle.bc_text.specs.declared.points.Point.{Point}
 use Rattle.bc_text.specs.declared.points.Point.TheVariants as point_kinds
 use Rattle.bc_syntax.specs.declared.syntax.RegionName.{RegionName}
@@ -26,10 +26,11 @@ use Rattle.bc_syntax.specs.declared.syntax.Terminator.{Terminator}
 use Rattle.bc_syntax.specs.declared.syntax.Terminator.TheVariants as t
 use Rattle.bc_syntax.specs.Symbol.{same}
 use Rattle.bc_syntax.specs.Fits.{instance_fits, reference_fits, place_fits, operand_fits, operands_fit, borrow_fits, aggregate_fits, rvalue_fits, statement_fits, condition_fits, call_fits, terminator_fits}
-use Rattle.bc_text.specs.Token.{Token, Fixed, Numbered, Word, Tokens}
-use Rattle.bc_text.specs.Parser.{and_then, sees, sees_word, is_fixed, after, expect, pure}
+use Rattle.bc_print.specs.Token.{Token, Fixed, Numbered, Word}
+use Rattle.bc_tokens.specs.Token.{Tokens}
+use Rattle.bc_tokens.specs.Parser.{and_then, sees, sees_word, is_fixed, after, expect, pure}
 use Rattle.bc_text.specs.Reading as read
-use Rattle.bc_text.specs.Spelling as spell
+use Rattle.bc_print.specs.Spelling as spell
 use Rattle.bc_text.proofs.Begins.{Begins, join, split, bind_ok, ok_is, chosen, eaten, eat_again, eat_other, expect_takes, expect_again, numbered_takes, numbered_again, sees_none, sees_word_same, sees_word_none}
 use Rattle.bc_text.proofs.NameLaws.{Declares, NoLess, instance_takes, instance_again}
 use Rattle.bc_text.proofs.TypeLaws.{reference_takes, reference_again}

@@ -5,9 +5,9 @@ use Rattle.std.specs.List.{list_all}
 use Rattle.std.proofs.lemmas.List.{append-nil, length-append}
 use Rattle.std.proofs.lemmas.Bool.{eqb-true, eq-eqb, ltb-false, le-ltb, le-leb, leb-true, and_from, and_parts}
 use Rattle.bc_text.specs.declared.fault.ReadFault.TheVariants.{TooLong}
-use Rattle.bc_text.specs.declared.fault.Refusal.{Refusal}
+use Rattle.bc_tokens.specs.declared.refusal.Refusal.{Refusal}
 use Rattle.bc_syntax.specs.declared.symbol.Symbol.TheVariants as s
-use Rattle.bc_text.specs.declared.token.Numbering.TheVariants as n
+use Rattle.bc_print.specs.declared.numbering.Numbering.TheVariants as n
 use Rattle.bc_syntax.specs.declared.syntax.RegionName.{RegionName}
 use Rattle.bc_syntax.specs.declared.syntax.Outlives.{Outlives}
 use Rattle.bc_syntax.specs.declared.syntax.Ty.{Ty}
@@ -18,11 +18,13 @@ use Rattle.bc_syntax.specs.declared.syntax.Header.{Header}
 use Rattle.bc_syntax.specs.declared.syntax.Body.{Body}
 use Rattle.bc_syntax.specs.Symbol.{same}
 use Rattle.bc_syntax.specs.Fits.{HeaderFits, Fits, is_new, are_new, clause_fits, clauses_fit, parameters_fit, ty_fits, block_fits}
-use Rattle.bc_text.specs.Token.{Token, Fixed, Numbered, Word, Region, NotAscii, Stray, End, Tokens, tokens}
-use Rattle.bc_text.specs.Parser.{Outcome, Reads, and_then, sees, sees_region, after, is_end, at_end, numbered, position, expect, pure, fail, fault, declared_list}
+use Rattle.bc_print.specs.Token.{Token, Fixed, Numbered, Word, Region, NotAscii, Stray, End}
+use Rattle.bc_tokens.specs.Token.{Tokens, tokens}
+use Rattle.bc_tokens.specs.Parser.{Outcome, Reads, and_then, sees, sees_region, after, is_end, at_end, numbered, position, expect, pure, fail, fault, declared_list}
 use Rattle.bc_text.specs.Reading as read
 use Rattle.bc_text.specs.Reading.{answer_of}
-use Rattle.bc_text.specs.Spelling as spell
+use Rattle.bc_print.specs.Spelling as spell
+use Rattle.bc_text.specs.Spells as texts
 use Rattle.bc_text.proofs.Begins.{Begins, join, split, bind_ok, ok_is, chosen, chosen_parser, eaten, eat_again, eat_other, expect_takes, expect_again, numbered_takes, numbered_again, sees_none, sees_numbered_none}
 use Rattle.bc_text.proofs.NameLaws.{Declares, Anything, NoLess, universal_takes, universal_again, new_region_takes, new_region_again}
 use Rattle.bc_text.proofs.TypeLaws.{ty_takes, ty_again, parameters_take, parameters_again}
@@ -471,7 +473,7 @@ whole_unit ts u rest text p =
     ends_there c.0 rest c.1 c.2
 
 -- a text that is read spells what was read
-pub read_found : (bytes : List ℕ) (u : Body) → read.read bytes ≡ Ok u → spell.Spells bytes u × Fits u
+pub read_found : (bytes : List ℕ) (u : Body) → read.read bytes ≡ Ok u → texts.Spells bytes u × Fits u
 unfolding read.read read.read_whole
 read_found bytes u e =
     elim (chosen (ltb 1048576 (length bytes)) (Err TooLong) (answer_of (read.unit (tokens 0 0 bytes))) (Ok u) e) [
@@ -485,7 +487,7 @@ read_found bytes u e =
     ]
 
 -- a text that spells a unit is read as it
-pub read_only : (bytes : List ℕ) (u : Body) → spell.Spells bytes u → Fits u → read.read bytes ≡ Ok u
+pub read_only : (bytes : List ℕ) (u : Body) → texts.Spells bytes u → Fits u → read.read bytes ≡ Ok u
 unfolding read.read read.read_whole
 read_only bytes u spells fits =
     let text = begins_whole (tokens 0 0 bytes) (spell.unit u ++ End ∷ []) spells.1 in

@@ -46,10 +46,10 @@ use Rattle.bc_syntax.specs.declared.syntax.Declaration.{Declaration}
 use Rattle.bc_syntax.specs.declared.syntax.Declaration.TheVariants as declarations
 use Rattle.bc_syntax.specs.Fits.{HeaderFits, Fits, TypesFit}
 use Rattle.bc_syntax.specs.Words.{is_region_name, is_word}
-use Rattle.bc_text.specs.Token.{Token}
-use Rattle.bc_text.specs.Universals.{universal_names}
-use Rattle.bc_text.specs.Spelling as spell
-use Rattle.bc_text.proofs.Printed.{AllWhole}
+use Rattle.bc_print.specs.Token.{Token}
+use Rattle.bc_print.specs.Universals.{universal_names}
+use Rattle.bc_print.specs.Spelling as spell
+use Rattle.bc_tokens.proofs.Printed.{AllWhole}
 
 -- ---- lists of tokens
 

@@ -3,8 +3,9 @@ use Rattle.std.specs.Prelude.{◌≡◌, ◌≤◌, List, length, Ok}
 use Rattle.bc_syntax.specs.declared.syntax.Body.{Body}
 use Rattle.bc_syntax.specs.declared.syntax.Declaration.{Declaration}
 use Rattle.bc_syntax.specs.Fits.{Fits, TypesFit}
-use Rattle.bc_text.specs.Printing.{printed}
-use Rattle.bc_text.specs.Spelling.{unit, types, Spells, SpellsTypes}
+use Rattle.bc_print.specs.Printing.{printed}
+use Rattle.bc_print.specs.Spelling.{unit, types}
+use Rattle.bc_text.specs.Spells.{Spells, SpellsTypes}
 use Rattle.bc_text.specs.Reading.{read, read_types}
 
 -- what is printed of a unit spells it, where it is no longer than texts are

@@ -7,7 +7,7 @@ use Rattle.bc_text.specs.Fault.{read_fault}
 use Rattle.bc_text.specs.declared.points.Point.{Point}
 use Rattle.bc_text.specs.declared.points.Point.TheVariants as point_kinds
 use Rattle.bc_syntax.specs.declared.symbol.Symbol.TheVariants as s
-use Rattle.bc_text.specs.declared.token.Numbering.TheVariants as n
+use Rattle.bc_print.specs.declared.numbering.Numbering.TheVariants as n
 use Rattle.bc_syntax.specs.declared.syntax.Region.{Region}
 use Rattle.bc_syntax.specs.declared.syntax.Region.TheVariants.{Universal, Variable}
 use Rattle.bc_syntax.specs.declared.syntax.RegionName.{RegionName}
@@ -49,11 +49,11 @@ use Rattle.bc_syntax.specs.declared.syntax.Declaration.{Declaration}
 use Rattle.bc_syntax.specs.declared.syntax.Declaration.TheVariants as declarations
 use Rattle.bc_syntax.specs.Fits.{is_new, is_struct}
 use Rattle.bc_syntax.specs.Words.{is_word}
-use Rattle.bc_text.specs.Token.{Tokens, tokens}
+use Rattle.bc_tokens.specs.Token.{Tokens, tokens}
 use Rattle.bc_text.specs.Universals.{number_of}
-use Rattle.bc_text.specs.declared.fault.Refusal.{Refusal}
+use Rattle.bc_tokens.specs.declared.refusal.Refusal.{Refusal}
 use Rattle.bc_text.specs.declared.declarations.Marks.{Marks as InMemory}
-use Rattle.bc_text.specs.Parser.{Outcome, Parser, ReadsAs, ◌>>=◌, ◌>>◌, ◌<$>◌, pure, refuse, past_limit, here, fail, eat, expect, sees, sees_numbered, sees_word, sees_region, numbered, region_name, word, closed_list, opened_list, angled_list, declared_list, at_end}
+use Rattle.bc_tokens.specs.Parser.{Outcome, Parser, ReadsAs, ◌>>=◌, ◌>>◌, ◌<$>◌, pure, refuse, past_limit, here, fail, eat, expect, sees, sees_numbered, sees_word, sees_region, numbered, region_name, word, closed_list, opened_list, angled_list, declared_list, at_end}
 
 -- ---- regions and names
 

@@ -1,12 +1,8 @@
--- The names of universal regions.
-use Rattle.std.specs.Prelude.{ℕ, ◌+◌, List, ◌∷◌, map, codes, Option, Some, None, if◌then◌else◌}
+-- The universal region of a name.
+use Rattle.std.specs.Prelude.{ℕ, ◌+◌, List, codes, Option, Some, None, if◌then◌else◌}
 use Rattle.std.specs.List.{position_from}
 use Rattle.std.specs.Str.{bytes_eq}
 use Rattle.bc_syntax.specs.declared.syntax.RegionName.{RegionName}
-
--- the names of the universal regions, by their numbers
-abbrev pub universal_names : List RegionName → List (List ℕ)
-universal_names regions = codes "static" ∷ map (λ (name : RegionName). name.bytes) regions
 
 abbrev pub next : Option ℕ → Option ℕ
 next None = None

@@ -1,14 +1,13 @@
 //! Blocks.
 ghost use Rattle.std.specs.Prelude.{◌≡◌, ◌≤◌, ◌+◌, length, [], IfOk};
-ghost use Rattle.bc_text.specs.Parser.{Reads};
+ghost use Rattle.bc_tokens.specs.Parser.{Reads};
 ghost use Rattle.bc_text.specs.Reading as spec;
 
-use crate::cursor::Cursor;
-use crate::fault::Refusal;
 use crate::points::{Point, label, read_point};
 use crate::regions::refuse_past;
-use crate::token::Numbering;
+use bc_print::Numbering;
 use bc_syntax::{Block, RegionName, Sequence, Symbol};
+use bc_tokens::{Cursor, Refusal};
 use std::alloc::Global;
 
 fn begins_point(cursor: &Cursor<'_>) -> bool

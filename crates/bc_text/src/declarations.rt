@@ -1,17 +1,16 @@
 //! Declarations of structs and extern functions, and whole texts of them.
 ghost use Rattle.std.specs.Prelude.{◌≡◌, ◌+◌, ◌<◌, ◌≤◌, ◌-◌, ℕ, length, [], Ok, Err, IfOk, ◌↔◌, false};
 ghost use Rattle.std.specs.List.{zip, filter};
-ghost use Rattle.bc_text.specs.Parser.{Reads, declared_from, declared_list};
+ghost use Rattle.bc_tokens.specs.Parser.{Reads, declared_from, declared_list};
 ghost use Rattle.bc_text.specs.Reading.{Answers, ReadsMarks, begins_mark, structs_in};
-ghost use Rattle.bc_text.specs.Spelling.{SpellsTypes};
+ghost use Rattle.bc_text.specs.Spells.{SpellsTypes};
 ghost use Rattle.bc_syntax.specs.Fits.{TypesFit, is_struct};
 ghost use Rattle.bc_syntax.specs.declared.syntax.Declaration.{Declaration as DeclarationValue};
 ghost use Rattle.std.specs.Prelude.{List};
 ghost use Rattle.bc_text.specs.declared.fault.ReadFault.TheVariants.{TooLong};
 ghost use Rattle.bc_text.specs.Reading as spec;
 
-use crate::cursor::Cursor;
-use crate::fault::{ReadFault, Refusal};
+use crate::fault::ReadFault;
 use crate::reader::{MAX_TEXT, header_of};
 use crate::regions::{item_name, new_region, refuse_past};
 use crate::types::{begins_ty, ty};
@@ -19,6 +18,7 @@ use bc_syntax::{
     Declaration, ExternDeclaration, ItemName, RegionName, Sequence, StructDeclaration, Symbol, Ty,
     Types, Variance,
 };
+use bc_tokens::{Cursor, Refusal};
 use std::alloc::Global;
 
 /// The regions of a struct, and their variances.
@@ -79,7 +79,7 @@ fn some_marks(alloc: Global, cursor: &mut Cursor<'_>) -> Result<Marks, Refusal>
     Err(refuse_past(begins_mark(cursor), cursor))
 }
 
-#[tactic(auto, unfolding(crate::specs::Parser::declared_list))]
+#[tactic(auto, unfolding(bc_tokens::specs::Parser::declared_list))]
 fn declared_marks(alloc: Global, cursor: &mut Cursor<'_>) -> Result<Marks, Refusal>
     ensures lengths { IfOk result (λ m. (length m.variances ≡ length m.regions) × (length m.regions ≤ 8)) }
     ensures reads { ReadsMarks (declared_list begins_mark spec.mark 8 cursor.old) result cursor.new }

@@ -1,17 +1,15 @@
 //! Places, operands and what assignments compute.
 ghost use Rattle.std.specs.Prelude.{◌≡◌, ◌≤◌, length, []};
-ghost use Rattle.bc_text.specs.Parser.{Reads, separated_from, closed_list};
+ghost use Rattle.bc_tokens.specs.Parser.{Reads, separated_from, closed_list};
 ghost use Rattle.bc_text.specs.Reading as spec;
 
-use crate::cursor::Cursor;
-use crate::fault::Refusal;
 use crate::regions::{instance, refuse_past};
-use crate::token::Numbering;
 use crate::types::reference;
+use bc_print::Numbering;
 use bc_syntax::{
-    Aggregate, Borrow, Operand, Place, Projection, RegionName, Rvalue, Sequence, ShortSequence,
-    Symbol,
+    Aggregate, Borrow, Operand, Place, Projection, RegionName, Rvalue, ShortSequence, Symbol,
 };
+use bc_tokens::{Cursor, Refusal};
 use std::alloc::Global;
 
 /// A local that was declared.
@@ -111,10 +109,10 @@ fn some_operands(
     alloc: Global,
     cursor: &mut Cursor<'_>,
     locals: u16,
-) -> Result<Sequence<Operand>, Refusal>
+) -> Result<ShortSequence<Operand, 2>, Refusal>
     ensures { Reads (separated_from spec.begins_operand (spec.operand locals) 16 [] cursor.old) result cursor.new }
 {
-    let mut found = Sequence::new(alloc);
+    let mut found = ShortSequence::new(alloc);
     for _turn in 0..16u8 {
         found.push(operand(alloc, cursor, locals)?)?;
         if !cursor.eat(Symbol::Comma) {
@@ -125,17 +123,17 @@ fn some_operands(
 }
 
 /// Operands, with their parentheses.
-#[tactic(auto, unfolding(crate::specs::Parser::closed_list, crate::specs::Reading::operands))]
+#[tactic(auto, unfolding(bc_tokens::specs::Parser::closed_list, crate::specs::Reading::operands))]
 pub fn operands(
     alloc: Global,
     cursor: &mut Cursor<'_>,
     locals: u16,
-) -> Result<Sequence<Operand>, Refusal>
+) -> Result<ShortSequence<Operand, 2>, Refusal>
     ensures { Reads (spec.operands locals cursor.old) result cursor.new }
 {
     cursor.expect(Symbol::OpenParen)?;
     if cursor.eat(Symbol::CloseParen) {
-        return Ok(Sequence::new(alloc));
+        return Ok(ShortSequence::new(alloc));
     }
     let found = some_operands(alloc, cursor, locals)?;
     cursor.expect(Symbol::CloseParen)?;

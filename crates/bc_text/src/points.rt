@@ -1,14 +1,13 @@
 //! Statements and terminators.
 ghost use Rattle.std.specs.Prelude.{◌≡◌, ◌≤◌, length};
-ghost use Rattle.bc_text.specs.Parser.{Reads};
+ghost use Rattle.bc_tokens.specs.Parser.{Reads};
 ghost use Rattle.bc_text.specs.Reading as spec;
 
-use crate::cursor::Cursor;
-use crate::fault::Refusal;
 use crate::places::{local, operand, operands, place, rvalue};
 use crate::regions::instance;
-use crate::token::Numbering;
+use bc_print::Numbering;
 use bc_syntax::{Assignment, Call, Condition, Place, RegionName, Statement, Symbol, Terminator};
+use bc_tokens::{Cursor, Refusal};
 use std::alloc::Global;
 
 /// A statement or a terminator.

@@ -1,20 +1,20 @@
 //! Headers, bodies, and whole texts of units.
 ghost use Rattle.std.specs.Prelude.{◌≡◌, ◌+◌, ◌<◌, ◌≤◌, ◌^◌, length, [], Ok, Err, IfOk, ◌↔◌};
-ghost use Rattle.bc_text.specs.Parser.{Reads, separated_from, opened_list, sees_region};
+ghost use Rattle.bc_tokens.specs.Parser.{Reads, separated_from, opened_list, sees_region};
 ghost use Rattle.bc_text.specs.Reading.{Answers};
-ghost use Rattle.bc_text.specs.Spelling.{Spells};
+ghost use Rattle.bc_text.specs.Spells.{Spells};
 ghost use Rattle.bc_syntax.specs.Fits.{Fits};
 ghost use Rattle.bc_syntax.specs.declared.syntax.Body.{Body};
 ghost use Rattle.bc_text.specs.declared.fault.ReadFault.TheVariants.{TooLong};
 ghost use Rattle.bc_text.specs.Reading as spec;
 
 use crate::blocks::blocks;
-use crate::cursor::Cursor;
-use crate::fault::{ReadFault, Refusal};
+use crate::fault::ReadFault;
 use crate::regions::{new_regions, refuse_past, universal};
-use crate::token::Numbering;
 use crate::types::{parameters, ty};
+use bc_print::Numbering;
 use bc_syntax::{Body, Header, Outlives, RegionName, Sequence, Symbol, Ty, Unit, UnitKind};
+use bc_tokens::{Cursor, Refusal};
 use std::alloc::Global;
 
 #[tactic(auto, unfolding(crate::specs::Reading::clause))]
@@ -46,7 +46,7 @@ fn some_clauses(
     Err(refuse_past(cursor.sees_region(), cursor))
 }
 
-#[tactic(auto, unfolding(crate::specs::Parser::opened_list, crate::specs::Reading::clauses))]
+#[tactic(auto, unfolding(bc_tokens::specs::Parser::opened_list, crate::specs::Reading::clauses))]
 fn clauses(
     alloc: Global,
     cursor: &mut Cursor<'_>,

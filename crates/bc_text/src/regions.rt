@@ -1,16 +1,15 @@
 //! Regions, names, and declared items with regions for their own.
 ghost use Rattle.std.specs.Prelude.{◌≡◌, ◌≤◌, length, [], if◌then◌else◌, IfOk};
-ghost use Rattle.bc_text.specs.Parser.{Reads, separated_from, angled_list, declared_from, declared_list, position, fault, sees_region};
-ghost use Rattle.bc_text.specs.declared.fault.Refusal.TheVariants.{Limit};
+ghost use Rattle.bc_tokens.specs.Parser.{Reads, separated_from, angled_list, declared_from, declared_list, position, fault, sees_region};
+ghost use Rattle.bc_tokens.specs.declared.refusal.Refusal.TheVariants.{Limit};
 ghost use Rattle.bc_text.specs.Reading as spec;
 
-use crate::cursor::Cursor;
-use crate::fault::Refusal;
-use crate::token::Numbering;
 use crate::universals::number_of;
+use bc_print::Numbering;
 use bc_syntax::{
     Instance, ItemName, Region, RegionName, Sequence, ShortSequence, Symbol, is_new, is_word,
 };
+use bc_tokens::{Cursor, Refusal};
 use std::alloc::Global;
 
 /// The refusal of an item that is one too many, or of what is no item.
@@ -102,7 +101,7 @@ fn some_new_regions(
 }
 
 /// The regions that are declared here, at most so many.
-#[tactic(auto, unfolding(crate::specs::Parser::declared_list))]
+#[tactic(auto, unfolding(bc_tokens::specs::Parser::declared_list))]
 pub fn new_regions(
     alloc: Global,
     cursor: &mut Cursor<'_>,
@@ -153,7 +152,7 @@ fn some_regions(
     Err(refuse_past(begins_region(cursor, variables), cursor))
 }
 
-#[tactic(auto, unfolding(crate::specs::Parser::angled_list))]
+#[tactic(auto, unfolding(bc_tokens::specs::Parser::angled_list))]
 fn arguments(
     alloc: Global,
     cursor: &mut Cursor<'_>,

@@ -1,12 +1,11 @@
 //! Types and references.
 ghost use Rattle.std.specs.Prelude.{◌≡◌, ◌≤◌, length, [], IfOk, Ok, false};
-ghost use Rattle.bc_text.specs.Parser.{Reads, separated_from, closed_list};
+ghost use Rattle.bc_tokens.specs.Parser.{Reads, separated_from, closed_list};
 ghost use Rattle.bc_text.specs.Reading as spec;
 
-use crate::cursor::Cursor;
-use crate::fault::Refusal;
 use crate::regions::{instance, refuse_past, region};
 use bc_syntax::{Base, Mutability, Reference, RegionName, Sequence, ShortSequence, Symbol, Ty};
+use bc_tokens::{Cursor, Refusal};
 use std::alloc::Global;
 
 #[tactic(auto, unfolding(crate::specs::Reading::mutability))]
@@ -101,7 +100,7 @@ fn some_tys(
 }
 
 /// The types of parameters, with their parentheses.
-#[tactic(auto, unfolding(crate::specs::Parser::closed_list, crate::specs::Reading::parameters))]
+#[tactic(auto, unfolding(bc_tokens::specs::Parser::closed_list, crate::specs::Reading::parameters))]
 pub fn parameters(
     alloc: Global,
     cursor: &mut Cursor<'_>,

@@ -22,6 +22,17 @@ fn list<T: Drop, const N: usize>(alloc: Global, items: [T; N]) -> Result<Sequenc
     Ok(Sequence::from(items))
 }
 
+fn operands<const N: usize>(
+    alloc: Global,
+    items: [Operand; N],
+) -> Result<ShortSequence<Operand, 2>, AllocError> {
+    let mut found = ShortSequence::new(alloc);
+    for operand in Vec::from_array(alloc, items)? {
+        found.push(operand)?;
+    }
+    Ok(found)
+}
+
 fn item(alloc: Global, bytes: &[u8]) -> Result<ItemName, AllocError> {
     let bytes = ShortSequence::of(alloc, bytes)?;
     Ok(ItemName { bytes })
@@ -149,7 +160,7 @@ fn shared_borrow(alloc: Global) -> Result<Statement, AllocError> {
 fn calculation(alloc: Global) -> Result<Statement, AllocError> {
     let copied = Operand::Copy(place(alloc, 1, &[])?);
     let moved = Operand::Move(place(alloc, 3, &[Projection::Deref])?);
-    let operands = list(alloc, [copied, moved, Operand::Number(7)])?;
+    let operands = operands(alloc, [copied, moved, Operand::Number(7)])?;
     Ok(assigned(place(alloc, 0, &[])?, Rvalue::Calc(operands)))
 }
 
@@ -161,7 +172,7 @@ fn creation(alloc: Global) -> Result<Statement, AllocError> {
             b"Pair",
             &[Region::Variable(1023), Region::Universal(2)],
         )?,
-        operands: list(alloc, [moved, Operand::Number(5)])?,
+        operands: operands(alloc, [moved, Operand::Number(5)])?,
     };
     Ok(assigned(place(alloc, 4, &[])?, Rvalue::Aggregate(made)))
 }
@@ -199,7 +210,7 @@ fn blocks(alloc: Global) -> Result<Sequence<Block>, AllocError> {
     let call = Call {
         destination: place(alloc, 4, &[Projection::Field(1)])?,
         function: instance(alloc, b"make", &[Region::Variable(2), Region::Universal(2)])?,
-        operands: list(alloc, [Operand::Copy(place(alloc, 2, &[])?)])?,
+        operands: operands(alloc, [Operand::Copy(place(alloc, 2, &[])?)])?,
         target: 3,
     };
     list(

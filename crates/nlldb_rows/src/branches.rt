@@ -1,5 +1,5 @@
-//! Bodies with branches, loops and declared regions.
-use crate::fixture::{conflict, outcome, point, reports};
+//! Bodies with branches, loops, declared regions and drops, asked of a database.
+use crate::fixture::{asked, asked_over, conflict, point, reports};
 use bc_judge::BorrowError;
 use bc_text::read_unit;
 use std::alloc::Global;
@@ -24,7 +24,7 @@ const RESULT_OF_A_LONGER_LIFETIME: &[u8] =
     b"fn <'a,'b> where 'b: 'a (&'a int, &'b int) -> &'a int { bb0 { _0 = copy _2; return; } }";
 
 fn is_answer(alloc: Global, text: &[u8], errors: &[BorrowError]) -> Result<bool, Fail> {
-    let found = outcome(alloc, &read_unit(alloc, text)?)?;
+    let found = asked(alloc, read_unit(alloc, text)?)?;
     Ok(reports(&found, errors))
 }
 
@@ -61,5 +61,18 @@ fn a_lifetime_error_is_mended_by_its_clause(rt: HostRuntime) -> Result<(), Fail>
     };
     assert!(rt; is_answer(rt.alloc(), RESULT_OF_ANOTHER_LIFETIME, &[unknown])?);
     assert!(rt; is_answer(rt.alloc(), RESULT_OF_A_LONGER_LIFETIME, &[])?);
+    Ok(())
+}
+
+const HOLDS_A_BORROW: &[u8] =
+    b"fn () -> int { let _1: int; let _2: G<'?0>; let _3: &'?1 int; bb0 { _1 = 1; _3 = &'?1 _1; _2 = G<'?0>(move _3); _1 = 2; drop _2; _0 = 0; return; } }";
+
+#[test]
+fn the_drop_of_a_marked_struct_uses_what_it_holds(rt: HostRuntime) -> Result<(), Fail> {
+    let marked = b"struct G<+'a> drop { &'a int; }".as_slice();
+    let errors = [conflict(point(0, 3), point(0, 1))];
+    assert!(rt; reports(&*asked_over(rt.alloc(), marked, HOLDS_A_BORROW)?, &errors));
+    let plain = b"struct G<+'a> { &'a int; }".as_slice();
+    assert!(rt; reports(&*asked_over(rt.alloc(), plain, HOLDS_A_BORROW)?, &[]));
     Ok(())
 }

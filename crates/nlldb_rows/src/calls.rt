@@ -1,8 +1,10 @@
 //! Databases: their ranges, their sessions, their histories.
 use crate::fixture::{
-    WRITES_LAST, WRITES_WHILE_BORROWED, close, conflict, name, open, point, reports, shared,
+    WRITES_LAST, WRITES_WHILE_BORROWED, close, conflict, declared, name, open, point, reports,
+    shared,
 };
-use bc_book::{PutReply, Refusal};
+use bc_book::{Call, PutReply, Refusal, Reply};
+use bc_prov::Outcome;
 use bc_share::{CloseFault, Db, OpenFault};
 use bc_text::read_unit;
 use std::test::Fail;
@@ -48,6 +50,29 @@ fn four_calls_are_numbered_in_their_order(rt: HostRuntime) -> Result<(), Fail> {
     assert_eq!(rt; history.entries().len(), 4);
     for (number, entry) in history.entries().iter().enumerate() {
         assert_eq!(rt; entry.number as usize, number);
+    }
+    Ok(())
+}
+
+#[test]
+fn an_absent_name_is_told_behind_bad_declarations(rt: HostRuntime) -> Result<(), Fail> {
+    let g = name(b"g")?;
+    let (db, mut session) = open(rt.alloc(), 0, 5)?;
+    assert!(rt; matches!(*session.ask(&g)?, Outcome::NoBody));
+    let bad = b"struct H<+'a> { &'static mut &'a int; }".as_slice();
+    session.put_types(declared(rt.alloc(), bad)?)?;
+    assert!(rt; matches!(*session.ask(&g)?, Outcome::BadTypes(0)));
+    let good = b"struct H<='a> { &'static mut &'a int; }".as_slice();
+    session.put_types(declared(rt.alloc(), good)?)?;
+    assert!(rt; matches!(*session.ask(&g)?, Outcome::NoBody));
+    let refused = session.put_types(declared(rt.alloc(), good)?);
+    assert_eq!(rt; refused, Err(Refusal::HistoryFull));
+    let history = close(rt.alloc(), db, session)?;
+    assert_eq!(rt; history.entries().len(), 5);
+    for (number, entry) in history.entries().iter().enumerate() {
+        let stored = matches!(&entry.event.call, Call::Types(_));
+        assert_eq!(rt; stored, number == 1 || number == 3);
+        assert_eq!(rt; stored, matches!(&entry.event.reply, Reply::Stored));
     }
     Ok(())
 }

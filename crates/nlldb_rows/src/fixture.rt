@@ -1,14 +1,10 @@
 //! What the tests share: a database with one session, and the outcome of one body in it.
-ghost use Rattle.std.specs.Prelude.{◌≡◌, true, IfOk};
-ghost use Rattle.std.specs.Arc.{arc_value};
-ghost use Rattle.bc_syntax.specs.Served.{served};
-
 use bc_judge::BorrowError;
 use bc_mir::Point;
 use bc_prov::{Outcome, outcome_of};
 use bc_share::{Db, History, Session};
-use bc_syntax::Unit;
-use bc_text::Name;
+use bc_syntax::{Types, Unit};
+use bc_text::{Name, read_types, read_unit};
 use std::alloc::{AllocError, Global};
 use std::sync::Arc;
 use std::test::Fail;
@@ -60,20 +56,23 @@ pub fn close(alloc: Global, db: Db, session: Session) -> Result<History, Fail> {
     Ok(db.close(sessions)?)
 }
 
-/// A unit behind an `Arc`, as a put takes it; fails where the database does not serve it, or for want of memory.
-pub fn shared(alloc: Global, unit: Unit) -> Result<Arc<Unit, Global>, Fail>
-    ensures { IfOk result (λ unit. served (arc_value unit) ≡ true) }
-{
-    if !unit.served() {
-        return Err("a unit that is served")?;
-    }
+/// A unit behind an `Arc`, as a put takes it; fails for want of memory.
+pub fn shared(alloc: Global, unit: Unit) -> Result<Arc<Unit, Global>, Fail> {
     match Arc::new(alloc, unit) {
         Ok(unit) => Ok(unit),
         Err(_) => Err(AllocError)?,
     }
 }
 
-/// The outcome of a unit, put as `f` into a new database and asked for; fails where the database does not serve it.
+/// The declarations that a text spells, behind an `Arc`; fails where it spells none, or for want of memory.
+pub fn declared(alloc: Global, text: &[u8]) -> Result<Arc<Types, Global>, Fail> {
+    match Arc::new(alloc, read_types(alloc, text)?) {
+        Ok(types) => Ok(types),
+        Err(_) => Err(AllocError)?,
+    }
+}
+
+/// The outcome of a unit, put as `f` into a new database and asked for.
 pub fn asked(alloc: Global, unit: Unit) -> Result<Arc<Outcome, Global>, Fail> {
     let f = name(b"f")?;
     let (_db, mut session) = open(alloc, 0, 2)?;
@@ -81,9 +80,19 @@ pub fn asked(alloc: Global, unit: Unit) -> Result<Arc<Outcome, Global>, Fail> {
     Ok(session.ask(&f)?)
 }
 
-/// The outcome of `f` where it holds a unit, which the database need not serve.
+/// The outcome of a unit, put as `f` into a database that has these declarations; both are given by their texts.
+pub fn asked_over(alloc: Global, types: &[u8], unit: &[u8]) -> Result<Arc<Outcome, Global>, Fail> {
+    let f = name(b"f")?;
+    let (_db, mut session) = open(alloc, 0, 3)?;
+    session.put_types(declared(alloc, types)?)?;
+    session.put(f, shared(alloc, read_unit(alloc, unit)?)?)?;
+    Ok(session.ask(&f)?)
+}
+
+/// The outcome of `f` where it holds a unit, and nothing is declared.
 pub fn outcome(alloc: Global, unit: &Unit) -> Result<Outcome, Fail> {
-    Ok(outcome_of(alloc, &name(b"f")?, Some(unit))?)
+    let types = read_types(alloc, b"")?;
+    Ok(outcome_of(alloc, &name(b"f")?, &types, Some(unit))?)
 }
 
 /// Whether an outcome reports one body with these errors.
@@ -93,6 +102,6 @@ pub fn reports(outcome: &Outcome, errors: &[BorrowError]) -> bool {
             [body] => body.errors.as_slice() == errors,
             _ => false,
         },
-        Outcome::NoBody | Outcome::Ill(_, _) => false,
+        Outcome::NoBody | Outcome::BadTypes(_) | Outcome::Ill(_, _) => false,
     }
 }

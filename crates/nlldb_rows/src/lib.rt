@@ -6,10 +6,16 @@ mod branches;
 #[cfg(test)]
 mod calls;
 #[cfg(test)]
+mod declared;
+#[cfg(test)]
+mod demands;
+#[cfg(test)]
 mod fixture;
 #[cfg(test)]
 mod steps;
 #[cfg(test)]
 mod texts;
+#[cfg(test)]
+mod types;
 #[cfg(test)]
 mod typing;

@@ -1,4 +1,5 @@
 //! What each step of the analysis finds.
+use crate::declared::good_types;
 use crate::fixture::{WRITES_LAST, WRITES_WHILE_BORROWED, conflict, name, point};
 use bc_cons::constraints;
 use bc_judge::{judge, known_relations};
@@ -8,7 +9,7 @@ use bc_mir::{Typed, type_unit};
 use bc_prov::{Outcome, outcome_of};
 use bc_solve::{Values, solve_plain};
 use bc_syntax::{Mutability, Region};
-use bc_text::read_unit;
+use bc_text::{read_types, read_unit};
 use std::alloc::Global;
 use std::test::Fail;
 
@@ -21,8 +22,8 @@ const REBORROWS_THROUGH_A_SHARED_REFERENCE: &[u8] =
 const SECOND_OUTLIVES_THE_FIRST: &[u8] = b"fn <'a,'b> where 'b: 'a () -> int { bb0 { stop; } }";
 
 fn typed(alloc: Global, text: &[u8]) -> Result<Typed, Fail> {
-    let unit = read_unit(alloc, text)?;
-    Ok(type_unit(alloc, &unit)?)
+    let types = good_types(alloc, b"")?;
+    Ok(type_unit(alloc, &types, &read_unit(alloc, text)?, &[])?)
 }
 
 fn values(alloc: Global, typed: &Typed) -> Result<Values, Fail> {
@@ -94,9 +95,23 @@ fn a_loan_is_in_scope_while_its_region_has_the_point(rt: HostRuntime) -> Result<
 fn the_outcome_of_a_name_is_of_what_it_holds(rt: HostRuntime) -> Result<(), Fail> {
     let alloc = rt.alloc();
     let f = name(b"f")?;
-    assert!(rt; matches!(outcome_of(alloc, &f, None)?, Outcome::NoBody));
+    let none = read_types(alloc, b"")?;
+    assert!(rt; matches!(outcome_of(alloc, &f, &none, None)?, Outcome::NoBody));
     let unit = read_unit(alloc, WRITES_LAST)?;
-    assert!(rt; matches!(outcome_of(alloc, &f, Some(&unit))?, Outcome::Report(_)));
+    assert!(rt;
+        matches!(
+            outcome_of(alloc, &f, &none, Some(&unit))?,
+            Outcome::Report(_)
+        )
+    );
+    let bad = read_types(alloc, b"struct A { int; } struct B { C; }")?;
+    assert!(rt; matches!(outcome_of(alloc, &f, &bad, None)?, Outcome::BadTypes(1)));
+    assert!(rt;
+        matches!(
+            outcome_of(alloc, &f, &bad, Some(&unit))?,
+            Outcome::BadTypes(1)
+        )
+    );
     Ok(())
 }
 

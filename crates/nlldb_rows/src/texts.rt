@@ -91,28 +91,3 @@ fn a_drop_writes_its_place_and_ends_nothing(rt: HostRuntime) -> Result<(), Fail>
     assert!(rt; reports(&found, &[]));
     Ok(())
 }
-
-#[test]
-fn one_block_of_references_to_int_is_served(rt: HostRuntime) -> Result<(), Fail> {
-    let rows: [(&[u8], bool); 12] = [
-        (WRITES_LAST, true),
-        (
-            b"fn(&'static mut int,int)->int{let _3:&'?0 int;bb0{_0=calc(move _2,1);dead _3;nop;stop;}}",
-            true,
-        ),
-        (b"fn<'a>()->int{bb0{return;}}", false),
-        (b"fn where 'static:'static()->int{bb0{return;}}", false),
-        (b"fn()->S{bb0{return;}}", false),
-        (b"fn(&'static S)->int{bb0{return;}}", false),
-        (b"fn()->int{let _1:S;bb0{return;}}", false),
-        (b"fn()->int{bb0{_0=S();return;}}", false),
-        (b"fn()->int{bb0{drop _0;return;}}", false),
-        (b"fn()->int{bb0{goto bb0;}}", false),
-        (b"fn()->int{bb0{_0=call f() bb0;}}", false),
-        (b"fn()->int{bb0{return;}bb1{return;}}", false),
-    ];
-    for (text, served) in rows {
-        assert_eq!(rt; read_unit(rt.alloc(), text)?.served(), served);
-    }
-    Ok(())
-}

@@ -1,4 +1,5 @@
 //! Units that are typed, with what is told of them, and units that break a typing rule.
+use crate::declared::good_types;
 use bc_mir::{IllFault, Point, Typed, Where, type_unit};
 use bc_text::read_unit;
 use std::alloc::Global;
@@ -6,7 +7,12 @@ use std::test::Fail;
 
 /// The fault of the unit that a text spells: at a point of block 0, or none.
 fn index_of_fault(alloc: Global, text: &[u8]) -> Result<Option<usize>, Fail> {
-    match type_unit(alloc, &read_unit(alloc, text)?) {
+    match type_unit(
+        alloc,
+        &good_types(alloc, b"")?,
+        &read_unit(alloc, text)?,
+        &[],
+    ) {
         Ok(_) => Ok(None),
         Err(IllFault::Ill(Where::At(Point { block: 0, index }))) => Ok(Some(index)),
         Err(fault) => Err(fault)?,
@@ -37,7 +43,8 @@ fn the_first_misfit_of_a_block_is_told(rt: HostRuntime) -> Result<(), Fail> {
 }
 
 fn typed(alloc: Global, text: &[u8]) -> Result<Typed, Fail> {
-    Ok(type_unit(alloc, &read_unit(alloc, text)?)?)
+    let types = good_types(alloc, b"")?;
+    Ok(type_unit(alloc, &types, &read_unit(alloc, text)?, &[])?)
 }
 
 #[test]
@@ -69,11 +76,7 @@ fn behind_a_mutable_reference_both_ways_are_demanded(rt: HostRuntime) -> Result<
     let typed = typed(rt.alloc(), text)?;
     let mut constraints = Vec::new(rt.alloc());
     if let [_, first, second] = typed.locals() {
-        typed.push_subtype(
-            &mut constraints,
-            first.references.as_slice(),
-            second.references.as_slice(),
-        )?;
+        typed.push_subtype(&mut constraints, first, second)?;
     }
     assert_eq!(rt; constraints.len(), 3);
     Ok(())

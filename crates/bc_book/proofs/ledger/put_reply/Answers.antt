@@ -2,7 +2,7 @@ use Rattle.std.proofs.Common.{◌≡◌, sym, ◌∙◌, subst, arith}
 use Rattle.std.specs.BTreeMap.{btree_map_len}
 use Rattle.bc_syntax.specs.declared.syntax.Body.{Body}
 use Rattle.bc_book.specs.Calls.{Suits, HoldsCount}
-use Rattle.bc_book.specs.Ledgers.{state_of}
+use Rattle.bc_book.specs.Ledgers.{bodies_of}
 use Rattle.bc_book.proofs.Bodies.{counted, absent}
 use Rattle.bc_book.proofs.ledger.put_reply.Goals as goal
 
@@ -25,5 +25,5 @@ returns-else-count-lt-MOST_BODIES-clause-reply c =
     let all : btree_map_len c.args.bodies.now ≡ 256 = omega (arith, many, len, few) in (
       subst (λ (b : Body). Suits b.header.kind c.args.name.now) c.body.ensures.value (c.suits.ensures.0 c.if-not-suits.false),
       absent _ (sym c.contains_key.ensures ∙ c.if-contains_key.false),
-      subst (HoldsCount (state_of c.args.bodies.now)) all (counted c.args.bodies.now c.len-count.ensures.ordered),
+      subst (HoldsCount (bodies_of c.args.bodies.now)) all (counted c.args.bodies.now c.len-count.ensures.ordered),
     )

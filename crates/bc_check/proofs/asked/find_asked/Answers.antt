@@ -1,22 +1,23 @@
 use Rattle.std.proofs.Common.{map, sym, ap, ◌∙◌, arith, length, ◌<◌}
-use Rattle.std.proofs.lemmas.List.{get_or-map, length-map, nil_from_length}
-use Rattle.bc_check.specs.Puts.{Placed, seen}
-use Rattle.bc_check.proofs.Asking.{gathered_more, gathered_same, gathered_all}
+use Rattle.std.proofs.lemmas.List.{get_or-map, length-map}
+use Rattle.bc_book.specs.declared.call.Call.{Call}
+use Rattle.bc_check.specs.Changes.{seen}
+use Rattle.bc_check.proofs.Asking.{asked_more, asked_same, asked_all}
 use Rattle.bc_check.proofs.asked.find_asked.Goals as goal
-use Rattle.bc_check.proofs.asked.find_asked.Goals.{then-depth-eq0+in_ok-insert, else-depth-eq0}
+use Rattle.bc_check.proofs.asked.find_asked.Goals.{in-Some+in_ok-insert, in_default}
 
-pub loop-put-preserved : goal.loop-put-preserved
-loop-put-preserved c =
-    let puts = c.args.puts.now in
-    let i = c.loop-put.put-index in
-    let put = c.put-item.result in
-    let below : i < length (map seen puts) = omega (arith, length-map puts seen) in
-    let at = λ (d : Placed). get_or-map seen puts i put d c.loop-put-test.true ∙ ap seen (sym c.put-item.is) in
-    elim c.if-depth-eq0.branch [
-      | then-depth-eq0+in_ok-insert w ↦ rw w.names-is (gathered_more _ _ (seen put) _ _ c.loop-put.invariant below at (nil_from_length _ (omega (arith, c.depth.ensures, w.if-depth-eq0.true))) w.in_ok-insert.ensures.keys w.in_ok-insert.ensures.ordered)
-      | else-depth-eq0 w ↦ rw w.names-is (gathered_same _ _ (seen put) _ c.loop-put.invariant at (λ e. omega (arith, ap length e, c.depth.ensures, w.if-depth-eq0.false)))
+pub loop-change-preserved : goal.loop-change-preserved
+loop-change-preserved c =
+    let changes = c.args.changes.now in
+    let i = c.loop-change.change-index in
+    let change = c.change-item.result in
+    let below : i < length (map seen changes) = omega (arith, length-map changes seen, c.loop-change-test.true) in
+    let at = λ (d : Call). get_or-map seen changes i change d c.loop-change-test.true ∙ ap seen (sym c.change-item.is) in
+    elim c.match-root_put.branch [
+      | in-Some+in_ok-insert w ↦ rw w.names-is (asked_more _ _ (seen change) _ _ _ c.loop-change.invariant below at (sym c.root_put.ensures ∙ w.in-Some.is) w.in_ok-insert.ensures.keys w.in_ok-insert.ensures.ordered)
+      | in_default w ↦ rw w.names-is (asked_same _ _ (seen change) _ c.loop-change.invariant below at (sym c.root_put.ensures ∙ w.in_default.is))
     ]
 
 pub returns-clause-asked : goal.returns-clause-asked
 returns-clause-asked c =
-    gathered_all (map seen c.args.puts.now) c.loop-put.put-index c.loop-put.names.keys c.loop-put.invariant (omega (arith, length-map c.args.puts.now seen, c.loop-put-test.false))
+    asked_all (map seen c.args.changes.now) c.loop-change.change-index c.loop-change.names.keys c.loop-change.invariant (omega (arith, length-map c.args.changes.now seen, c.loop-change-test.false))

@@ -1,7 +1,7 @@
-use Rattle.std.proofs.Common.{map}
-use Rattle.bc_check.specs.Puts.{seen}
-use Rattle.bc_check.proofs.Asking.{AreGathered}
+use Rattle.std.proofs.Common.{map, take}
+use Rattle.bc_check.specs.Changes.{seen}
+use Rattle.bc_check.specs.Asked.{AreAsked}
 use Rattle.bc_check.proofs.asked.find_asked.Given as goal
 
-abbrev pub invariant-loop-put : goal.invariant-loop-put
-invariant-loop-put l = AreGathered (map seen l.puts) l.put-index l.names.keys
+abbrev pub invariant-loop-change : goal.invariant-loop-change
+invariant-loop-change l = AreAsked (take l.change-index (map seen l.changes)) l.names.keys

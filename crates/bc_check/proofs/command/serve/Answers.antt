@@ -2,10 +2,10 @@ use Rattle.std.proofs.Common.{arith, ◌≡◌, ◌+◌, ◌≤◌, List, [], �
 use Rattle.std.proofs.lemmas.List.{length-map}
 use Rattle.bc_share.specs.Sessions.{SessionView, new_session}
 use Rattle.bc_share.specs.Closings.{IsOneHistory}
-use Rattle.bc_check.specs.Puts.{seen}
+use Rattle.bc_check.specs.Changes.{seen}
 use Rattle.bc_check.specs.declared.stop.Stop.TheVariants.{NoMemory}
 use Rattle.bc_check.proofs.Serving.{same_stop}
-use Rattle.bc_check.proofs.Ending.{runs_of, the_last, begins_none, begins_puts, begins_asks}
+use Rattle.bc_check.proofs.Ending.{runs_of, the_last, begins_none, begins_changes, begins_asks}
 use Rattle.bc_check.proofs.command.serve.Goals as goal
 
 pub returns-clause-done : goal.returns-clause-done
@@ -15,22 +15,22 @@ returns-clause-done g c =
     let last : (c.pop.new.self.items ≡ []) × (c.in-Some.session ≡ new_session 0 0 c.in_ok-capacity.capacity) = the_last _ _ _ (sym opened ∙ popped) in
     let all : c.push.new.self.items ≡ c.make_asks.new.session ∷ [] = c.in_ok-push.ensures.items ∙ ap (λ (ss : List SessionView). ss ++ c.make_asks.new.session ∷ []) last.0 in
     let one = subst (λ (ss : List SessionView). IsOneHistory ss c.in_ok-close.field-0) all c.in_ok-close.ensures.one_history in
-    let few : length (map seen c.args.puts.items) + length c.args.names.now.keys ≤ 1000000 = omega (arith, length-map c.args.puts.items seen, c.in_ok-capacity.ensures.fits, c.len.ensures, c.len-2.ensures.len, c.args.puts.ok.0) in
-    rw c.max.ensures (runs_of (map seen c.args.puts.items) c.args.names.now.keys c.in_ok-put.put c.in_ok-asked.asked c.in_ok-capacity.capacity c.in-Some.session c.make_puts.new.session c.make_asks.new.session _ _ _ _ c.in_ok-close.field-0 c.in_ok-put.ensures.served c.in_ok-asked.ensures.served last.1 few one)
+    let few : length (map seen c.args.changes.items) + length c.args.names.now.keys ≤ 1000000 = omega (arith, length-map c.args.changes.items seen, c.in_ok-capacity.ensures.fits, c.len.ensures, c.len-2.ensures.len, c.args.changes.ok.0) in
+    rw c.max.ensures (runs_of c.args.changes.items c.args.names.now.keys c.in_ok-changed.changed c.in_ok-asked.asked c.in_ok-capacity.capacity c.in-Some.session c.make_changes.new.session c.make_asks.new.session _ _ _ _ c.in_ok-close.field-0 c.in_ok-changed.ensures.served c.in_ok-asked.ensures.served last.1 few one)
 
 pub returns-in_err-db-clause-no_memory : goal.returns-in_err-db-clause-no_memory
-returns-in_err-db-clause-no_memory g c e = begins_none (map seen c.args.puts.items) c.args.names.now.keys _ _
+returns-in_err-db-clause-no_memory g c e = begins_none (map seen c.args.changes.items) c.args.names.now.keys _ _
 
-pub returns-in_err-put-clause-no_memory : goal.returns-in_err-put-clause-no_memory
-returns-in_err-put-clause-no_memory g c e =
+pub returns-in_err-changed-clause-no_memory : goal.returns-in_err-changed-clause-no_memory
+returns-in_err-changed-clause-no_memory g c e =
     let opened : c.in_ok-db.sessions.items ≡ new_session 0 0 c.in_ok-capacity.capacity ∷ [] = c.in_ok-db.ensures.opened.1 in
     let popped : c.in_ok-db.sessions.items ≡ c.pop.new.self.items ++ c.in-Some.session ∷ [] = c.in-Some.ensures.items in
     let last : (c.pop.new.self.items ≡ []) × (c.in-Some.session ≡ new_session 0 0 c.in_ok-capacity.capacity) = the_last _ _ _ (sym opened ∙ popped) in
-    begins_puts (map seen c.args.puts.items) c.args.names.now.keys c.in_ok-capacity.capacity c.in-Some.session c.make_puts.new.session _ _ _ (c.in_err-put.ensures.no_memory (same_stop c.from_residual-in_err-put.result c.in_err-put.field-0.0 NoMemory c.from_residual-in_err-put.ensures.1 e)) last.1
+    begins_changes c.args.changes.items c.args.names.now.keys c.in_ok-capacity.capacity c.in-Some.session c.make_changes.new.session _ _ _ (c.in_err-changed.ensures.no_memory (same_stop c.from_residual-in_err-changed.result c.in_err-changed.field-0.0 NoMemory c.from_residual-in_err-changed.ensures.1 e)) last.1
 
 pub returns-in_err-asked-clause-no_memory : goal.returns-in_err-asked-clause-no_memory
 returns-in_err-asked-clause-no_memory g c e =
     let opened : c.in_ok-db.sessions.items ≡ new_session 0 0 c.in_ok-capacity.capacity ∷ [] = c.in_ok-db.ensures.opened.1 in
     let popped : c.in_ok-db.sessions.items ≡ c.pop.new.self.items ++ c.in-Some.session ∷ [] = c.in-Some.ensures.items in
     let last : (c.pop.new.self.items ≡ []) × (c.in-Some.session ≡ new_session 0 0 c.in_ok-capacity.capacity) = the_last _ _ _ (sym opened ∙ popped) in
-    begins_asks (map seen c.args.puts.items) c.args.names.now.keys c.in_ok-put.put c.in_ok-capacity.capacity c.in-Some.session c.make_puts.new.session c.make_asks.new.session _ _ _ _ c.in_ok-put.ensures.served (c.in_err-asked.ensures.no_memory (same_stop c.from_residual-in_err-asked.result c.in_err-asked.field-0.0 NoMemory c.from_residual-in_err-asked.ensures.1 e)) last.1
+    begins_asks c.args.changes.items c.args.names.now.keys c.in_ok-changed.changed c.in_ok-capacity.capacity c.in-Some.session c.make_changes.new.session c.make_asks.new.session _ _ _ _ c.in_ok-changed.ensures.served (c.in_err-asked.ensures.no_memory (same_stop c.from_residual-in_err-asked.result c.in_err-asked.field-0.0 NoMemory c.from_residual-in_err-asked.ensures.1 e)) last.1

@@ -5,4 +5,4 @@ use Rattle.bc_live.proofs.entries.use_entries.Given as goal
 
 abbrev pub invariant-loop-point : goal.invariant-loop-point
 invariant-loop-point l =
-    l.entries.items ++ flat_map uses_at (enumerate_from l.point (drop l.point l.typed.steps)) ≡ use_entries l.typed
+    l.entries.items ++ flat_map (uses_at l.typed) (enumerate_from l.point (drop l.point l.typed.steps)) ≡ use_entries l.typed

@@ -5,12 +5,12 @@ use Rattle.bc_live.proofs.liveness.live.Goals as goal
 pub table-requires : goal.table-requires
 table-requires c =
     rw (c.deref.ensures.value, c.in_ok-uses.ensures, c.steps-points.ensures.value, c.locals-locals.ensures.value)
-    (use_entries_within c.args.typed.now (rw c.locals-locals.ensures.value at c.locals-locals.ensures.some) (rw c.steps-points.ensures.value at c.steps-points.ensures.fit))
+    (use_entries_within c.args.typed.now (rw c.locals-locals.ensures.value at c.locals-locals.ensures.some) (rw c.steps-points.ensures.value at c.steps-points.ensures.declared))
 
 pub table-requires-2 : goal.table-requires-2
 table-requires-2 c =
     rw (c.deref-2.ensures.value, c.in_ok-definitions.ensures, c.steps-points.ensures.value, c.locals-locals.ensures.value)
-    (definition_entries_within c.args.typed.now (rw c.steps-points.ensures.value at c.steps-points.ensures.fit))
+    (definition_entries_within c.args.typed.now (rw c.steps-points.ensures.value at c.steps-points.ensures.declared))
 
 pub flow-requires-clause-edges : goal.flow-requires-clause-edges
 flow-requires-clause-edges c =

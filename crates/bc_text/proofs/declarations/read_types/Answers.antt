@@ -4,7 +4,7 @@ use Rattle.bc_text.specs.declared.fault.ReadFault.{ReadFault}
 use Rattle.bc_syntax.specs.declared.syntax.Declaration.{Declaration}
 use Rattle.bc_syntax.specs.Fits.{TypesFit}
 use Rattle.bc_text.specs.Reading.{read_types, Answers}
-use Rattle.bc_text.specs.Spelling.{SpellsTypes}
+use Rattle.bc_text.specs.Spells.{SpellsTypes}
 use Rattle.bc_text.proofs.DeclarationLaws.{types_found, types_only}
 use Rattle.bc_text.proofs.declarations.read_types.Goals as goal
 

@@ -1,7 +1,7 @@
 use Rattle.std.proofs.Common.{rules, arith, ◌∙◌, sym}
 use Rattle.std.proofs.lemmas.Grind.{common_steps}
 use Rattle.std.specs.List.{zip}
-use Rattle.bc_text.specs.Parser.{declared_from, declared_turn}
+use Rattle.bc_tokens.specs.Parser.{declared_from, declared_turn}
 use Rattle.bc_text.specs.Reading.{begins_mark, mark}
 use Rattle.bc_text.proofs.Turns.{one_more, no_more, new_items_go, new_items_stop}
 use Rattle.bc_text.proofs.DeclarationLaws.{zip_push}

@@ -1,6 +1,6 @@
 use Rattle.std.proofs.Common.{◌≡◌, ◌-◌, [], length}
 use Rattle.std.specs.List.{zip}
-use Rattle.bc_text.specs.Parser.{declared_from}
+use Rattle.bc_tokens.specs.Parser.{declared_from}
 use Rattle.bc_text.specs.Reading.{begins_mark, mark}
 use Rattle.bc_text.proofs.declarations.some_marks.Given as goal
 

@@ -1,6 +1,6 @@
-use Rattle.bc_text.specs.Printing.{printed}
-use Rattle.bc_text.specs.Spelling as spell
-use Rattle.bc_text.proofs.Printed.{printed_tokens}
+use Rattle.bc_print.specs.Printing.{printed}
+use Rattle.bc_print.specs.Spelling as spell
+use Rattle.bc_tokens.proofs.Printed.{printed_tokens}
 use Rattle.bc_text.proofs.Whole.{types_are_whole}
 use Rattle.bc_text.proofs.DeclarationLaws.{types_only}
 use Rattle.bc_text.proofs.laws.printed_types_are_read.Goals as goal

@@ -1,6 +1,6 @@
-use Rattle.bc_text.specs.Printing.{printed}
-use Rattle.bc_text.specs.Spelling as spell
-use Rattle.bc_text.proofs.Printed.{printed_tokens}
+use Rattle.bc_print.specs.Printing.{printed}
+use Rattle.bc_print.specs.Spelling as spell
+use Rattle.bc_tokens.proofs.Printed.{printed_tokens}
 use Rattle.bc_text.proofs.Whole.{unit_is_whole}
 use Rattle.bc_text.proofs.UnitLaws.{read_only}
 use Rattle.bc_text.proofs.laws.printed_units_are_read.Goals as goal

@@ -1,5 +1,5 @@
 use Rattle.std.proofs.Common.{◌≡◌, ◌-◌, []}
-use Rattle.bc_text.specs.Parser.{separated_from}
+use Rattle.bc_tokens.specs.Parser.{separated_from}
 use Rattle.bc_text.specs.Reading.{operand, begins_operand}
 use Rattle.bc_text.proofs.places.some_operands.Given as goal
 

@@ -4,7 +4,7 @@ use Rattle.bc_text.specs.declared.fault.ReadFault.{ReadFault}
 use Rattle.bc_syntax.specs.declared.syntax.Body.{Body}
 use Rattle.std.proofs.Common.{List, ℕ}
 use Rattle.bc_text.specs.Reading.{read, Answers}
-use Rattle.bc_text.specs.Spelling.{Spells}
+use Rattle.bc_text.specs.Spells.{Spells}
 use Rattle.bc_syntax.specs.Fits.{Fits}
 use Rattle.bc_text.proofs.UnitLaws.{read_found, read_only}
 use Rattle.bc_text.proofs.reader.read_unit.Goals as goal

@@ -1,6 +1,6 @@
 use Rattle.std.proofs.Common.{rules, arith, ◌∙◌}
 use Rattle.std.proofs.lemmas.Grind.{common_steps}
-use Rattle.bc_text.specs.Parser.{separated_from, separated_turn, sees_region}
+use Rattle.bc_tokens.specs.Parser.{separated_from, separated_turn, sees_region}
 use Rattle.bc_text.specs.Reading.{clause}
 use Rattle.bc_text.proofs.Turns.{one_more, no_more, items_go, items_stop}
 use Rattle.bc_text.proofs.reader.some_clauses.Goals as goal

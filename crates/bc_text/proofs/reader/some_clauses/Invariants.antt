@@ -1,5 +1,5 @@
 use Rattle.std.proofs.Common.{◌≡◌, ◌-◌, []}
-use Rattle.bc_text.specs.Parser.{separated_from, sees_region}
+use Rattle.bc_tokens.specs.Parser.{separated_from, sees_region}
 use Rattle.bc_text.specs.Reading.{clause}
 use Rattle.bc_text.proofs.reader.some_clauses.Given as goal
 

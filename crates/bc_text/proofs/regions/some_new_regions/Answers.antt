@@ -1,6 +1,6 @@
 use Rattle.std.proofs.Common.{rules, arith, ◌∙◌}
 use Rattle.std.proofs.lemmas.Grind.{common_steps}
-use Rattle.bc_text.specs.Parser.{declared_from, declared_turn, sees_region}
+use Rattle.bc_tokens.specs.Parser.{declared_from, declared_turn, sees_region}
 use Rattle.bc_text.specs.Reading.{new_region}
 use Rattle.bc_text.proofs.Turns.{one_more, no_more, new_items_go, new_items_stop}
 use Rattle.bc_text.proofs.regions.some_new_regions.Goals as goal

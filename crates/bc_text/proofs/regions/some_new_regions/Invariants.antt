@@ -1,5 +1,5 @@
 use Rattle.std.proofs.Common.{◌≡◌, ◌-◌, [], length}
-use Rattle.bc_text.specs.Parser.{declared_from, sees_region}
+use Rattle.bc_tokens.specs.Parser.{declared_from, sees_region}
 use Rattle.bc_text.specs.Reading.{new_region}
 use Rattle.bc_text.proofs.regions.some_new_regions.Given as goal
 

@@ -1,6 +1,6 @@
 use Rattle.std.proofs.Common.{rules, arith, ◌∙◌}
 use Rattle.std.proofs.lemmas.Grind.{common_steps}
-use Rattle.bc_text.specs.Parser.{separated_from, separated_turn}
+use Rattle.bc_tokens.specs.Parser.{separated_from, separated_turn}
 use Rattle.bc_text.specs.Reading.{region, begins_region}
 use Rattle.bc_text.proofs.Turns.{one_more, no_more, items_go, items_stop}
 use Rattle.bc_text.proofs.regions.some_regions.Goals as goal

@@ -1,5 +1,5 @@
 use Rattle.std.proofs.Common.{◌≡◌, ◌-◌, []}
-use Rattle.bc_text.specs.Parser.{separated_from}
+use Rattle.bc_tokens.specs.Parser.{separated_from}
 use Rattle.bc_text.specs.Reading.{region, begins_region}
 use Rattle.bc_text.proofs.regions.some_regions.Given as goal
 

@@ -1,5 +1,5 @@
 use Rattle.std.proofs.Common.{◌≡◌, ◌-◌, [], length, false}
-use Rattle.bc_text.specs.Parser.{separated_from}
+use Rattle.bc_tokens.specs.Parser.{separated_from}
 use Rattle.bc_text.specs.Reading.{ty, begins_ty}
 use Rattle.bc_text.proofs.types.some_tys.Given as goal
 

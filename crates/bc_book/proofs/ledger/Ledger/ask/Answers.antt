@@ -1,7 +1,6 @@
 use Rattle.std.proofs.Common.{◌<◌, List, ◌∷◌, [], ◌++◌, length, refl, sym, subst}
-use Rattle.bc_prov.specs.Outcome.{IsOutcome}
 use Rattle.bc_book.specs.declared.call.Entry.{Entry}
-use Rattle.bc_book.specs.Calls.{after, count_of}
+use Rattle.bc_book.specs.Calls.{IsOutcomeIn, after, count_of}
 use Rattle.bc_book.specs.Ledgers.{LedgerView, IsKept, AreCounts}
 use Rattle.bc_book.specs.declared.call.Call.TheVariants.{Ask}
 use Rattle.bc_book.specs.declared.call.Reply.TheVariants as replies
@@ -14,9 +13,9 @@ invariant_of-self c =
     let kept = c.self.invariant in
     let is = sym c.self.view_is in
     let below = subst (λ (v : LedgerView). length v.entries < v.capacity) is c.requires.below in
-    let outcome = subst (λ (v : LedgerView). IsOutcome (after v.entries c.args.name) c.args.name c.args.outcome) is c.requires.outcome in
+    let outcome = subst (λ (v : LedgerView). IsOutcomeIn (after v.entries) c.args.name c.args.outcome) is c.requires.outcome in
     let h = i.history.items in
     let e : Entry = record { session = c.args.session; number = count_of c.args.session h; event = record { call = Ask c.args.name; reply = replies.Outcome c.args.outcome } } in
     let counts : AreCounts c.enter.new.counts (h ++ e ∷ []) = subst (AreCounts c.enter.new.counts) c.enter.ensures.entries c.enter.ensures.counts in
-    subst (λ (l : List Entry). IsKept i.capacity l c.enter.new.counts i.bodies) (sym c.enter.ensures.entries)
-    (kept_snoc i.capacity h i.counts c.enter.new.counts i.bodies i.bodies e kept below (outcome, refl) counts kept.holds kept.few)
+    subst (λ (l : List Entry). IsKept i.capacity l c.enter.new.counts i.types i.bodies) (sym c.enter.ensures.entries)
+    (kept_snoc i.capacity h i.counts c.enter.new.counts i.types i.types i.bodies i.bodies e kept below (outcome, refl) counts kept.types kept.holds kept.few)

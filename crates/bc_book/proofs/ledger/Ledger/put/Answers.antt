@@ -3,13 +3,13 @@ use Rattle.bc_text.specs.Names.{NameParts}
 use Rattle.bc_book.specs.declared.call.Entry.{Entry}
 use Rattle.bc_book.specs.declared.call.Call.TheVariants.{Put}
 use Rattle.bc_book.specs.declared.call.Reply.TheVariants as replies
-use Rattle.bc_book.specs.Calls.{State, next, after, count_of}
-use Rattle.bc_book.specs.Ledgers.{LedgerView, IsKept, AreCounts, state_of}
-use Rattle.bc_book.proofs.Bodies.{kept_snoc, kept_same, same_state, same_reply}
+use Rattle.bc_book.specs.Calls.{Bodies, after, after_put, count_of}
+use Rattle.bc_book.specs.Ledgers.{LedgerView, IsKept, AreCounts, bodies_of}
+use Rattle.bc_book.proofs.Bodies.{kept_snoc, kept_same, same_bodies, same_reply}
 use Rattle.bc_book.proofs.ledger.Ledger.put.Goals as goal
 
 pub invariant_of-self : goal.invariant_of-self
-invariant_of-self c = kept_same _ _ _ _ _ c.self.invariant c.in_err-store.ensures.err c.store.ensures.few
+invariant_of-self c = kept_same _ _ _ _ _ _ c.self.invariant c.in_err-store.ensures.err c.store.ensures.few
 
 pub invariant_of-self-2 : goal.invariant_of-self-2
 invariant_of-self-2 c =
@@ -18,16 +18,17 @@ invariant_of-self-2 c =
     let below = subst (λ (v : LedgerView). length v.entries < v.capacity) (sym c.self.view_is) c.requires.below in
     let h = i.history.items in
     let reply = c.put_reply-reply.result in
-    let right = same_reply _ (after h) c.args.name _ c.args.unit reply (same_state i.bodies (after h) kept.holds) c.get.ensures c.put_reply-reply.ensures.reply in
+    let same = same_bodies i.bodies (after h).bodies kept.holds in
+    let right = same_reply _ (after h).bodies c.args.name _ c.args.unit reply same c.get.ensures c.put_reply-reply.ensures.reply in
     let e : Entry = record { session = c.args.session; number = count_of c.args.session h; event = record { call = Put c.args.name c.args.unit; reply = replies.Put reply } } in
-    let holds : (n : NameParts) → state_of c.store.new.bodies n ≡ next (after h) (Put c.args.name c.args.unit) (replies.Put reply) n =
-    λ n. c.in_ok-store.ensures.ok n ∙ ap (λ (s : State). next s (Put c.args.name c.args.unit) (replies.Put reply) n) (same_state i.bodies (after h) kept.holds) in
-    subst (λ (l : List Entry). IsKept i.capacity l c.enter.new.counts c.store.new.bodies) (sym c.enter.ensures.entries)
-    (kept_snoc i.capacity h i.counts c.enter.new.counts i.bodies c.store.new.bodies e kept below (right, refl) (subst (AreCounts c.enter.new.counts) c.enter.ensures.entries c.enter.ensures.counts) holds c.store.ensures.few)
+    let holds : (n : NameParts) → bodies_of c.store.new.bodies n ≡ after_put (after h).bodies c.args.name c.args.unit reply n =
+    λ n. c.in_ok-store.ensures.ok n ∙ ap (λ (s : Bodies). after_put s c.args.name c.args.unit reply n) same in
+    subst (λ (l : List Entry). IsKept i.capacity l c.enter.new.counts i.types c.store.new.bodies) (sym c.enter.ensures.entries)
+    (kept_snoc i.capacity h i.counts c.enter.new.counts i.types i.types i.bodies c.store.new.bodies e kept below (right, refl) (subst (AreCounts c.enter.new.counts) c.enter.ensures.entries c.enter.ensures.counts) kept.types holds c.store.ensures.few)
 
 pub returns-clause-ok : goal.returns-clause-ok
 returns-clause-ok c =
     let i = c.self.inside in
     let h = i.history.items in
-    let right = same_reply _ (after h) c.args.name _ c.args.unit c.put_reply-reply.result (same_state i.bodies (after h) c.self.invariant.holds) c.get.ensures c.put_reply-reply.ensures.reply in
+    let right = same_reply _ (after h).bodies c.args.name _ c.args.unit c.put_reply-reply.result (same_bodies i.bodies (after h).bodies c.self.invariant.holds) c.get.ensures c.put_reply-reply.ensures.reply in
     rw (← c.self.view_is) (record { right = right; capacity = refl; entries = c.enter.ensures.entries })

@@ -1,4 +1,4 @@
-use Rattle.std.proofs.Common.{◌≡◌, ◌∙◌, sym, ap, Bool, List, ℕ}
+use Rattle.std.proofs.Common.{◌∙◌, sym, ap, Bool, List, ℕ}
 use Rattle.std.specs.Bool.{then_some}
 use Rattle.std.specs.Str.{bytes_eq}
 use Rattle.bc_syntax.proofs.Keywords.{none_likely, one_likely}

@@ -1,0 +1,49 @@
+-- Supporting prefixes through the fields of structs, found by taking away last projections.
+use Rattle.std.specs.Prelude.{ℕ, Bool, false, not, Option, Some, None, option_and_then, if◌then◌else◌, List, [], ◌∷◌, reverse}
+use Rattle.bc_syntax.specs.declared.syntax.Ty.{Ty}
+use Rattle.bc_syntax.specs.declared.syntax.Place.{Place}
+use Rattle.bc_syntax.specs.declared.syntax.Reference.{Reference}
+use Rattle.bc_syntax.specs.declared.syntax.Projection.{Projection}
+use Rattle.bc_syntax.specs.declared.syntax.Projection.TheVariants.{Deref, Field}
+use Rattle.bc_syntax.specs.declared.syntax.Declaration.{Declaration}
+use Rattle.bc_mir.specs.Places.{is_mutable}
+use Rattle.bc_mir.specs.PlaceTypes.{type_of_place}
+
+-- a place, by its local and its projections, the last one first
+abbrev pub place_of : ℕ → List Projection → Place
+place_of local last_first = record { local = local; projections = reverse last_first }
+
+abbrev pub is_shared : Option Reference → Bool
+is_shared None = false
+is_shared (Some reference) = not (is_mutable reference.mutability)
+
+-- the outermost reference, where a projection dereferences it
+abbrev pub referenced : Projection → List Reference → Option Reference
+referenced Deref [] = None
+referenced Deref (reference ∷ references) = Some reference
+referenced (Field k) references = None
+
+-- the reference that a projection of a type dereferences
+abbrev pub reference_taken : Projection → Ty → Option Reference
+reference_taken projection ty = referenced projection ty.references
+
+-- the reference that the last projection of a place dereferences, the projections being given last first
+abbrev pub last_taken_of : List Declaration → List Ty → ℕ → List Projection → Option Reference
+last_taken_of types locals local [] = None
+last_taken_of types locals local (last ∷ before) =
+    option_and_then (reference_taken last) (type_of_place types locals (place_of local before))
+
+abbrev pub last_taken : List Declaration → List Ty → Place → Option Reference
+last_taken types locals place = last_taken_of types locals place.local (reverse place.projections)
+
+-- take away fields and dereferences, the last projection first; stop at a place whose last projection dereferences a
+-- shared reference, which is included
+abbrev pub supporters_from : List Declaration → List Ty → ℕ → List Projection → List Place
+supporters_from types locals local [] = place_of local [] ∷ []
+supporters_from types locals local (last ∷ before) =
+    place_of local (last ∷ before)
+    ∷ (if is_shared (last_taken_of types locals local (last ∷ before)) then [] else supporters_from types locals local before)
+
+-- the supporting prefixes of a place, the place itself first
+abbrev pub supporters : List Declaration → List Ty → Place → List Place
+supporters types locals place = supporters_from types locals place.local (reverse place.projections)

@@ -1,0 +1,213 @@
+//! Types of places, through the fields of structs.
+ghost use Rattle.std.specs.Prelude.{◌≡◌, ◌++◌, IfOk, OnOk};
+ghost use Rattle.bc_mir.specs.Places.{are_mutable};
+ghost use Rattle.bc_mir.specs.PlaceTypes.{field_of as field_there, type_behind as behind, type_of_place as place_there, references_behind as dereferenced_behind, references_of_place as dereferenced_there, mutable_behind, mutable_on_way};
+
+use crate::good_types::GoodTypes;
+use crate::places::is_mutable;
+use crate::replaced::copy_base;
+use bc_syntax::{Base, Place, Projection, Reference, ShortSequence, Ty};
+use std::alloc::{AllocError, Global};
+
+/// Field `k` of a struct.
+fn field_of(
+    alloc: Global,
+    types: &GoodTypes,
+    base: &Base,
+    field: u8,
+) -> Result<Option<Ty>, AllocError>
+    ensures { IfOk result (λ ty. ty ≡ field_there types.now base.now field) }
+{
+    match base {
+        Base::Int => Ok(None),
+        Base::Struct(instance) => types.field_type(alloc, instance, field),
+    }
+}
+
+pub(crate) fn push_references(
+    references: &mut ShortSequence<Reference, 7>,
+    more: &[Reference],
+) -> Result<(), AllocError>
+    ensures { OnOk result (references.new ≡ references.old ++ more.now) }
+{
+    for reference in more {
+        references.push(*reference)?;
+    }
+    Ok(())
+}
+
+/// The type of these references to what they lead to.
+fn whole_type(alloc: Global, references: &[Reference], base: &Base) -> Result<Ty, AllocError>
+    ensures { IfOk result (λ ty. ty ≡ record { references = references.now; base = base.now }) }
+{
+    let mut copy = ShortSequence::new(alloc);
+    push_references(&mut copy, references)?;
+    Ok(Ty {
+        references: copy,
+        base: copy_base(base)?,
+    })
+}
+
+/// The type behind projections in turn.
+fn type_behind(
+    alloc: Global,
+    types: &GoodTypes,
+    projections: &[Projection],
+    references: &[Reference],
+    base: &Base,
+) -> Result<Option<Ty>, AllocError>
+    ensures { IfOk result (λ ty. ty ≡ behind types.now projections.now references.now base.now) }
+{
+    match projections {
+        [] => Ok(Some(whole_type(alloc, references, base)?)),
+        [Projection::Deref, rest @ ..] => match references {
+            [] => Ok(None),
+            [_, more @ ..] => type_behind(alloc, types, rest, more, base),
+        },
+        [Projection::Field(field), rest @ ..] => match references {
+            [] => match field_of(alloc, types, base, *field)? {
+                Some(ty) => { type_behind(alloc, types, rest, ty.references.as_slice(), &ty.base) }
+                None => Ok(None),
+            },
+            [_, ..] => Ok(None),
+        },
+    }
+}
+
+/// The type of a place, or `None` where it has none: its local is not declared, or a projection does not belong to the
+/// type before it.
+/// (RFC 2094, "The MIR".)
+pub fn type_of_place(
+    alloc: Global,
+    types: &GoodTypes,
+    locals: &[Ty],
+    place: &Place,
+) -> Result<Option<Ty>, AllocError>
+    ensures { IfOk result (λ ty. ty ≡ place_there types.now locals.now place.now) }
+{
+    match locals.get(usize::from(place.local)) {
+        Some(local) => type_behind(
+            alloc,
+            types,
+            place.projections.as_slice(),
+            local.references.as_slice(),
+            &local.base,
+        ),
+        None => Ok(None),
+    }
+}
+
+/// Appends the references that projections dereference.
+fn push_references_behind(
+    alloc: Global,
+    out: &mut Vec<Reference>,
+    types: &GoodTypes,
+    projections: &[Projection],
+    references: &[Reference],
+    base: &Base,
+) -> Result<(), AllocError>
+    ensures { OnOk result (out.new.items ≡ out.old.items ++ dereferenced_behind types.now projections.now references.now base.now) }
+{
+    match projections {
+        [] => Ok(()),
+        [Projection::Deref, rest @ ..] => match references {
+            [] => Ok(()),
+            [reference, more @ ..] => {
+                out.push(*reference)?;
+                push_references_behind(alloc, out, types, rest, more, base)
+            }
+        },
+        [Projection::Field(field), rest @ ..] => match references {
+            [] => match field_of(alloc, types, base, *field)? {
+                Some(ty) => push_references_behind(
+                    alloc,
+                    out,
+                    types,
+                    rest,
+                    ty.references.as_slice(),
+                    &ty.base,
+                ),
+                None => Ok(()),
+            },
+            [_, ..] => Ok(()),
+        },
+    }
+}
+
+/// The references that a place dereferences, the first dereference first; none for a local that is not declared.
+/// (RFC 2094, "Reborrow constraints".)
+pub fn references_of_place(
+    alloc: Global,
+    types: &GoodTypes,
+    locals: &[Ty],
+    place: &Place,
+) -> Result<Vec<Reference>, AllocError>
+    ensures { IfOk result (λ references. references.items ≡ dereferenced_there types.now locals.now place.now) }
+{
+    let mut references = Vec::new(alloc);
+    match locals.get(usize::from(place.local)) {
+        Some(local) => push_references_behind(
+            alloc,
+            &mut references,
+            types,
+            place.projections.as_slice(),
+            local.references.as_slice(),
+            &local.base,
+        )?,
+        None => {}
+    }
+    Ok(references)
+}
+
+/// Whether projections dereference mutable references alone. Regions do not tell, so a field is taken as it is declared.
+pub(crate) fn passes_only_mutable(
+    types: &GoodTypes,
+    projections: &[Projection],
+    references: &[Reference],
+    base: &Base,
+) -> bool
+    ensures { result ≡ mutable_behind types.now projections.now references.now base.now }
+{
+    match projections {
+        [] => true,
+        [Projection::Deref, rest @ ..] => match references {
+            [] => true,
+            [reference, more @ ..] => {
+                is_mutable(reference.mutability) && passes_only_mutable(types, rest, more, base)
+            }
+        },
+        [Projection::Field(field), rest @ ..] => match references {
+            [] => match base {
+                Base::Int => true,
+                Base::Struct(instance) => match types.declared_field(&instance.name, *field) {
+                    Some(ty) => {
+                        passes_only_mutable(types, rest, ty.references.as_slice(), &ty.base)
+                    }
+                    None => true,
+                },
+            },
+            [_, ..] => true,
+        },
+    }
+}
+
+/// Whether no shared reference is dereferenced on the way to a place.
+pub(crate) fn goes_only_mutable(types: &GoodTypes, locals: &[Ty], place: &Place) -> bool
+    ensures { result ≡ are_mutable (dereferenced_there types.now locals.now place.now) }
+{
+    is_mutable_on_way(types, locals, place)
+}
+
+fn is_mutable_on_way(types: &GoodTypes, locals: &[Ty], place: &Place) -> bool
+    ensures { result ≡ mutable_on_way types.now locals.now place.now }
+{
+    match locals.get(usize::from(place.local)) {
+        Some(local) => passes_only_mutable(
+            types,
+            place.projections.as_slice(),
+            local.references.as_slice(),
+            &local.base,
+        ),
+        None => true,
+    }
+}

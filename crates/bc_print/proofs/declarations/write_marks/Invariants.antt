@@ -1,0 +1,10 @@
+use Rattle.std.proofs.Common.{take}
+use Rattle.std.specs.List.{zip}
+use Rattle.bc_print.specs.Printing.{Writes}
+use Rattle.bc_print.specs.Spelling as spell
+use Rattle.bc_print.proofs.declarations.write_marks.Given as goal
+
+abbrev pub invariant-loop-index : goal.invariant-loop-index
+invariant-loop-index g l =
+    Writes (g.W.Write.contents l.initial.out) (g.W.Write.contents l.out)
+    (spell.commas spell.mark (take l.index (zip l.variances l.names)))

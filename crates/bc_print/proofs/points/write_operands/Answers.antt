@@ -1,0 +1,11 @@
+use Rattle.std.proofs.Common.{◌++◌}
+use Rattle.bc_syntax.specs.declared.symbol.Symbol.TheVariants as s
+use Rattle.std.proofs.lemmas.Result.{on_ok_weaker}
+use Rattle.bc_print.specs.Spelling as spell
+use Rattle.bc_print.proofs.Printings.{writes_both}
+use Rattle.bc_print.proofs.points.write_operands.Goals as goal
+
+pub returns : goal.returns
+returns g c =
+    on_ok_weaker c.write_symbol-2.result (λ done. writes_both _ _ _ (spell.symbol s.OpenParen) (spell.commas spell.operand c.args.operands.now ++ spell.symbol s.CloseParen) c.in_ok-write_symbol.ensures (writes_both _ _ _ (spell.commas spell.operand c.args.operands.now) (spell.symbol s.CloseParen) c.in_ok-write_commas.ensures done))
+    c.write_symbol-2.ensures

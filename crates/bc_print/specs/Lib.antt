@@ -1,0 +1,5 @@
+pub mod Token
+pub mod Universals
+pub mod Spelling
+pub mod Printing
+pub mod PrintedTypes

@@ -1,0 +1,107 @@
+//! The text of a unit.
+#![tactic(auto, using(crate::proofs::Printings::writes_both, crate::proofs::Printings::writes_token, crate::proofs::Printings::writes_nothing))]
+
+ghost use Rattle.std.specs.Prelude.{◌≡◌, ◌+◌, ◌≤◌, OnOk, length, []};
+ghost use Rattle.std.specs.Io.KnownBytes.{Appends};
+ghost use Rattle.bc_syntax.specs.Fits.{locals_of};
+ghost use Rattle.bc_print.specs.Printing.{Writes, printed};
+ghost use Rattle.bc_print.specs.Spelling as spell;
+
+use crate::names::write_ty;
+use crate::numbering::Numbering;
+use crate::points::write_blocks;
+use crate::tokens::{write_angled, write_commas, write_numbered, write_symbol};
+use bc_syntax::{Body, Header, Outlives, RegionName, Symbol, Ty, Unit};
+use std::io;
+use std::io::Write;
+
+/// Writes the clauses behind `where`, or nothing where there is none.
+pub fn write_clauses<W: Write>(
+    regions: &[RegionName],
+    clauses: &[Outlives],
+    out: &mut W,
+) -> io::Result<()>
+    ensures { OnOk result (Writes (W.contents out.old) (W.contents out.new) (spell.clauses regions.now clauses.now)) }
+{
+    if clauses.is_empty() {
+        return Ok(());
+    }
+    write_symbol(Symbol::Where, out)?;
+    write_commas(regions, clauses, out)
+}
+
+/// Writes the types of parameters, with their parentheses.
+pub fn write_parameters<W: Write>(
+    regions: &[RegionName],
+    parameters: &[Ty],
+    out: &mut W,
+) -> io::Result<()>
+    ensures { OnOk result (Writes (W.contents out.old) (W.contents out.new) (spell.parameters regions.now parameters.now)) }
+{
+    write_symbol(Symbol::OpenParen, out)?;
+    write_commas(regions, parameters, out)?;
+    write_symbol(Symbol::CloseParen, out)
+}
+
+/// Writes what stands behind a function's name or the word `fn`.
+pub fn write_signature<W: Write>(header: &Header, out: &mut W) -> io::Result<()>
+    ensures { OnOk result (Writes (W.contents out.old) (W.contents out.new) (spell.signature header.now)) }
+{
+    let regions = header.regions.as_slice();
+    write_angled(regions, regions, out)?;
+    write_clauses(regions, header.clauses.as_slice(), out)?;
+    write_parameters(regions, header.parameters.as_slice(), out)?;
+    write_symbol(Symbol::Arrow, out)?;
+    write_ty(regions, &header.result, out)
+}
+
+fn write_let<W: Write>(regions: &[RegionName], number: u64, ty: &Ty, out: &mut W) -> io::Result<()>
+    ensures { OnOk result (Writes (W.contents out.old) (W.contents out.new) (spell.declared regions.now number ty.now)) }
+{
+    write_symbol(Symbol::Let, out)?;
+    write_numbered(Numbering::Local, number, out)?;
+    write_symbol(Symbol::Colon, out)?;
+    write_ty(regions, ty, out)?;
+    write_symbol(Symbol::Semicolon, out)
+}
+
+/// Writes the types of the locals from this one on.
+fn write_lets<W: Write>(
+    regions: &[RegionName],
+    first: usize,
+    lets: &[Ty],
+    out: &mut W,
+) -> io::Result<()>
+    requires { first + length lets.now ≤ 256 }
+    ensures { OnOk result (Writes (W.contents out.old) (W.contents out.new) (spell.lets regions.now first lets.now)) }
+{
+    for (index, ty) in lets.iter().enumerate() {
+        write_let(regions, (first + index) as u64, ty, out)?;
+    }
+    Ok(())
+}
+
+/// Writes what stands behind a header.
+fn write_body<W: Write>(body: &Body, out: &mut W) -> io::Result<()>
+    requires { length (locals_of body.now) ≤ 256 }
+    ensures { OnOk result (Writes (W.contents out.old) (W.contents out.new) (spell.body body.now)) }
+{
+    let regions = body.header.regions.as_slice();
+    let first_let = 1 + body.header.parameters.len();
+    write_symbol(Symbol::OpenBrace, out)?;
+    write_lets(regions, first_let, body.lets.as_slice(), out)?;
+    write_blocks(regions, body.blocks.as_slice(), out)?;
+    write_symbol(Symbol::CloseBrace, out)
+}
+
+/// Writes the text of a unit: exactly the tokens of its spelling, with one space between two and a line feed behind
+/// the last. Or it answers the writer's fault. It takes no memory. Own.
+pub fn print_unit<W: Write>(unit: &Unit, out: &mut W) -> io::Result<()>
+    ensures { OnOk result (Appends (W.contents out.old) (W.contents out.new) (printed (spell.unit unit.now))) }
+{
+    let body = unit.body();
+    out.write_all(Symbol::Fn.text())?;
+    write_signature(&body.header, out)?;
+    write_body(body, out)?;
+    out.write_all(b"\n")
+}

@@ -1,9 +1,0 @@
-use Rattle.std.proofs.Common.{take}
-use Rattle.bc_text.specs.Printing.{Writes}
-use Rattle.bc_text.specs.Spelling as spell
-use Rattle.bc_text.proofs.print.write_lets.Given as goal
-
-abbrev pub invariant-loop-index : goal.invariant-loop-index
-invariant-loop-index g l =
-    Writes (g.W.Write.contents l.initial.out) (g.W.Write.contents l.out)
-    (spell.lets l.regions l.first (take l.index l.lets))

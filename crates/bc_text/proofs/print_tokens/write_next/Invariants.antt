@@ -1,9 +1,0 @@
-use Rattle.std.proofs.Common.{take}
-use Rattle.bc_text.specs.Printing.{Writes}
-use Rattle.bc_text.specs.Spelling.{behind_commas}
-use Rattle.bc_text.proofs.print_tokens.write_next.Given as goal
-
-abbrev pub invariant-loop-item : goal.invariant-loop-item
-invariant-loop-item g l =
-    Writes (g.W.Write.contents l.initial.out) (g.W.Write.contents l.out)
-    (behind_commas (g.T.Spelled.spelling l.regions) (take l.item-index l.items))

@@ -1,0 +1,17 @@
+-- Which texts spell a value.
+use Rattle.std.specs.Prelude.{◌≡◌, ℕ, ◌≤◌, List, [], ◌∷◌, ◌++◌, length, map}
+use Rattle.bc_syntax.specs.declared.syntax.Body.{Body}
+use Rattle.bc_syntax.specs.declared.syntax.Declaration.{Declaration}
+use Rattle.bc_print.specs.Token.{Token, End}
+use Rattle.bc_print.specs.Spelling.{unit, types}
+use Rattle.bc_tokens.specs.Token.{Placed, tokens}
+
+-- The bytes spell these tokens: they are theirs, and the bytes are not too many.
+abbrev pub AreSpelled : List ℕ → List Token → Type 0
+AreSpelled bytes found = (length bytes ≤ 1048576) × (map (λ (t : Placed). t.token) (tokens 0 0 bytes) ≡ found ++ End ∷ [])
+
+abbrev pub Spells : List ℕ → Body → Type 0
+Spells bytes u = AreSpelled bytes (unit u)
+
+abbrev pub SpellsTypes : List ℕ → List Declaration → Type 0
+SpellsTypes bytes ds = AreSpelled bytes (types ds)

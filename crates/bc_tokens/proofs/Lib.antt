@@ -1,0 +1,5 @@
+pub mod Cuts
+pub mod Numbers
+pub mod Runs
+pub mod Lexemes
+pub mod Printed

@@ -1,0 +1,3 @@
+pub mod Token
+pub mod Parser
+pub mod Cursor

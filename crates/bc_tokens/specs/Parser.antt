@@ -1,0 +1,250 @@
+-- Reading from left to right: a value and the tokens after it, or the first fault.
+use Rattle.std.specs.Prelude.{◌≡◌, ◌≢◌, ℕ, zero, suc, Bool, true, false, if◌then◌else◌, nat_le, List, [], ◌∷◌, ◌++◌, length, Option, Some, None, Result, Ok, Err}
+use denote.Enum.Bare.{sameb}
+use Rattle.bc_print.specs.contracts.numbering.Numbering.{the_type}
+use Rattle.bc_print.specs.declared.numbering.Numbering.{Numbering}
+use Rattle.bc_syntax.specs.declared.symbol.Symbol.{Symbol}
+use Rattle.bc_syntax.specs.declared.symbol.Symbol.TheVariants.{Comma, Less, Greater}
+use Rattle.bc_tokens.specs.declared.refusal.Refusal.{Refusal}
+use Rattle.bc_tokens.specs.declared.refusal.Refusal.TheVariants as faults
+use Rattle.bc_syntax.specs.Symbol.{same}
+use Rattle.bc_print.specs.Token.{Token, Fixed, Numbered, Word, Region, NotAscii, Stray, End}
+use Rattle.bc_tokens.specs.Token.{Placed, placed, Tokens}
+
+-- ---- the next token
+
+abbrev pub first : Tokens → Placed
+first [] = placed Stray 0
+first (token ∷ rest) = token
+
+abbrev pub after : Tokens → Tokens
+after [] = []
+after (token ∷ rest) = rest
+
+abbrev pub position : Tokens → ℕ
+position ts = (first ts).at
+
+abbrev pub fault_at : Token → ℕ → Refusal
+fault_at NotAscii at = faults.NotAscii at
+fault_at Stray at = faults.Token at
+fault_at (Fixed symbol) at = faults.Grammar at
+fault_at (Numbered numbering n) at = faults.Grammar at
+fault_at (Word name) at = faults.Grammar at
+fault_at (Region name) at = faults.Grammar at
+fault_at End at = faults.Grammar at
+
+-- the fault of a token that the grammar does not allow
+unfoldable pub fault : Tokens → Refusal
+fault ts = fault_at (first ts).token (first ts).at
+
+abbrev pub is_fixed : Symbol → Token → Bool
+is_fixed symbol (Fixed found) = same found symbol
+is_fixed symbol (Numbered numbering n) = false
+is_fixed symbol (Word name) = false
+is_fixed symbol (Region name) = false
+is_fixed symbol NotAscii = false
+is_fixed symbol Stray = false
+is_fixed symbol End = false
+
+unfoldable pub sees : Symbol → Tokens → Bool
+sees symbol ts = is_fixed symbol (first ts).token
+
+unfoldable pub same_numbering : Numbering → Numbering → Bool
+same_numbering = sameb the_type
+
+abbrev pub number_in : Numbering → Token → Option ℕ
+number_in numbering (Numbered found n) = if same_numbering found numbering then Some n else None
+number_in numbering (Fixed symbol) = None
+number_in numbering (Word name) = None
+number_in numbering (Region name) = None
+number_in numbering NotAscii = None
+number_in numbering Stray = None
+number_in numbering End = None
+
+abbrev pub is_some : {A : Type 0} → Option A → Bool
+is_some None = false
+is_some (Some x) = true
+
+unfoldable pub sees_numbered : Numbering → Tokens → Bool
+sees_numbered numbering ts = is_some (number_in numbering (first ts).token)
+
+abbrev pub region_in : Token → Option (List ℕ)
+region_in (Region name) = Some name
+region_in (Fixed symbol) = None
+region_in (Numbered numbering n) = None
+region_in (Word name) = None
+region_in NotAscii = None
+region_in Stray = None
+region_in End = None
+
+abbrev pub word_in : Token → Option (List ℕ)
+word_in (Word name) = Some name
+word_in (Fixed symbol) = None
+word_in (Numbered numbering n) = None
+word_in (Region name) = None
+word_in NotAscii = None
+word_in Stray = None
+word_in End = None
+
+unfoldable pub sees_word : Tokens → Bool
+sees_word ts = is_some (word_in (first ts).token)
+
+unfoldable pub sees_region : Tokens → Bool
+sees_region ts = is_some (region_in (first ts).token)
+
+-- ---- parsers
+
+abbrev pub Outcome : Type 0 → Type 0
+Outcome A = Result (A × Tokens) Refusal
+
+abbrev pub Parser : Type 0 → Type 0
+Parser A = Tokens → Outcome A
+
+abbrev pub and_then : {A B : Type 0} → Outcome A → (A → Parser B) → Outcome B
+and_then (Ok p) f = f p.0 p.1
+and_then (Err e) f = Err e
+
+infixl 10 ◌>>=◌
+abbrev pub ◌>>=◌ : {A B : Type 0} → Parser A → (A → Parser B) → Parser B
+p >>= f = λ ts. and_then (p ts) f
+
+infixl 10 ◌>>◌
+abbrev pub ◌>>◌ : {A B : Type 0} → Parser A → Parser B → Parser B
+p >> q = p >>= (λ _. q)
+
+abbrev pub pure : {A : Type 0} → A → Parser A
+pure a = λ ts. Ok (a, ts)
+
+infixr 11 ◌<$>◌
+abbrev pub ◌<$>◌ : {A B : Type 0} → (A → B) → Parser A → Parser B
+f <$> p = p >>= (λ x. pure (f x))
+
+-- what a function returned is what the parser gives, unless memory ran out
+abbrev pub Reads : {A : Type 0} → Outcome A → Result A Refusal → Tokens → Type 0
+Reads outcome (Ok a) new = outcome ≡ Ok (a, new)
+Reads outcome (Err e) new = e ≢ faults.NoMemory → outcome ≡ Err e
+
+-- the same, where the value is seen by `view`
+abbrev pub ReadsAs : {A B : Type 0} → (B → A) → Outcome A → Result B Refusal → Tokens → Type 0
+ReadsAs view outcome (Ok b) new = outcome ≡ Ok (view b, new)
+ReadsAs view outcome (Err e) new = e ≢ faults.NoMemory → outcome ≡ Err e
+
+-- the token is not allowed here
+abbrev pub refuse : {A : Type 0} → Parser A
+refuse = λ ts. Err (fault ts)
+
+-- the token is allowed, but one too many
+abbrev pub past_limit : {A : Type 0} → Parser A
+past_limit = λ ts. Err (faults.Limit (position ts))
+
+-- the place of the next token
+abbrev pub here : Parser ℕ
+here = λ ts. Ok (position ts, ts)
+
+-- a side condition fails at the token that was at this place
+abbrev pub fail : {A : Type 0} → ℕ → Parser A
+fail at = λ _. Err (faults.Grammar at)
+
+unfoldable pub after_symbol : Symbol → Tokens → Tokens
+after_symbol symbol ts = if sees symbol ts then after ts else ts
+
+-- takes this symbol, if it comes next
+abbrev pub eat : Symbol → Parser Bool
+eat symbol = λ ts. Ok (sees symbol ts, after_symbol symbol ts)
+
+unfoldable pub expect : Symbol → Parser (Unit {0})
+expect symbol = λ ts. if sees symbol ts then Ok (tt, after ts) else Err (fault ts)
+
+abbrev pub numbered_to : ℕ → Option ℕ → Parser ℕ
+numbered_to limit None = refuse
+numbered_to limit (Some n) = λ ts. if nat_le n limit then Ok (n, after ts) else Err (faults.Limit (position ts))
+
+-- a token that takes a number, up to a limit
+unfoldable pub numbered : Numbering → ℕ → Parser ℕ
+numbered numbering limit = λ ts. numbered_to limit (number_in numbering (first ts).token) ts
+
+abbrev pub region_to : ℕ → Option (List ℕ) → Parser (List ℕ)
+region_to limit None = refuse
+region_to limit (Some name) = λ ts. if nat_le (length name) limit then Ok (name, after ts) else Err (faults.Limit (position ts))
+
+unfoldable pub region_name : Parser (List ℕ)
+region_name = λ ts. region_to 16 (region_in (first ts).token) ts
+
+abbrev pub word_to : ℕ → Option (List ℕ) → Parser (List ℕ)
+word_to limit None = refuse
+word_to limit (Some name) = λ ts. if nat_le (length name) limit then Ok (name, after ts) else Err (faults.Limit (position ts))
+
+-- a word that is no keyword
+unfoldable pub word : Parser (List ℕ)
+word = λ ts. word_to 32 (word_in (first ts).token) ts
+
+abbrev pub is_end : Token → Bool
+is_end End = true
+is_end (Fixed symbol) = false
+is_end (Numbered numbering n) = false
+is_end (Word name) = false
+is_end (Region name) = false
+is_end NotAscii = false
+is_end Stray = false
+
+-- nothing more comes
+unfoldable pub at_end : Parser (Unit {0})
+at_end = λ ts. if is_end (first ts).token then Ok (tt, ts) else Err (fault ts)
+
+-- ---- lists
+
+unfoldable pub separated_turn : {A : Type 0} → Parser A → (List A → Parser (List A)) → List A → Parser (List A)
+separated_turn item again found = do
+  x ← item
+  more ← eat Comma
+  if more then again (found ++ x ∷ []) else pure (found ++ x ∷ [])
+
+-- Items with commas between, at least one and at most so many more; `begins` tells whether an item may begin here.
+unfoldable pub separated_from : {A : Type 0} → (Tokens → Bool) → Parser A → ℕ → List A → Parser (List A)
+separated_from begins item zero found = λ ts. if begins ts then past_limit ts else refuse ts
+separated_from begins item (suc room) found = separated_turn item (separated_from begins item room) found
+
+-- no item, or items with commas between, and what closes the list
+unfoldable pub closed_list : {A : Type 0} → (Tokens → Bool) → Parser A → ℕ → Symbol → Parser (List A)
+closed_list begins item limit close = do
+  empty ← eat close
+  if empty then pure [] else (do
+    xs ← separated_from begins item limit []
+    expect close
+    pure xs)
+
+-- items with commas between behind a symbol, and none where it does not come
+unfoldable pub opened_list : {A : Type 0} → (Tokens → Bool) → Parser A → ℕ → Symbol → Parser (List A)
+opened_list begins item limit opening = do
+  some ← eat opening
+  if some then separated_from begins item limit [] else pure []
+
+-- items with commas between in `<` and `>`, and none where no `<` comes
+unfoldable pub angled_list : {A : Type 0} → (Tokens → Bool) → Parser A → ℕ → Parser (List A)
+angled_list begins item limit = do
+  some ← eat Less
+  if some then (do
+    xs ← separated_from begins item limit []
+    expect Greater
+    pure xs) else pure []
+
+-- ---- lists of declarations, each read beside those before it
+
+unfoldable pub declared_turn : {A : Type 0} → (List A → Parser A) → (List A → Parser (List A)) → List A → Parser (List A)
+declared_turn item again found = do
+  x ← item found
+  more ← eat Comma
+  if more then again (found ++ x ∷ []) else pure (found ++ x ∷ [])
+
+unfoldable pub declared_from : {A : Type 0} → (Tokens → Bool) → (List A → Parser A) → ℕ → List A → Parser (List A)
+declared_from begins item zero found = λ ts. if begins ts then past_limit ts else refuse ts
+declared_from begins item (suc room) found = declared_turn item (declared_from begins item room) found
+
+-- declarations with commas between in `<` and `>`, and none where no `<` comes
+unfoldable pub declared_list : {A : Type 0} → (Tokens → Bool) → (List A → Parser A) → ℕ → Parser (List A)
+declared_list begins item limit = do
+  some ← eat Less
+  if some then (do
+    xs ← declared_from begins item limit []
+    expect Greater
+    pure xs) else pure []

@@ -1,0 +1,326 @@
+//! Tokens, cut one at a time from the front of a text.
+ghost use Rattle.std.specs.Prelude.{◌≡◌, ◌≢◌, ◌≤◌, ◌<◌, ◌+◌, ◌∷◌, true, false, length, take, take_while, slice_index, if◌then◌else◌};
+ghost use Rattle.std.specs.Char.{is_ascii_alphabetic, is_ascii_digit};
+ghost use Rattle.std.specs.List.{list_all};
+ghost use Rattle.bc_syntax.specs.Bytes.{is_run_byte, run};
+ghost use Rattle.bc_syntax.specs.Words.{is_region_byte, is_number, is_region_name};
+ghost use Rattle.bc_print.specs.Token.{Numbered, Stray};
+ghost use Rattle.bc_tokens.specs.Token.{Counts, Keeps, shown, value, word, run_token, region_token, sign_token, lexeme};
+ghost use Rattle.bc_syntax.specs.Symbol.{keyword_of, sign_of};
+
+use bc_print::Numbering;
+use bc_syntax::{Symbol, behind, byte_at, region_len, run, run_len};
+
+/// What a token is. Own.
+#[derive(Clone, Copy, Debug, PartialEq, Eq)]
+pub enum Kind {
+    Fixed(Symbol),
+    Numbered(Numbering),
+    Word,
+    Region,
+    NotAscii,
+    Stray,
+    End,
+}
+
+/// A token: its kind, the digits or the name in it, and what the digits count.
+#[derive(Clone, Copy, Debug)]
+pub struct Token<'a> {
+    pub kind: Kind,
+    pub text: &'a [u8],
+    /// What the digits of a number count, or any number from 2 ^ 32 on where they count so much.
+    pub number: u64,
+}
+
+impl<'a> Token<'a> {
+    /// A token of which there is no more to say than its kind.
+    pub fn bare(kind: Kind) -> Token<'a>
+        ensures kind { result.kind ≡ kind }
+        ensures keeps { Keeps result.kind result.text.now result.number }
+    {
+        Token {
+            kind,
+            text: &[],
+            number: 0,
+        }
+    }
+}
+
+#[inline(always)]
+#[tactic(auto, unfolding(bc_syntax::specs::Words::is_number))]
+fn is_number(digits: &[u8], are_digits: bool) -> bool
+    requires { are_digits ≡ list_all is_ascii_digit digits.now }
+    ensures { result ≡ is_number digits.now }
+{
+    are_digits && !digits.is_empty() && (digits.len() == 1 || byte_at(digits, 0) != b'0')
+}
+
+#[tactic(auto, unfolding(bc_syntax::specs::Words::is_region_name))]
+fn is_region_name(name: &[u8], are_region_bytes: bool) -> bool
+    requires { are_region_bytes ≡ list_all is_region_byte name.now }
+    ensures { result ≡ is_region_name name.now }
+{
+    byte_at(name, 0).is_ascii_lowercase() && are_region_bytes
+}
+
+/// How many digits stand at the front, and what they count.
+#[inline(always)]
+fn counted(bytes: &[u8]) -> (usize, u64)
+    ensures count { result.0 ≡ length (take_while is_ascii_digit bytes.now) }
+    ensures within { result.0 ≤ length bytes.now }
+    ensures number { Counts result.1 (value (take result.0 bytes.now)) }
+{
+    let mut number = 0u64;
+    for index in 0..bytes.len() {
+        let byte = bytes[index];
+        if !byte.is_ascii_digit() {
+            return (index, number);
+        }
+        if number < 1 << 32 {
+            number = number * 10 + u64::from(byte - b'0');
+        }
+    }
+    (bytes.len(), number)
+}
+
+/// The run at the front, what it counts, and whether it is a number. It is gone over once: its digits, then what
+/// follows them.
+#[inline(always)]
+fn number_run(bytes: &[u8]) -> (&[u8], u64, bool)
+    ensures run { result.0.now ≡ run bytes.now }
+    ensures number { result.2 ≡ is_number (run bytes.now) }
+    ensures counts { result.2 ≡ true → Counts result.1 (value result.0.now) }
+    ensures within { length result.0.now ≤ length bytes.now }
+{
+    let (digits, number) = counted(bytes);
+    let others = run_len(behind(bytes, digits));
+    let run = &bytes[..digits + others];
+    (run, number, is_number(run, others == 0))
+}
+
+/// The run at the front, and whether it is a name of a region. It is gone over once.
+fn region_run(bytes: &[u8]) -> (&[u8], bool)
+    ensures run { result.0.now ≡ run bytes.now }
+    ensures name { result.1 ≡ is_region_name (run bytes.now) }
+    ensures within { length result.0.now ≤ length bytes.now }
+{
+    let front = region_len(bytes);
+    let others = run_len(behind(bytes, front));
+    let run = &bytes[..front + others];
+    (run, is_region_name(run, others == 0))
+}
+
+/// The number at the front, and how many bytes its run has.
+#[inline(always)]
+fn number_token(numbering: Numbering, bytes: &[u8]) -> (Token<'_>, usize)
+    ensures token { shown result.0.kind result.0.text.now ≡ (if is_number (run bytes.now) then Numbered numbering (value (run bytes.now)) else Stray) }
+    ensures len { result.1 ≡ length (run bytes.now) }
+    ensures within { result.1 ≤ length bytes.now }
+    ensures not_end { result.0.kind ≢ Kind.End }
+    ensures keeps { Keeps result.0.kind result.0.text.now result.0.number }
+{
+    let (digits, number, is_number) = number_run(bytes);
+    let token = if is_number {
+        Token {
+            kind: Kind::Numbered(numbering),
+            text: digits,
+            number,
+        }
+    } else {
+        Token::bare(Kind::Stray)
+    };
+    (token, digits.len())
+}
+
+/// The name of a region at the front, and how many bytes its run has.
+#[inline(always)]
+#[tactic(auto, unfolding(crate::specs::Token::region_token))]
+fn region_token(bytes: &[u8]) -> (Token<'_>, usize)
+    ensures token { shown result.0.kind result.0.text.now ≡ region_token (run bytes.now) }
+    ensures len { result.1 ≡ length (run bytes.now) }
+    ensures within { result.1 ≤ length bytes.now }
+    ensures not_end { result.0.kind ≢ Kind.End }
+    ensures keeps { Keeps result.0.kind result.0.text.now result.0.number }
+{
+    let (name, is_name) = region_run(bytes);
+    let token = if is_name {
+        Token {
+            kind: Kind::Region,
+            text: name,
+            number: 0,
+        }
+    } else {
+        Token::bare(Kind::Stray)
+    };
+    (token, name.len())
+}
+
+/// The keyword or the other word that a run is, which begins with a letter.
+#[inline(always)]
+fn word_token(run: &[u8]) -> Token<'_>
+    ensures token { shown result.kind result.text.now ≡ word run.now (keyword_of run.now) }
+    ensures not_end { result.kind ≢ Kind.End }
+    ensures keeps { Keeps result.kind result.text.now result.number }
+{
+    match Symbol::of_word(run) {
+        Some(keyword) => Token::bare(Kind::Fixed(keyword)),
+        None => Token {
+            kind: Kind::Word,
+            text: run,
+            number: 0,
+        },
+    }
+}
+
+/// The label or the word at the front, which begins with `bb`, and how many bytes it has.
+#[inline(always)]
+fn label_token(bytes: &[u8]) -> (Token<'_>, usize)
+    requires first { slice_index bytes.now 0 ≡ 98 }
+    requires second { slice_index bytes.now 1 ≡ 98 }
+    ensures token { shown result.0.kind result.0.text.now ≡ run_token (run bytes.now) }
+    ensures len { result.1 ≡ length (run bytes.now) }
+    ensures within { result.1 ≤ length bytes.now }
+    ensures not_end { result.0.kind ≢ Kind.End }
+    ensures keeps { Keeps result.0.kind result.0.text.now result.0.number }
+{
+    let (digits, number, is_number) = number_run(behind(bytes, 2));
+    let len = 2 + digits.len();
+    if is_number {
+        let token = Token {
+            kind: Kind::Numbered(Numbering::Label),
+            text: digits,
+            number,
+        };
+        return (token, len);
+    }
+    (word_token(&bytes[..len]), len)
+}
+
+/// The label, the keyword or the other word at the front, and how many bytes it has.
+#[inline(always)]
+fn letter_token(bytes: &[u8]) -> (Token<'_>, usize)
+    requires { is_ascii_alphabetic (slice_index bytes.now 0) ≡ true }
+    ensures token { shown result.0.kind result.0.text.now ≡ run_token (run bytes.now) }
+    ensures len { result.1 ≡ length (run bytes.now) }
+    ensures within { result.1 ≤ length bytes.now }
+    ensures not_end { result.0.kind ≢ Kind.End }
+    ensures keeps { Keeps result.0.kind result.0.text.now result.0.number }
+{
+    if byte_at(bytes, 0) == b'b' && byte_at(bytes, 1) == b'b' {
+        return label_token(bytes);
+    }
+    if let Some(keyword) = Symbol::of_run(bytes) {
+        let token = Token::bare(Kind::Fixed(keyword));
+        return (token, keyword.text().len());
+    }
+    let word = run(bytes);
+    let token = Token {
+        kind: Kind::Word,
+        text: word,
+        number: 0,
+    };
+    (token, word.len())
+}
+
+/// The region or the variable whose `'` stands before these bytes, and how many of them it has.
+#[inline(always)]
+fn quoted_token(bytes: &[u8]) -> (Token<'_>, usize)
+    ensures token { (shown result.0.kind result.0.text.now, 1 + result.1) ≡ lexeme (39 ∷ bytes.now) }
+    ensures within { result.1 ≤ length bytes.now }
+    ensures not_end { result.0.kind ≢ Kind.End }
+    ensures keeps { Keeps result.0.kind result.0.text.now result.0.number }
+{
+    if byte_at(bytes, 0) == b'?' {
+        let (token, len) = number_token(Numbering::Variable, behind(bytes, 1));
+        return (token, 1 + len);
+    }
+    region_token(bytes)
+}
+
+#[inline(always)]
+fn sign_token<'a>(byte: u8) -> Token<'a>
+    ensures token { shown result.kind result.text.now ≡ sign_token (sign_of byte) }
+    ensures not_end { result.kind ≢ Kind.End }
+    ensures keeps { Keeps result.kind result.text.now result.number }
+{
+    match Symbol::of_sign(byte) {
+        Some(sign) => Token::bare(Kind::Fixed(sign)),
+        None => Token::bare(Kind::Stray),
+    }
+}
+
+/// The token at the front of a text that begins with a digit, and how many bytes it has.
+#[inline(always)]
+pub fn number_lexeme(bytes: &[u8]) -> (Token<'_>, usize)
+    requires { is_ascii_digit (slice_index bytes.now 0) ≡ true }
+    ensures token { (shown result.0.kind result.0.text.now, result.1) ≡ lexeme bytes.now }
+    ensures some { 0 < result.1 }
+    ensures within { result.1 ≤ length bytes.now }
+    ensures not_end { result.0.kind ≢ Kind.End }
+    ensures keeps { Keeps result.0.kind result.0.text.now result.0.number }
+{
+    number_token(Numbering::Number, bytes)
+}
+
+/// The token at the front of a text that begins with `_`, and how many bytes it has.
+#[inline(always)]
+pub fn local_lexeme(bytes: &[u8]) -> (Token<'_>, usize)
+    requires { slice_index bytes.now 0 ≡ 95 }
+    ensures token { (shown result.0.kind result.0.text.now, result.1) ≡ lexeme bytes.now }
+    ensures some { 0 < result.1 }
+    ensures within { result.1 ≤ length bytes.now }
+    ensures not_end { result.0.kind ≢ Kind.End }
+    ensures keeps { Keeps result.0.kind result.0.text.now result.0.number }
+{
+    let (token, len) = number_token(Numbering::Local, behind(bytes, 1));
+    (token, 1 + len)
+}
+
+/// The token at the front of a text that begins with a letter, and how many bytes it has.
+#[inline(always)]
+pub fn letter_lexeme(bytes: &[u8]) -> (Token<'_>, usize)
+    requires { is_ascii_alphabetic (slice_index bytes.now 0) ≡ true }
+    ensures token { (shown result.0.kind result.0.text.now, result.1) ≡ lexeme bytes.now }
+    ensures some { 0 < result.1 }
+    ensures within { result.1 ≤ length bytes.now }
+    ensures not_end { result.0.kind ≢ Kind.End }
+    ensures keeps { Keeps result.0.kind result.0.text.now result.0.number }
+{
+    letter_token(bytes)
+}
+
+/// The token at the front of a text that begins with `'`, and how many bytes it has.
+#[inline(always)]
+pub fn quoted_lexeme(bytes: &[u8]) -> (Token<'_>, usize)
+    requires { slice_index bytes.now 0 ≡ 39 }
+    ensures token { (shown result.0.kind result.0.text.now, result.1) ≡ lexeme bytes.now }
+    ensures some { 0 < result.1 }
+    ensures within { result.1 ≤ length bytes.now }
+    ensures not_end { result.0.kind ≢ Kind.End }
+    ensures keeps { Keeps result.0.kind result.0.text.now result.0.number }
+{
+    let (token, len) = quoted_token(behind(bytes, 1));
+    (token, 1 + len)
+}
+
+/// The token at the front of any other text, and how many bytes it has.
+#[inline(always)]
+pub fn sign_lexeme(bytes: &[u8]) -> (Token<'_>, usize)
+    requires some { 0 < length bytes.now }
+    requires other { is_run_byte (slice_index bytes.now 0) ≡ false }
+    requires unquoted { slice_index bytes.now 0 ≢ 39 }
+    ensures token { (shown result.0.kind result.0.text.now, result.1) ≡ lexeme bytes.now }
+    ensures some { 0 < result.1 }
+    ensures within { result.1 ≤ length bytes.now }
+    ensures not_end { result.0.kind ≢ Kind.End }
+    ensures keeps { Keeps result.0.kind result.0.text.now result.0.number }
+{
+    let first = bytes[0];
+    if first == b'-' && byte_at(bytes, 1) == b'>' {
+        return (Token::bare(Kind::Fixed(Symbol::Arrow)), 2);
+    }
+    if first >= 128 {
+        return (Token::bare(Kind::NotAscii), 1);
+    }
+    (sign_token(first), 1)
+}

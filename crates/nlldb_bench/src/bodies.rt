@@ -1,0 +1,60 @@
+//! The bodies that are analysed: many loans in 1,000 regions, each of which outlives the region of the local that it is put in.
+use std::alloc::Global;
+use std::io;
+use std::io::Write;
+
+/// How many regions the loans have in turn.
+const REGIONS: u32 = 1000;
+
+const BLOCKS: u32 = 250;
+
+const LOCALS: &str = "let _1:int;let _2:&'?1000 int;";
+
+fn write_borrow<W: Write>(loan: u32, out: &mut W) -> io::Result<()> {
+    let region = loan % REGIONS;
+    write!(out, "_2=&'?{region} _1;_0=copy _2.*;")
+}
+
+/// 3,799 points in a line with 1,899 loans: a borrow, and then a read through it.
+pub fn borrows_and_reads(alloc: Global) -> io::Result<Vec<u8>> {
+    let mut out = Vec::new(alloc);
+    write!(out, "fn()->int{{{LOCALS}bb0{{")?;
+    for loan in 0..1899u32 {
+        write_borrow(loan, &mut out)?;
+    }
+    write!(out, "return;}}}}")?;
+    Ok(out)
+}
+
+/// 3,796 points in a line with 1,265 loans: a borrow, a read through it, and a write of what was borrowed.
+pub fn borrows_and_writes(alloc: Global) -> io::Result<Vec<u8>> {
+    let mut out = Vec::new(alloc);
+    write!(out, "fn()->int{{{LOCALS}bb0{{")?;
+    for loan in 0..1265u32 {
+        write_borrow(loan, &mut out)?;
+        write!(out, "_1={loan};")?;
+    }
+    write!(out, "return;}}}}")?;
+    Ok(out)
+}
+
+fn write_block<W: Write>(block: u32, out: &mut W) -> io::Result<()> {
+    write!(out, "bb{block}{{")?;
+    for loan in 0..7u32 {
+        write_borrow(block.wrapping_mul(7).wrapping_add(loan), out)?;
+    }
+    let next = block.wrapping_add(1) % BLOCKS;
+    let other = block.wrapping_mul(7).wrapping_add(3) % BLOCKS;
+    write!(out, "nop;if copy _0 bb{next} bb{other};}}")
+}
+
+/// 250 blocks of 16 points with branches forward and back, and 1,750 loans.
+pub fn branches(alloc: Global) -> io::Result<Vec<u8>> {
+    let mut out = Vec::new(alloc);
+    write!(out, "fn()->int{{{LOCALS}")?;
+    for block in 0..BLOCKS {
+        write_block(block, &mut out)?;
+    }
+    write!(out, "}}")?;
+    Ok(out)
+}
