@@ -1,11 +1,11 @@
 -- `==` on events decides `≡`.
-use Rattle.std.proofs.Common.{◌≡◌, false, true≢false, refl, sym, ap}
+use Rattle.std.proofs.Common.{◌≡◌, refl, ap}
 use Rattle.std.specs.Bool.{Decides}
 use Rattle.std.proofs.lemmas.Bool.Decides.{Decides-and, Decides-like}
 use Rattle.bc_text.proofs.Equality.{name}
 use Rattle.std.proofs.lemmas.Slice.Eq.{slice_eq-Decides}
 use Rattle.bc_syntax.proofs.Equality.{body, declaration}
-use Rattle.bc_prov.proofs.Equality.{outcome}
+use Rattle.bc_prov.proofs.Equality.{apart, outcome}
 use Rattle.bc_book.specs.declared.call.Call.{Call}
 use Rattle.bc_book.specs.declared.call.Call.TheVariants as calls
 use Rattle.bc_book.specs.declared.call.PutReply.{PutReply}
@@ -17,9 +17,6 @@ use Rattle.bc_book.specs.contracts.call.CallPartialEq.TheImpl as call_impl
 use Rattle.bc_book.specs.contracts.call.PutReplyPartialEq.TheImpl as put_reply_impl
 use Rattle.bc_book.specs.contracts.call.ReplyPartialEq.TheImpl as reply_impl
 use Rattle.bc_book.specs.contracts.call.EventPartialEq.TheImpl as event_impl
-
-apart : {P : Type 0} → (P → ⊥) → Decides false P
-apart never = (λ f. absurd (true≢false (sym f)), λ p. absurd (never p))
 
 pub call : (a b : Call) → Decides ((call_impl.ghosts).eq a b) (a ≡ b)
 call (calls.Types x) (calls.Types y) = Decides-like _ (λ p i. calls.Types (p i)) (λ e. cc) (slice_eq-Decides declaration x y _ refl)

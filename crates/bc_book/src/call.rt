@@ -7,7 +7,8 @@ use bc_prov::Outcome;
 use bc_syntax::{Types, Unit};
 use bc_text::Name;
 
-/// What a session asks for.
+/// What a session asks for: to store declarations in place of those before, to put a unit under a name, or the outcome
+/// of a name. (Own.)
 #[derive(Drop, PartialEq)]
 pub enum Call {
     Types(Shared<Types>),
@@ -16,7 +17,7 @@ pub enum Call {
 }
 
 /// The reply to a put: the body is new, or in place of another; or the name is new and 256 bodies are held; or
-/// the name is not one for such a unit. The last two store nothing.
+/// the name is not one for such a unit. The last two store nothing. (Own.)
 #[derive(Clone, Copy, Debug, PartialEq, Eq)]
 pub enum PutReply {
     Added,
@@ -37,7 +38,7 @@ impl PutReply {
     }
 }
 
-/// The reply to a call of its kind: declarations are stored, a put has its reply, and an Ask its outcome.
+/// The reply to a call of its kind: declarations are stored, a put has its reply, and an Ask its outcome. (Own.)
 #[derive(Drop, PartialEq)]
 pub enum Reply {
     Stored,

@@ -17,13 +17,13 @@ use std::marker::Model;
 use std::sync::Arc;
 use thiserror::Error;
 
-/// How many bodies may be held.
+/// How many bodies may be held (own).
 pub const MOST_BODIES: usize = 256;
 
-/// How many sessions a database may have.
+/// How many sessions a database may have (own).
 pub const MOST_SESSIONS: usize = 16;
 
-/// Why a call was refused: memory was refused, or the history is as long as it may be. The call changed nothing.
+/// Why a call was refused: memory was refused, or the history is as long as it may be. The call changed nothing. (Own.)
 #[derive(Clone, Copy, Debug, PartialEq, Eq, Error)]
 pub enum Refusal {
     #[error("no memory")]
@@ -37,6 +37,7 @@ impl From<AllocError> for Refusal {
 
     ghost from_gives = { λ _ refusal. refusal ≡ NoMemory };
 
+    /// Want of memory, as a refusal: `NoMemory`.
     fn from(_error: AllocError) -> Refusal {
         Refusal::NoMemory
     }
@@ -81,7 +82,8 @@ impl Ledger {
         })
     }
 
-    /// Makes room for one entry. `HistoryFull` exactly where the history is as long as it may be.
+    /// Makes room for one entry. The capacity is tested first: `HistoryFull` exactly where the history is as long as it
+    /// may be, and `NoMemory` only where memory was refused. The history is as it was in each case. (Own.)
     pub fn reserve(&mut self) -> Result<(), Refusal>
         ensures same { (self.new.capacity ≡ self.old.capacity) × (self.new.entries ≡ self.old.entries) }
         ensures room { OnOk result (0 < self.new.room) }
@@ -116,8 +118,9 @@ impl Ledger {
         Ok(())
     }
 
-    /// Enters a session's put, with the reply that the bodies held give it. `AllocError` only where memory was
-    /// refused; then nothing has changed.
+    /// Enters a session's put, with the reply that the bodies held give it: `WrongKind` where the name is not one for such
+    /// a unit, else `Full` where the name is new and 256 bodies are held, else `Replaced` or `Added` (own). `AllocError`
+    /// only where memory was refused; then nothing has changed.
     pub fn put(
         &mut self,
         session: u8,
@@ -140,7 +143,8 @@ impl Ledger {
         Ok(reply)
     }
 
-    /// The outcome of a name, under the declarations held. `AllocError` only where memory was refused.
+    /// The outcome of a name, under the declarations held: that of `bc_prov::outcome_of`. Nothing is entered.
+    /// `AllocError` only where memory was refused.
     pub fn outcome(&self, alloc: Global, name: &Name) -> Result<Shared<Outcome>, AllocError>
         ensures { IfOk result (λ outcome. IsOutcomeIn (after self.now.entries) name.now outcome) }
     {
@@ -152,7 +156,7 @@ impl Ledger {
         }
     }
 
-    /// Enters a session's Ask, with its outcome.
+    /// Enters a session's Ask, with its outcome. It takes no memory.
     pub fn ask(&mut self, session: u8, name: Name, outcome: Shared<Outcome>)
         requires session { session < 16 }
         requires room { 0 < self.old.room }
@@ -167,7 +171,7 @@ impl Ledger {
         enter(&mut self.history, &mut self.counts, session, event);
     }
 
-    /// The history, taken out.
+    /// The history, taken out: all entries, in their order.
     pub fn into_history(self) -> Vec<Entry>
         ensures entries { result.items ≡ self.entries }
         ensures legal { IsLegal self.entries }

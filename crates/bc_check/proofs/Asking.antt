@@ -2,14 +2,14 @@
 use Rattle.std.proofs.Common.{◌≡◌, ℕ, zero, suc, ◌<◌, ◌≤◌, ◌+◌, List, [], ◌∷◌, ◌++◌, length, get_or, take, map, Option, Some, None, refl, sym, ap, ◌∙◌, subst, arith, Ordering, Less, Equal, Greater, inl, inr}
 use Rattle.std.specs.List.{All, Contains}
 use Rattle.std.specs.List.Sorted.{IsStrictlySortedBy}
-use Rattle.std.specs.Ordering.{match_ordering, ordering_then, nat_cmp}
-use Rattle.std.specs.Cmp.Lexicographic.{slice_cmp}
+use Rattle.std.specs.Ordering.{match_ordering}
 use Rattle.std.specs.BTreeSet.{insert_key}
 use Rattle.std.proofs.lemmas.List.{map-append, take_more, take_all}
 use Rattle.std.proofs.lemmas.List.Elements.{All-contains, All-contains_itself, Contains-append_left, Contains-append_right, Contains-append_cases}
-use Rattle.std.proofs.lemmas.Map.Lookups.{CmpEqualImpliesEq, exact_bytes}
+use Rattle.std.proofs.lemmas.Map.Lookups.{CmpEqualImpliesEq}
 use Rattle.std.proofs.lemmas.Map.Views.{All-insert_key}
 use Rattle.bc_text.specs.Names.{NameParts, name_order}
+use Rattle.bc_text.proofs.Equality.{exact_names}
 use Rattle.bc_book.specs.declared.call.Call.{Call}
 use Rattle.bc_check.specs.Asked.{root_put, AreAsked}
 
@@ -44,18 +44,6 @@ stays_in cmp k q (x ∷ ks) h =
       | inr more ↦ in_tail x q _ (stays_in cmp k q ks more)
     ])
 
-both_equal : (p q : Ordering) → ordering_then p q ≡ Equal → (p ≡ Equal) × (q ≡ Equal)
-both_equal Less q h = cc
-both_equal Equal q h = (refl, h)
-both_equal Greater q h = cc
-
--- names that are equal in order are the same
-name_exact : CmpEqualImpliesEq name_order
-name_exact a b h =
-    let e : (slice_cmp nat_cmp a.root b.root ≡ Equal) × (slice_cmp nat_cmp a.segments b.segments ≡ Equal) = both_equal _ _ h in
-    let named : List ℕ → List ℕ → NameParts = λ root segments. record { root = root; segments = segments } in
-    ap (λ (root : List ℕ). named root a.segments) (exact_bytes a.root b.root e.0) ∙ ap (λ (segments : List ℕ). named b.root segments) (exact_bytes a.segments b.segments e.1)
-
 same_some : {X : Type 0} (x y : X) → Some x ≡ Some y → x ≡ y
 same_some x y e = cc
 
@@ -83,7 +71,7 @@ added calls call name names new h root is sorted =
         λ there. subst (λ (l : List (Option NameParts)). Contains l (Some q)) (sym more) (All-contains P new q all there),
         λ there. subst (λ (l : List NameParts). Contains l q) (sym is) (elim (Contains-append_cases roots (Some name ∷ []) (Some q) (subst (λ (l : List (Option NameParts)). Contains l (Some q)) more there)) [
           | inl before ↦ stays_in name_order name q names ((h.exact q).1 before)
-          | inr one ↦ subst (λ (n : NameParts). Contains (insert_key name_order names name) n) (same_some name q (the_one (Some name) (Some q) one)) (put_in name_order name_exact name names)
+          | inr one ↦ subst (λ (n : NameParts). Contains (insert_key name_order names name) n) (same_some name q (the_one (Some name) (Some q) one)) (put_in name_order exact_names name names)
         ]),
       );
     }

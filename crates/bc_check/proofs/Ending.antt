@@ -1,7 +1,7 @@
 -- How the command ends.
-use Rattle.std.proofs.Common.{◌≡◌, ℕ, ◌≤◌, ◌<◌, ◌+◌, max, List, [], ◌∷◌, ◌++◌, Option, Some, None, Result, Err, inr, length, map, refl, sym, ap, ◌∙◌, subst, append_assoc, append-nil, arith, get_or, zero, suc}
+use Rattle.std.proofs.Common.{◌≡◌, ℕ, ◌≤◌, ◌<◌, ◌+◌, max, List, [], ◌∷◌, ◌++◌, Option, Some, None, Result, Err, inr, length, map, refl, sym, ap, ◌∙◌, subst, append_assoc, append-nil, arith}
 use Rattle.std.specs.Prelude.{IfSome}
-use Rattle.std.specs.List.{flat_map, Contains}
+use Rattle.std.specs.List.{flat_map}
 use Rattle.std.specs.Io.KnownBytes.{Appends, Keeps}
 use Rattle.std.proofs.lemmas.List.{map-append}
 use Rattle.std.proofs.lemmas.Grind.{flat_map-append}
@@ -15,6 +15,7 @@ use Rattle.bc_book.specs.Calls.{calls}
 use Rattle.bc_book.proofs.Histories.{legal_none}
 use Rattle.bc_share.specs.Sessions.{SessionView, new_session}
 use Rattle.bc_share.specs.Closings.{IsOneHistory}
+use Rattle.bc_share.proofs.Closings.{one_agrees}
 use Rattle.bc_check.specs.declared.fault.FileFault.{FileFault}
 use Rattle.bc_check.specs.declared.stop.Stop.{Stop}
 use Rattle.bc_check.specs.declared.stop.Stop.TheVariants.{WrongUse, CannotRead, CannotWrite, CannotTell, NoMemory, File, TooManyCalls, HistoryFull, Foreign, Audit}
@@ -57,18 +58,15 @@ greatest-append : (a b : List Event) → greatest (a ++ b) ≡ max (greatest a) 
 greatest-append [] b = omega arith
 greatest-append (e ∷ a) b = let more = greatest-append a b in omega (arith, more)
 
-the_number : (n m : ℕ) → Contains (n ∷ []) m → n ≡ m
-the_number n m (zero, below, is) = is
-the_number n m (suc k, below, is) = absurd (omega arith)
-
 -- a session that a database closed with made a legal history
 legal_of : (s : SessionView) (h : List Entry) (events : List Event) → IsOneHistory (s ∷ []) h → s.number ≡ 0 → s.own ≡ events → AreLegal events
-legal_of s h events one zero_is own = record {
-  history = h;
-  legal = one.0;
-  one_session = λ k d below. sym (the_number s.number (get_or h k d).session (one.1.others k d below)) ∙ zero_is;
-  own = ap (λ (n : ℕ). calls n h) (sym zero_is) ∙ sym (one.1.own 0 s (omega arith)) ∙ own;
-}
+legal_of s h events one zero_is own =
+    let agrees = one_agrees (s ∷ []) s h refl one.1 in record {
+      history = h;
+      legal = one.0;
+      one_session = λ k d below. agrees.1 k d below ∙ zero_is;
+      own = ap (λ (n : ℕ). calls n h) (sym zero_is) ∙ sym agrees.0 ∙ own;
+    }
 
 -- all changes and all Asks
 pub runs_of : (list : List Change) (names : List NameParts) (m n capacity : ℕ) (s0 s1 s2 : SessionView) (o0 o1 e0 e1 : Option (List ℕ)) (h : List Entry) → Served (map seen list) told m s0 s1 e0 e1 → Served (map Ask names) shown n s1 s2 o0 o1 → s0 ≡ new_session 0 0 capacity → length (map seen list) + length names ≤ 1000000 → IsOneHistory (s2 ∷ []) h → Runs (map seen list) names (max m n) o0 o1 e0 e1

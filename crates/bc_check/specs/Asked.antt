@@ -1,5 +1,5 @@
 -- The names that a file asks.
-use Rattle.std.specs.Prelude.{◌≡◌, ◌↔◌, ◌==◌, Option, Some, None, List, length, map, if◌then◌else◌}
+use Rattle.std.specs.Prelude.{◌↔◌, ◌==◌, Option, Some, None, List, length, map, if◌then◌else◌}
 use Rattle.std.specs.List.{Contains}
 use Rattle.std.specs.List.Sorted.{IsStrictlySortedBy}
 use Rattle.bc_text.specs.Names.{NameParts, name_order}

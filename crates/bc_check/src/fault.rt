@@ -4,7 +4,8 @@ ghost use Rattle.bc_check.specs.Faults.{kind_text, message};
 
 use std::fmt;
 
-/// What is wrong with a section. A place counts bytes from the beginning of the section's text.
+/// What is wrong with a section: its header line is neither `@types` nor `@put` and a name, or its text is refused for one
+/// of the reader's reasons. A place counts bytes from the beginning of the section's text. (Own.)
 #[derive(Clone, Copy, Debug, PartialEq, Eq)]
 pub enum FaultKind {
     BadHeader,
@@ -15,7 +16,7 @@ pub enum FaultKind {
     Limit { at: usize },
 }
 
-/// A fault of a file: the number of the section's header line, from 1, and what is wrong with the section.
+/// A fault of a file: the number of the section's header line, from 1, and what is wrong with the section. (Own.)
 #[derive(Clone, Copy, Debug, PartialEq, Eq)]
 pub struct FileFault {
     pub line: usize,

@@ -13,7 +13,7 @@ use bc_text::{Name, ReadFault, read_types, read_unit};
 use std::alloc::Global;
 use std::sync::Arc;
 
-/// A change that a section makes: its declarations are held from then on, or its body under a name.
+/// A change that a section makes: its declarations are held from then on, or its body under a name. (Own.)
 #[derive(Drop)]
 pub enum Change {
     Types(Arc<Types>),

@@ -29,7 +29,7 @@ fn write_body<W: Write>(body: &BodyErrors, out: &mut W) -> io::Result<()>
     Ok(())
 }
 
-/// Writes the text form of an outcome, exactly the bytes of its report, or answers the writer's fault. It takes no
+/// Writes the text form of an outcome, exactly the bytes of its report (own), or answers the writer's fault. It takes no
 /// memory.
 pub fn write_report<W: Write>(outcome: &Outcome, out: &mut W) -> io::Result<()>
     ensures { OnOk result (Appends (W.contents out.old) (W.contents out.new) (report outcome.now)) }

@@ -1,5 +1,5 @@
 //! Files with what the command prints of them, to the byte, and its status.
-use crate::tests::{NEVER, run, run_whole};
+use crate::tests::{leaves_in, leaves_of};
 use crate::{FaultKind, FileFault, Stop, stop_with};
 use bc_text::MAX_TEXT;
 use std::test::Fail;
@@ -14,10 +14,7 @@ pub struct Row {
 
 /// Whether the command leaves of a file what the row says.
 pub fn leaves(rt: &HostRuntime, row: &Row) -> bool {
-    let ending = run_whole(rt, row.file);
-    ending.out.as_slice() == row.out
-        && ending.err.as_slice() == row.err
-        && ending.status == row.status
+    leaves_of(rt, row.file, row.status, row.out, row.err)
 }
 
 /// A local is written while it is borrowed.
@@ -128,26 +125,25 @@ fn each_file_has_its_reports_and_its_status(rt: HostRuntime) {
     }
 }
 
-#[test]
-fn a_text_has_1_048_576_bytes_and_no_more(rt: HostRuntime) -> Result<(), Fail> {
-    let head = b"@put f\nfn()->int{bb0{stop;}}\n@put g\n".as_slice();
+/// Two puts, the second of a text of so many bytes: a unit of 21, and blanks.
+fn text_of(rt: &HostRuntime, count: usize) -> Result<Vec<u8>, Fail> {
     let unit = b"fn()->int{bb0{stop;}}".as_slice();
-    let mut file = head.to_vec(rt.alloc())?;
+    let mut file = b"@put f\nfn()->int{bb0{stop;}}\n@put g\n"
+        .as_slice()
+        .to_vec(rt.alloc())?;
     file.extend_from_slice(unit)?;
-    for _blank in unit.len()..MAX_TEXT {
+    for _blank in unit.len()..count {
         file.push(b' ')?;
     }
-    let longest = run_whole(&rt, &file);
-    assert_eq!(rt;
-        longest.out.as_slice(),
-        b"ask f\nf 0\nask g\ng 0\n" as &[u8]
-    );
-    assert_eq!(rt; longest.status, 0);
+    Ok(file)
+}
+
+#[test]
+fn a_text_has_1_048_576_bytes_and_no_more(rt: HostRuntime) -> Result<(), Fail> {
+    let mut file = text_of(&rt, MAX_TEXT)?;
+    assert!(rt; leaves_of(&rt, &file, 0, b"ask f\nf 0\nask g\ng 0\n", b""));
     file.push(b' ')?;
-    let longer = run_whole(&rt, &file);
-    assert_eq!(rt; longer.err.as_slice(), b"line 3: too long\n" as &[u8]);
-    assert_eq!(rt; longer.status, 2);
-    assert!(rt; longer.out.is_empty());
+    assert!(rt; leaves_of(&rt, &file, 2, b"", b"line 3: too long\n"));
     Ok(())
 }
 
@@ -168,11 +164,16 @@ fn bodies(rt: &HostRuntime, count: u32) -> Result<String, Fail> {
 #[test]
 fn a_file_of_over_a_million_calls_is_too_much(rt: HostRuntime) -> Result<(), Fail> {
     let file = bodies(&rt, 500_001)?;
-    let ending = run(&rt, file.as_bytes(), 1 << 20, NEVER, NEVER, NEVER);
-    assert_eq!(rt; ending.err.as_slice(), b"too many calls\n" as &[u8]);
-    assert_eq!(rt; ending.status, 3);
-    assert!(rt; ending.out.is_empty());
+    let many = b"too many calls\n".as_slice();
+    assert!(rt; leaves_in(&rt, file.as_bytes(), 1 << 20, 3, b"", many));
     Ok(())
+}
+
+/// Whether a stop has this line on standard error, and this status.
+fn is_told(rt: &HostRuntime, stop: &Stop, line: &[u8], status: u8) -> bool {
+    let mut err = Vec::new(rt.alloc());
+    let found = stop_with("demo", stop, &mut err);
+    found == status && err.as_slice() == line
 }
 
 #[test]
@@ -193,27 +194,27 @@ fn each_stop_has_its_line_and_its_status(rt: HostRuntime) {
         (Stop::Foreign, b"close: foreign\n".as_slice(), 3),
         (Stop::Audit, b"close: audit\n".as_slice(), 3),
     ] {
-        let mut err = Vec::new(rt.alloc());
-        assert_eq!(rt; stop_with("demo", &stop, &mut err), status);
-        assert_eq!(rt; err.as_slice(), line);
+        assert!(rt; is_told(&rt, &stop, line, status));
     }
+}
+
+/// A put, and so many sections of declarations.
+fn sections(rt: &HostRuntime, count: u32) -> Result<Vec<u8>, Fail> {
+    let mut file = b"@put f\nfn()->int{bb0{stop;}}\n"
+        .as_slice()
+        .to_vec(rt.alloc())?;
+    for _section in 0..count {
+        file.extend_from_slice(b"@types\n")?;
+    }
+    Ok(file)
 }
 
 #[test]
 fn sections_of_declarations_are_calls(rt: HostRuntime) -> Result<(), Fail> {
-    let mut file = b"@put f\nfn()->int{bb0{stop;}}\n"
-        .as_slice()
-        .to_vec(rt.alloc())?;
-    for _section in 0..999_998 {
-        file.extend_from_slice(b"@types\n")?;
-    }
-    let most = run(&rt, &file, 1 << 20, NEVER, NEVER, NEVER);
-    assert_eq!(rt; most.out.as_slice(), b"ask f\nf 0\n" as &[u8]);
-    assert_eq!(rt; most.status, 0);
+    let mut file = sections(&rt, 999_998)?;
+    assert!(rt; leaves_in(&rt, &file, 1 << 20, 0, b"ask f\nf 0\n", b""));
     file.extend_from_slice(b"@types\n")?;
-    let more = run(&rt, &file, 1 << 20, NEVER, NEVER, NEVER);
-    assert_eq!(rt; more.err.as_slice(), b"too many calls\n" as &[u8]);
-    assert_eq!(rt; more.status, 3);
-    assert!(rt; more.out.is_empty());
+    let many = b"too many calls\n".as_slice();
+    assert!(rt; leaves_in(&rt, &file, 1 << 20, 3, b"", many));
     Ok(())
 }

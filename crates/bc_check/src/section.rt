@@ -3,7 +3,7 @@ ghost use Rattle.std.specs.Prelude.{◌≡◌, ◌≤◌, ◌<◌, ◌+◌, ◌^
 ghost use Rattle.std.specs.Io.BufRead.{drop_through};
 ghost use Rattle.bc_check.specs.Parts.{sections_from, lines_of, without_end, parts, sections_of};
 
-/// A section: its header line without the line feed, the number of that line, and the text behind it.
+/// A section: its header line without the line feed, the number of that line, and the text behind it. (Own.)
 #[derive(Clone, Copy)]
 pub struct Section<'a> {
     pub line: usize,
@@ -11,7 +11,8 @@ pub struct Section<'a> {
     pub text: &'a [u8],
 }
 
-/// The sections of a file, from the front. The first line of a file is a header, whatever it begins with.
+/// The sections of a file, from the front. The first line of a file is a header, whatever it begins with, and after it
+/// each line that begins with `@`. (Own.)
 #[derive(Clone, Copy)]
 pub struct Sections<'a> {
     rest: &'a [u8],
@@ -81,6 +82,7 @@ impl<'a> Iterator for Sections<'a> {
 
     ghost remaining = { item_count left };
 
+    /// The next section, or `None` where there is no more.
     fn next(&mut self) -> Option<Section<'a>> {
         if self.rest.is_empty() {
             return None;

@@ -10,7 +10,7 @@ use std::alloc::{AllocError, AllocFailed};
 use std::io;
 use std::io::Write;
 
-/// Why the command stops before its end.
+/// Why the command stops before its end. (Own.)
 #[derive(Clone, Copy, Debug, PartialEq, Eq)]
 pub enum Stop {
     /// The words of the command line are not those of a command.
@@ -126,7 +126,7 @@ fn write_last_line<E: Write>(file: &str, stop: &Stop, err: &mut E) -> io::Result
 }
 
 /// Writes why a command on the file of this name stops, and gives its exit status: 2 where the file has a fault, 3
-/// for all else, also where this cannot be written.
+/// for all else, also where this cannot be written. (Own.)
 pub fn stop_with<E: Write>(file: &str, stop: &Stop, err: &mut E) -> u8
     ensures range { result ≤ 3 }
     ensures said { result < 3 → (result ≡ stop_status stop.now) × Appends (E.contents err.old) (E.contents err.new) (last_line file.now stop.now) }

@@ -127,24 +127,39 @@ pub fn run_whole(rt: &HostRuntime, file: &[u8]) -> Ending {
     run(rt, file, 7, NEVER, NEVER, NEVER)
 }
 
-#[test]
-fn prints_reports_in_the_order_of_names(rt: HostRuntime) -> Result<(), Fail> {
-    let whole = run_whole(&rt, FILE);
-    assert_eq!(rt; whole.status, 2);
-    assert_eq!(rt; whole.out.as_slice(), REPORTS);
-    assert_eq!(rt; whole.err.as_slice(), REFUSED);
-    let good = run_whole(&rt, b"@put f\nfn()->int{bb0{_0=1;return;}}\n");
-    assert_eq!(rt; good.status, 0);
-    assert_eq!(rt; good.out.as_slice(), b"ask f\nf 0\n" as &[u8]);
-    assert!(rt; good.err.is_empty());
-    let empty = run_whole(&rt, b"");
-    assert_eq!(rt; empty.status, 0);
-    assert!(rt; empty.out.is_empty() && empty.err.is_empty());
-    Ok(())
+/// Whether the command ended with this status, and left this on its two writers.
+fn has_left(ending: &Ending, status: u8, out: &[u8], err: &[u8]) -> bool {
+    ending.status == status && ending.out.as_slice() == out && ending.err.as_slice() == err
+}
+
+/// Whether the command ends so on a file that is read so many bytes at a time, with devices that never fail.
+pub fn leaves_in(
+    rt: &HostRuntime,
+    file: &[u8],
+    chunk: usize,
+    status: u8,
+    out: &[u8],
+    err: &[u8],
+) -> bool {
+    let ending = run(rt, file, chunk, NEVER, NEVER, NEVER);
+    has_left(&ending, status, out, err)
+}
+
+/// Whether the command ends so on a file, with devices that never fail.
+pub fn leaves_of(rt: &HostRuntime, file: &[u8], status: u8, out: &[u8], err: &[u8]) -> bool {
+    leaves_in(rt, file, 7, status, out, err)
 }
 
 #[test]
-fn tells_the_first_fault(rt: HostRuntime) -> Result<(), Fail> {
+fn prints_reports_in_the_order_of_names(rt: HostRuntime) {
+    assert!(rt; leaves_of(&rt, FILE, 2, REPORTS, REFUSED));
+    let good = b"@put f\nfn()->int{bb0{_0=1;return;}}\n".as_slice();
+    assert!(rt; leaves_of(&rt, good, 0, b"ask f\nf 0\n", b""));
+    assert!(rt; leaves_of(&rt, b"", 0, b"", b""));
+}
+
+#[test]
+fn tells_the_first_fault(rt: HostRuntime) {
     for (file, want) in [
         (b"@put 9\n" as &[u8], b"line 1: bad header\n" as &[u8]),
         (b"x\n", b"line 1: bad header\n"),
@@ -201,76 +216,97 @@ fn tells_the_first_fault(rt: HostRuntime) -> Result<(), Fail> {
             b"line 1: bad header\n",
         ),
     ] {
-        let faulty = run_whole(&rt, file);
-        assert_eq!(rt; faulty.err.as_slice(), want);
-        assert_eq!(rt; faulty.status, 2);
-        assert!(rt; faulty.out.is_empty());
+        assert!(rt; leaves_of(&rt, file, 2, b"", want));
     }
-    Ok(())
 }
 
 #[test]
 fn reads_16_mebibytes_and_no_more(rt: HostRuntime) -> Result<(), Fail> {
     let mut file = vec![in rt.alloc(); b' '; 16_777_216]?;
-    let longest = run(&rt, &file, 1 << 20, NEVER, NEVER, NEVER);
-    assert_eq!(rt; longest.err.as_slice(), b"line 1: bad header\n" as &[u8]);
-    assert_eq!(rt; longest.status, 2);
+    let header = b"line 1: bad header\n".as_slice();
+    assert!(rt; leaves_in(&rt, &file, 1 << 20, 2, b"", header));
     file.push(b' ')?;
-    let longer = run(&rt, &file, 1 << 20, NEVER, NEVER, NEVER);
-    assert_eq!(rt; longer.err.as_slice(), b"cannot read demo\n" as &[u8]);
-    assert_eq!(rt; longer.status, 3);
+    let read = b"cannot read demo\n".as_slice();
+    assert!(rt; leaves_in(&rt, &file, 1 << 20, 3, b"", read));
     Ok(())
+}
+
+/// Sections that put so many bodies, each under a name of its own.
+fn numbered(rt: &HostRuntime, count: u32) -> Result<String, Fail> {
+    let mut file = String::new(rt.alloc());
+    for number in 0..count {
+        write!(file, "@put n{number:03}\nfn()->int{{bb0{{return;}}}}\n")?;
+    }
+    Ok(file)
+}
+
+/// Whether the command stores 256 bodies of a file and refuses one more, asks for all, and ends with 2.
+fn is_full_behind_256(rt: &HostRuntime, file: &[u8]) -> bool {
+    let many = run(rt, file, 4096, NEVER, NEVER, NEVER);
+    many.err.as_slice() == b"put n256 full\n".as_slice()
+        && many.status == 2
+        && many
+            .out
+            .starts_with(b"ask n000\nn000 0\nask n001\nn001 0\n")
+        && many.out.ends_with(b"ask n255\nn255 0\nask n256\nno body\n")
 }
 
 #[test]
 fn holds_256_bodies(rt: HostRuntime) -> Result<(), Fail> {
-    let mut file = String::new(rt.alloc());
-    for number in 0..257 {
-        write!(file, "@put n{number:03}\nfn()->int{{bb0{{return;}}}}\n")?;
-    }
-    let many = run(&rt, file.as_bytes(), 4096, NEVER, NEVER, NEVER);
-    assert_eq!(rt; many.err.as_slice(), b"put n256 full\n" as &[u8]);
-    assert_eq!(rt; many.status, 2);
-    assert!(rt;
-        many.out
-            .starts_with(b"ask n000\nn000 0\nask n001\nn001 0\n")
-    );
-    assert!(rt; many.out.ends_with(b"ask n255\nn255 0\nask n256\nno body\n"));
+    let file = numbered(&rt, 257)?;
+    assert!(rt; is_full_behind_256(&rt, file.as_bytes()));
     Ok(())
+}
+
+/// How many reads, writes and lines on standard error the command makes of a file where none fails.
+fn calls_of(rt: &HostRuntime, file: &[u8]) -> (u32, u32, u32) {
+    let whole = run_whole(rt, file);
+    (whole.reads, whole.writes, whole.tells)
+}
+
+fn stops_at_read(rt: &HostRuntime, read: u32) -> bool {
+    let cut = run(rt, FILE, 7, read, NEVER, NEVER);
+    has_left(&cut, 3, b"", b"cannot read demo\n")
+}
+
+fn stops_at_write(rt: &HostRuntime, write: u32) -> bool {
+    let cut = run(rt, FILE, 7, NEVER, write, NEVER);
+    cut.status == 3
+        && cut.err.as_slice() == b"put f/0 wrongkind\ncannot write\n".as_slice()
+        && REPORTS.starts_with(cut.out.as_slice())
+}
+
+/// Whether the command, which tells this of a file, makes no further call once a line on standard error fails.
+fn stops_at_tell(rt: &HostRuntime, file: &[u8], told: &[u8], tell: u32) -> bool {
+    let cut = run(rt, file, 7, NEVER, NEVER, tell);
+    cut.status == 3
+        && cut.out.is_empty()
+        && told.starts_with(cut.err.as_slice())
+        && cut.tells == tell.saturating_add(1)
 }
 
 /// Each read, each write and each line on standard error fails in turn.
 #[test]
-fn each_call_fails_in_turn(rt: HostRuntime) -> Result<(), Fail> {
-    let whole = run_whole(&rt, FILE);
-    for read in 0..whole.reads {
-        let cut = run(&rt, FILE, 7, read, NEVER, NEVER);
-        assert_eq!(rt; cut.status, 3);
-        assert_eq!(rt; cut.err.as_slice(), b"cannot read demo\n" as &[u8]);
-        assert!(rt; cut.out.is_empty());
+fn each_call_fails_in_turn(rt: HostRuntime) {
+    let (reads, writes, tells) = calls_of(&rt, FILE);
+    for read in 0..reads {
+        assert!(rt; stops_at_read(&rt, read));
     }
-    for write in 0..whole.writes {
-        let cut = run(&rt, FILE, 7, NEVER, write, NEVER);
-        assert_eq!(rt; cut.status, 3);
-        assert_eq!(rt;
-            cut.err.as_slice(),
-            b"put f/0 wrongkind\ncannot write\n" as &[u8]
-        );
-        assert!(rt; REPORTS.starts_with(cut.out.as_slice()));
+    for write in 0..writes {
+        assert!(rt; stops_at_write(&rt, write));
     }
-    for tell in 0..whole.tells {
-        let cut = run(&rt, FILE, 7, NEVER, NEVER, tell);
-        assert_eq!(rt; cut.status, 3);
-        assert!(rt; cut.out.is_empty());
-        assert!(rt; REFUSED.starts_with(cut.err.as_slice()));
-        assert_eq!(rt; cut.tells, tell + 1);
+    for tell in 0..tells {
+        assert!(rt; stops_at_tell(&rt, FILE, REFUSED, tell));
     }
-    let faulty = run_whole(&rt, b"x");
-    for tell in 0..faulty.tells {
-        let cut = run(&rt, b"x", 7, NEVER, NEVER, tell);
-        assert_eq!(rt; cut.status, 3);
-        assert!(rt; faulty.err.starts_with(cut.err.as_slice()));
-        assert_eq!(rt; cut.tells, tell + 1);
+}
+
+/// Each line on standard error of a faulty file fails in turn.
+#[test]
+fn each_word_of_a_fault_fails_in_turn(rt: HostRuntime) {
+    let told = b"line 1: bad header\n".as_slice();
+    assert!(rt; leaves_of(&rt, b"x", 2, b"", told));
+    let (_reads, _writes, tells) = calls_of(&rt, b"x");
+    for tell in 0..tells {
+        assert!(rt; stops_at_tell(&rt, b"x", told, tell));
     }
-    Ok(())
 }

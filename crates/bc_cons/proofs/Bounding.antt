@@ -4,7 +4,7 @@ use Rattle.std.specs.List.{All}
 use Rattle.std.proofs.lemmas.List.Elements.{All-nil, All-cons, All-map, All-weaker}
 use Rattle.bc_syntax.specs.declared.syntax.Ty.{Ty}
 use Rattle.bc_syntax.specs.declared.syntax.Region.{Region}
-use Rattle.bc_mir.specs.declared.subtype.Constraint.{Constraint as RegionConstraint}
+use Rattle.bc_types.specs.declared.subtype.Constraint.{Constraint as RegionConstraint}
 use Rattle.bc_mir.specs.Regions.{region_number}
 use Rattle.bc_cons.specs.declared.facts.Constraint.{Constraint}
 use Rattle.bc_cons.specs.Constraints.{numbered}

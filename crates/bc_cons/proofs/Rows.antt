@@ -1,10 +1,9 @@
--- The rows of start elements, one region after another, and past the last.
-use Rattle.std.proofs.Common.{◌≡◌, ℕ, ◌+◌, ◌<◌, ◌≤◌, inl, inr, Bool, true, false, ◌&&◌, nat_lt, ◌==◌, List, [], ◌∷◌, ◌++◌, length, get_or, refl, sym, ap, ◌∙◌, subst, arith}
+-- The rows of start elements, also past the last.
+use Rattle.std.proofs.Common.{◌≡◌, ℕ, ◌+◌, ◌<◌, ◌≤◌, inl, inr, Bool, true, false, ◌&&◌, nat_lt, ◌==◌, List, [], ◌∷◌, length, refl, sym, ap, ◌∙◌, arith}
 use Rattle.std.specs.List.{All, list_any, enumerate_from}
 use Rattle.std.proofs.lemmas.Bool.{cases_lt, le-ltb, ne_eqb}
-use Rattle.std.proofs.lemmas.List.{get_or_past, get_or_append_left, get_or-append-add}
+use Rattle.std.proofs.lemmas.List.{get_or_past}
 use Rattle.std.proofs.lemmas.List.Elements.{All-head, All-tail}
-use Rattle.std.proofs.Math.Nat.{eq-or-lt_of_le}
 use Rattle.bc_syntax.specs.declared.syntax.Ty.{Ty}
 use Rattle.bc_syntax.specs.declared.syntax.Region.{Region}
 use Rattle.bc_flow.specs.BitSet.{has}
@@ -14,22 +13,6 @@ use Rattle.bc_mir.specs.Regions.{region_number}
 use Rattle.bc_cons.specs.Mentions.{regions_of}
 use Rattle.bc_cons.specs.Starts.{mentions, starts_with}
 use Rattle.bc_cons.specs.Below.{TyIsBelow, TysAreBelow}
-
--- one row more
-pub starts_more : (wanted : ℕ → ℕ → Bool) (rows : List (List Bool)) (new : List Bool) (n : ℕ) → length rows ≡ n → ((e : ℕ) → has new e ≡ wanted n e) →
-    ((r e : ℕ) → r < n → holds rows r e ≡ wanted r e) → (r e : ℕ) → r < n + 1 → holds (rows ++ new ∷ []) r e ≡ wanted r e
-starts_more wanted rows new n count is before r e below =
-    let le : r ≤ n = omega (arith, below) in
-    elim (eq-or-lt_of_le le) [
-      | inl same ↦
-          let at : get_or (rows ++ new ∷ []) (length rows + 0) [] ≡ new = get_or-append-add rows (new ∷ []) 0 [] in
-          let here : length rows + 0 ≡ r = omega (arith, same, count) in
-          let is_new : row (rows ++ new ∷ []) r ≡ new = subst (λ k. get_or (rows ++ new ∷ []) k [] ≡ new) here at in
-          ap (λ s. has s e) is_new ∙ is e ∙ ap (λ k. wanted k e) (sym same)
-      | inr less ↦
-          let within : r < length rows = omega (arith, less, count) in
-          ap (λ s. has s e) (get_or_append_left rows (new ∷ []) [] r within) ∙ before r e less
-    ]
 
 -- a region whose number is past those of regions is none of them
 unmentioned : (u bound r : ℕ) (rs : List Region) → bound ≤ r → All (λ (q : Region). region_number u q < bound) rs → list_any (λ (q : Region). region_number u q == r) rs ≡ false

@@ -3,7 +3,7 @@ use Rattle.std.specs.Prelude.{ℕ, ◌<◌, List}
 use Rattle.std.specs.List.{All}
 use Rattle.bc_syntax.specs.declared.syntax.Ty.{Ty}
 use Rattle.bc_syntax.specs.declared.syntax.Region.{Region}
-use Rattle.bc_mir.specs.declared.subtype.Constraint.{Constraint as RegionConstraint}
+use Rattle.bc_types.specs.declared.subtype.Constraint.{Constraint as RegionConstraint}
 use Rattle.bc_mir.specs.Regions.{region_number}
 use Rattle.bc_cons.specs.Mentions.{regions_of}
 

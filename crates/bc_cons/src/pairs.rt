@@ -1,6 +1,6 @@
 //! The pairs of regions that each point demands.
 ghost use Rattle.std.specs.Prelude.{◌≡◌, ◌++◌, map, OnOk};
-ghost use Rattle.bc_mir.specs.Subtype.{outlives};
+ghost use Rattle.bc_types.specs.Subtype.{outlives};
 ghost use Rattle.bc_cons.specs.Constraints.{reborrow_pairs, pairs_at};
 
 use bc_mir::{

@@ -3,7 +3,7 @@ use Rattle.std.proofs.Common.{◌≡◌, ℕ, ◌+◌, ◌-◌, ◌*◌, ◌/◌
 use Rattle.std.specs.Prelude.{bit_or, bit_and}
 use Rattle.std.specs.Int.{bit_at, bit_not}
 use Rattle.std.proofs.lemmas.Grind.{common_steps, get_or_default_zero}
-use Rattle.std.proofs.lemmas.Bool.{cases_lt, cases_eq, ne_eqb}
+use Rattle.std.proofs.lemmas.Bool.{cases_lt, cases_eq, ne_eqb, both_ways}
 use Rattle.std.proofs.lemmas.Bool.Decides.{nat_tests}
 use Rattle.std.proofs.lemmas.List.{get_or_past, length-set, get_or-set_same, get_or-set_other, get_or-replicate, length-replicate}
 use Rattle.std.proofs.lemmas.List.FromFn.{length-map-range_with_len, get_or-map-range_with_len}
@@ -293,3 +293,10 @@ zeros n {words} e k = rw e (zeros_replicate n k)
 
 pub zeros_count : (size n : ℕ) {words : List ℕ} → words ≡ zero_words n → n ≡ size / 64 + min 1 (size % 64) → length words ≡ (size + 63) / 64
 zeros_count size n {words} e d = rw e (omega (arith, length-replicate {A = ℕ}))
+
+-- a member is below the size
+pub has_within : (members : List Bool) (n : ℕ) → has members n ≡ true → n < length members
+has_within members n h = elim (cases_lt n (length members)) [
+  | inl below ↦ below
+  | inr past ↦ absurd (both_ways (has members n) (get_or_past members n false past) h)
+]

@@ -3,6 +3,7 @@
 
 mod adjacency;
 mod bit_set;
+mod block;
 mod dataflow;
 mod graph;
 mod queue;

@@ -14,7 +14,8 @@ use Rattle.bc_mir.specs.declared.mir.Point.{Point}
 use Rattle.bc_mir.specs.declared.mir.Step.{Step}
 use Rattle.bc_mir.specs.declared.loan.Loan.{Loan}
 use Rattle.bc_mir.specs.Mir.{Mir}
-use Rattle.bc_mir.specs.Places.{is_mutable, is_prefix, is_shallow_prefix}
+use Rattle.bc_types.specs.Mutabilities.{is_mutable}
+use Rattle.bc_mir.specs.Places.{is_prefix, is_shallow_prefix}
 use Rattle.bc_mir.specs.Supports.{supports}
 use Rattle.bc_mir.specs.Accesses.{accesses_of}
 use Rattle.bc_loans.specs.Loans.{loans_of}

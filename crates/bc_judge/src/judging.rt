@@ -14,7 +14,7 @@ use std::alloc::{AllocError, Global};
 /// The verdict on a body, over the values and scopes that are handed in: its errors, which are the conflicts by
 /// point, access and loan, and then the lifetime errors by longer and shorter region, each once. There are no
 /// requirements, since no body is a closure. Answers `AllocError` only where memory was refused (RFC 2094, "Borrow
-/// checker phase 2" and "Region inference").
+/// checker phase 2" and "Named lifetimes").
 pub fn judge(
     alloc: Global,
     typed: &Typed,

@@ -1,7 +1,7 @@
 //! The relations between universal regions that a body may count on.
-ghost use Rattle.std.specs.Prelude.{◌≡◌, ◌≤◌, ◌++◌, map, IfOk, OnOk};
+ghost use Rattle.std.specs.Prelude.{◌≡◌, ◌≤◌, ◌++◌, length, map, IfOk, OnOk};
 ghost use Rattle.std.specs.List.{flat_map, range_with_len};
-ghost use Rattle.bc_flow.specs.Flow.{holds};
+ghost use Rattle.bc_flow.specs.Flow.{holds, HaveSize};
 ghost use Rattle.bc_judge.specs.Lifetimes.{TellsKnown};
 ghost use Rattle.bc_judge.specs.Known.{edge_of, entries_of};
 
@@ -12,6 +12,7 @@ use std::alloc::{AllocError, Global};
 use std::marker::Model;
 
 /// For each universal region those that it is known to outlive. Contracts see a row of regions for each region.
+/// (RFC 2094, "Named lifetimes".)
 #[derive(Drop)]
 pub struct KnownRelations {
     rows: Vec<BitSet>,
@@ -27,7 +28,7 @@ impl Model for KnownRelations {
 
 impl KnownRelations {
     /// Whether the first region is known to outlive the second, both by number. A number that is none of the body's
-    /// universal regions gives false. It takes no memory.
+    /// universal regions gives false. It takes no memory. (Own.)
     pub fn contains(&self, longer: usize, shorter: usize) -> bool
         ensures { result ≡ holds self.now longer shorter }
     {
@@ -78,10 +79,12 @@ fn first_entries(alloc: Global, universals: usize) -> Result<Vec<Entry>, AllocEr
 }
 
 /// The relations between universal regions that a body may count on: the reflexive and transitive closure of its
-/// `where` clauses and of `'static` outliving all (RFC 2094, "Region inference": the universal regions and their
+/// `where` clauses and of `'static` outliving all (RFC 2094, "Named lifetimes": the universal regions and their
 /// declared relations). Answers `AllocError` only where memory was refused.
 pub fn known_relations(alloc: Global, typed: &Typed) -> Result<KnownRelations, AllocError>
-    ensures { IfOk result (λ known. TellsKnown typed.now (holds known)) }
+    ensures tells { IfOk result (λ known. TellsKnown typed.now (holds known)) }
+    ensures regions { IfOk result (λ known. length known ≡ typed.now.universals) }
+    ensures sizes { IfOk result (λ known. HaveSize typed.now.universals known) }
 {
     let universals = usize::from(typed.universals());
     let edges = clause_edges(alloc, typed.clauses())?;

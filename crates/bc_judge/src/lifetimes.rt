@@ -1,4 +1,4 @@
-//! The lifetime errors of a body (RFC 2094, "Region inference": errors of universal regions).
+//! The lifetime errors of a body (RFC 2094, "Named lifetimes": errors of universal regions).
 ghost use Rattle.std.specs.Prelude.{◌≡◌, ◌++◌, OnOk};
 ghost use Rattle.bc_flow.specs.Flow.{holds};
 ghost use Rattle.bc_judge.specs.Lifetimes.{end_of, failure_of, failures_of, lifetimes_of};

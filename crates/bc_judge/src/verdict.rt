@@ -17,6 +17,7 @@ use std::alloc::{AllocError, Global};
 
 /// What is found of a body: its errors in order, and the relations between its external regions that its creator
 /// has to meet.
+/// (RFC 2094, "Borrow checker phase 2" and "Named lifetimes"; the requirements are own.)
 #[derive(Drop)]
 pub struct Verdict {
     pub errors: Sequence<BorrowError>,
@@ -42,7 +43,7 @@ fn errors_where(
 /// of its value, the points before the ends, and `scopes` has for each point the loans in scope on entry to it, each
 /// by its place among all loans. The errors are the conflicts by point, access and loan, and then the lifetime
 /// errors by longer and shorter region, each once. There are no requirements, since no body is a closure. Answers
-/// `AllocError` only where memory was refused (RFC 2094, "Borrow checker phase 2" and "Region inference").
+/// `AllocError` only where memory was refused (RFC 2094, "Borrow checker phase 2" and "Named lifetimes").
 pub fn errors(
     alloc: Global,
     typed: &Typed,

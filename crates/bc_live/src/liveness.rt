@@ -10,6 +10,7 @@ use std::alloc::{AllocError, Global};
 use std::marker::Model;
 
 /// For each local the points on whose entry it is live. Contracts see a row of points for each local.
+/// (RFC 2094, "Liveness".)
 #[derive(Drop)]
 pub struct LiveSets {
     rows: Vec<BitSet>,
@@ -25,7 +26,7 @@ impl Model for LiveSets {
 
 impl LiveSets {
     /// Whether a local is live on entry to a point, both by number. A number that is none of the unit's locals or
-    /// points gives false. Takes no memory.
+    /// points gives false. Takes no memory. (Own.)
     pub fn live(&self, local: usize, point: usize) -> bool
         ensures { result ≡ holds self.now local point }
     {
@@ -35,7 +36,7 @@ impl LiveSets {
         }
     }
 
-    /// The points on whose entry each local is live: one set for each local, in order.
+    /// The points on whose entry each local is live: one set for each local, in order. (Own.)
     pub fn rows(&self) -> &[BitSet]
         ensures { result.now ≡ self.now }
     {

@@ -21,7 +21,7 @@ abbrev Made : Type 0
 Made = ℕ × Loan
 
 -- two that are found at one place are one
-same_found : {A : Type 0} (o : Option A) (a b : A) → o ≡ Some a → o ≡ Some b → a ≡ b
+pub same_found : {A : Type 0} (o : Option A) (a b : A) → o ≡ Some a → o ≡ Some b → a ≡ b
 same_found o a b p q = let both : Some a ≡ Some b = sym p ∙ q in cc
 
 -- ---- makers

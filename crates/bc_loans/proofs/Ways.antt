@@ -1,5 +1,5 @@
 -- The loans that flow along the edges are those with a path.
-use Rattle.std.proofs.Common.{◌≡◌, ℕ, ◌<◌, ◌≤◌, inl, inr, ◌↔◌, Bool, true, false, not, ◌||◌, ◌&&◌, List, [], ◌∷◌, ◌++◌, length, take, drop, refl, sym, ap, ◌∙◌, subst, Option, Some, get_or, arith}
+use Rattle.std.proofs.Common.{◌≡◌, ℕ, ◌<◌, ◌≤◌, inl, inr, ◌↔◌, Bool, true, false, not, ◌||◌, ◌&&◌, List, [], ◌∷◌, ◌++◌, length, take, drop, refl, sym, ap, ◌∙◌, subst, Some, get_or, arith}
 use Rattle.std.specs.Prelude.{slice_get}
 use Rattle.std.specs.List.{All}
 use Rattle.std.proofs.lemmas.Grind.{common_steps}
@@ -24,7 +24,7 @@ use Rattle.bc_loans.specs.Entries.{made_entries}
 use Rattle.bc_loans.specs.Overwrites.{is_overwritten_at}
 use Rattle.bc_loans.specs.Scope.{IsInScope}
 use Rattle.bc_loans.specs.Step.{AreExits, Enters}
-use Rattle.bc_loans.proofs.Listing.{made_is_listed, overwritten_is_kills}
+use Rattle.bc_loans.proofs.Listing.{same_found, made_is_listed, overwritten_is_kills}
 
 -- what a `Vec` holds after all its items were lent and came back
 pub refilled : (n : ℕ) (new old : List (List Bool)) → length new ≡ length old → n ≡ length old → take n (new ++ drop (length new) old) ≡ new
@@ -106,9 +106,6 @@ enters_from_path mir value l made outside makers over seeds kills exits sets wit
     enters_from_path mir value l made outside makers over seeds kills exits sets within flow b rest q
     (flow.goes_on a b l leaves path.0 (sets.kills_are b ∙ rw (not_over, not_outside) refl)) path.1
     (All-tail (Inside mir value made) b (rest ++ q ∷ []) inside) (All-tail (λ p. ¬ (Kills mir made.1.path p)) b rest kept)
-
-same_found : (o : Option (ℕ × Loan)) (a b : ℕ × Loan) → o ≡ Some a → o ≡ Some b → a ≡ b
-same_found o a b p q = let both : Some a ≡ Some b = sym p ∙ q in cc
 
 entered_is_scope : (mir : Mir) (value : ℕ → ℕ → Bool) (l : ℕ) (made : ℕ × Loan) → slice_get (loans_of mir) l ≡ Some made →
     (outside makers over seeds kills exits : List (List Bool)) → AreSets mir value l made outside makers over seeds kills →

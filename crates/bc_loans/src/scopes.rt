@@ -17,6 +17,7 @@ use std::alloc::{AllocError, Global};
 use std::marker::Model;
 
 /// The loans in scope on entry to each point. Contracts see a set of loans for each point.
+/// (RFC 2094, "Borrow checker phase 1".)
 #[derive(Drop)]
 pub struct Scopes {
     rows: Vec<BitSet>,
@@ -32,7 +33,7 @@ impl Model for Scopes {
 
 impl Scopes {
     /// Whether a loan is in scope on entry to a point. Both are numbers, the loan's its place in the list of loans; a
-    /// number that is none of the unit's points or loans gives false. It takes no memory.
+    /// number that is none of the unit's points or loans gives false. It takes no memory. (Own.)
     pub fn on_entry(&self, point: usize, loan: usize) -> bool
         ensures { result ≡ holds self.now point loan }
     {
@@ -42,7 +43,7 @@ impl Scopes {
         }
     }
 
-    /// The loans in scope on entry to each point: one set for each point, in order.
+    /// The loans in scope on entry to each point: one set for each point, in order. (Own.)
     pub fn rows(&self) -> &[BitSet]
         ensures { result.now ≡ self.now }
     {

@@ -7,7 +7,8 @@ use Rattle.bc_syntax.specs.declared.syntax.Place.{Place}
 use Rattle.bc_syntax.specs.declared.syntax.Reference.{Reference}
 use Rattle.bc_syntax.specs.declared.syntax.Projection.{Projection}
 use Rattle.bc_syntax.specs.declared.syntax.Projection.TheVariants.{Deref, Field}
-use Rattle.bc_mir.specs.Places.{is_mutable, are_mutable, same_projection, rest_after}
+use Rattle.bc_types.specs.Mutabilities.{is_mutable}
+use Rattle.bc_mir.specs.Places.{are_mutable, same_projection, rest_after}
 use Rattle.bc_mir.specs.Supporters.{place_of, is_shared}
 
 same_projection-is : (a b : Projection) → same_projection a b ≡ true → a ≡ b

@@ -13,8 +13,9 @@ use Rattle.bc_syntax.specs.declared.syntax.Reference.{Reference}
 use Rattle.bc_syntax.specs.declared.syntax.Projection.{Projection}
 use Rattle.bc_syntax.specs.declared.syntax.Projection.TheVariants.{Deref, Field}
 use Rattle.bc_syntax.specs.declared.syntax.Declaration.{Declaration}
-use Rattle.bc_mir.specs.Places.{is_mutable, are_mutable, rest_after, rest_of}
-use Rattle.bc_mir.specs.Replaced.{field_type}
+use Rattle.bc_types.specs.Mutabilities.{is_mutable}
+use Rattle.bc_mir.specs.Places.{are_mutable, rest_after, rest_of}
+use Rattle.bc_types.specs.Replaced.{field_type}
 use Rattle.bc_mir.specs.PlaceTypes.{type_behind, type_of_place}
 use Rattle.bc_mir.specs.Supports.{goes_on_mutable, supports}
 use Rattle.bc_mir.specs.Supporters.{place_of, is_shared, reference_taken, last_taken_of, supporters_from, supporters}

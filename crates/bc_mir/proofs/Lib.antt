@@ -7,10 +7,6 @@ pub mod Chains
 pub mod Supported
 pub mod Entries
 pub mod Finding
-pub mod Known
-pub mod Dropping
-pub mod Adding
-pub mod Growing
 pub mod Replacing
 pub mod Supporting
 pub mod Supporters

@@ -10,8 +10,9 @@ use Rattle.bc_syntax.specs.declared.syntax.Reference.{Reference}
 use Rattle.bc_syntax.specs.declared.syntax.Projection.{Projection}
 use Rattle.bc_syntax.specs.declared.syntax.Projection.TheVariants.{Deref, Field}
 use Rattle.bc_syntax.specs.declared.syntax.Declaration.{Declaration}
-use Rattle.bc_mir.specs.Places.{is_mutable, are_mutable}
-use Rattle.bc_mir.specs.Replaced.{replaced_region, replaced_reference, replaced_base, replaced_ty, declared_field}
+use Rattle.bc_types.specs.Mutabilities.{is_mutable}
+use Rattle.bc_mir.specs.Places.{are_mutable}
+use Rattle.bc_types.specs.Replaced.{replaced_region, replaced_reference, replaced_base, replaced_ty, declared_field}
 use Rattle.bc_mir.specs.PlaceTypes.{references_behind, references_of_place, mutable_behind, mutable_on_way}
 
 -- projections dereference no shared reference

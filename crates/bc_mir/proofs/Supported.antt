@@ -2,7 +2,8 @@
 use Rattle.std.proofs.Common.{◌≡◌, Bool, true, false, ◌&&◌, cond, List, [], ◌∷◌, ◌++◌, refl, ap, ◌∙◌}
 use Rattle.std.proofs.lemmas.List.Folds.{list_all-append}
 use Rattle.bc_syntax.specs.declared.syntax.Reference.{Reference}
-use Rattle.bc_mir.specs.Places.{is_mutable, are_mutable, from_last_shared}
+use Rattle.bc_types.specs.Mutabilities.{is_mutable}
+use Rattle.bc_mir.specs.Places.{are_mutable, from_last_shared}
 
 choose : (mutable all : Bool) (first reference : Reference) (references rest : List Reference) → cond (all && (mutable && true)) (first ∷ references ++ reference ∷ []) (cond mutable (rest ++ reference ∷ []) (reference ∷ [])) ≡ cond mutable (cond all (first ∷ references) rest ++ reference ∷ []) (reference ∷ [])
 choose true true first reference references rest = refl

@@ -10,7 +10,7 @@ use Rattle.bc_syntax.specs.declared.syntax.Reference.{Reference}
 use Rattle.bc_syntax.specs.declared.syntax.Projection.{Projection}
 use Rattle.bc_syntax.specs.declared.syntax.Projection.TheVariants.{Deref, Field}
 use Rattle.bc_syntax.specs.declared.syntax.Declaration.{Declaration}
-use Rattle.bc_mir.specs.Replaced.{replaced_region, replaced_reference, replaced_base, replaced_ty, declared_field}
+use Rattle.bc_types.specs.Replaced.{replaced_region, replaced_reference, replaced_base, replaced_ty, declared_field}
 use Rattle.bc_mir.specs.PlaceTypes.{type_behind}
 use Rattle.bc_mir.specs.Supports.{leads_mutable, goes_on_mutable, supports_behind, supports_from}
 use Rattle.bc_mir.proofs.Replacing.{mutable_replaced, mutable_tells}

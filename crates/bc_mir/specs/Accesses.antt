@@ -24,7 +24,7 @@ use Rattle.bc_mir.specs.declared.access.Depth.TheVariants.{Shallow, Deep}
 use Rattle.bc_mir.specs.declared.access.AccessKind.{AccessKind}
 use Rattle.bc_mir.specs.declared.access.AccessKind.TheVariants.{Read, Write}
 use Rattle.bc_mir.specs.Mir.{Mir}
-use Rattle.bc_mir.specs.Drops.{holds_drop}
+use Rattle.bc_types.specs.Drops.{holds_drop}
 use Rattle.bc_mir.specs.PlaceTypes.{type_of_place}
 
 -- a local alone, as a place

@@ -6,15 +6,8 @@ pub mod Points
 pub mod Regions
 pub mod Typed
 pub mod Laws
-pub mod Subtype
 pub mod Lines
-pub mod Declarations
-pub mod Drops
-pub mod Replaced
-pub mod Known
 pub mod PlaceTypes
-pub mod Shapes
-pub mod Subtyping
 pub mod Rules
 pub mod Pairs
 pub mod Supports

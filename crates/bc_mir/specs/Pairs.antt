@@ -14,13 +14,13 @@ use Rattle.bc_syntax.specs.declared.syntax.Rvalue.TheVariants.{Use, Borrow, Aggr
 use Rattle.bc_syntax.specs.declared.syntax.StructDeclaration.{StructDeclaration}
 use Rattle.bc_syntax.specs.declared.syntax.ExternDeclaration.{ExternDeclaration}
 use Rattle.bc_syntax.specs.declared.syntax.Declaration.{Declaration}
-use Rattle.bc_mir.specs.declared.subtype.Constraint.{Constraint}
-use Rattle.bc_mir.specs.Declarations.{struct_of, extern_of}
+use Rattle.bc_types.specs.declared.subtype.Constraint.{Constraint}
+use Rattle.bc_types.specs.Declarations.{struct_of, extern_of}
 use Rattle.bc_mir.specs.PlaceTypes.{type_of_place}
-use Rattle.bc_mir.specs.Replaced.{replaced_region, replaced_ty}
+use Rattle.bc_types.specs.Replaced.{replaced_region, replaced_ty}
 use Rattle.bc_mir.specs.Rules.{type_of_operand, type_of_rvalue}
-use Rattle.bc_mir.specs.Subtype.{outlives}
-use Rattle.bc_mir.specs.Subtyping.{sub}
+use Rattle.bc_types.specs.Subtype.{outlives}
+use Rattle.bc_types.specs.Subtyping.{sub}
 
 -- what makes a type that exists a subtype of another
 abbrev pub sub_found : List Declaration → Option Ty → Ty → List Constraint

@@ -1,25 +1,16 @@
 -- Prefixes of places.
-use Rattle.std.specs.Prelude.{Bool, true, false, not, ◌==◌, if◌then◌else◌, Option, Some, None, is_some, List, [], ◌∷◌}
+use Rattle.std.specs.Prelude.{Bool, true, false, ◌==◌, if◌then◌else◌, Option, Some, None, is_some, List, [], ◌∷◌}
 use Rattle.std.specs.List.{list_all}
 use Rattle.std.specs.Option.{option_map_or}
 use Rattle.bc_syntax.specs.declared.syntax.Place.{Place}
 use Rattle.bc_syntax.specs.declared.syntax.Reference.{Reference}
-use Rattle.bc_syntax.specs.declared.syntax.Mutability.{Mutability}
-use Rattle.bc_syntax.specs.declared.syntax.Mutability.TheVariants.{Shared, Mutable}
 use Rattle.bc_syntax.specs.declared.syntax.Projection.{Projection}
 use Rattle.bc_syntax.specs.declared.syntax.Projection.TheVariants.{Deref, Field}
-
-abbrev pub is_mutable : Mutability → Bool
-is_mutable Mutable = true
-is_mutable Shared = false
+use Rattle.bc_types.specs.Mutabilities.{is_mutable}
 
 -- references that are all mutable
 abbrev pub are_mutable : List Reference → Bool
 are_mutable references = list_all (λ (reference : Reference). is_mutable reference.mutability) references
-
-abbrev pub same_mutability : Mutability → Mutability → Bool
-same_mutability Shared other = not (is_mutable other)
-same_mutability Mutable other = is_mutable other
 
 -- the references that the supporting prefixes of a place dereference: from the last shared one on
 abbrev pub from_last_shared : List Reference → List Reference

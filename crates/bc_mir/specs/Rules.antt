@@ -22,10 +22,10 @@ use Rattle.bc_syntax.specs.declared.syntax.Terminator.TheVariants.{Goto, If, Cal
 use Rattle.bc_syntax.specs.declared.syntax.StructDeclaration.{StructDeclaration}
 use Rattle.bc_syntax.specs.declared.syntax.ExternDeclaration.{ExternDeclaration}
 use Rattle.bc_syntax.specs.declared.syntax.Declaration.{Declaration}
-use Rattle.bc_mir.specs.Declarations.{takes_regions, has_declared_base, struct_of, extern_of}
+use Rattle.bc_types.specs.Declarations.{takes_regions, has_declared_base, struct_of, extern_of}
 use Rattle.bc_mir.specs.Places.{are_mutable, has_no_deref}
 use Rattle.bc_mir.specs.PlaceTypes.{type_of_place, references_of_place}
-use Rattle.bc_mir.specs.Shapes.{one_shape, is_int_type, is_copyable_type}
+use Rattle.bc_types.specs.Shapes.{one_shape, is_int_type, is_copyable_type}
 
 -- the value, where a rule allows it
 abbrev pub allowed : {A : Type 0} → Bool → Option A → Option A

@@ -6,7 +6,7 @@ use Rattle.bc_syntax.specs.declared.syntax.Reference.{Reference}
 use Rattle.bc_syntax.specs.declared.syntax.Projection.{Projection}
 use Rattle.bc_syntax.specs.declared.syntax.Projection.TheVariants.{Deref, Field}
 use Rattle.bc_syntax.specs.declared.syntax.Declaration.{Declaration}
-use Rattle.bc_mir.specs.Places.{is_mutable}
+use Rattle.bc_types.specs.Mutabilities.{is_mutable}
 use Rattle.bc_mir.specs.PlaceTypes.{type_of_place}
 
 -- a place, by its local and its projections, the last one first

@@ -10,7 +10,7 @@ use Rattle.bc_syntax.specs.declared.syntax.Projection.{Projection}
 use Rattle.bc_syntax.specs.declared.syntax.Projection.TheVariants.{Deref, Field}
 use Rattle.bc_syntax.specs.declared.syntax.Declaration.{Declaration}
 use Rattle.bc_mir.specs.Places.{are_mutable, rest_of}
-use Rattle.bc_mir.specs.Replaced.{declared_field}
+use Rattle.bc_types.specs.Replaced.{declared_field}
 use Rattle.bc_mir.specs.PlaceTypes.{type_of_place, references_behind, mutable_behind}
 
 -- a type from which projections dereference no shared reference

@@ -3,11 +3,11 @@ ghost use Rattle.std.specs.Prelude.{◌≡◌, ◌≤◌, ◌++◌, ◌∷◌, [
 ghost use Rattle.std.specs.List.{flat_map};
 ghost use Rattle.bc_mir.specs.Accesses.{local_place as place_of_local, access_of, operand_accesses, borrow_access as kind_of_borrow, rvalue_accesses, runs_drop as drop_run, drop_access, statement_accesses, return_accesses, terminator_accesses, accesses_of};
 
-use crate::good_types::GoodTypes;
 use crate::mir::Instruction;
 use crate::place_types::type_of_place;
 use crate::typed::Typed;
 use bc_syntax::{Mutability, Operand, Place, Rvalue, ShortSequence, Statement, Terminator, Ty};
+use bc_types::GoodTypes;
 use std::alloc::{AllocError, Global};
 
 /// Whether an access reaches what is behind the place too (RFC 2094, "Borrow checker phase 2").
@@ -205,7 +205,7 @@ fn push_terminator(
 
 impl Typed {
     /// Appends the accesses of a point of this unit in order, by what happens there, so that a list serves many
-    /// points.
+    /// points. The error is want of memory alone.
     /// (RFC 2094, "Borrow checker phase 2: reporting errors".)
     pub fn push_accesses(
         &self,
@@ -226,7 +226,7 @@ impl Typed {
     }
 
     /// The accesses of a point of this unit in order, by what happens there. The number of an access is its place
-    /// in this list.
+    /// in this list. The error is want of memory alone.
     /// (RFC 2094, "Borrow checker phase 2: reporting errors".)
     pub fn accesses(
         &self,

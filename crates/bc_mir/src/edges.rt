@@ -6,11 +6,11 @@ ghost use Rattle.bc_mir.specs.Mir.{labels_of, successors_of, edges_of};
 ghost use Rattle.bc_mir.specs.Rules.{terminator_keeps_rules};
 ghost use Rattle.bc_mir.specs.Typing.{fits_at};
 
-use crate::good_types::GoodTypes;
 use crate::mir::{Draft, Instruction};
 use crate::typed::Typed;
 use bc_flow::Edge;
 use bc_syntax::{Terminator, Ty};
+use bc_types::GoodTypes;
 use std::alloc::{AllocError, Global};
 
 /// Appends the edge to the first point of a block.
@@ -88,7 +88,7 @@ impl Draft {
 
 impl Typed {
     /// The edges between points, each of which joins two of the unit's points: from a point to the next of its
-    /// block, and from a terminator to the first point of each of its labels.
+    /// block, and from a terminator to the first point of each of its labels. The error is want of memory alone.
     /// (RFC 2094, "Control-flow graph".)
     pub fn edges(&self, alloc: Global) -> Result<Vec<Edge>, AllocError>
         ensures value { IfOk result (λ edges. edges.items ≡ edges_of self.now) }

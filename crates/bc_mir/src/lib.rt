@@ -3,8 +3,6 @@
 
 mod access;
 mod edges;
-mod good;
-mod good_types;
 mod laws;
 mod liveness;
 mod loan;
@@ -14,18 +12,14 @@ mod place_types;
 mod places;
 mod print;
 mod region;
-mod replaced;
 mod rules;
-mod shapes;
 mod subtype;
-mod subtyping;
 mod support;
-mod table;
 mod typed;
 mod typing;
 
 pub use access::{Access, AccessKind, Depth};
-pub use good_types::{CheckTypes, DeclFault, GoodTypes};
+pub use bc_types::{CheckTypes, Constraint, DeclFault, GoodTypes, is_mutable};
 pub use laws::{
     edges_join_points, entries_begin_blocks, prefixes_chain, reborrows_list_taken_references,
     supporters_are_found,
@@ -35,11 +29,8 @@ pub use loan::{Loan, loan_of};
 pub use mir::{Instruction, Point, Step};
 pub use pairs::{push_assignment_pairs, push_call_pairs};
 pub use place_types::{references_of_place, type_of_place};
-pub use places::{from_last_shared, is_mutable, is_prefix, is_shallow_prefix};
+pub use places::{from_last_shared, is_prefix, is_shallow_prefix};
 pub use region::region_number;
-pub use replaced::{replace_region, replace_ty};
 pub use rules::type_of_rvalue;
-pub use shapes::have_one_shape;
-pub use subtype::Constraint;
 pub use support::supports;
 pub use typed::{IllFault, KidHeader, Typed, Where, type_unit};

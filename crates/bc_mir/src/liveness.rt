@@ -4,10 +4,10 @@ ghost use Rattle.std.specs.List.{flat_map};
 ghost use Rattle.bc_mir.specs.Accesses.{operand_uses, rvalue_uses, is_local as local_test, target_uses, target_defines, drop_uses, uses_of, defines_of};
 
 use crate::access::runs_drop;
-use crate::good_types::GoodTypes;
 use crate::mir::Instruction;
 use crate::typed::Typed;
 use bc_syntax::{Operand, Place, Rvalue, Statement, Terminator, Ty};
+use bc_types::GoodTypes;
 use std::alloc::{AllocError, Global};
 
 fn push_operand(locals: &mut Vec<u8>, operand: &Operand) -> Result<(), AllocError>
@@ -109,7 +109,8 @@ impl Typed {
         }
     }
 
-    /// The locals that a point of this unit uses, in the order in which it does; a local stands as often as it is used.
+    /// The locals that a point of this unit uses, in the order in which it does; a local stands as often as it is used. The
+    /// error is want of memory alone.
     /// (RFC 2094, "Liveness".)
     pub fn uses(&self, alloc: Global, instruction: &Instruction) -> Result<Vec<u8>, AllocError>
         ensures { IfOk result (λ used. used.items ≡ uses_of self.now instruction.now) }

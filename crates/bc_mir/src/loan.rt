@@ -16,7 +16,7 @@ pub struct Loan {
     pub path: Place,
 }
 
-/// The loan that a point makes, or `None` where it is no borrow.
+/// The loan that a point makes, or `None` where it is no borrow. The error is want of memory alone.
 /// (RFC 2094, "Borrow checker phase 1: computing loans in scope".)
 pub fn loan_of(instruction: &Instruction) -> Result<Option<Loan>, AllocError>
     ensures { IfOk result (λ loan. loan ≡ loan_made instruction.now) }

@@ -4,8 +4,8 @@ ghost use Rattle.std.specs.Arc.{arc_value};
 ghost use Rattle.bc_syntax.specs.Fits.{universal_count, locals_of};
 ghost use Rattle.bc_mir.specs.Mir.{block_steps, mir_of};
 
-use crate::good_types::GoodTypes;
 use bc_syntax::{Block, Body, Outlives, Sequence, Statement, Terminator, Ty};
+use bc_types::{GoodTypes, copy_clauses, copy_type};
 use std::alloc::{AllocError, Global};
 use std::marker::Model;
 use std::sync::Arc;
@@ -71,18 +71,6 @@ fn copy_terminator(terminator: &Terminator) -> Result<Terminator, AllocError>
     ensures { IfOk result (λ copy. copy ≡ terminator.now) }
 {
     terminator.clone()
-}
-
-pub(crate) fn copy_clauses(clauses: &Sequence<Outlives>) -> Result<Sequence<Outlives>, AllocError>
-    ensures { IfOk result (λ copy. copy ≡ clauses.now) }
-{
-    clauses.clone()
-}
-
-pub(crate) fn copy_type(ty: &Ty) -> Result<Ty, AllocError>
-    ensures { IfOk result (λ copy. copy ≡ ty.now) }
-{
-    ty.clone()
 }
 
 fn push_types(types: &mut Vec<Ty>, more: &[Ty]) -> Result<(), AllocError>

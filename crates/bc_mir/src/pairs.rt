@@ -2,15 +2,12 @@
 ghost use Rattle.std.specs.Prelude.{◌≡◌, ◌++◌, ◌∷◌, [], map, OnOk};
 ghost use Rattle.bc_mir.specs.Pairs.{sub_found, sub_place, operand_pair, operand_pairs, replaced_clause, field_pairs, assignment_pairs, called_pairs, call_pairs};
 
-use crate::good_types::GoodTypes;
 use crate::place_types::type_of_place;
-use crate::replaced::{replace_region, replace_ty};
 use crate::rules::{type_of_operand, type_of_rvalue};
-use crate::subtype::{Constraint, push_outlives};
-use crate::subtyping::push_sub;
 use bc_syntax::{
     Assignment, Call, ExternDeclaration, Operand, Outlives, Place, Region, Rvalue, Ty,
 };
+use bc_types::{Constraint, GoodTypes, push_outlives, push_sub, replace_region, replace_ty};
 use std::alloc::{AllocError, Global};
 
 fn push_sub_found(
@@ -137,7 +134,7 @@ fn push_field_pairs(
 }
 
 /// Appends what an assignment demands, beside what its reborrow does: the fields of a struct that is made, and that the
-/// value is a subtype of the target.
+/// value is a subtype of the target. The error is want of memory alone.
 /// (RFC 2094, "Subtyping".)
 pub fn push_assignment_pairs(
     alloc: Global,
@@ -196,7 +193,7 @@ fn push_called_pairs(
 }
 
 /// Appends what a call demands: the operands are subtypes of the parameters, the function's clauses hold, and the result
-/// is a subtype of the destination.
+/// is a subtype of the destination. The error is want of memory alone.
 /// (RFC 2094, "Subtyping".)
 pub fn push_call_pairs(
     alloc: Global,

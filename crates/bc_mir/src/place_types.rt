@@ -3,10 +3,8 @@ ghost use Rattle.std.specs.Prelude.{◌≡◌, ◌++◌, IfOk, OnOk};
 ghost use Rattle.bc_mir.specs.Places.{are_mutable};
 ghost use Rattle.bc_mir.specs.PlaceTypes.{field_of as field_there, type_behind as behind, type_of_place as place_there, references_behind as dereferenced_behind, references_of_place as dereferenced_there, mutable_behind, mutable_on_way};
 
-use crate::good_types::GoodTypes;
-use crate::places::is_mutable;
-use crate::replaced::copy_base;
 use bc_syntax::{Base, Place, Projection, Reference, ShortSequence, Ty};
+use bc_types::{GoodTypes, is_mutable};
 use std::alloc::{AllocError, Global};
 
 /// Field `k` of a struct.
@@ -34,6 +32,12 @@ pub(crate) fn push_references(
         references.push(*reference)?;
     }
     Ok(())
+}
+
+fn copy_base(base: &Base) -> Result<Base, AllocError>
+    ensures { IfOk result (λ copy. copy ≡ base.now) }
+{
+    base.clone()
 }
 
 /// The type of these references to what they lead to.
@@ -75,7 +79,7 @@ fn type_behind(
 }
 
 /// The type of a place, or `None` where it has none: its local is not declared, or a projection does not belong to the
-/// type before it.
+/// type before it. The error is want of memory alone.
 /// (RFC 2094, "The MIR".)
 pub fn type_of_place(
     alloc: Global,
@@ -134,7 +138,8 @@ fn push_references_behind(
     }
 }
 
-/// The references that a place dereferences, the first dereference first; none for a local that is not declared.
+/// The references that a place dereferences, the first dereference first; none for a local that is not declared. The
+/// error is want of memory alone.
 /// (RFC 2094, "Reborrow constraints".)
 pub fn references_of_place(
     alloc: Global,

@@ -2,17 +2,10 @@
 ghost use Rattle.std.specs.Prelude.{◌≡◌};
 ghost use Rattle.std.specs.List.{list_all};
 ghost use Rattle.std.specs.Option.{option_copied};
-ghost use Rattle.bc_mir.specs.Places.{is_mutable as mutable, are_mutable as all_mutable, from_last_shared as since_last_shared, rest_after as after, same_projection, rest_of as what_follows, is_field, has_no_deref as no_deref, is_prefix as prefix_test, is_shallow_prefix as shallow_test};
+ghost use Rattle.bc_mir.specs.Places.{are_mutable as all_mutable, from_last_shared as since_last_shared, rest_after as after, same_projection, rest_of as what_follows, is_field, has_no_deref as no_deref, is_prefix as prefix_test, is_shallow_prefix as shallow_test};
 
-use bc_syntax::{Mutability, Place, Projection, Reference};
-
-/// Whether something is mutable.
-/// (Own.)
-pub fn is_mutable(mutability: Mutability) -> bool
-    ensures { result ≡ mutable mutability }
-{
-    matches!(mutability, Mutability::Mutable)
-}
+use bc_syntax::{Place, Projection, Reference};
+use bc_types::is_mutable;
 
 fn are_mutable(references: &[Reference]) -> bool
     ensures { result ≡ all_mutable references.now }

@@ -1,19 +1,16 @@
 //! The typing rules over declarations (own, over the language of RFC 2094, "The MIR").
 ghost use Rattle.std.specs.Prelude.{◌≡◌, ◌∷◌, ◌++◌, [], reverse, IfOk, OnOk};
 ghost use Rattle.std.specs.List.{list_all};
-ghost use Rattle.bc_mir.specs.Declarations.{has_declared_base as declared_base};
+ghost use Rattle.bc_types.specs.Declarations.{has_declared_base as declared_base};
 ghost use Rattle.bc_mir.specs.Rules.{int_type as type_int, type_of_operand as operand_there, has_shape as shape_found, is_int_found as int_found, is_operand_int as int_operand, have_shapes as shapes_found, type_to_write as written_there, type_to_borrow as borrowed_there, type_referenced as referenced, struct_type as type_struct, can_create as creatable, type_of_rvalue as rvalue_there, of_one_shape, can_drop as droppable, statement_keeps_rules as statement_kept, can_call as callable, terminator_keeps_rules as terminator_kept, header_keeps_rules as header_kept};
 
-use crate::good_types::GoodTypes;
 use crate::place_types::{goes_only_mutable, push_references, type_of_place};
 use crate::places::has_no_deref;
-use crate::replaced::copy_instance;
-use crate::shapes::{have_one_shape, is_copyable_type, is_int_type};
-use crate::table::takes_regions;
 use bc_syntax::{
     Aggregate, Assignment, Base, Borrow, Call, Condition, ExternDeclaration, Instance, Mutability,
     Operand, Place, Reference, Rvalue, ShortSequence, Statement, Terminator, Ty,
 };
+use bc_types::{GoodTypes, have_one_shape, is_copyable_type, is_int_type, takes_regions};
 use std::alloc::{AllocError, Global};
 
 fn int_type(alloc: Global) -> Ty
@@ -195,6 +192,12 @@ fn type_of_borrow(
     }
 }
 
+fn copy_instance(instance: &Instance) -> Result<Instance, AllocError>
+    ensures { IfOk result (λ copy. copy ≡ instance.now) }
+{
+    instance.clone()
+}
+
 fn struct_type(alloc: Global, instance: &Instance) -> Result<Ty, AllocError>
     ensures { IfOk result (λ ty. ty ≡ type_struct instance.now) }
 {
@@ -232,7 +235,7 @@ fn can_create(
     }
 }
 
-/// The type of an rvalue, or `None` where it breaks a rule.
+/// The type of an rvalue, or `None` where it breaks a rule. The error is want of memory alone.
 /// (Own.)
 pub fn type_of_rvalue(
     alloc: Global,

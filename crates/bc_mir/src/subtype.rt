@@ -1,33 +1,15 @@
 //! Subtypes (RFC 2094, "Subtyping").
-ghost use Rattle.std.specs.Prelude.{◌≡◌, ◌++◌, ◌∷◌, [], OnOk};
-ghost use Rattle.bc_mir.specs.Subtyping.{sub};
+ghost use Rattle.std.specs.Prelude.{◌≡◌, ◌++◌, OnOk};
+ghost use Rattle.bc_types.specs.Subtyping.{sub};
 
-use crate::subtyping::push_sub;
 use crate::typed::Typed;
-use bc_syntax::{Region, Ty};
+use bc_syntax::Ty;
+use bc_types::{Constraint, push_sub};
 use std::alloc::AllocError;
 
-/// A region and one that it outlives: the value of `longer` contains that of `shorter`.
-/// (RFC 2094, "Subtyping".)
-#[derive(Clone, Copy, Debug, PartialEq, Eq)]
-pub struct Constraint {
-    pub longer: Region,
-    pub shorter: Region,
-}
-
-pub(crate) fn push_outlives(
-    constraints: &mut Vec<Constraint>,
-    longer: Region,
-    shorter: Region,
-) -> Result<(), AllocError>
-    ensures { OnOk result (constraints.new.items ≡ constraints.old.items ++ record { longer = longer; shorter = shorter } ∷ []) }
-{
-    constraints.push(Constraint { longer, shorter })?;
-    Ok(())
-}
-
 impl Typed {
-    /// Appends what makes the first type a subtype of the second, where both have one shape.
+    /// Appends what makes the first type a subtype of the second, where both have one shape. The error is want of memory
+    /// alone.
     /// (RFC 2094, "Subtyping".)
     pub fn push_subtype(
         &self,

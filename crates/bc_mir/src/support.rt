@@ -2,10 +2,10 @@
 ghost use Rattle.std.specs.Prelude.{◌≡◌};
 ghost use Rattle.bc_mir.specs.Supports.{goes_on_mutable as going_on, supports as support, supports_behind as support_behind, supports_from as support_from};
 
-use crate::good_types::GoodTypes;
 use crate::place_types::passes_only_mutable;
 use crate::places::rest_of;
 use bc_syntax::{Base, Place, Projection, Reference, Ty};
+use bc_types::GoodTypes;
 
 /// Whether behind projections is a type from which the rest dereference mutable references alone. Regions do not tell, so
 /// a field is taken as it is declared.

@@ -9,11 +9,11 @@ ghost use Rattle.bc_mir.specs.Typing.{first_unfit as first_misfit, misfit as mis
 ghost use Rattle.bc_mir.specs.Typed.{IsTyped, steps_fit};
 ghost use Rattle.bc_mir.specs.declared.typed.Where.{Where};
 
-use crate::good_types::GoodTypes;
 use crate::mir::{Draft, Point, Step};
 use crate::place_types::type_of_place;
 use crate::typing::{fits_at, fits_header};
 use bc_syntax::{Header, Outlives, Place, Ty, Unit};
+use bc_types::GoodTypes;
 use std::alloc::{AllocError, Global};
 use std::marker::Model;
 use std::sync::Arc;

@@ -28,14 +28,14 @@ fn universal_name(regions: &[RegionName], number: u8) -> &[u8]
     }
 }
 
-/// Writes a universal region.
+/// Writes a universal region. Own.
 pub fn write_universal<W: Write>(regions: &[RegionName], number: u8, out: &mut W) -> io::Result<()>
     ensures { OnOk result (Writes (W.contents out.old) (W.contents out.new) (spell.universal regions.now number)) }
 {
     write_named(universal_name(regions, number), out)
 }
 
-/// Writes a region.
+/// Writes a region. Own.
 pub fn write_region<W: Write>(regions: &[RegionName], region: Region, out: &mut W) -> io::Result<()>
     ensures { OnOk result (Writes (W.contents out.old) (W.contents out.new) (spell.region regions.now region)) }
 {
@@ -45,7 +45,7 @@ pub fn write_region<W: Write>(regions: &[RegionName], region: Region, out: &mut 
     }
 }
 
-/// Writes the name of a struct or of an extern function.
+/// Writes the name of a struct or of an extern function. Own.
 pub fn write_item_name<W: Write>(name: &ItemName, out: &mut W) -> io::Result<()>
     ensures { OnOk result (Writes (W.contents out.old) (W.contents out.new) (spell.item_name name.now)) }
 {
@@ -78,7 +78,7 @@ impl Spelled for Outlives {
     }
 }
 
-/// Writes a declared item with regions for its own.
+/// Writes a declared item with regions for its own. Own.
 pub fn write_instance<W: Write>(
     regions: &[RegionName],
     instance: &Instance,
@@ -99,7 +99,7 @@ fn write_mutability<W: Write>(mutability: Mutability, out: &mut W) -> io::Result
     }
 }
 
-/// Writes what stands behind a `&`: a region, and `mut` or not.
+/// Writes what stands behind a `&`: a region, and `mut` or not. Own.
 pub fn write_reference<W: Write>(
     regions: &[RegionName],
     reference: Reference,
@@ -134,7 +134,7 @@ fn write_base<W: Write>(regions: &[RegionName], base: &Base, out: &mut W) -> io:
     }
 }
 
-/// Writes a type.
+/// Writes a type. Own.
 pub fn write_ty<W: Write>(regions: &[RegionName], ty: &Ty, out: &mut W) -> io::Result<()>
     ensures { OnOk result (Writes (W.contents out.old) (W.contents out.new) (spell.ty regions.now ty.now)) }
 {

@@ -1,6 +1,6 @@
 //! What the numbers in a text count.
 
-/// What a number counts.
+/// What a number counts. Own.
 #[derive(Clone, Copy, Debug, PartialEq, Eq)]
 pub enum Numbering {
     Number,

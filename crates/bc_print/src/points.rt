@@ -226,7 +226,7 @@ fn write_braced<W: Write>(regions: &[RegionName], block: &Block, out: &mut W) ->
     write_symbol(Symbol::CloseBrace, out)
 }
 
-/// Writes blocks, the first of which has label 0.
+/// Writes blocks, the first of which has label 0. Own.
 pub fn write_blocks<W: Write>(
     regions: &[RegionName],
     blocks: &[Block],

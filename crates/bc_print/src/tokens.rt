@@ -9,7 +9,7 @@ use bc_syntax::{RegionName, Symbol};
 use std::io;
 use std::io::Write;
 
-/// Writes a space and a symbol.
+/// Writes a space and a symbol. Own.
 #[tactic(auto, unfolding(crate::specs::Printing::spaced))]
 pub fn write_symbol<W: Write>(symbol: Symbol, out: &mut W) -> io::Result<()>
     ensures { OnOk result (Writes (W.contents out.old) (W.contents out.new) (spell.symbol symbol)) }
@@ -18,7 +18,7 @@ pub fn write_symbol<W: Write>(symbol: Symbol, out: &mut W) -> io::Result<()>
     out.write_all(symbol.text())
 }
 
-/// Writes a space and a number, local, label or region variable.
+/// Writes a space and a number, local, label or region variable. Own.
 #[tactic(auto, unfolding(crate::specs::Printing::spaced))]
 pub fn write_numbered<W: Write>(numbering: Numbering, number: u64, out: &mut W) -> io::Result<()>
     ensures { OnOk result (Writes (W.contents out.old) (W.contents out.new) (Numbered numbering number ∷ [])) }
@@ -31,7 +31,7 @@ pub fn write_numbered<W: Write>(numbering: Numbering, number: u64, out: &mut W) 
     }
 }
 
-/// Writes a space and a word.
+/// Writes a space and a word. Own.
 #[tactic(auto, unfolding(crate::specs::Printing::spaced))]
 pub fn write_word<W: Write>(name: &[u8], out: &mut W) -> io::Result<()>
     ensures { OnOk result (Writes (W.contents out.old) (W.contents out.new) (Word name.now ∷ [])) }
@@ -40,7 +40,7 @@ pub fn write_word<W: Write>(name: &[u8], out: &mut W) -> io::Result<()>
     out.write_all(name)
 }
 
-/// Writes a space and a region, by its name.
+/// Writes a space and a region, by its name. Own.
 #[tactic(auto, unfolding(crate::specs::Printing::spaced))]
 pub fn write_named<W: Write>(name: &[u8], out: &mut W) -> io::Result<()>
     ensures { OnOk result (Writes (W.contents out.old) (W.contents out.new) (Region name.now ∷ [])) }
@@ -49,7 +49,7 @@ pub fn write_named<W: Write>(name: &[u8], out: &mut W) -> io::Result<()>
     out.write_all(name)
 }
 
-/// What has a spelling where these regions are declared.
+/// What has a spelling where these regions are declared. Own.
 pub trait Spelled {
     ghost use Rattle.std.specs.Prelude.{List};
     ghost use Rattle.bc_syntax.specs.declared.syntax.RegionName.{RegionName};
@@ -76,7 +76,7 @@ fn write_next<T: Spelled, W: Write>(
     Ok(())
 }
 
-/// Writes items with commas between.
+/// Writes items with commas between. Own.
 pub fn write_commas<T: Spelled, W: Write>(
     regions: &[RegionName],
     items: &[T],
@@ -91,7 +91,7 @@ pub fn write_commas<T: Spelled, W: Write>(
     Ok(())
 }
 
-/// Writes items with commas between, in `<` and `>`, or nothing where there is none.
+/// Writes items with commas between, in `<` and `>`, or nothing where there is none. Own.
 pub fn write_angled<T: Spelled, W: Write>(
     regions: &[RegionName],
     items: &[T],

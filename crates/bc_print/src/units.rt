@@ -15,7 +15,7 @@ use bc_syntax::{Body, Header, Outlives, RegionName, Symbol, Ty, Unit};
 use std::io;
 use std::io::Write;
 
-/// Writes the clauses behind `where`, or nothing where there is none.
+/// Writes the clauses behind `where`, or nothing where there is none. Own.
 pub fn write_clauses<W: Write>(
     regions: &[RegionName],
     clauses: &[Outlives],
@@ -30,7 +30,7 @@ pub fn write_clauses<W: Write>(
     write_commas(regions, clauses, out)
 }
 
-/// Writes the types of parameters, with their parentheses.
+/// Writes the types of parameters, with their parentheses. Own.
 pub fn write_parameters<W: Write>(
     regions: &[RegionName],
     parameters: &[Ty],
@@ -43,7 +43,7 @@ pub fn write_parameters<W: Write>(
     write_symbol(Symbol::CloseParen, out)
 }
 
-/// Writes what stands behind a function's name or the word `fn`.
+/// Writes what stands behind a function's name or the word `fn`. Own.
 pub fn write_signature<W: Write>(header: &Header, out: &mut W) -> io::Result<()>
     ensures { OnOk result (Writes (W.contents out.old) (W.contents out.new) (spell.signature header.now)) }
 {

@@ -18,7 +18,7 @@ use Rattle.bc_judge.specs.contracts.error.BorrowErrorPartialEq.TheImpl as error_
 use Rattle.bc_prov.specs.contracts.outcome.BodyErrorsPartialEq.TheImpl as body_impl
 use Rattle.bc_prov.specs.contracts.outcome.OutcomePartialEq.TheImpl as outcome_impl
 
-apart : {P : Type 0} → (P → ⊥) → Decides false P
+pub apart : {P : Type 0} → (P → ⊥) → Decides false P
 apart never = (λ f. absurd (true≢false (sym f)), λ p. absurd (never p))
 
 pub point : (a b : Point) → Decides ((point_impl.ghosts).eq a b) (a ≡ b)

@@ -4,7 +4,7 @@ use Rattle.bc_syntax.specs.declared.syntax.Declaration.{Declaration}
 use Rattle.bc_syntax.specs.declared.syntax.Body.{Body}
 use Rattle.bc_text.specs.Names.{NameParts}
 use Rattle.bc_mir.specs.declared.typed.Where.{Where}
-use Rattle.bc_mir.specs.Declarations.{first_bad}
+use Rattle.bc_types.specs.Declarations.{first_bad}
 use Rattle.bc_mir.specs.Mir.{Mir, mir_of}
 use Rattle.bc_mir.specs.Typing.{misfit}
 use Rattle.bc_judge.specs.declared.error.BorrowError.{BorrowError}

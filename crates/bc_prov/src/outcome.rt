@@ -18,7 +18,8 @@ use bc_text::Name;
 use std::alloc::{AllocError, Global};
 use std::sync::Arc;
 
-/// A body, and its errors in order.
+/// A body's name, and its errors in order: the conflicts by point, access and loan, then the lifetime errors. (RFC 2094,
+/// "Borrow checker phase 2: reporting errors" and "Named lifetimes"; the order is own.)
 #[derive(Drop, PartialEq)]
 pub struct BodyErrors {
     pub name: Name,
@@ -26,7 +27,7 @@ pub struct BodyErrors {
 }
 
 /// What an Ask finds: that no body is held, that a declaration is bad and which is the first, counted from 0, that a
-/// unit breaks a typing rule and where, or the bodies with their errors.
+/// unit breaks a typing rule and where, or the bodies with their errors. (Own.)
 #[derive(Drop, PartialEq)]
 pub enum Outcome {
     NoBody,
@@ -100,7 +101,7 @@ fn outcome_among(
 /// The outcome of a name under these declarations, where this unit is held, or none: `BadTypes` of the first bad
 /// declaration where one is bad, else `NoBody` where no unit is held, else `Ill` with the least misfit where the unit
 /// breaks a typing rule, and else the report of the body's errors. Answers `AllocError` only where memory was refused.
-/// (Own; the errors are RFC 2094's.)
+/// (Own; the errors are RFC 2094's, "Borrow checker phase 1", "Borrow checker phase 2" and "Named lifetimes".)
 pub fn outcome_of(
     alloc: Global,
     name: &Name,

@@ -11,10 +11,11 @@ use std::alloc::Global;
 use std::marker::Model;
 use thiserror::Error;
 
-/// How many entries a history may have at most.
+/// How many entries a history may have at most (own).
 pub const MOST_ENTRIES: u32 = 1_000_000;
 
-/// Why a database could not be opened.
+/// Why a database could not be opened: the capacity or the number of sessions is out of its range, or memory was refused.
+/// (Own.)
 #[derive(Clone, Copy, Debug, PartialEq, Eq, Error)]
 pub enum OpenFault {
     #[error("out of range")]
@@ -24,7 +25,7 @@ pub enum OpenFault {
 }
 
 /// Why a database could not be closed: the sessions are not its own, each once; or the history, which is handed
-/// out, does not agree with them.
+/// out, does not agree with them. (Own.)
 #[derive(Debug, Drop, Error)]
 pub enum CloseFault {
     #[error("the sessions are not those of this database")]

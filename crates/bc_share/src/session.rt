@@ -12,7 +12,7 @@ use std::alloc::{AllocError, Global};
 use std::marker::Model;
 use std::sync::Arc;
 
-/// One session of a database.
+/// One session of a database: it makes the calls, and keeps a list of its own of them and their replies. (Own.)
 #[derive(Drop)]
 pub struct Session {
     alloc: Global,
@@ -57,12 +57,14 @@ impl Session {
     /// Stores declarations, which each Ask from now on is answered by, in place of those before (own). They may be bad:
     /// an Ask tells so.
     ///
-    /// Refused with `HistoryFull` exactly where the history has as many entries as it may have, and with `NoMemory`
-    /// only where memory was refused; the session and the history are then as they were.
+    /// Room in the session's own list is made first. Refused with `HistoryFull` only where the history has as many
+    /// entries as it may have, where no call is taken, and with `NoMemory` only where memory was refused; the session
+    /// and the history are then as they were.
     pub fn put_types(&mut self, types: Arc<Types, Global>) -> Result<(), Refusal>
         ensures told { OnOk result (Tells (Call.Types (arc_value types)) Reply.Stored self.old self.new) }
         ensures refused { OnErr result (self.new ≡ self.old) }
-        ensures full { IfErr result (λ r. r ≡ Refusal.HistoryFull ↔ length self.old.entries ≡ self.old.capacity) }
+        ensures below { OnOk result (length self.old.entries < self.old.capacity) }
+        ensures full { IfErr result (λ r. r ≡ Refusal.HistoryFull → length self.old.entries ≡ self.old.capacity) }
     {
         make_room(&mut self.ledger, &mut self.own)?;
         let types = Shared::new(types);
@@ -78,13 +80,14 @@ impl Session {
     /// Stores a unit under a name.
     ///
     /// Replies `WrongKind` where the name is not one for such a unit, else `Full` where the name is new and 256
-    /// bodies are held, else `Replaced` or `Added` (own). Refused with `HistoryFull` exactly where the history has
-    /// as many entries as it may have, and with `NoMemory` only where memory was refused; the session and the
-    /// history are then as they were.
+    /// bodies are held, else `Replaced` or `Added` (own). Room in the session's own list is made first. Refused with
+    /// `HistoryFull` only where the history has as many entries as it may have, where no call is taken, and with
+    /// `NoMemory` only where memory was refused; the session and the history are then as they were.
     pub fn put(&mut self, name: Name, unit: Arc<Unit, Global>) -> Result<PutReply, Refusal>
         ensures told { IfOk result (λ reply. Tells (Call.Put name (arc_value unit)) (Reply.Put reply) self.old self.new) }
         ensures refused { OnErr result (self.new ≡ self.old) }
-        ensures full { IfErr result (λ r. r ≡ Refusal.HistoryFull ↔ length self.old.entries ≡ self.old.capacity) }
+        ensures below { OnOk result (length self.old.entries < self.old.capacity) }
+        ensures full { IfErr result (λ r. r ≡ Refusal.HistoryFull → length self.old.entries ≡ self.old.capacity) }
     {
         make_room(&mut self.ledger, &mut self.own)?;
         let unit = Shared::new(unit);
@@ -98,14 +101,16 @@ impl Session {
     }
 
     /// Whether the body under a name is borrow-correct now: the outcome of what the name holds, under the declarations
-    /// that are held.
+    /// that are held: their first bad one, `NoBody`, `Ill`, or the body's errors (RFC 2094; the rest is own).
     ///
-    /// Refused with `HistoryFull` exactly where the history has as many entries as it may have, and with `NoMemory`
-    /// only where memory was refused; the session and the history are then as they were.
+    /// Room in the session's own list is made first. Refused with `HistoryFull` only where the history has as many
+    /// entries as it may have, where no call is taken, and with `NoMemory` only where memory was refused; the session
+    /// and the history are then as they were.
     pub fn ask(&mut self, name: &Name) -> Result<Arc<Outcome, Global>, Refusal>
         ensures told { IfOk result (λ outcome. Tells (Call.Ask name.now) (Reply.Outcome (arc_value outcome)) self.old self.new) }
         ensures refused { OnErr result (self.new ≡ self.old) }
-        ensures full { IfErr result (λ r. r ≡ Refusal.HistoryFull ↔ length self.old.entries ≡ self.old.capacity) }
+        ensures below { OnOk result (length self.old.entries < self.old.capacity) }
+        ensures full { IfErr result (λ r. r ≡ Refusal.HistoryFull → length self.old.entries ≡ self.old.capacity) }
     {
         make_room(&mut self.ledger, &mut self.own)?;
         let outcome = self.ledger.outcome(self.alloc, name)?;
@@ -143,17 +148,17 @@ impl Session {
     }
 }
 
-// Makes room for one entry of a history and one event of an own list.
+// Makes room for one event of an own list, and then for one entry of a history: `NoMemory` where the list gets none, even
+// where the history is full, and else `HistoryFull` exactly where it is.
 fn make_room(ledger: &mut Ledger, own: &mut Vec<Event>) -> Result<(), Refusal>
     ensures ledger { (ledger.new.capacity ≡ ledger.old.capacity) × (ledger.new.entries ≡ ledger.old.entries) }
     ensures own { own.new.items ≡ own.old.items }
     ensures room { OnOk result ((0 < ledger.new.room) × (vec_len own.new < vec_capacity own.new)) }
     ensures below { OnOk result (length ledger.old.entries < ledger.old.capacity) }
-    ensures full { IfErr result (λ r. r ≡ Refusal.HistoryFull ↔ length ledger.old.entries ≡ ledger.old.capacity) }
+    ensures full { IfErr result (λ r. r ≡ Refusal.HistoryFull → length ledger.old.entries ≡ ledger.old.capacity) }
 {
-    ledger.reserve()?;
-    match own.reserve(1) {
-        Ok(()) => Ok(()),
-        Err(_) => Err(Refusal::NoMemory),
+    if own.reserve(1).is_err() {
+        return Err(Refusal::NoMemory);
     }
+    ledger.reserve()
 }

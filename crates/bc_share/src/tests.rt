@@ -92,6 +92,7 @@ fn close(alloc: Global, db: Db, session: Session) -> Result<crate::History, Fail
     Ok(db.close(sessions)?)
 }
 
+/// Catches the wrong body `always_no_memory`: no contract says that a call succeeds with ample memory.
 #[test]
 fn the_history_has_each_call_with_its_reply(rt: HostRuntime) -> Result<(), Fail> {
     let f = name(b"f")?;
@@ -160,6 +161,7 @@ fn a_function_has_no_closures_name(rt: HostRuntime) -> Result<(), Fail> {
     Ok(())
 }
 
+/// Catches the wrong body `history_full_at_once`, with the call that is taken before the history is full.
 #[test]
 fn a_full_history_takes_no_call(rt: HostRuntime) -> Result<(), Fail> {
     let f = name(b"f")?;
@@ -168,6 +170,10 @@ fn a_full_history_takes_no_call(rt: HostRuntime) -> Result<(), Fail> {
     assert_eq!(rt; session.put(f, Arc::try_clone(&unit)?)?, PutReply::Added);
     assert!(rt; matches!(session.ask(&f), Err(Refusal::HistoryFull)));
     assert_eq!(rt; session.put(f, unit), Err(Refusal::HistoryFull));
+    assert_eq!(rt;
+        session.put_types(structs(rt.alloc(), 1)?),
+        Err(Refusal::HistoryFull)
+    );
     assert_eq!(rt; close(rt.alloc(), db, session)?.entries().len(), 1);
     Ok(())
 }

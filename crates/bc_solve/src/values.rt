@@ -9,6 +9,7 @@ use std::alloc::{AllocError, Global};
 use std::marker::Model;
 
 /// The elements of each region. Contracts see a set of elements for each region.
+/// (RFC 2094, "Solving constraints".)
 #[derive(Drop)]
 pub struct Values {
     rows: Vec<BitSet>,
@@ -24,7 +25,7 @@ impl Model for Values {
 
 impl Values {
     /// Whether the value of a region has an element, both by number. A number that is none of the regions or
-    /// elements gives false. It takes no memory.
+    /// elements gives false. It takes no memory. (Own.)
     pub fn contains(&self, region: usize, element: usize) -> bool
         ensures { result ≡ holds self.now region element }
     {
@@ -34,14 +35,14 @@ impl Values {
         }
     }
 
-    /// How many regions there are.
+    /// How many regions there are. (Own.)
     pub fn regions(&self) -> usize
         ensures { result ≡ length self.now }
     {
         self.rows.len()
     }
 
-    /// The values, one row of elements for each region.
+    /// The values, one row of elements for each region. (Own.)
     pub fn rows(&self) -> &[BitSet]
         ensures { result.now ≡ self.now }
     {

@@ -2,25 +2,24 @@
 ghost use Rattle.std.specs.Prelude.{◌≡◌, ◌≤◌, true, length, drop, slice_index, take_while};
 ghost use Rattle.std.specs.List.{list_all};
 ghost use Rattle.std.specs.Str.{bytes_eq};
-ghost use Rattle.std.specs.Char.{is_ascii_digit};
 ghost use Rattle.bc_syntax.specs.Bytes.{is_run_byte, run};
 ghost use Rattle.bc_syntax.specs.Words.{is_region_byte};
 
-/// The byte at an index, or 0 past the end.
+/// The byte at an index, or 0 past the end. Own.
 pub fn byte_at(bytes: &[u8], index: usize) -> u8
     ensures { result ≡ slice_index bytes.now index }
 {
     bytes.get(index).copied().unwrap_or(0)
 }
 
-/// The bytes from an index on.
+/// The bytes from an index on. Own.
 pub fn from(bytes: &[u8], index: usize) -> &[u8]
     ensures { result.now ≡ drop index bytes.now }
 {
     bytes.get(index..).unwrap_or(&[])
 }
 
-/// The bytes behind so many, of which there are enough.
+/// The bytes behind so many, of which there are enough. Own.
 pub fn behind(bytes: &[u8], count: usize) -> &[u8]
     requires { count ≤ length bytes.now }
     ensures { result.now ≡ drop count bytes.now }
@@ -28,7 +27,7 @@ pub fn behind(bytes: &[u8], count: usize) -> &[u8]
     &bytes[count..]
 }
 
-/// Whether the byte is a letter, a digit or `_`.
+/// Whether the byte is a letter, a digit or `_`. Own.
 pub fn is_run_byte(byte: u8) -> bool
     ensures { result ≡ is_run_byte byte }
 {
@@ -36,18 +35,7 @@ pub fn is_run_byte(byte: u8) -> bool
     byte >= b'0' && (byte.is_ascii_alphanumeric() || byte == b'_')
 }
 
-/// How many digits stand at the front.
-pub fn digits_len(bytes: &[u8]) -> usize
-    ensures count { result ≡ length (take_while is_ascii_digit bytes.now) }
-    ensures within { result ≤ length bytes.now }
-{
-    bytes
-        .iter()
-        .take_while(|byte| byte.is_ascii_digit())
-        .count()
-}
-
-/// How many lowercase letters, digits and `_` stand at the front.
+/// How many lowercase letters, digits and `_` stand at the front. Own.
 pub fn region_len(bytes: &[u8]) -> usize
     ensures count { result ≡ length (take_while is_region_byte bytes.now) }
     ensures within { result ≤ length bytes.now }
@@ -58,7 +46,7 @@ pub fn region_len(bytes: &[u8]) -> usize
         .count()
 }
 
-/// How many letters, digits and `_` stand at the front.
+/// How many letters, digits and `_` stand at the front. Own.
 pub fn run_len(bytes: &[u8]) -> usize
     ensures count { result ≡ length (run bytes.now) }
     ensures within { result ≤ length bytes.now }
@@ -66,7 +54,7 @@ pub fn run_len(bytes: &[u8]) -> usize
     bytes.iter().take_while(|byte| is_run_byte(**byte)).count()
 }
 
-/// The letters, digits and `_` that stand at the front.
+/// The letters, digits and `_` that stand at the front. Own.
 pub fn run(bytes: &[u8]) -> &[u8]
     ensures run { result.now ≡ run bytes.now }
     ensures within { length result.now ≤ length bytes.now }

@@ -66,7 +66,8 @@ fn declaration_fits(declaration: &Declaration) -> bool
     }
 }
 
-fn is_struct(declaration: &Declaration) -> bool
+/// Whether the declaration is that of a struct. Own.
+pub fn is_struct(declaration: &Declaration) -> bool
     ensures { result ≡ spec.is_struct declaration.now }
 {
     match declaration {
@@ -105,7 +106,7 @@ fn fit(declarations: &[Declaration]) -> bool
 }
 
 /// Declarations that have a spelling: at most 64 structs and 64 extern functions, names that are words of at most 32
-/// bytes, at most 8 regions each with names of their own, at most 16 fields.
+/// bytes, at most 8 regions each with names of their own, at most 16 fields. Own.
 #[derive(Drop, PartialEq)]
 pub struct Types {
     declarations: Sequence<Declaration>,
@@ -127,7 +128,7 @@ impl Model for Types {
 
 impl Types {
     /// The types of declarations, or `None` exactly where a number is past its limit, a name is no word, or a region is
-    /// declared twice or not at all.
+    /// declared twice or not at all. Own.
     pub fn new(declarations: Sequence<Declaration>) -> Option<Types>
         ensures declarations { IfSome result (λ types. types ≡ declarations) }
         ensures fit { IfSome result (λ _. TypesFit declarations) }
@@ -140,7 +141,7 @@ impl Types {
         }
     }
 
-    /// The types of declarations that are known to have a spelling.
+    /// The types of declarations that are known to have a spelling. Own.
     pub fn of_fitting(declarations: Sequence<Declaration>) -> Types
         requires { TypesFit declarations }
         ensures { result ≡ declarations }
@@ -148,7 +149,7 @@ impl Types {
         Types { declarations }
     }
 
-    /// The declarations, in order.
+    /// The declarations, in order. Own.
     pub fn declarations(&self) -> &[Declaration]
         ensures value { result.now ≡ self.now }
         ensures fit { TypesFit self.now }

@@ -13,7 +13,7 @@ use crate::syntax::{
 };
 use crate::words::{is_region_name, is_word};
 
-/// What may be named: region variables or not, so many universal regions, and so many locals.
+/// What may be named: region variables or not, so many universal regions, and so many locals. Own.
 #[derive(Clone, Copy)]
 pub struct Limits {
     pub variables: bool,
@@ -36,7 +36,7 @@ fn is_among(before: &[RegionName], name: &[u8]) -> bool
 }
 
 /// Whether a region may be declared where those before it are: its name is well formed, has at most 16 bytes, is not
-/// `static` and not among them.
+/// `static` and not among them. Own.
 pub fn is_new(before: &[RegionName], name: &RegionName) -> bool
     ensures { result ≡ spec.is_new before.now name.now }
 {
@@ -331,7 +331,7 @@ fn header_fits(header: &Header) -> bool
 }
 
 /// Whether a body has a spelling: its numbers are within their limits, its regions and locals are declared, and its
-/// names are words.
+/// names are words. Own.
 pub fn fits(body: &Body) -> bool
     ensures { IsTrue result ↔ Fits body.now }
 {

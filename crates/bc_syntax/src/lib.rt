@@ -11,8 +11,8 @@ mod syntax;
 mod unit;
 mod words;
 
-pub use bytes::{behind, byte_at, digits_len, from, is_run_byte, region_len, run, run_len};
-pub use declarations::Types;
+pub use bytes::{behind, byte_at, from, is_run_byte, region_len, run, run_len};
+pub use declarations::{Types, is_struct};
 pub use fits::is_new;
 pub use sequence::{Sequence, ShortSequence};
 pub use symbol::{Symbol, same};
@@ -23,4 +23,4 @@ pub use syntax::{
     Ty, UnitKind, Variance,
 };
 pub use unit::Unit;
-pub use words::{is_number, is_region_name, is_word};
+pub use words::{are_run_bytes, is_number, is_region_name, is_word};

@@ -6,7 +6,7 @@ use std::alloc::{AllocError, Global};
 use std::default::MadeWith;
 use std::marker::Model;
 
-/// A list.
+/// A list. Own.
 #[derive(Drop)]
 pub struct Sequence<T> {
     items: Vec<T>,
@@ -19,7 +19,7 @@ impl<T> Model for Sequence<T> {
 }
 
 impl<T> Sequence<T> {
-    /// The empty list. It takes no memory.
+    /// The empty list. It takes no memory. Own.
     pub fn new(alloc: Global) -> Self
         ensures { result ≡ [] }
     {
@@ -28,28 +28,21 @@ impl<T> Sequence<T> {
         }
     }
 
-    /// The items, in order.
+    /// The items, in order. Own.
     pub fn as_slice(&self) -> &[T]
         ensures { result.now ≡ self.now }
     {
         &self.items
     }
 
-    /// The items, as they lie in memory.
-    pub fn into_vec(self) -> Vec<T>
-        ensures { result.items ≡ self }
-    {
-        self.items
-    }
-
-    /// How many items there are.
+    /// How many items there are. Own.
     pub fn len(&self) -> usize
         ensures { result ≡ length self.now }
     {
         self.items.len()
     }
 
-    /// Whether there is no item.
+    /// Whether there is no item. Own.
     pub fn is_empty(&self) -> bool
         ensures { IsTrue result ↔ (self.now ≡ []) }
     {
@@ -58,7 +51,7 @@ impl<T> Sequence<T> {
 }
 
 impl<T: Drop> Sequence<T> {
-    /// Puts an item behind the others. Where memory is refused, the list stays as it was.
+    /// Puts an item behind the others. Where memory is refused, the list stays as it was. Own.
     #[inline(always)]
     pub fn push(&mut self, item: T) -> Result<(), AllocError>
         ensures ok { OnOk result (self.new ≡ self.old ++ item ∷ []) }
@@ -104,7 +97,7 @@ impl<T: PartialEq> PartialEq for Sequence<T> {
     }
 }
 
-/// A list of at most `N` items as a rule, which then lie in the value itself.
+/// A list of at most `N` items as a rule, which then lie in the value itself. Own.
 #[derive(Drop)]
 pub struct ShortSequence<T, const N: usize> {
     items: SmallVec<T, N>,
@@ -117,7 +110,7 @@ impl<T, const N: usize> Model for ShortSequence<T, N> {
 }
 
 impl<T, const N: usize> ShortSequence<T, N> {
-    /// The items, in order.
+    /// The items, in order. Own.
     pub fn as_slice(&self) -> &[T]
         ensures { result.now ≡ self.now }
     {
@@ -126,7 +119,7 @@ impl<T, const N: usize> ShortSequence<T, N> {
 }
 
 impl<T: Default + Drop, const N: usize> ShortSequence<T, N> {
-    /// The empty list. It takes no memory.
+    /// The empty list. It takes no memory. Own.
     pub fn new(alloc: Global) -> Self
         ensures { result ≡ [] }
     {
@@ -136,7 +129,7 @@ impl<T: Default + Drop, const N: usize> ShortSequence<T, N> {
     }
 
     /// Puts an item behind the others. Where memory is refused, which can be only from item `N` on, the list
-    /// stays as it was.
+    /// stays as it was. Own.
     pub fn push(&mut self, item: T) -> Result<(), AllocError>
         ensures ok { OnOk result (self.new ≡ self.old ++ item ∷ []) }
         ensures err { OnErr result (self.new ≡ self.old) }
@@ -147,7 +140,7 @@ impl<T: Default + Drop, const N: usize> ShortSequence<T, N> {
 }
 
 impl<T: Copy + Default, const N: usize> ShortSequence<T, N> {
-    /// A list of these items. It takes memory only where there are more than `N`.
+    /// A list of these items. It takes memory only where there are more than `N`. Own.
     pub fn of(alloc: Global, items: &[T]) -> Result<Self, AllocError>
         ensures { IfOk result (λ list. list ≡ items.now) }
     {

@@ -6,7 +6,7 @@ ghost use Rattle.bc_syntax.specs.Likely.{likely_c, likely_i, likely_keyword};
 
 use crate::bytes::{byte_at, runs_as};
 
-/// A keyword or a sign.
+/// A keyword or a sign. Own.
 #[derive(Clone, Copy, Debug, PartialEq, Eq)]
 pub enum Symbol {
     Fn,
@@ -72,7 +72,7 @@ pub const KEYWORDS: [Symbol; 20] = [
     Symbol::Extern,
 ];
 
-/// The signs of one byte.
+/// The signs of one byte. Own.
 pub const SIGNS: [Symbol; 16] = [
     Symbol::OpenParen,
     Symbol::CloseParen,
@@ -92,7 +92,7 @@ pub const SIGNS: [Symbol; 16] = [
     Symbol::Star,
 ];
 
-/// Whether two symbols are one.
+/// Whether two symbols are one. Own.
 #[tactic(auto, unfolding(crate::specs::Symbol::same))]
 pub fn same(a: Symbol, b: Symbol) -> bool
     ensures { result ≡ same a b }
@@ -101,7 +101,7 @@ pub fn same(a: Symbol, b: Symbol) -> bool
 }
 
 impl Symbol {
-    /// How the symbol is spelled.
+    /// How the symbol is spelled. Own.
     #[tactic(auto, unfolding(crate::specs::Symbol::text))]
     pub fn text(self) -> &'static [u8]
         ensures { result.now ≡ text self }
@@ -147,7 +147,7 @@ impl Symbol {
         }
     }
 
-    /// The keyword that a word is.
+    /// The keyword that a word is. Own.
     pub fn of_word(word: &[u8]) -> Option<Symbol>
         ensures { result ≡ keyword_of word.now }
     {
@@ -155,7 +155,7 @@ impl Symbol {
         (keyword.text() == word).then_some(keyword)
     }
 
-    /// The keyword that the letters, digits and `_` at the front of a text are. They are not gone over for it.
+    /// The keyword that the letters, digits and `_` at the front of a text are. They are not gone over for it. Own.
     pub fn of_run(bytes: &[u8]) -> Option<Symbol>
         ensures value { result ≡ keyword_of (run bytes.now) }
         ensures spelled { IfSome result (λ keyword. run bytes.now ≡ text keyword) }
@@ -165,7 +165,7 @@ impl Symbol {
     }
 
     /// The sign that a byte below `?` is: most signs of a text are. They lie so near one another that a table tells
-    /// them.
+    /// them. Own.
     #[inline(always)]
     #[tactic(auto, unfolding(crate::specs::Symbol::sign_of, crate::specs::Symbol::text))]
     pub fn of_low_sign(byte: u8) -> Option<Symbol>
@@ -188,7 +188,7 @@ impl Symbol {
         }
     }
 
-    /// The sign that a byte is.
+    /// The sign that a byte is. Own.
     #[inline(always)]
     #[tactic(auto, unfolding(crate::specs::Symbol::sign_of, crate::specs::Symbol::text))]
     pub fn of_sign(byte: u8) -> Option<Symbol>

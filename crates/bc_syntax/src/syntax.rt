@@ -2,7 +2,7 @@
 use crate::sequence::{Sequence, ShortSequence};
 
 /// A region: a universal one, by its number, where 0 is `'static` and the declared ones follow in the order of
-/// the header; or a region variable, by its number (RFC 2094, "Region inference").
+/// the header; or a region variable, by its number (rustc-dev-guide, "Region inference (NLL)").
 #[derive(Clone, Copy, Debug, PartialEq, Eq)]
 pub enum Region {
     Universal(u8),
@@ -10,12 +10,17 @@ pub enum Region {
 }
 
 impl Default for Region {
+    ghost use Rattle.std.specs.Prelude.{◌≡◌};
+    ghost use Rattle.bc_syntax.specs.declared.syntax.Region.TheVariants.{Universal};
+
+    ghost is_default = { λ region. region ≡ Universal 0 };
+
     fn default() -> Self {
         Region::Universal(0)
     }
 }
 
-/// Whether a reference, or a borrow, is shared or mutable.
+/// Whether a reference, or a borrow, is shared or mutable. Own.
 #[derive(Clone, Copy, Debug, Default, PartialEq, Eq)]
 pub enum Mutability {
     #[default]
@@ -23,41 +28,41 @@ pub enum Mutability {
     Mutable,
 }
 
-/// One layer of a type, `&R` or `&R mut`; in a borrow, what is borrowed for.
+/// One layer of a type, `&R` or `&R mut`; in a borrow, what is borrowed for. Own.
 #[derive(Clone, Copy, Debug, Default, PartialEq, Eq)]
 pub struct Reference {
     pub region: Region,
     pub mutability: Mutability,
 }
 
-/// The name of a struct or of an extern function.
+/// The name of a struct or of an extern function. Own.
 #[derive(Clone, Drop, PartialEq)]
 pub struct ItemName {
     pub bytes: ShortSequence<u8, 16>,
 }
 
-/// A declared struct or extern function with regions for its own, in their order.
+/// A declared struct or extern function with regions for its own, in their order. Own.
 #[derive(Clone, Drop, PartialEq)]
 pub struct Instance {
     pub name: ItemName,
     pub regions: ShortSequence<Region, 4>,
 }
 
-/// What stands behind all references of a type.
+/// What stands behind all references of a type. Own.
 #[derive(Clone, Drop, PartialEq)]
 pub enum Base {
     Int,
     Struct(Instance),
 }
 
-/// A type: its references, the outermost first, and what they lead to.
+/// A type: its references, the outermost first, and what they lead to. Own.
 #[derive(Clone, Drop, PartialEq)]
 pub struct Ty {
     pub references: ShortSequence<Reference, 7>,
     pub base: Base,
 }
 
-/// One step from a place to a part of it.
+/// One step from a place to a part of it. (rustc-dev-guide, "The MIR".)
 #[derive(Clone, Copy, Debug, Default, PartialEq, Eq)]
 pub enum Projection {
     #[default]
@@ -65,14 +70,14 @@ pub enum Projection {
     Field(u8),
 }
 
-/// A local, and the projections that lead on from it.
+/// A local, and the projections that lead on from it. (rustc-dev-guide, "The MIR".)
 #[derive(Clone, Drop, PartialEq)]
 pub struct Place {
     pub local: u8,
     pub projections: ShortSequence<Projection, 8>,
 }
 
-/// What an rvalue or a terminator reads.
+/// What an rvalue or a terminator reads. (rustc-dev-guide, "The MIR".)
 #[derive(Clone, Drop, PartialEq)]
 pub enum Operand {
     Copy(Place),
@@ -81,26 +86,31 @@ pub enum Operand {
 }
 
 impl Default for Operand {
+    ghost use Rattle.std.specs.Prelude.{◌≡◌};
+    ghost use Rattle.bc_syntax.specs.declared.syntax.Operand.TheVariants.{Number};
+
+    ghost is_default = { λ operand. operand ≡ Number 0 };
+
     fn default() -> Self {
         Operand::Number(0)
     }
 }
 
-/// `&R P` or `&R mut P`.
+/// `&R P` or `&R mut P`. Own.
 #[derive(Clone, Drop, PartialEq)]
 pub struct Borrow {
     pub reference: Reference,
     pub place: Place,
 }
 
-/// A struct made from its fields, in their order.
+/// A struct made from its fields, in their order. Own.
 #[derive(Clone, Drop, PartialEq)]
 pub struct Aggregate {
     pub instance: Instance,
     pub operands: ShortSequence<Operand, 2>,
 }
 
-/// What an assignment computes.
+/// What an assignment computes. (rustc-dev-guide, "The MIR".)
 #[derive(Clone, Drop, PartialEq)]
 pub enum Rvalue {
     Use(Operand),
@@ -109,14 +119,14 @@ pub enum Rvalue {
     Calc(ShortSequence<Operand, 2>),
 }
 
-/// `P = rvalue`.
+/// `P = rvalue`. (rustc-dev-guide, "The MIR".)
 #[derive(Clone, Drop, PartialEq)]
 pub struct Assignment {
     pub target: Place,
     pub value: Rvalue,
 }
 
-/// A point of a block that is not its last. `Dead` ends the storage of a local.
+/// A point of a block that is not its last. `Dead` ends the storage of a local. (rustc-dev-guide, "The MIR".)
 #[derive(Clone, Drop, PartialEq)]
 pub enum Statement {
     Assign(Assignment),
@@ -125,7 +135,7 @@ pub enum Statement {
     Nop,
 }
 
-/// `if operand then otherwise`, two labels.
+/// `if operand then otherwise`, two labels. Own.
 #[derive(Clone, Drop, PartialEq)]
 pub struct Condition {
     pub operand: Operand,
@@ -133,7 +143,7 @@ pub struct Condition {
     pub otherwise: u8,
 }
 
-/// `destination = call function(operands) target`, where the target is a label.
+/// `destination = call function(operands) target`, where the target is a label. Own.
 #[derive(Clone, Drop, PartialEq)]
 pub struct Call {
     pub destination: Place,
@@ -142,7 +152,7 @@ pub struct Call {
     pub target: u8,
 }
 
-/// The last point of a block. Labels are numbers of blocks.
+/// The last point of a block. Labels are numbers of blocks. (rustc-dev-guide, "The MIR".)
 #[derive(Clone, Drop, PartialEq)]
 pub enum Terminator {
     Goto(u8),
@@ -152,33 +162,33 @@ pub enum Terminator {
     Stop,
 }
 
-/// A block: its statements in order, and its terminator.
+/// A block: its statements in order, and its terminator. (rustc-dev-guide, "The MIR".)
 #[derive(Clone, Drop, PartialEq)]
 pub struct Block {
     pub statements: Sequence<Statement>,
     pub terminator: Terminator,
 }
 
-/// A `where` clause between universal regions: the value of `longer` contains that of `shorter`.
+/// A `where` clause between universal regions: the value of `longer` contains that of `shorter`. Own.
 #[derive(Clone, Copy, Debug, PartialEq, Eq)]
 pub struct Outlives {
     pub longer: u8,
     pub shorter: u8,
 }
 
-/// The name of a declared region, without its `'`.
+/// The name of a declared region, without its `'`. Own.
 #[derive(Clone, Drop, PartialEq)]
 pub struct RegionName {
     pub bytes: ShortSequence<u8, 16>,
 }
 
-/// What a unit is.
+/// What a unit is. Own.
 #[derive(Clone, Copy, Debug, PartialEq, Eq)]
 pub enum UnitKind {
     Function,
 }
 
-/// What stands before a unit's body. The regions' numbers are 1 and up, in this order.
+/// What stands before a unit's body. The regions' numbers are 1 and up, in this order. Own.
 #[derive(Clone, Drop, PartialEq)]
 pub struct Header {
     pub kind: UnitKind,
@@ -189,6 +199,7 @@ pub struct Header {
 }
 
 /// A header with its body. Local 0 has the result's type; then come the parameters, then the `let` locals.
+/// (rustc-dev-guide, "The MIR".)
 #[derive(Clone, Drop, PartialEq)]
 pub struct Body {
     pub header: Header,
@@ -205,7 +216,7 @@ pub enum Variance {
 }
 
 /// `struct NAME<regions> drop { fields }`: the regions' numbers in the fields' types are 1 and up, in this order, and
-/// each has its variance.
+/// each has its variance. Own.
 #[derive(Clone, Drop, PartialEq)]
 pub struct StructDeclaration {
     pub name: ItemName,
@@ -216,14 +227,14 @@ pub struct StructDeclaration {
 }
 
 /// `extern NAME<regions> where clauses (parameters) -> result`: its header's regions have the numbers 1 and up, in this
-/// order.
+/// order. Own.
 #[derive(Clone, Drop, PartialEq)]
 pub struct ExternDeclaration {
     pub name: ItemName,
     pub header: Header,
 }
 
-/// A struct, or a function that is declared alone.
+/// A struct, or a function that is declared alone. Own.
 #[derive(Clone, Drop, PartialEq)]
 pub enum Declaration {
     Struct(StructDeclaration),

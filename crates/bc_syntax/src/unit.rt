@@ -8,7 +8,7 @@ use std::marker::Model;
 
 /// A body that has a spelling: its numbers are within their limits (at most 256 locals, 256 blocks and one at least,
 /// 4,096 points, 15 declared regions, 32 clauses, 16 parameters and operands in a list, region variables up to 1,023),
-/// its regions and locals are declared, and its names are words.
+/// its regions and locals are declared, and its names are words. Own.
 #[derive(Drop, PartialEq)]
 pub struct Unit {
     body: Body,
@@ -29,7 +29,7 @@ impl Model for Unit {
 
 impl Unit {
     /// The unit of a body, or `None` exactly where a number is past its limit, a region or local is not declared, or a
-    /// name is no word.
+    /// name is no word. Own.
     pub fn new(body: Body) -> Option<Unit>
         ensures body { IfSome result (λ unit. unit ≡ body) }
         ensures fits { IfSome result (λ _. Fits body) }
@@ -42,7 +42,7 @@ impl Unit {
         }
     }
 
-    /// The unit of a body that is known to have a spelling.
+    /// The unit of a body that is known to have a spelling. Own.
     pub fn of_fitting(body: Body) -> Unit
         requires { Fits body }
         ensures { result ≡ body }
@@ -50,7 +50,7 @@ impl Unit {
         Unit { body }
     }
 
-    /// What the unit is made of.
+    /// What the unit is made of. Own.
     pub fn body(&self) -> &Body
         ensures value { result.now ≡ self.now }
         ensures fits { Fits self.now }

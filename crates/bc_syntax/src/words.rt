@@ -20,7 +20,8 @@ fn are_region_bytes(bytes: &[u8]) -> bool
     bytes.iter().all(|byte| byte.is_ascii_lowercase() || byte.is_ascii_digit() || *byte == b'_')
 }
 
-fn are_run_bytes(bytes: &[u8]) -> bool
+/// Whether each of these bytes is a letter, a digit or `_`. Own.
+pub fn are_run_bytes(bytes: &[u8]) -> bool
     ensures { result ≡ list_all is_run_byte bytes.now }
 {
     bytes.iter().all(|byte| is_run_byte(*byte))

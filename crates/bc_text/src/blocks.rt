@@ -94,7 +94,7 @@ fn block(
     }
 }
 
-/// The blocks of a body: at least one.
+/// The blocks of a body: at least one. Own.
 #[tactic(auto, unfolding(crate::specs::Reading::blocks, crate::specs::Reading::blocks_turn))]
 pub fn blocks(
     alloc: Global,

@@ -4,7 +4,7 @@ ghost use Rattle.std.specs.List.{zip, filter};
 ghost use Rattle.bc_tokens.specs.Parser.{Reads, declared_from, declared_list};
 ghost use Rattle.bc_text.specs.Reading.{Answers, ReadsMarks, begins_mark, structs_in};
 ghost use Rattle.bc_text.specs.Spells.{SpellsTypes};
-ghost use Rattle.bc_syntax.specs.Fits.{TypesFit, is_struct};
+ghost use Rattle.bc_syntax.specs.Fits.{TypesFit};
 ghost use Rattle.bc_syntax.specs.declared.syntax.Declaration.{Declaration as DeclarationValue};
 ghost use Rattle.std.specs.Prelude.{List};
 ghost use Rattle.bc_text.specs.declared.fault.ReadFault.TheVariants.{TooLong};
@@ -16,7 +16,7 @@ use crate::regions::{item_name, new_region, refuse_past};
 use crate::types::{begins_ty, ty};
 use bc_syntax::{
     Declaration, ExternDeclaration, ItemName, RegionName, Sequence, StructDeclaration, Symbol, Ty,
-    Types, Variance,
+    Types, Variance, is_struct,
 };
 use bc_tokens::{Cursor, Refusal};
 use std::alloc::Global;
@@ -203,15 +203,6 @@ fn declaration(
     }
     cursor.expect(Symbol::Extern)?;
     Ok(Declaration::Extern(extern_declaration(alloc, cursor)?))
-}
-
-fn is_struct(declaration: &Declaration) -> bool
-    ensures { result ≡ is_struct declaration.now }
-{
-    match declaration {
-        Declaration::Struct(_) => true,
-        Declaration::Extern(_) => false,
-    }
 }
 
 fn begins_declaration(cursor: &Cursor<'_>) -> bool

@@ -4,19 +4,17 @@ ghost use Rattle.std.proofs.Common.{rules};
 ghost use Rattle.std.specs.Char.{is_ascii_digit};
 ghost use Rattle.std.specs.Cmp.{partial_order_from_own_ties};
 ghost use Rattle.std.specs.Cmp.Rules.{comparing};
-ghost use Rattle.std.specs.List.{list_all};
 ghost use Rattle.std.specs.Ordering.{as_partial_cmp};
-ghost use Rattle.bc_syntax.specs.Bytes.{is_run_byte};
 ghost use Rattle.bc_text.specs.Names.{IsName, NameParts, begins_root, is_root, first_segment, name_text, name_order, is_same_name};
 
-use bc_syntax::{byte_at, from, is_run_byte, run};
+use bc_syntax::{are_run_bytes, byte_at, from, run};
 use std::cmp::Ordering;
 use std::fmt;
 use std::marker::Model;
 
 /// A name: a root of 1 to 32 letters, digits and `_` that does not begin with a digit, and up to seven segments,
 /// numbers from 0 to 63. Names are ordered by root bytes, then by segments as numbers, a beginning before what goes
-/// on.
+/// on. Own.
 #[derive(Clone, Copy, Debug)]
 pub struct Name {
     root: [u8; 32],
@@ -47,12 +45,6 @@ fn begins_root(byte: u8) -> bool
     byte.is_ascii_alphabetic() || byte == b'_'
 }
 
-fn are_run_bytes(bytes: &[u8]) -> bool
-    ensures { result ≡ list_all is_run_byte bytes.now }
-{
-    bytes.iter().all(|byte| is_run_byte(*byte))
-}
-
 fn is_root(bytes: &[u8]) -> bool
     ensures { result ≡ is_root bytes.now }
 {
@@ -76,7 +68,7 @@ fn first_segment(bytes: &[u8]) -> Option<(u8, usize)>
 
 impl Name {
     /// The name that the bytes spell: a root, then a `/` and a number for each segment. `None` exactly where they
-    /// spell none.
+    /// spell none. Own.
     pub fn read(bytes: &[u8]) -> Option<Name>
         // What is answered is spelled so.
         ensures found { IfSome result (λ name. IsName name × (bytes.now ≡ name_text name)) }
@@ -111,7 +103,7 @@ impl Name {
     }
 
     /// The name of a closure of this one, by its number; `None` exactly where the number is above 63 or this name
-    /// has seven segments.
+    /// has seven segments. Own.
     pub fn child(self, number: u8) -> Option<Name>
         ensures { result ≡ (if nat_le number 63 && nat_lt (length self.segments) 7 then Some (record { root = self.root; segments = self.segments ++ number ∷ [] }) else None) }
     {
@@ -124,7 +116,7 @@ impl Name {
         Some(child)
     }
 
-    /// The bytes of the root.
+    /// The bytes of the root. Own.
     pub fn root(&self) -> &[u8]
         ensures value { result.now ≡ self.now.root }
         ensures name { IsName self.now }
@@ -132,21 +124,21 @@ impl Name {
         &self.root[..usize::from(self.root_len)]
     }
 
-    /// The root as text.
+    /// The root as text. Own.
     pub fn root_str(&self) -> &str
         ensures { result.now ≡ self.now.root }
     {
         str::from_utf8(self.root()).unwrap()
     }
 
-    /// The segments, as numbers.
+    /// The segments, as numbers. Own.
     pub fn segments(&self) -> &[u8]
         ensures { result.now ≡ self.now.segments }
     {
         &self.segments[..usize::from(self.depth)]
     }
 
-    /// How many segments the name has.
+    /// How many segments the name has. Own.
     pub fn depth(&self) -> usize
         ensures { result ≡ length self.now.segments }
     {

@@ -12,7 +12,7 @@ use bc_syntax::{
 use bc_tokens::{Cursor, Refusal};
 use std::alloc::Global;
 
-/// A local that was declared.
+/// A local that was declared. Own.
 #[inline(always)]
 #[tactic(auto, unfolding(crate::specs::Reading::local))]
 pub fn local(cursor: &mut Cursor<'_>, locals: u16) -> Result<u8, Refusal>
@@ -61,7 +61,7 @@ fn projections(
     Ok(found)
 }
 
-/// A place.
+/// A place. Own.
 #[inline(always)]
 #[tactic(auto, unfolding(crate::specs::Reading::place))]
 pub fn place(alloc: Global, cursor: &mut Cursor<'_>, locals: u16) -> Result<Place, Refusal>
@@ -84,7 +84,7 @@ fn moved(alloc: Global, cursor: &mut Cursor<'_>, locals: u16) -> Result<Operand,
     }
 }
 
-/// An operand.
+/// An operand. Own.
 #[inline(always)]
 #[tactic(auto, unfolding(crate::specs::Reading::operand))]
 pub fn operand(alloc: Global, cursor: &mut Cursor<'_>, locals: u16) -> Result<Operand, Refusal>
@@ -122,7 +122,7 @@ fn some_operands(
     Err(refuse_past(begins_operand(cursor), cursor))
 }
 
-/// Operands, with their parentheses.
+/// Operands, with their parentheses. Own.
 #[tactic(auto, unfolding(bc_tokens::specs::Parser::closed_list, crate::specs::Reading::operands))]
 pub fn operands(
     alloc: Global,
@@ -204,7 +204,7 @@ fn computed(
     }
 }
 
-/// What an assignment computes.
+/// What an assignment computes. Own.
 #[tactic(auto, unfolding(crate::specs::Reading::rvalue))]
 pub fn rvalue(
     alloc: Global,

@@ -10,14 +10,14 @@ use bc_syntax::{Assignment, Call, Condition, Place, RegionName, Statement, Symbo
 use bc_tokens::{Cursor, Refusal};
 use std::alloc::Global;
 
-/// A statement or a terminator.
+/// A statement or a terminator. Own.
 #[derive(Drop)]
 pub enum Point {
     Statement(Statement),
     Terminator(Terminator),
 }
 
-/// A label, by its number.
+/// A label, by its number. Own.
 #[tactic(auto, unfolding(crate::specs::Reading::label))]
 pub fn label(cursor: &mut Cursor<'_>) -> Result<u8, Refusal>
     ensures { Reads (spec.label cursor.old) result cursor.new }
@@ -200,7 +200,7 @@ fn stopping(
     }
 }
 
-/// A statement or a terminator.
+/// A statement or a terminator. Own.
 #[tactic(auto, unfolding(crate::specs::Reading::point))]
 pub fn read_point(
     alloc: Global,

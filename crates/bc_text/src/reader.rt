@@ -88,7 +88,7 @@ fn signature(
     })
 }
 
-/// A header that declares at most so many regions, behind its first word or its name.
+/// A header that declares at most so many regions, behind its first word or its name. Own.
 #[tactic(auto, unfolding(crate::specs::Reading::header_of))]
 pub fn header_of(alloc: Global, cursor: &mut Cursor<'_>, limit: u8) -> Result<Header, Refusal>
     requires { limit ≤ 15 }
@@ -207,7 +207,7 @@ fn read_whole(alloc: Global, bytes: &[u8]) -> Result<Unit, ReadFault>
     Ok(Unit::of_fitting(body(alloc, &mut cursor)?))
 }
 
-/// How many bytes a text may have.
+/// How many bytes a text may have. Own.
 pub const MAX_TEXT: usize = 1_048_576;
 
 /// The unit that a text spells. `TooLong` comes exactly where the text has more than 1,048,576 bytes; `NotAscii`,

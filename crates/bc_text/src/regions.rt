@@ -12,7 +12,7 @@ use bc_syntax::{
 use bc_tokens::{Cursor, Refusal};
 use std::alloc::Global;
 
-/// The refusal of an item that is one too many, or of what is no item.
+/// The refusal of an item that is one too many, or of what is no item. Own.
 pub fn refuse_past(begins: bool, cursor: &Cursor<'_>) -> Refusal
     ensures { result ≡ (if begins then Limit (position cursor.now) else fault cursor.now) }
 {
@@ -25,7 +25,7 @@ pub fn refuse_past(begins: bool, cursor: &Cursor<'_>) -> Refusal
     }
 }
 
-/// A universal region, by its number.
+/// A universal region, by its number. Own.
 #[tactic(auto, unfolding(crate::specs::Reading::universal))]
 pub fn universal(cursor: &mut Cursor<'_>, regions: &[RegionName]) -> Result<u8, Refusal>
     requires { length regions.now ≤ 15 }
@@ -39,7 +39,7 @@ pub fn universal(cursor: &mut Cursor<'_>, regions: &[RegionName]) -> Result<u8, 
     }
 }
 
-/// A region, by its number.
+/// A region, by its number. Own.
 #[tactic(auto, unfolding(crate::specs::Reading::region))]
 pub fn region(
     cursor: &mut Cursor<'_>,
@@ -62,7 +62,7 @@ fn begins_region(cursor: &Cursor<'_>, variables: bool) -> bool
     cursor.sees_region() || (variables && cursor.sees_numbered(Numbering::Variable))
 }
 
-/// A region that is declared here, where those before it are.
+/// A region that is declared here, where those before it are. Own.
 #[tactic(auto, unfolding(crate::specs::Reading::new_region))]
 pub fn new_region(
     alloc: Global,
@@ -100,7 +100,7 @@ fn some_new_regions(
     Err(refuse_past(cursor.sees_region(), cursor))
 }
 
-/// The regions that are declared here, at most so many.
+/// The regions that are declared here, at most so many. Own.
 #[tactic(auto, unfolding(bc_tokens::specs::Parser::declared_list))]
 pub fn new_regions(
     alloc: Global,
@@ -118,7 +118,7 @@ pub fn new_regions(
     Ok(found)
 }
 
-/// The name of a struct or of an extern function.
+/// The name of a struct or of an extern function. Own.
 #[tactic(auto, unfolding(crate::specs::Reading::item_name))]
 pub fn item_name(alloc: Global, cursor: &mut Cursor<'_>) -> Result<ItemName, Refusal>
     ensures { Reads (spec.item_name cursor.old) result cursor.new }
@@ -170,7 +170,7 @@ fn arguments(
     Ok(found)
 }
 
-/// A declared item with regions for its own.
+/// A declared item with regions for its own. Own.
 #[tactic(auto, unfolding(crate::specs::Reading::instance))]
 pub fn instance(
     alloc: Global,

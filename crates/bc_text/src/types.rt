@@ -19,7 +19,7 @@ fn mutability(cursor: &mut Cursor<'_>) -> Mutability
     }
 }
 
-/// What stands behind a `&`: a region, and `mut` or not.
+/// What stands behind a `&`: a region, and `mut` or not. Own.
 #[tactic(auto, unfolding(crate::specs::Reading::reference))]
 pub fn reference(
     cursor: &mut Cursor<'_>,
@@ -34,7 +34,7 @@ pub fn reference(
     Ok(Reference { region, mutability })
 }
 
-/// Whether a type may begin here.
+/// Whether a type may begin here. Own.
 pub fn begins_ty(cursor: &Cursor<'_>) -> bool
     ensures { result ≡ spec.begins_ty cursor.now }
 {
@@ -58,7 +58,7 @@ fn base(
     }
 }
 
-/// A type.
+/// A type. Own.
 #[tactic(auto, unfolding(crate::specs::Reading::ty))]
 pub fn ty(
     alloc: Global,
@@ -99,7 +99,7 @@ fn some_tys(
     Err(refuse_past(begins_ty(cursor), cursor))
 }
 
-/// The types of parameters, with their parentheses.
+/// The types of parameters, with their parentheses. Own.
 #[tactic(auto, unfolding(bc_tokens::specs::Parser::closed_list, crate::specs::Reading::parameters))]
 pub fn parameters(
     alloc: Global,

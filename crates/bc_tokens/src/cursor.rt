@@ -1,11 +1,12 @@
 //! A cursor over the tokens of a text, which cuts each as it is reached.
-ghost use Rattle.std.specs.Prelude.{◌≡◌, ◌≢◌, ◌≤◌, ◌<◌, ◌+◌, ◌^◌, ℕ, length, slice_index, Some, None, nat_le, true, false, IsSome, if◌then◌else◌, IfOk, MatchOption, take_while};
+ghost use Rattle.std.specs.Prelude.{◌≡◌, ◌≢◌, ◌≤◌, ◌<◌, ◌+◌, ◌^◌, ℕ, length, slice_index, Some, None, Err, nat_le, true, false, IsSome, if◌then◌else◌, IfOk, MatchOption, take_while};
 ghost use Rattle.std.specs.Char.{is_ascii_alphabetic, is_ascii_digit};
 ghost use Rattle.bc_print.specs.Token.{End, Numbered};
 ghost use Rattle.bc_tokens.specs.Token.{Keeps, tokens, shown, lexeme, value, is_blank};
 ghost use Rattle.bc_print.specs.declared.numbering.Numbering.{Numbering};
 ghost use Rattle.bc_tokens.specs.Parser as spec;
 ghost use Rattle.bc_tokens.specs.Parser.{Reads, ReadsAs, first, after};
+ghost use Rattle.bc_tokens.specs.declared.refusal.Refusal.TheVariants.{NoMemory};
 
 use crate::refusal::Refusal;
 use crate::token::{
@@ -15,7 +16,7 @@ use bc_print::Numbering;
 use bc_syntax::{Symbol, behind, same};
 use std::marker::Model;
 
-/// The tokens of a text from one of them on.
+/// The tokens of a text from one of them on. Own.
 #[derive(Drop)]
 pub struct Cursor<'a> {
     token: Token<'a>,
@@ -54,7 +55,7 @@ fn same_numbering(a: Numbering, b: Numbering) -> bool
 }
 
 impl<'a> Cursor<'a> {
-    /// The tokens of a text that lies at a place.
+    /// The tokens of a text that lies at a place. Own.
     pub fn new(text: &'a [u8], at: usize) -> Cursor<'a>
         requires { at + length text.now < 2 ^ 64 }
         ensures { result ≡ tokens 0 at text.now }
@@ -69,17 +70,19 @@ impl<'a> Cursor<'a> {
         cursor
     }
 
-    /// Where the next token begins.
+    /// Where the next token begins. Own.
     pub fn position(&self) -> usize
         ensures { result ≡ spec.position self.now }
     {
         self.at
     }
 
-    /// The fault of the next token, where the grammar does not allow it.
+    /// The fault of the next token, where the grammar does not allow it: `NotAscii` and `Token` of what is no token, else
+    /// `Grammar`. Own.
     #[tactic(auto, unfolding(crate::specs::Parser::fault))]
     pub fn fault(&self) -> Refusal
-        ensures { result ≡ spec.fault self.now }
+        ensures value { result ≡ spec.fault self.now }
+        ensures memory { result ≢ NoMemory }
     {
         let at = self.at;
         match self.token.kind {
@@ -91,7 +94,7 @@ impl<'a> Cursor<'a> {
         }
     }
 
-    /// Goes past the next token.
+    /// Goes past the next token. Own.
     #[inline(never)]
     pub fn take(&mut self)
         requires { (first self.old).token ≢ End }
@@ -210,7 +213,7 @@ impl<'a> Cursor<'a> {
         }
     }
 
-    /// Takes this symbol, if it comes next.
+    /// Takes this symbol, if it comes next, and answers whether it did. Own.
     #[tactic(auto, unfolding(crate::specs::Parser::after_symbol))]
     pub fn eat(&mut self, symbol: Symbol) -> bool
         ensures found { result ≡ spec.sees symbol self.old }
@@ -226,7 +229,8 @@ impl<'a> Cursor<'a> {
     /// Takes this symbol, or refuses what comes in its place. Own.
     #[tactic(auto, unfolding(crate::specs::Parser::expect))]
     pub fn expect(&mut self, symbol: Symbol) -> Result<(), Refusal>
-        ensures { Reads (spec.expect symbol self.old) result self.new }
+        ensures reads { Reads (spec.expect symbol self.old) result self.new }
+        ensures memory { result ≢ Err NoMemory }
     {
         if !self.sees(symbol) {
             return Err(self.fault());
@@ -247,11 +251,13 @@ impl<'a> Cursor<'a> {
         }
     }
 
-    /// A number, a local, a label or a variable, by its number.
+    /// A number, a local, a label or a variable, by its number. `Limit` where the number is above the limit; the fault of
+    /// what comes in its place. Own.
     #[tactic(auto, unfolding(crate::specs::Parser::numbered))]
     pub fn numbered(&mut self, numbering: Numbering, limit: u32) -> Result<u32, Refusal>
         ensures reads { Reads (spec.numbered numbering limit self.old) result self.new }
         ensures within { IfOk result (λ n. n ≤ limit) }
+        ensures memory { result ≢ Err NoMemory }
     {
         if !self.is_numbered(numbering) {
             return Err(self.fault());
@@ -274,7 +280,7 @@ impl<'a> Cursor<'a> {
         }
     }
 
-    /// Whether the next token is of this numbering.
+    /// Whether the next token is of this numbering. Own.
     #[tactic(auto, unfolding(crate::specs::Parser::sees_numbered))]
     pub fn sees_numbered(&self, numbering: Numbering) -> bool
         ensures { result ≡ spec.sees_numbered numbering self.now }
@@ -297,10 +303,11 @@ impl<'a> Cursor<'a> {
         }
     }
 
-    /// A region, by its name.
+    /// A region, by its name. `Limit` where it has more than 16 bytes; the fault of what comes in its place. Own.
     #[tactic(auto, unfolding(crate::specs::Parser::region_name))]
     pub fn region_name(&mut self) -> Result<&'a [u8], Refusal>
-        ensures { ReadsAs (λ name. name.now) (spec.region_name self.old) result self.new }
+        ensures reads { ReadsAs (λ name. name.now) (spec.region_name self.old) result self.new }
+        ensures memory { result ≢ Err NoMemory }
     {
         let Some(name) = self.name() else {
             return Err(self.fault());
@@ -312,7 +319,7 @@ impl<'a> Cursor<'a> {
         Ok(name)
     }
 
-    /// Whether a region's name comes next.
+    /// Whether a region's name comes next. Own.
     #[tactic(auto, unfolding(crate::specs::Parser::sees_region))]
     pub fn sees_region(&self) -> bool
         ensures { result ≡ spec.sees_region self.now }
@@ -335,7 +342,7 @@ impl<'a> Cursor<'a> {
         }
     }
 
-    /// Whether a word that is no keyword comes next.
+    /// Whether a word that is no keyword comes next. Own.
     #[tactic(auto, unfolding(crate::specs::Parser::sees_word))]
     pub fn sees_word(&self) -> bool
         ensures { result ≡ spec.sees_word self.now }
@@ -343,10 +350,11 @@ impl<'a> Cursor<'a> {
         self.plain_word().is_some()
     }
 
-    /// A word that is no keyword.
+    /// A word that is no keyword. `Limit` where it has more than 32 bytes; the fault of what comes in its place. Own.
     #[tactic(auto, unfolding(crate::specs::Parser::word))]
     pub fn word(&mut self) -> Result<&'a [u8], Refusal>
-        ensures { ReadsAs (λ name. name.now) (spec.word self.old) result self.new }
+        ensures reads { ReadsAs (λ name. name.now) (spec.word self.old) result self.new }
+        ensures memory { result ≢ Err NoMemory }
     {
         let Some(name) = self.plain_word() else {
             return Err(self.fault());
@@ -358,10 +366,11 @@ impl<'a> Cursor<'a> {
         Ok(name)
     }
 
-    /// That nothing more comes.
+    /// That nothing more comes, or the fault of the next token. Own.
     #[tactic(auto, unfolding(crate::specs::Parser::at_end))]
     pub fn at_end(&self) -> Result<(), Refusal>
-        ensures { Reads (spec.at_end self.now) result self.now }
+        ensures reads { Reads (spec.at_end self.now) result self.now }
+        ensures memory { result ≢ Err NoMemory }
     {
         match self.token.kind {
             Kind::End => Ok(()),

@@ -23,7 +23,7 @@ pub enum Kind {
     End,
 }
 
-/// A token: its kind, the digits or the name in it, and what the digits count.
+/// A token: its kind, the digits or the name in it, and what the digits count. Own.
 #[derive(Clone, Copy, Debug)]
 pub struct Token<'a> {
     pub kind: Kind,
@@ -33,7 +33,7 @@ pub struct Token<'a> {
 }
 
 impl<'a> Token<'a> {
-    /// A token of which there is no more to say than its kind.
+    /// A token of which there is no more to say than its kind. Own.
     pub fn bare(kind: Kind) -> Token<'a>
         ensures kind { result.kind ≡ kind }
         ensures keeps { Keeps result.kind result.text.now result.number }
@@ -249,7 +249,7 @@ fn sign_token<'a>(byte: u8) -> Token<'a>
     }
 }
 
-/// The token at the front of a text that begins with a digit, and how many bytes it has.
+/// The token at the front of a text that begins with a digit, and how many bytes it has. Own.
 #[inline(always)]
 pub fn number_lexeme(bytes: &[u8]) -> (Token<'_>, usize)
     requires { is_ascii_digit (slice_index bytes.now 0) ≡ true }
@@ -262,7 +262,7 @@ pub fn number_lexeme(bytes: &[u8]) -> (Token<'_>, usize)
     number_token(Numbering::Number, bytes)
 }
 
-/// The token at the front of a text that begins with `_`, and how many bytes it has.
+/// The token at the front of a text that begins with `_`, and how many bytes it has. Own.
 #[inline(always)]
 pub fn local_lexeme(bytes: &[u8]) -> (Token<'_>, usize)
     requires { slice_index bytes.now 0 ≡ 95 }
@@ -276,7 +276,7 @@ pub fn local_lexeme(bytes: &[u8]) -> (Token<'_>, usize)
     (token, 1 + len)
 }
 
-/// The token at the front of a text that begins with a letter, and how many bytes it has.
+/// The token at the front of a text that begins with a letter, and how many bytes it has. Own.
 #[inline(always)]
 pub fn letter_lexeme(bytes: &[u8]) -> (Token<'_>, usize)
     requires { is_ascii_alphabetic (slice_index bytes.now 0) ≡ true }
@@ -289,7 +289,7 @@ pub fn letter_lexeme(bytes: &[u8]) -> (Token<'_>, usize)
     letter_token(bytes)
 }
 
-/// The token at the front of a text that begins with `'`, and how many bytes it has.
+/// The token at the front of a text that begins with `'`, and how many bytes it has. Own.
 #[inline(always)]
 pub fn quoted_lexeme(bytes: &[u8]) -> (Token<'_>, usize)
     requires { slice_index bytes.now 0 ≡ 39 }
@@ -303,7 +303,7 @@ pub fn quoted_lexeme(bytes: &[u8]) -> (Token<'_>, usize)
     (token, 1 + len)
 }
 
-/// The token at the front of any other text, and how many bytes it has.
+/// The token at the front of any other text, and how many bytes it has. Own.
 #[inline(always)]
 pub fn sign_lexeme(bytes: &[u8]) -> (Token<'_>, usize)
     requires some { 0 < length bytes.now }

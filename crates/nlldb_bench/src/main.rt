@@ -1,15 +1,19 @@
-//! Reads three long texts, and analyses three large bodies, many times. What was read and found goes to standard output and is
-//! the same at each run; how fast goes to standard error.
+//! Reads three long texts, analyses three large bodies, solves constraints between many regions and checks a file of many bodies,
+//! many times. What was read and found goes to standard output and is the same at each run; how fast goes to standard error.
 #![tactic(auto)]
 
 mod analyses;
 mod bodies;
+mod chains;
+mod files;
 mod random;
 mod readings;
 mod texts;
 
 use crate::analyses::measure_body;
 use crate::bodies::{borrows_and_reads, borrows_and_writes, branches};
+use crate::chains::{Shape, measure_constraints};
+use crate::files::{many_bodies, measure_file};
 use crate::readings::{count, time};
 use crate::texts::{dense, indented, repeated};
 use std::io::Write;
@@ -29,20 +33,49 @@ fn measure<O: Write, E: Write>(
     Ok(())
 }
 
+fn measure_texts<O: Write, E: Write>(
+    rt: &HostRuntime,
+    out: &mut O,
+    err: &mut E,
+) -> anyhow::Result<()> {
+    let text = indented(rt.alloc())?;
+    measure(rt, "indented lines", &text, out, err)?;
+    let text = dense(rt.alloc())?;
+    measure(rt, "dense, random operands", &text, out, err)?;
+    let text = repeated(rt.alloc())?;
+    measure(rt, "dense, one statement", &text, out, err)
+}
+
+fn measure_bodies<O: Write, E: Write>(
+    rt: &HostRuntime,
+    out: &mut O,
+    err: &mut E,
+) -> anyhow::Result<()> {
+    let text = borrows_and_reads(rt.alloc())?;
+    measure_body(rt, "borrows and reads", &text, out, err)?;
+    let text = borrows_and_writes(rt.alloc())?;
+    measure_body(rt, "borrows and writes", &text, out, err)?;
+    let text = branches(rt.alloc())?;
+    measure_body(rt, "branches", &text, out, err)
+}
+
+fn measure_solving<O: Write, E: Write>(
+    rt: &HostRuntime,
+    out: &mut O,
+    err: &mut E,
+) -> anyhow::Result<()> {
+    measure_constraints(rt, "chain", Shape::Chain, out, err)?;
+    measure_constraints(rt, "chain back", Shape::ChainBack, out, err)?;
+    measure_constraints(rt, "ring", Shape::Ring, out, err)?;
+    measure_constraints(rt, "random pairs", Shape::RandomPairs, out, err)
+}
+
 fn main(rt: HostRuntime) -> anyhow::Result<()> {
     let mut out = rt.stdout();
     let mut err = rt.stderr();
-    let text = indented(rt.alloc())?;
-    measure(&rt, "indented lines", &text, &mut out, &mut err)?;
-    let text = dense(rt.alloc())?;
-    measure(&rt, "dense, random operands", &text, &mut out, &mut err)?;
-    let text = repeated(rt.alloc())?;
-    measure(&rt, "dense, one statement", &text, &mut out, &mut err)?;
-    let text = borrows_and_reads(rt.alloc())?;
-    measure_body(&rt, "borrows and reads", &text, &mut out, &mut err)?;
-    let text = borrows_and_writes(rt.alloc())?;
-    measure_body(&rt, "borrows and writes", &text, &mut out, &mut err)?;
-    let text = branches(rt.alloc())?;
-    measure_body(&rt, "branches", &text, &mut out, &mut err)?;
-    Ok(())
+    measure_texts(&rt, &mut out, &mut err)?;
+    measure_bodies(&rt, &mut out, &mut err)?;
+    measure_solving(&rt, &mut out, &mut err)?;
+    let file = many_bodies(rt.alloc())?;
+    measure_file(&rt, "many bodies", &file, &mut out, &mut err)
 }

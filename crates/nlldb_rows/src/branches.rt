@@ -1,8 +1,6 @@
 //! Bodies with branches, loops, declared regions and drops, asked of a database.
-use crate::fixture::{asked, asked_over, conflict, point, reports};
+use crate::fixture::{Wanted, are_found, conflict, finds_over, point};
 use bc_judge::BorrowError;
-use bc_text::read_unit;
-use std::alloc::Global;
 use std::test::Fail;
 
 const RETURNED_ON_ONE_BRANCH: &[u8] =
@@ -23,45 +21,44 @@ const RESULT_OF_ANOTHER_LIFETIME: &[u8] =
 const RESULT_OF_A_LONGER_LIFETIME: &[u8] =
     b"fn <'a,'b> where 'b: 'a (&'a int, &'b int) -> &'a int { bb0 { _0 = copy _2; return; } }";
 
-fn is_answer(alloc: Global, text: &[u8], errors: &[BorrowError]) -> Result<bool, Fail> {
-    let found = asked(alloc, read_unit(alloc, text)?)?;
-    Ok(reports(&found, errors))
-}
-
 #[test]
 fn a_reborrow_that_one_branch_returns_conflicts_on_the_other(rt: HostRuntime) -> Result<(), Fail> {
     let errors = [conflict(point(2, 0), point(0, 0))];
-    assert!(rt; is_answer(rt.alloc(), RETURNED_ON_ONE_BRANCH, &errors)?);
-    Ok(())
+    let rows: [(&[u8], Wanted); 1] = [(RETURNED_ON_ONE_BRANCH, Wanted::Errors(&errors))];
+    are_found(&rt, rt.alloc(), &rows)
 }
 
 #[test]
 fn an_assignment_in_a_loop_ends_its_own_loan(rt: HostRuntime) -> Result<(), Fail> {
-    assert!(rt; is_answer(rt.alloc(), LOOP_ENDS_ITS_LOAN, &[])?);
-    Ok(())
+    let rows: [(&[u8], Wanted); 1] = [(LOOP_ENDS_ITS_LOAN, Wanted::Errors(&[]))];
+    are_found(&rt, rt.alloc(), &rows)
 }
 
 #[test]
 fn a_result_must_not_dangle(rt: HostRuntime) -> Result<(), Fail> {
-    let dangling = BorrowError::Conflict {
+    let dangling = [BorrowError::Conflict {
         at: point(0, 2),
         access: 1,
         loan: point(0, 1),
-    };
-    assert!(rt; is_answer(rt.alloc(), RESULT_DANGLES, &[dangling])?);
-    assert!(rt; is_answer(rt.alloc(), RESULT_IS_THE_CALLERS, &[])?);
-    Ok(())
+    }];
+    let rows: [(&[u8], Wanted); 2] = [
+        (RESULT_DANGLES, Wanted::Errors(&dangling)),
+        (RESULT_IS_THE_CALLERS, Wanted::Errors(&[])),
+    ];
+    are_found(&rt, rt.alloc(), &rows)
 }
 
 #[test]
 fn a_lifetime_error_is_mended_by_its_clause(rt: HostRuntime) -> Result<(), Fail> {
-    let unknown = BorrowError::Lifetime {
+    let unknown = [BorrowError::Lifetime {
         longer: 2,
         shorter: 1,
-    };
-    assert!(rt; is_answer(rt.alloc(), RESULT_OF_ANOTHER_LIFETIME, &[unknown])?);
-    assert!(rt; is_answer(rt.alloc(), RESULT_OF_A_LONGER_LIFETIME, &[])?);
-    Ok(())
+    }];
+    let rows: [(&[u8], Wanted); 2] = [
+        (RESULT_OF_ANOTHER_LIFETIME, Wanted::Errors(&unknown)),
+        (RESULT_OF_A_LONGER_LIFETIME, Wanted::Errors(&[])),
+    ];
+    are_found(&rt, rt.alloc(), &rows)
 }
 
 const HOLDS_A_BORROW: &[u8] =
@@ -69,10 +66,13 @@ const HOLDS_A_BORROW: &[u8] =
 
 #[test]
 fn the_drop_of_a_marked_struct_uses_what_it_holds(rt: HostRuntime) -> Result<(), Fail> {
-    let marked = b"struct G<+'a> drop { &'a int; }".as_slice();
     let errors = [conflict(point(0, 3), point(0, 1))];
-    assert!(rt; reports(&*asked_over(rt.alloc(), marked, HOLDS_A_BORROW)?, &errors));
-    let plain = b"struct G<+'a> { &'a int; }".as_slice();
-    assert!(rt; reports(&*asked_over(rt.alloc(), plain, HOLDS_A_BORROW)?, &[]));
+    let rows: [(&[u8], Wanted); 2] = [
+        (b"struct G<+'a> drop { &'a int; }", Wanted::Errors(&errors)),
+        (b"struct G<+'a> { &'a int; }", Wanted::Errors(&[])),
+    ];
+    for (types, wanted) in rows {
+        assert!(rt; finds_over(rt.alloc(), types, HOLDS_A_BORROW, &wanted)?);
+    }
     Ok(())
 }

@@ -1,78 +1,164 @@
 //! Databases: their ranges, their sessions, their histories.
 use crate::fixture::{
-    WRITES_LAST, WRITES_WHILE_BORROWED, close, conflict, declared, name, open, point, reports,
+    WRITES_LAST, WRITES_WHILE_BORROWED, Wanted, conflict, declared, finds, name, open, point,
     shared,
 };
-use bc_book::{Call, PutReply, Refusal, Reply};
-use bc_prov::Outcome;
-use bc_share::{CloseFault, Db, OpenFault};
-use bc_text::read_unit;
+use bc_book::{Call, Entry, PutReply, Refusal, Reply};
+use bc_share::{CloseFault, Db, History, OpenFault, Session};
+use std::alloc::Global;
+use std::process::Abort;
 use std::test::Fail;
+
+/// A call with the reply that it is to have, or that a full history refuses it.
+#[derive(Clone, Copy)]
+enum Turn<'a> {
+    Put(&'a [u8], &'a [u8], PutReply),
+    Types(&'a [u8]),
+    Ask(&'a [u8], Wanted<'a>),
+    RefusedTypes(&'a [u8]),
+    RefusedAsk(&'a [u8]),
+}
+
+const INVARIANT_BUT_MARKED_COVARIANT: &[u8] = b"struct H<+'a> { &'static mut &'a int; }";
+
+const MARKED_INVARIANT: &[u8] = b"struct H<='a> { &'static mut &'a int; }";
+
+fn are_refused(alloc: Global, session: &mut Session, types: &[u8]) -> Result<bool, Fail> {
+    let types = declared(alloc, types)?;
+    Ok(session.put_types(types) == Err(Refusal::HistoryFull))
+}
+
+fn is_refused(session: &mut Session, asked: &[u8]) -> Result<bool, Fail> {
+    let asked = name(asked)?;
+    Ok(matches!(session.ask(&asked), Err(Refusal::HistoryFull)))
+}
+
+/// Makes a call, and answers whether it has its reply; fails where another reply is no reply of its kind.
+fn goes(alloc: Global, session: &mut Session, turn: &Turn) -> Result<bool, Fail> {
+    match turn {
+        Turn::Put(put, unit, reply) => {
+            Ok(session.put(name(put)?, shared(alloc, unit)?)? == *reply)
+        }
+        Turn::Types(types) => {
+            session.put_types(declared(alloc, types)?)?;
+            Ok(true)
+        }
+        Turn::Ask(asked, wanted) => finds(session, asked, wanted),
+        Turn::RefusedTypes(types) => are_refused(alloc, session, types),
+        Turn::RefusedAsk(asked) => is_refused(session, asked),
+    }
+}
+
+fn all_go(
+    rt: &impl Abort,
+    alloc: Global,
+    session: &mut Session,
+    turns: &[Turn],
+) -> Result<(), Fail> {
+    for (number, turn) in turns.iter().enumerate() {
+        assert!(rt; goes(alloc, session, turn)?, "call {number}");
+    }
+    Ok(())
+}
+
+/// Whether the close of a database with this session is refused, since the session is of another.
+fn is_foreign(alloc: Global, db: Db, session: Session) -> Result<bool, Fail> {
+    let mut sessions = Vec::new(alloc);
+    sessions.push(session)?;
+    Ok(matches!(db.close(sessions), Err(CloseFault::Foreign)))
+}
+
+/// The history of a database whose one session is given back; fails where `Db::close` does.
+fn close(alloc: Global, db: Db, session: Session) -> Result<History, Fail> {
+    let mut sessions = Vec::new(alloc);
+    sessions.push(session)?;
+    Ok(db.close(sessions)?)
+}
+
+/// The history of a new database with so many entries at most, whose session makes these calls.
+fn history_of(
+    rt: &impl Abort,
+    alloc: Global,
+    capacity: u32,
+    turns: &[Turn],
+) -> Result<History, Fail> {
+    let (db, mut session) = open(alloc, 0, capacity)?;
+    all_go(rt, alloc, &mut session, turns)?;
+    close(alloc, db, session)
+}
+
+/// Each entry has the number of those before it.
+fn are_numbered(rt: &impl Abort, entries: &[Entry]) {
+    for (number, entry) in entries.iter().enumerate() {
+        assert_eq!(rt; entry.number as usize, number);
+    }
+}
+
+/// The calls of these numbers stored declarations, and no others.
+fn are_stored(rt: &impl Abort, entries: &[Entry], numbers: [usize; 2]) {
+    let [first, second] = numbers;
+    for (number, entry) in entries.iter().enumerate() {
+        let stored = matches!(&entry.event.call, Call::Types(_));
+        assert_eq!(rt; stored, number == first || number == second);
+        assert_eq!(rt; stored, matches!(&entry.event.reply, Reply::Stored));
+    }
+}
+
+fn is_out_of_range(alloc: Global, capacity: u32, sessions: u8) -> bool {
+    let opened = Db::open(alloc, 0, capacity, sessions);
+    matches!(opened, Err(OpenFault::Range))
+}
 
 #[test]
 fn a_history_has_a_capacity_and_a_database_its_sessions(rt: HostRuntime) -> Result<(), Fail> {
     for (capacity, sessions) in [(0, 1), (1, 17)] {
-        let opened = Db::open(rt.alloc(), 0, capacity, sessions);
-        assert!(rt; matches!(opened, Err(OpenFault::Range)));
+        assert!(rt; is_out_of_range(rt.alloc(), capacity, sessions));
     }
     let (_first, stranger) = open(rt.alloc(), 1, 1)?;
     let (second, _own) = open(rt.alloc(), 2, 1)?;
-    let mut sessions = Vec::new(rt.alloc());
-    sessions.push(stranger)?;
-    assert!(rt; matches!(second.close(sessions), Err(CloseFault::Foreign)));
+    assert!(rt; is_foreign(rt.alloc(), second, stranger)?);
     Ok(())
 }
 
 #[test]
 fn a_full_history_refuses_the_ask_behind_the_put(rt: HostRuntime) -> Result<(), Fail> {
-    let f = name(b"f")?;
-    let (db, mut session) = open(rt.alloc(), 0, 1)?;
-    let unit = shared(rt.alloc(), read_unit(rt.alloc(), WRITES_LAST)?)?;
-    assert_eq!(rt; session.put(f, unit)?, PutReply::Added);
-    assert!(rt; matches!(session.ask(&f), Err(Refusal::HistoryFull)));
-    assert_eq!(rt; close(rt.alloc(), db, session)?.entries().len(), 1);
+    let turns = [
+        Turn::Put(b"f", WRITES_LAST, PutReply::Added),
+        Turn::RefusedAsk(b"f"),
+    ];
+    let history = history_of(&rt, rt.alloc(), 1, &turns)?;
+    assert_eq!(rt; history.entries().len(), 1);
     Ok(())
 }
 
 #[test]
 fn four_calls_are_numbered_in_their_order(rt: HostRuntime) -> Result<(), Fail> {
-    let f = name(b"f")?;
-    let (db, mut session) = open(rt.alloc(), 0, 4)?;
-    let last = shared(rt.alloc(), read_unit(rt.alloc(), WRITES_LAST)?)?;
-    let while_borrowed = shared(rt.alloc(), read_unit(rt.alloc(), WRITES_WHILE_BORROWED)?)?;
-    assert_eq!(rt; session.put(name(b"f/0")?, last)?, PutReply::WrongKind);
-    let last = shared(rt.alloc(), read_unit(rt.alloc(), WRITES_LAST)?)?;
-    assert_eq!(rt; session.put(f, last)?, PutReply::Added);
-    assert_eq!(rt; session.put(f, while_borrowed)?, PutReply::Replaced);
     let errors = [conflict(point(0, 2), point(0, 1))];
-    assert!(rt; reports(&*session.ask(&f)?, &errors));
-    let history = close(rt.alloc(), db, session)?;
+    let turns = [
+        Turn::Put(b"f/0", WRITES_LAST, PutReply::WrongKind),
+        Turn::Put(b"f", WRITES_LAST, PutReply::Added),
+        Turn::Put(b"f", WRITES_WHILE_BORROWED, PutReply::Replaced),
+        Turn::Ask(b"f", Wanted::Errors(&errors)),
+    ];
+    let history = history_of(&rt, rt.alloc(), 4, &turns)?;
     assert_eq!(rt; history.entries().len(), 4);
-    for (number, entry) in history.entries().iter().enumerate() {
-        assert_eq!(rt; entry.number as usize, number);
-    }
+    are_numbered(&rt, history.entries());
     Ok(())
 }
 
 #[test]
 fn an_absent_name_is_told_behind_bad_declarations(rt: HostRuntime) -> Result<(), Fail> {
-    let g = name(b"g")?;
-    let (db, mut session) = open(rt.alloc(), 0, 5)?;
-    assert!(rt; matches!(*session.ask(&g)?, Outcome::NoBody));
-    let bad = b"struct H<+'a> { &'static mut &'a int; }".as_slice();
-    session.put_types(declared(rt.alloc(), bad)?)?;
-    assert!(rt; matches!(*session.ask(&g)?, Outcome::BadTypes(0)));
-    let good = b"struct H<='a> { &'static mut &'a int; }".as_slice();
-    session.put_types(declared(rt.alloc(), good)?)?;
-    assert!(rt; matches!(*session.ask(&g)?, Outcome::NoBody));
-    let refused = session.put_types(declared(rt.alloc(), good)?);
-    assert_eq!(rt; refused, Err(Refusal::HistoryFull));
-    let history = close(rt.alloc(), db, session)?;
+    let turns = [
+        Turn::Ask(b"g", Wanted::NoBody),
+        Turn::Types(INVARIANT_BUT_MARKED_COVARIANT),
+        Turn::Ask(b"g", Wanted::BadTypes(0)),
+        Turn::Types(MARKED_INVARIANT),
+        Turn::Ask(b"g", Wanted::NoBody),
+        Turn::RefusedTypes(MARKED_INVARIANT),
+    ];
+    let history = history_of(&rt, rt.alloc(), 5, &turns)?;
     assert_eq!(rt; history.entries().len(), 5);
-    for (number, entry) in history.entries().iter().enumerate() {
-        let stored = matches!(&entry.event.call, Call::Types(_));
-        assert_eq!(rt; stored, number == 1 || number == 3);
-        assert_eq!(rt; stored, matches!(&entry.event.reply, Reply::Stored));
-    }
+    are_numbered(&rt, history.entries());
+    are_stored(&rt, history.entries(), [1, 3]);
     Ok(())
 }

@@ -1,8 +1,9 @@
 //! Units typed over declarations: each form once, and for each rule a unit that breaks it, by their texts.
-use crate::fixture::point;
-use bc_mir::{CheckTypes, GoodTypes, IllFault, Where, type_unit};
+use bc_mir::{CheckTypes, GoodTypes, IllFault, Point, Typed, Where, type_unit};
+use bc_syntax::Unit;
 use bc_text::{read_types, read_unit};
 use std::alloc::{AllocError, Global};
+use std::process::Abort;
 use std::sync::Arc;
 use std::test::Fail;
 
@@ -21,8 +22,17 @@ const EACH_FORM: &[u8] = b"fn <'a> where 'a: 'static (A<'a>, &'a mut &'a int, in
       bb4 { goto bb4; } \
       bb5 { stop; } }";
 
+/// A unit breaks a rule in its header.
+const HEADER: Option<Where> = Some(Where::Header);
+
+/// A unit breaks a rule at the first step of its first block.
+pub const FIRST: Option<Where> = Some(Where::At(Point { block: 0, index: 0 }));
+
+/// A unit breaks a rule at the second step of its first block.
+pub const SECOND: Option<Where> = Some(Where::At(Point { block: 0, index: 1 }));
+
 /// The declarations that a text spells; fails where it spells none or one of them is bad.
-pub fn good_types(alloc: Global, text: &[u8]) -> Result<Arc<GoodTypes, Global>, Fail> {
+fn good_types(alloc: Global, text: &[u8]) -> Result<Arc<GoodTypes, Global>, Fail> {
     let good = read_types(alloc, text)?.check(alloc)?;
     match Arc::new(alloc, good) {
         Ok(types) => Ok(types),
@@ -30,60 +40,94 @@ pub fn good_types(alloc: Global, text: &[u8]) -> Result<Arc<GoodTypes, Global>, 
     }
 }
 
-/// Where a unit breaks a typing rule first, by its text, or none.
+fn typed_over(alloc: Global, types: &Arc<GoodTypes, Global>, unit: &[u8]) -> Result<Typed, Fail> {
+    let unit = read_unit(alloc, unit)?;
+    Ok(type_unit(alloc, types, &unit, &[])?)
+}
+
+/// The unit of a text, typed over the declarations of a text; fails where it breaks a typing rule.
+pub fn typed(alloc: Global, types: &[u8], unit: &[u8]) -> Result<Typed, Fail> {
+    let types = good_types(alloc, types)?;
+    typed_over(alloc, &types, unit)
+}
+
+/// Where a unit breaks a typing rule first, or none.
+fn misfit_of(
+    alloc: Global,
+    types: &Arc<GoodTypes, Global>,
+    unit: &Unit,
+) -> Result<Option<Where>, IllFault> {
+    match type_unit(alloc, types, unit, &[]) {
+        Ok(_) => Ok(None),
+        Err(IllFault::Ill(place)) => Ok(Some(place)),
+        Err(IllFault::NoMemory) => Err(IllFault::NoMemory),
+    }
+}
+
+/// Where the unit of a text breaks a typing rule first, or none.
 fn misfit(
     alloc: Global,
     types: &Arc<GoodTypes, Global>,
     text: &[u8],
 ) -> Result<Option<Where>, Fail> {
-    match type_unit(alloc, types, &read_unit(alloc, text)?, &[]) {
-        Ok(_) => Ok(None),
-        Err(IllFault::Ill(place)) => Ok(Some(place)),
-        Err(fault) => Err(fault)?,
+    let unit = read_unit(alloc, text)?;
+    Ok(misfit_of(alloc, types, &unit)?)
+}
+
+fn are_misfits_over(
+    rt: &impl Abort,
+    alloc: Global,
+    types: &Arc<GoodTypes, Global>,
+    rows: &[(&[u8], Option<Where>)],
+) -> Result<(), Fail> {
+    for (index, (text, place)) in rows.iter().enumerate() {
+        assert_eq!(rt; misfit(alloc, types, text)?, *place, "row {index}");
     }
+    Ok(())
+}
+
+/// Each unit breaks a typing rule there first, or none, over the declarations of a text.
+pub fn are_misfits(
+    rt: &impl Abort,
+    alloc: Global,
+    types: &[u8],
+    rows: &[(&[u8], Option<Where>)],
+) -> Result<(), Fail> {
+    let types = good_types(alloc, types)?;
+    are_misfits_over(rt, alloc, &types, rows)
 }
 
 #[test]
 fn each_form_is_typed(rt: HostRuntime) -> Result<(), Fail> {
-    let types = good_types(rt.alloc(), TYPES)?;
-    let typed = type_unit(rt.alloc(), &types, &read_unit(rt.alloc(), EACH_FORM)?, &[])?;
-    assert_eq!(rt; typed.steps().len(), 19);
-    assert_eq!(rt; typed.locals().len(), 9);
+    let typed = typed(rt.alloc(), TYPES, EACH_FORM)?;
+    let counts = (typed.steps().len(), typed.locals().len());
+    assert_eq!(rt; counts, (19, 9));
     Ok(())
 }
 
 #[test]
 fn a_struct_in_a_header_is_declared_with_its_regions(rt: HostRuntime) -> Result<(), Fail> {
-    let types = good_types(rt.alloc(), TYPES)?;
-    let rows: [(&[u8], bool); 9] = [
-        (b"fn()->int{bb0{return;}}".as_slice(), false),
-        (b"fn(Q)->int{bb0{return;}}", true),
-        (b"fn()->Q{bb0{goto bb9;}}", true),
-        (b"fn(A)->int{bb0{return;}}", true),
-        (b"fn(A<'static,'static>)->int{bb0{return;}}", true),
-        (b"fn()->int{let _1:&'?0 A;bb0{return;}}", true),
-        (b"fn()->int{let _1:k<'?0,'?1>;bb0{return;}}", true),
-        (b"fn(A<'static>)->&'static P{bb0{return;}}", false),
-        (b"fn()->int{let _1:M<'?0>;let _2:P;bb0{return;}}", false),
+    let rows: [(&[u8], Option<Where>); 9] = [
+        (b"fn()->int{bb0{return;}}", None),
+        (b"fn(Q)->int{bb0{return;}}", HEADER),
+        (b"fn()->Q{bb0{goto bb9;}}", HEADER),
+        (b"fn(A)->int{bb0{return;}}", HEADER),
+        (b"fn(A<'static,'static>)->int{bb0{return;}}", HEADER),
+        (b"fn()->int{let _1:&'?0 A;bb0{return;}}", HEADER),
+        (b"fn()->int{let _1:k<'?0,'?1>;bb0{return;}}", HEADER),
+        (b"fn(A<'static>)->&'static P{bb0{return;}}", None),
+        (b"fn()->int{let _1:M<'?0>;let _2:P;bb0{return;}}", None),
     ];
-    for (text, ill) in rows {
-        let place = misfit(rt.alloc(), &types, text)?;
-        assert_eq!(rt; place, ill.then_some(Where::Header));
-    }
-    Ok(())
+    are_misfits(&rt, rt.alloc(), TYPES, &rows)
 }
 
 #[test]
 fn places_and_labels_are_those_of_the_unit(rt: HostRuntime) -> Result<(), Fail> {
-    let types = good_types(rt.alloc(), TYPES)?;
-    let rows: [(&[u8], Option<usize>); 14] = [
-        (
-            b"fn(A<'static>)->int{bb0{nop;_0=copy _1.1;return;}}".as_slice(),
-            None,
-        ),
+    let rows: [(&[u8], Option<Where>); 14] = [
+        (b"fn(A<'static>)->int{bb0{nop;_0=copy _1.1;return;}}", None),
         (
             b"fn(A<'static>)->int{bb0{nop;_0=copy _1.2;return;}}",
-            Some(1),
+            SECOND,
         ),
         (
             b"fn(A<'static>)->int{bb0{nop;_0=copy _1.0.*;return;}}",
@@ -91,25 +135,25 @@ fn places_and_labels_are_those_of_the_unit(rt: HostRuntime) -> Result<(), Fail> 
         ),
         (
             b"fn(A<'static>)->int{bb0{nop;_0=copy _1.1.*;return;}}",
-            Some(1),
+            SECOND,
         ),
         (b"fn(P)->int{bb0{nop;_0=copy _1.1.0.*;return;}}", None),
         (
             b"fn(&'static mut P)->int{bb0{nop;_0=copy _1.0;return;}}",
-            Some(1),
+            SECOND,
         ),
-        (b"fn(&'static P)->int{bb0{nop;_1.*.1.1=1;return;}}", Some(1)),
+        (b"fn(&'static P)->int{bb0{nop;_1.*.1.1=1;return;}}", SECOND),
         (
             b"fn(&'static mut P)->int{bb0{nop;_1.*.1.1=1;return;}}",
             None,
         ),
         (
             b"fn(&'static mut P)->int{bb0{nop;_1.*.1.0.*=1;return;}}",
-            Some(1),
+            SECOND,
         ),
         (
             b"fn(&'static P)->int{let _2:&'?0 mut int;bb0{nop;_2=&'?0 mut _1.*.0;return;}}",
-            Some(1),
+            SECOND,
         ),
         (
             b"fn(P)->int{let _2:&'?0 mut int;bb0{nop;_2=&'?0 mut _1.0;return;}}",
@@ -117,29 +161,24 @@ fn places_and_labels_are_those_of_the_unit(rt: HostRuntime) -> Result<(), Fail> 
         ),
         (
             b"fn(A<'static>)->int{bb0{nop;_0=call g<'?0>(move _1,1) bb1;}}",
-            Some(1),
+            SECOND,
         ),
-        (b"fn()->int{bb0{nop;if 1 bb0 bb1;}}", Some(1)),
-        (b"fn()->int{bb0{drop _0.0;return;}}", Some(0)),
+        (b"fn()->int{bb0{nop;if 1 bb0 bb1;}}", SECOND),
+        (b"fn()->int{bb0{drop _0.0;return;}}", FIRST),
     ];
-    for (text, index) in rows {
-        let place = misfit(rt.alloc(), &types, text)?;
-        assert_eq!(rt; place, index.map(|index| Where::At(point(0, index))));
-    }
-    Ok(())
+    are_misfits(&rt, rt.alloc(), TYPES, &rows)
 }
 
 #[test]
 fn what_may_be_moved_dropped_and_copied(rt: HostRuntime) -> Result<(), Fail> {
-    let types = good_types(rt.alloc(), TYPES)?;
-    let rows: [(&[u8], Option<usize>); 9] = [
+    let rows: [(&[u8], Option<Where>); 9] = [
         (
-            b"fn(&'static mut int)->int{bb0{nop;_0=move _1.*;return;}}".as_slice(),
-            Some(1),
+            b"fn(&'static mut int)->int{bb0{nop;_0=move _1.*;return;}}",
+            SECOND,
         ),
         (
             b"fn(&'static mut P)->int{bb0{nop;_0=move _1.*.0;return;}}",
-            Some(1),
+            SECOND,
         ),
         (
             b"fn(G<'static>)->&'static int{bb0{nop;_0=move _1.0;return;}}",
@@ -147,16 +186,16 @@ fn what_may_be_moved_dropped_and_copied(rt: HostRuntime) -> Result<(), Fail> {
         ),
         (
             b"fn(&'static mut G<'static>)->int{bb0{nop;drop _1.*;return;}}",
-            Some(1),
+            SECOND,
         ),
         (b"fn(P)->int{bb0{nop;drop _1.1;return;}}", None),
         (
             b"fn(A<'static>)->A<'static>{bb0{nop;_0=copy _1;return;}}",
-            Some(1),
+            SECOND,
         ),
         (
             b"fn(M<'static>)->&'static mut &'static int{bb0{nop;_0=copy _1.0;return;}}",
-            Some(1),
+            SECOND,
         ),
         (
             b"fn(M<'static>)->&'static int{bb0{nop;_0=copy _1.0.*;return;}}",
@@ -167,133 +206,111 @@ fn what_may_be_moved_dropped_and_copied(rt: HostRuntime) -> Result<(), Fail> {
             None,
         ),
     ];
-    for (text, index) in rows {
-        let place = misfit(rt.alloc(), &types, text)?;
-        assert_eq!(rt; place, index.map(|index| Where::At(point(0, index))));
-    }
-    Ok(())
+    are_misfits(&rt, rt.alloc(), TYPES, &rows)
 }
 
 #[test]
 fn both_sides_of_an_assignment_have_one_shape(rt: HostRuntime) -> Result<(), Fail> {
-    let types = good_types(rt.alloc(), TYPES)?;
-    let rows: [(&[u8], Option<usize>); 8] = [
+    let rows: [(&[u8], Option<Where>); 8] = [
         (
-            b"fn<'a>(A<'a>)->A<'static>{bb0{nop;_0=move _1;return;}}".as_slice(),
+            b"fn<'a>(A<'a>)->A<'static>{bb0{nop;_0=move _1;return;}}",
             None,
         ),
         (
             b"fn(A<'static>)->G<'static>{bb0{nop;_0=move _1;return;}}",
-            Some(1),
+            SECOND,
         ),
         (
             b"fn(A<'static>)->int{bb0{nop;_0=copy _1.0;return;}}",
-            Some(1),
+            SECOND,
         ),
-        (
-            b"fn(A<'static>)->A<'static>{bb0{nop;_0=1;return;}}",
-            Some(1),
-        ),
+        (b"fn(A<'static>)->A<'static>{bb0{nop;_0=1;return;}}", SECOND),
         (
             b"fn(A<'static>)->&'static A<'static>{bb0{nop;_0=&'?0 _1;return;}}",
             None,
         ),
         (
             b"fn(A<'static>)->&'static G<'static>{bb0{nop;_0=&'?0 _1;return;}}",
-            Some(1),
+            SECOND,
         ),
         (
             b"fn(A<'static>)->&'static mut int{bb0{nop;_0=&'?0 _1.1;return;}}",
-            Some(1),
+            SECOND,
         ),
         (
             b"fn(A<'static>)->int{bb0{nop;_0=calc(copy _1.0);return;}}",
-            Some(1),
+            SECOND,
         ),
     ];
-    for (text, index) in rows {
-        let place = misfit(rt.alloc(), &types, text)?;
-        assert_eq!(rt; place, index.map(|index| Where::At(point(0, index))));
-    }
-    Ok(())
+    are_misfits(&rt, rt.alloc(), TYPES, &rows)
 }
 
 #[test]
 fn a_struct_is_made_of_its_fields(rt: HostRuntime) -> Result<(), Fail> {
-    let types = good_types(rt.alloc(), TYPES)?;
-    let rows: [(&[u8], Option<usize>); 7] = [
+    let rows: [(&[u8], Option<Where>); 7] = [
         (
-            b"fn(&'static int)->A<'static>{bb0{nop;_0=A<'?0>(copy _1,2);return;}}".as_slice(),
+            b"fn(&'static int)->A<'static>{bb0{nop;_0=A<'?0>(copy _1,2);return;}}",
             None,
         ),
         (
             b"fn(&'static int)->A<'static>{bb0{nop;_0=Q<'?0>(copy _1,2);return;}}",
-            Some(1),
+            SECOND,
         ),
         (
             b"fn(&'static int)->A<'static>{bb0{nop;_0=A(copy _1,2);return;}}",
-            Some(1),
+            SECOND,
         ),
         (
             b"fn(&'static int)->A<'static>{bb0{nop;_0=A<'?0>(copy _1);return;}}",
-            Some(1),
+            SECOND,
         ),
         (
             b"fn(&'static int)->A<'static>{bb0{nop;_0=A<'?0>(2,copy _1);return;}}",
-            Some(1),
+            SECOND,
         ),
         (
             b"fn(&'static int)->G<'static>{bb0{nop;_0=A<'?0>(copy _1,2);return;}}",
-            Some(1),
+            SECOND,
         ),
         (
             b"fn(&'static int)->A<'static>{bb0{nop;_0=g<'?0>(copy _1,2);return;}}",
-            Some(1),
+            SECOND,
         ),
     ];
-    for (text, index) in rows {
-        let place = misfit(rt.alloc(), &types, text)?;
-        assert_eq!(rt; place, index.map(|index| Where::At(point(0, index))));
-    }
-    Ok(())
+    are_misfits(&rt, rt.alloc(), TYPES, &rows)
 }
 
 #[test]
 fn a_call_is_of_a_declared_function(rt: HostRuntime) -> Result<(), Fail> {
-    let types = good_types(rt.alloc(), TYPES)?;
-    let rows: [(&[u8], Option<usize>); 7] = [
+    let rows: [(&[u8], Option<Where>); 7] = [
         (
-            b"fn(A<'static>)->&'static int{bb0{nop;_0=call g<'?0>(move _1,2) bb0;}}".as_slice(),
+            b"fn(A<'static>)->&'static int{bb0{nop;_0=call g<'?0>(move _1,2) bb0;}}",
             None,
         ),
         (
             b"fn(A<'static>)->&'static int{bb0{nop;_0=call q<'?0>(move _1,2) bb0;}}",
-            Some(1),
+            SECOND,
         ),
         (
             b"fn(A<'static>)->&'static int{bb0{nop;_0=call A<'?0>(move _1,2) bb0;}}",
-            Some(1),
+            SECOND,
         ),
         (
             b"fn(A<'static>)->&'static int{bb0{nop;_0=call g<'?0,'?1>(move _1,2) bb0;}}",
-            Some(1),
+            SECOND,
         ),
         (
             b"fn(A<'static>)->&'static int{bb0{nop;_0=call g<'?0>(move _1) bb0;}}",
-            Some(1),
+            SECOND,
         ),
         (
             b"fn(A<'static>)->&'static int{bb0{nop;_0=call g<'?0>(move _1,copy _1.0) bb0;}}",
-            Some(1),
+            SECOND,
         ),
         (
             b"fn(A<'static>)->int{bb0{nop;_0=call g<'?0>(move _1,2) bb0;}}",
-            Some(1),
+            SECOND,
         ),
     ];
-    for (text, index) in rows {
-        let place = misfit(rt.alloc(), &types, text)?;
-        assert_eq!(rt; place, index.map(|index| Where::At(point(0, index))));
-    }
-    Ok(())
+    are_misfits(&rt, rt.alloc(), TYPES, &rows)
 }

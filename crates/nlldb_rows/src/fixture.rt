@@ -1,11 +1,12 @@
-//! What the tests share: a database with one session, and the outcome of one body in it.
+//! What the tests share: the outcome of one body, and tables of bodies with their outcomes.
 use bc_judge::BorrowError;
-use bc_mir::Point;
+use bc_mir::{Point, Where};
 use bc_prov::{Outcome, outcome_of};
-use bc_share::{Db, History, Session};
+use bc_share::{Db, Session};
 use bc_syntax::{Types, Unit};
 use bc_text::{Name, read_types, read_unit};
 use std::alloc::{AllocError, Global};
+use std::process::Abort;
 use std::sync::Arc;
 use std::test::Fail;
 
@@ -16,6 +17,16 @@ pub const WRITES_LAST: &[u8] =
 /// Writes the local while the borrow of it is still used: one conflict.
 pub const WRITES_WHILE_BORROWED: &[u8] =
     b"fn () -> int { let _1: int; let _2: &'?0 int; bb0 { _1 = 1; _2 = &'?1 _1; _1 = 2; _0 = copy _2.*; return; } }";
+
+/// What an Ask is to find: no body; that this declaration is the first bad one; that what is asked for is ill, and
+/// where; or one body with these errors.
+#[derive(Clone, Copy)]
+pub enum Wanted<'a> {
+    NoBody,
+    BadTypes(usize),
+    Ill(Where),
+    Errors(&'a [BorrowError]),
+}
 
 /// The point of a block, both counted from 0.
 pub fn point(block: usize, index: usize) -> Point {
@@ -49,16 +60,9 @@ pub fn open(alloc: Global, tag: u64, capacity: u32) -> Result<(Db, Session), Fai
     Ok((db, session))
 }
 
-/// The history of a database whose one session is given back; fails where `Db::close` does.
-pub fn close(alloc: Global, db: Db, session: Session) -> Result<History, Fail> {
-    let mut sessions = Vec::new(alloc);
-    sessions.push(session)?;
-    Ok(db.close(sessions)?)
-}
-
-/// A unit behind an `Arc`, as a put takes it; fails for want of memory.
-pub fn shared(alloc: Global, unit: Unit) -> Result<Arc<Unit, Global>, Fail> {
-    match Arc::new(alloc, unit) {
+/// The unit that a text spells, behind an `Arc`, as a put takes it; fails where it spells none, or for want of memory.
+pub fn shared(alloc: Global, text: &[u8]) -> Result<Arc<Unit, Global>, Fail> {
+    match Arc::new(alloc, read_unit(alloc, text)?) {
         Ok(unit) => Ok(unit),
         Err(_) => Err(AllocError)?,
     }
@@ -72,31 +76,8 @@ pub fn declared(alloc: Global, text: &[u8]) -> Result<Arc<Types, Global>, Fail> 
     }
 }
 
-/// The outcome of a unit, put as `f` into a new database and asked for.
-pub fn asked(alloc: Global, unit: Unit) -> Result<Arc<Outcome, Global>, Fail> {
-    let f = name(b"f")?;
-    let (_db, mut session) = open(alloc, 0, 2)?;
-    session.put(f, shared(alloc, unit)?)?;
-    Ok(session.ask(&f)?)
-}
-
-/// The outcome of a unit, put as `f` into a database that has these declarations; both are given by their texts.
-pub fn asked_over(alloc: Global, types: &[u8], unit: &[u8]) -> Result<Arc<Outcome, Global>, Fail> {
-    let f = name(b"f")?;
-    let (_db, mut session) = open(alloc, 0, 3)?;
-    session.put_types(declared(alloc, types)?)?;
-    session.put(f, shared(alloc, read_unit(alloc, unit)?)?)?;
-    Ok(session.ask(&f)?)
-}
-
-/// The outcome of `f` where it holds a unit, and nothing is declared.
-pub fn outcome(alloc: Global, unit: &Unit) -> Result<Outcome, Fail> {
-    let types = read_types(alloc, b"")?;
-    Ok(outcome_of(alloc, &name(b"f")?, &types, Some(unit))?)
-}
-
 /// Whether an outcome reports one body with these errors.
-pub fn reports(outcome: &Outcome, errors: &[BorrowError]) -> bool {
+fn reports(outcome: &Outcome, errors: &[BorrowError]) -> bool {
     match outcome {
         Outcome::Report(bodies) => match bodies.as_slice() {
             [body] => body.errors.as_slice() == errors,
@@ -104,4 +85,104 @@ pub fn reports(outcome: &Outcome, errors: &[BorrowError]) -> bool {
         },
         Outcome::NoBody | Outcome::BadTypes(_) | Outcome::Ill(_, _) => false,
     }
+}
+
+/// Whether an outcome of this name is the wanted one.
+fn is_wanted(outcome: &Outcome, asked: &Name, wanted: &Wanted) -> bool {
+    match wanted {
+        Wanted::NoBody => matches!(outcome, Outcome::NoBody),
+        Wanted::BadTypes(index) => matches!(outcome, Outcome::BadTypes(found) if found == index),
+        Wanted::Ill(place) => {
+            matches!(outcome, Outcome::Ill(name, found) if name == asked && found == place)
+        }
+        Wanted::Errors(errors) => reports(outcome, errors),
+    }
+}
+
+/// Whether an Ask for a name finds what is wanted; fails where it is refused.
+pub fn finds(session: &mut Session, asked: &[u8], wanted: &Wanted) -> Result<bool, Fail> {
+    let asked = name(asked)?;
+    let found = session.ask(&asked)?;
+    Ok(is_wanted(&found, &asked, wanted))
+}
+
+/// Puts the unit of a text as `f`, asks for it, and answers whether that finds what is wanted.
+fn puts_and_finds(
+    alloc: Global,
+    session: &mut Session,
+    unit: &[u8],
+    wanted: &Wanted,
+) -> Result<bool, Fail> {
+    session.put(name(b"f")?, shared(alloc, unit)?)?;
+    finds(session, b"f", wanted)
+}
+
+/// Whether the unit of a text, put into a new database and asked for, has the wanted outcome.
+fn finds_in_new(alloc: Global, unit: &[u8], wanted: &Wanted) -> Result<bool, Fail> {
+    let (_db, mut session) = open(alloc, 0, 2)?;
+    puts_and_finds(alloc, &mut session, unit, wanted)
+}
+
+/// Whether the unit of a text, put into a new database that has these declarations and asked for, has the wanted
+/// outcome.
+pub fn finds_over(alloc: Global, types: &[u8], unit: &[u8], wanted: &Wanted) -> Result<bool, Fail> {
+    let (_db, mut session) = open(alloc, 0, 3)?;
+    session.put_types(declared(alloc, types)?)?;
+    puts_and_finds(alloc, &mut session, unit, wanted)
+}
+
+/// Whether `f` has the wanted outcome where it holds this unit, or none, under these declarations.
+fn has_outcome(
+    alloc: Global,
+    types: &Types,
+    held: Option<&Unit>,
+    wanted: &Wanted,
+) -> Result<bool, Fail> {
+    let f = name(b"f")?;
+    let found = outcome_of(alloc, &f, types, held)?;
+    Ok(is_wanted(&found, &f, wanted))
+}
+
+/// Whether `f` has the wanted outcome where it holds the unit of a text under these declarations.
+fn unit_has_outcome(
+    alloc: Global,
+    types: &Types,
+    unit: &[u8],
+    wanted: &Wanted,
+) -> Result<bool, Fail> {
+    let unit = read_unit(alloc, unit)?;
+    has_outcome(alloc, types, Some(&unit), wanted)
+}
+
+/// Whether `f` has the wanted outcome where it holds the unit of a text, or none, under the declarations of a text.
+pub fn text_has_outcome(
+    alloc: Global,
+    types: &[u8],
+    unit: Option<&[u8]>,
+    wanted: &Wanted,
+) -> Result<bool, Fail> {
+    let types = read_types(alloc, types)?;
+    match unit {
+        Some(unit) => unit_has_outcome(alloc, &types, unit, wanted),
+        None => has_outcome(alloc, &types, None, wanted),
+    }
+}
+
+/// Each unit, put into a new database and asked for, has its outcome.
+pub fn are_found(rt: &impl Abort, alloc: Global, rows: &[(&[u8], Wanted)]) -> Result<(), Fail> {
+    for (index, (unit, wanted)) in rows.iter().enumerate() {
+        assert!(rt; finds_in_new(alloc, unit, wanted)?, "row {index}");
+    }
+    Ok(())
+}
+
+/// Each unit has its outcome where nothing is declared.
+pub fn are_outcomes(rt: &impl Abort, alloc: Global, rows: &[(&[u8], Wanted)]) -> Result<(), Fail> {
+    for (index, (unit, wanted)) in rows.iter().enumerate() {
+        assert!(rt;
+            text_has_outcome(alloc, b"", Some(unit), wanted)?,
+            "row {index}"
+        );
+    }
+    Ok(())
 }

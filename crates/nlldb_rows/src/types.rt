@@ -1,13 +1,25 @@
 //! Declarations given by their texts.
-use bc_mir::{CheckTypes, DeclFault};
-use bc_syntax::{Base, Declaration, Region};
+use bc_mir::{CheckTypes, DeclFault, GoodTypes};
+use bc_syntax::{Base, Declaration, Instance, Reference, Region, Types};
 use bc_text::{read_types, read_unit};
+use std::alloc::{AllocError, Global};
+use std::process::Abort;
 use std::test::Fail;
+
+/// Which declaration of a text is the first bad one, counted from 0, or none.
+fn first_bad(alloc: Global, text: &[u8]) -> Result<Option<usize>, Fail> {
+    let types = read_types(alloc, text)?;
+    match types.check(alloc) {
+        Ok(_) => Ok(None),
+        Err(DeclFault::BadDecl { index }) => Ok(Some(index)),
+        Err(DeclFault::NoMemory) => Err(AllocError)?,
+    }
+}
 
 #[test]
 fn the_first_bad_declaration_is_found(rt: HostRuntime) -> Result<(), Fail> {
     let rows: [(&[u8], Option<usize>); 27] = [
-        (b"".as_slice(), None),
+        (b"", None),
         (b"struct H<+'a> { &'static mut &'a int; }", Some(0)),
         (b"struct H<='a> { &'static mut &'a int; }", None),
         (b"struct H<+'a> { &'a mut int; }", None),
@@ -65,14 +77,8 @@ fn the_first_bad_declaration_is_found(rt: HostRuntime) -> Result<(), Fail> {
             None,
         ),
     ];
-    for (text, bad) in rows {
-        let types = read_types(rt.alloc(), text)?;
-        match types.check(rt.alloc()) {
-            Ok(_) => assert!(rt; bad.is_none()),
-            Err(fault) => {
-                assert_eq!(rt; Some(fault), bad.map(|index| DeclFault::BadDecl { index }));
-            }
-        }
+    for (index, (text, bad)) in rows.iter().enumerate() {
+        assert_eq!(rt; first_bad(rt.alloc(), text)?, *bad, "row {index}");
     }
     Ok(())
 }
@@ -80,11 +86,9 @@ fn the_first_bad_declaration_is_found(rt: HostRuntime) -> Result<(), Fail> {
 const DROPS: &[u8] =
     b"struct A<+'a> drop { &'a int; } struct B<+'a> { int; A<'a>; } struct C { A<'static>; B<'static>; &'static A<'static>; int; }";
 
-#[test]
-fn a_drop_is_found_in_a_field_of_a_field(rt: HostRuntime) -> Result<(), Fail> {
-    let types = read_types(rt.alloc(), DROPS)?;
-    let good = types.check(rt.alloc())?;
-    let mut found = Vec::new(rt.alloc());
+/// Whether each field of each struct holds a drop, in turn.
+fn drops_of(alloc: Global, good: &GoodTypes, types: &Types) -> Result<Vec<bool>, AllocError> {
+    let mut found = Vec::new(alloc);
     for declaration in types.declarations() {
         if let Declaration::Struct(declaration) = declaration {
             for field in declaration.fields.as_slice() {
@@ -92,37 +96,104 @@ fn a_drop_is_found_in_a_field_of_a_field(rt: HostRuntime) -> Result<(), Fail> {
             }
         }
     }
-    assert_eq!(rt;
-        found.as_slice(),
-        [false, false, true, true, true, false, false].as_slice()
-    );
+    Ok(found)
+}
+
+/// Whether these fields hold a drop, and no others.
+fn are_drops(
+    alloc: Global,
+    good: &GoodTypes,
+    types: &Types,
+    drops: &[bool],
+) -> Result<bool, AllocError> {
+    let found = drops_of(alloc, good, types)?;
+    Ok(found.as_slice() == drops)
+}
+
+fn text_has_drops(alloc: Global, text: &[u8], drops: &[bool]) -> Result<bool, Fail> {
+    let types = read_types(alloc, text)?;
+    let good = types.check(alloc)?;
+    Ok(are_drops(alloc, &good, &types, drops)?)
+}
+
+#[test]
+fn a_drop_is_found_in_a_field_of_a_field(rt: HostRuntime) -> Result<(), Fail> {
+    let drops = [false, false, true, true, true, false, false];
+    assert!(rt; text_has_drops(rt.alloc(), DROPS, &drops)?);
     Ok(())
+}
+
+const TWO_FIELDS: &[u8] = b"struct A<='a, +'b> { int; &'b &'static mut &'a int; }";
+
+/// Whether there are these references, each in its region.
+fn are_in(references: &[Reference], regions: &[Region]) -> bool {
+    let mut agree = references.len() == regions.len();
+    for (reference, region) in references.iter().zip(regions.iter()) {
+        agree = agree && reference.region == *region;
+    }
+    agree
+}
+
+/// Whether a field of a struct has references in these regions.
+fn field_is_in(
+    alloc: Global,
+    good: &GoodTypes,
+    instance: &Instance,
+    field: u8,
+    regions: &[Region],
+) -> Result<bool, AllocError> {
+    match good.field_type(alloc, instance, field)? {
+        Some(ty) => Ok(are_in(ty.references.as_slice(), regions)),
+        None => Ok(false),
+    }
+}
+
+fn has_no_field(
+    alloc: Global,
+    good: &GoodTypes,
+    instance: &Instance,
+    field: u8,
+) -> Result<bool, AllocError> {
+    Ok(good.field_type(alloc, instance, field)?.is_none())
+}
+
+/// A base is a declared struct of two fields, the second with references in these regions.
+fn base_is_in(
+    rt: &impl Abort,
+    alloc: Global,
+    good: &GoodTypes,
+    base: &Base,
+    regions: &[Region],
+) -> Result<(), Fail> {
+    let Base::Struct(instance) = base else {
+        return Err("a struct")?;
+    };
+    assert!(rt; good.struct_of(&instance.name).is_some());
+    assert!(rt; good.extern_of(&instance.name).is_none());
+    assert!(rt; has_no_field(alloc, good, instance, 2)?);
+    assert!(rt; field_is_in(alloc, good, instance, 1, regions)?);
+    Ok(())
+}
+
+fn unit_results_in(
+    rt: &impl Abort,
+    alloc: Global,
+    good: &GoodTypes,
+    unit: &[u8],
+    regions: &[Region],
+) -> Result<(), Fail> {
+    let unit = read_unit(alloc, unit)?;
+    base_is_in(rt, alloc, good, &unit.body().header.result.base, regions)
 }
 
 #[test]
 fn a_field_has_the_regions_of_its_struct(rt: HostRuntime) -> Result<(), Fail> {
-    let text = b"struct A<='a, +'b> { int; &'b &'static mut &'a int; }";
-    let good = read_types(rt.alloc(), text)?.check(rt.alloc())?;
-    let unit = read_unit(rt.alloc(), b"fn<'x,'y>()->A<'x,'y>{bb0{stop;}}")?;
-    let mut regions = Vec::new(rt.alloc());
-    if let Base::Struct(instance) = &unit.body().header.result.base {
-        assert!(rt; good.struct_of(&instance.name).is_some());
-        assert!(rt; good.extern_of(&instance.name).is_none());
-        assert!(rt; good.field_type(rt.alloc(), instance, 2)?.is_none());
-        if let Some(ty) = good.field_type(rt.alloc(), instance, 1)? {
-            for reference in ty.references.as_slice() {
-                regions.push(reference.region)?;
-            }
-        }
-    }
-    assert_eq!(rt;
-        regions.as_slice(),
-        [
-            Region::Universal(2),
-            Region::Universal(0),
-            Region::Universal(1)
-        ]
-        .as_slice()
-    );
-    Ok(())
+    let regions = [
+        Region::Universal(2),
+        Region::Universal(0),
+        Region::Universal(1),
+    ];
+    let good = read_types(rt.alloc(), TWO_FIELDS)?.check(rt.alloc())?;
+    let unit = b"fn<'x,'y>()->A<'x,'y>{bb0{stop;}}".as_slice();
+    unit_results_in(&rt, rt.alloc(), &good, unit, &regions)
 }

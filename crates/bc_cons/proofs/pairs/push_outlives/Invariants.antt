@@ -1,5 +1,5 @@
 use Rattle.std.proofs.Common.{◌≡◌, ◌++◌, map, drop}
-use Rattle.bc_mir.specs.Subtype.{outlives}
+use Rattle.bc_types.specs.Subtype.{outlives}
 use Rattle.bc_cons.proofs.pairs.push_outlives.Given as goal
 
 abbrev pub invariant-loop-reference : goal.invariant-loop-reference

@@ -2,7 +2,8 @@ use Rattle.std.proofs.Common.{◌≡◌, ◌+◌, List, Bool, length, arith, len
 use Rattle.std.proofs.lemmas.List.Elements.{All-push}
 use Rattle.bc_flow.specs.Flow.{holds}
 use Rattle.bc_cons.specs.Starts.{starts_with}
-use Rattle.bc_cons.proofs.Rows.{starts_more, all_starts}
+use Rattle.bc_flow.proofs.Rows.{one_row_more}
+use Rattle.bc_cons.proofs.Rows.{all_starts}
 use Rattle.bc_cons.proofs.starts.start_rows.Goals as goal
 
 pub loop-region-preserved : goal.loop-region-preserved
@@ -11,7 +12,7 @@ loop-region-preserved c = record {
   elements = rw c.in_ok-push.ensures.items
       (All-push (λ (row : List Bool). length row ≡ length c.args.typed.now.steps + c.args.typed.now.universals) c.loop-region.rows.items c.in_ok-start_row.field-0 c.loop-region.invariant.elements c.in_ok-start_row.ensures.size);
   starts = rw c.in_ok-push.ensures.items
-      (starts_more (starts_with c.args.typed.now (holds c.args.live.now)) c.loop-region.rows.items c.in_ok-start_row.field-0 c.loop-region.region c.loop-region.invariant.regions c.in_ok-start_row.ensures.members c.loop-region.invariant.starts);
+      (one_row_more (starts_with c.args.typed.now (holds c.args.live.now)) c.loop-region.rows.items c.in_ok-start_row.field-0 c.loop-region.region c.loop-region.invariant.regions c.in_ok-start_row.ensures.members c.loop-region.invariant.starts);
 }
 
 pub returns-clause-starts : goal.returns-clause-starts

@@ -9,8 +9,8 @@ flow-requires-clause-edges c =
     rw (c.deref-2.ensures.value, c.in_ok-edges.ensures, c.in_ok-seeds.ensures.nodes, c.from-universals.ensures, c.universals.ensures.value, c.clauses.ensures.value)
     (clauses_within c.args.typed.now.clauses c.args.typed.now.universals (rw c.clauses.ensures.value at c.clauses.ensures.declared))
 
-pub returns : goal.returns
-returns c =
+pub returns-clause-tells : goal.returns-clause-tells
+returns-clause-tells c =
     tells_known c.args.typed.now c.in_ok-seeds.seeds.items c.in_ok-rows.rows.items
     (rw (c.deref.ensures.value, c.in_ok-entries.ensures, c.from-universals.ensures, c.universals.ensures.value) at c.in_ok-seeds.ensures.entries)
     (rw (c.deref-2.ensures.value, c.in_ok-edges.ensures, c.clauses.ensures.value) at c.in_ok-rows.ensures.flow)

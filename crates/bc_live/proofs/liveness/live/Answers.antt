@@ -1,5 +1,6 @@
 use Rattle.bc_live.proofs.Within.{use_entries_within, definition_entries_within}
-use Rattle.bc_live.proofs.Paths.{turned_within, sets_are_live}
+use Rattle.bc_flow.proofs.Ways.{turned_within}
+use Rattle.bc_live.proofs.Paths.{sets_are_live}
 use Rattle.bc_live.proofs.liveness.live.Goals as goal
 
 pub table-requires : goal.table-requires

@@ -1,7 +1,7 @@
 use Rattle.std.proofs.Common.{◌≡◌, ℕ, ◌<◌, length, get_or, arith, ◌∙◌}
 use Rattle.std.proofs.lemmas.List.{get_or_default}
 use Rattle.bc_mir.specs.declared.loan.Loan.{Loan}
-use Rattle.bc_flow.proofs.Columns.{has_within}
+use Rattle.bc_flow.proofs.Members.{has_within}
 use Rattle.bc_loans.specs.Overwrites.{has_prefix}
 use Rattle.bc_loans.proofs.Overwriting.{ArePrefixed-added, ArePrefixed-left, prefix_is}
 use Rattle.bc_loans.proofs.overwrites.add_prefixed.Goals.{then-is_prefix, else-is_prefix}

@@ -1,4 +1,4 @@
-use Rattle.std.proofs.Common.{◌≡◌, ap, ◌∙◌, subst, List}
+use Rattle.std.proofs.Common.{ap, ◌∙◌, subst, List}
 use Rattle.bc_syntax.specs.declared.syntax.Declaration.{Declaration}
 use Rattle.bc_book.specs.declared.call.Call.TheVariants.{Types}
 use Rattle.bc_book.specs.declared.call.Reply.TheVariants as replies

@@ -8,7 +8,7 @@ use Rattle.bc_tokens.proofs.cursor.Cursor.numbered.Goals as goal
 pub returns-then-not-is_numbered-clause-reads : goal.returns-then-not-is_numbered-clause-reads
 returns-then-not-is_numbered-clause-reads c = λ _.
     let unseen : sees_numbered c.args.numbering c.args.self.now ≡ false = sym ((c.if-not-is_numbered.ensures {u = tt}).value) in
-    number_missed c.args.numbering c.args.limit c.args.self.now unseen ∙ ap Err (sym c.fault.ensures)
+    number_missed c.args.numbering c.args.limit c.args.self.now unseen ∙ ap Err (sym c.fault.ensures.value)
 
 pub returns-in_default-clause-reads : goal.returns-in_default-clause-reads
 returns-in_default-clause-reads c = λ _.

@@ -1,5 +1,0 @@
-use Rattle.std.proofs.Common.{length}
-use Rattle.bc_mir.proofs.good.+arguments_stand_well.Given as goal
-
-abbrev pub decreases-arguments_stand_well : goal.decreases-arguments_stand_well
-decreases-arguments_stand_well l = length l.parameters.now

@@ -1,6 +1,0 @@
--- A region outlives another.
-use Rattle.bc_syntax.specs.declared.syntax.Region.{Region}
-use Rattle.bc_mir.specs.declared.subtype.Constraint.{Constraint}
-
-abbrev pub outlives : Region → Region → Constraint
-outlives longer shorter = record { longer = longer; shorter = shorter }

@@ -1,0 +1,4 @@
+pub mod Known
+pub mod Dropping
+pub mod Adding
+pub mod Growing

@@ -1,0 +1,39 @@
+-- Types that hold a drop.
+use Rattle.std.specs.Prelude.{Bool, false, ◌&&◌, ◌||◌, if◌then◌else◌, List, [], ◌∷◌, reverse}
+use Rattle.std.specs.List.{list_any}
+use Rattle.bc_syntax.specs.declared.syntax.Reference.{Reference}
+use Rattle.bc_syntax.specs.declared.syntax.Instance.{Instance}
+use Rattle.bc_syntax.specs.declared.syntax.Base.{Base}
+use Rattle.bc_syntax.specs.declared.syntax.Base.TheVariants as bases
+use Rattle.bc_syntax.specs.declared.syntax.Ty.{Ty}
+use Rattle.bc_syntax.specs.declared.syntax.Declaration.{Declaration}
+use Rattle.bc_syntax.specs.declared.syntax.Declaration.TheVariants.{Struct, Extern}
+use Rattle.bc_types.specs.Declarations.{same_name, takes_regions}
+
+-- a base is a struct of which this holds
+abbrev pub is_struct_that : (Instance → Bool) → Base → Bool
+is_struct_that holds bases.Int = false
+is_struct_that holds (bases.Struct instance) = holds instance
+
+-- a type is a struct of which this holds: references are none
+abbrev pub is_value_that : (Instance → Bool) → List Reference → Base → Bool
+is_value_that holds [] base = is_struct_that holds base
+is_value_that holds (reference ∷ references) base = false
+
+-- a struct holds a drop where it is declared with its number of regions, and marked `drop` or has a field type that holds
+-- one. The last declaration comes first: what its fields mention is behind it
+abbrev pub struct_holds_drop : List Declaration → Instance → Bool
+struct_holds_drop [] instance = false
+struct_holds_drop (Struct d ∷ earlier) instance =
+    if same_name instance.name d.name
+    then takes_regions instance d
+    && (d.has_drop || list_any (λ (field : Ty). is_value_that (struct_holds_drop earlier) field.references field.base) d.fields)
+    else struct_holds_drop earlier instance
+struct_holds_drop (Extern d ∷ earlier) instance = struct_holds_drop earlier instance
+
+abbrev pub holds_drop_among : List Declaration → Ty → Bool
+holds_drop_among earlier ty = is_value_that (struct_holds_drop earlier) ty.references ty.base
+
+-- a type holds a drop: references and `int` do not
+abbrev pub holds_drop : List Declaration → Ty → Bool
+holds_drop declarations ty = holds_drop_among (reverse declarations) ty

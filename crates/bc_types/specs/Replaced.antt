@@ -1,0 +1,47 @@
+-- A declaration's regions replaced by arguments.
+use Rattle.std.specs.Prelude.{ℕ, ◌-◌, ◌==◌, if◌then◌else◌, Option, option_and_then, unwrap_or, List, map, slice_get}
+use Rattle.std.specs.Option.{option_map}
+use Rattle.bc_syntax.specs.declared.syntax.Region.{Region}
+use Rattle.bc_syntax.specs.declared.syntax.Region.TheVariants.{Universal, Variable}
+use Rattle.bc_syntax.specs.declared.syntax.Reference.{Reference}
+use Rattle.bc_syntax.specs.declared.syntax.Instance.{Instance}
+use Rattle.bc_syntax.specs.declared.syntax.Base.{Base}
+use Rattle.bc_syntax.specs.declared.syntax.Base.TheVariants.{Int, Struct}
+use Rattle.bc_syntax.specs.declared.syntax.Ty.{Ty}
+use Rattle.bc_syntax.specs.declared.syntax.ItemName.{ItemName}
+use Rattle.bc_syntax.specs.declared.syntax.StructDeclaration.{StructDeclaration}
+use Rattle.bc_syntax.specs.declared.syntax.Declaration.{Declaration}
+use Rattle.bc_types.specs.Declarations.{struct_of}
+
+-- `'static` stays, and the declared region k becomes the k-th argument, the first being 1
+abbrev pub replaced_region : List Region → Region → Region
+replaced_region arguments (Universal number) =
+    if number == 0 then Universal number else unwrap_or (slice_get arguments (number - 1)) (Universal number)
+replaced_region arguments (Variable number) = Variable number
+
+abbrev pub replaced_reference : List Region → Reference → Reference
+replaced_reference arguments reference = record { region = replaced_region arguments reference.region; mutability = reference.mutability }
+
+abbrev pub replaced_instance : List Region → Instance → Instance
+replaced_instance arguments instance = record { name = instance.name; regions = map (replaced_region arguments) instance.regions }
+
+abbrev pub replaced_base : List Region → Base → Base
+replaced_base arguments Int = Int
+replaced_base arguments (Struct instance) = Struct (replaced_instance arguments instance)
+
+-- a type with each region replaced
+abbrev pub replaced_ty : List Region → Ty → Ty
+replaced_ty arguments ty = record {
+  references = map (replaced_reference arguments) ty.references;
+  base = replaced_base arguments ty.base;
+}
+
+-- the type of a field as its struct declares it
+abbrev pub declared_field : List Declaration → ItemName → ℕ → Option Ty
+declared_field declarations name field =
+    option_and_then (λ (d : StructDeclaration). slice_get d.fields field) (struct_of declarations name)
+
+-- the type of a field of a struct, with the struct's regions replaced by those of the instance
+abbrev pub field_type : List Declaration → Instance → ℕ → Option Ty
+field_type declarations instance field =
+    option_map (replaced_ty instance.regions) (declared_field declarations instance.name field)

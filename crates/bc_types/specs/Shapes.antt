@@ -1,0 +1,49 @@
+-- Types without their regions.
+use Rattle.std.specs.Prelude.{Bool, true, false, ◌&&◌, ◌==◌, not, List, [], ◌∷◌, length}
+use Rattle.bc_syntax.specs.declared.syntax.Base.{Base}
+use Rattle.bc_syntax.specs.declared.syntax.Base.TheVariants.{Int, Struct}
+use Rattle.bc_syntax.specs.declared.syntax.Instance.{Instance}
+use Rattle.bc_syntax.specs.declared.syntax.Ty.{Ty}
+use Rattle.bc_syntax.specs.declared.syntax.Reference.{Reference}
+use Rattle.bc_types.specs.Declarations.{same_name}
+use Rattle.bc_types.specs.Mutabilities.{is_mutable, same_mutability}
+
+-- instances of one name with one number of regions
+abbrev pub alike : Instance → Instance → Bool
+alike first second = same_name first.name second.name && length first.regions == length second.regions
+
+abbrev pub alike_bases : Base → Base → Bool
+alike_bases Int Int = true
+alike_bases Int (Struct instance) = false
+alike_bases (Struct instance) Int = false
+alike_bases (Struct first) (Struct second) = alike first second
+
+abbrev pub alike_types : List Reference → Base → List Reference → Base → Bool
+alike_types [] first [] second = alike_bases first second
+alike_types [] first (reference ∷ references) second = false
+alike_types (reference ∷ references) first [] second = false
+alike_types (one ∷ more) first (other ∷ rest) second =
+    same_mutability one.mutability other.mutability && alike_types more first rest second
+
+-- types have one shape where they are equal once regions are blanked
+abbrev pub one_shape : Ty → Ty → Bool
+one_shape first second = alike_types first.references first.base second.references second.base
+
+abbrev pub is_int_base : Base → Bool
+is_int_base Int = true
+is_int_base (Struct instance) = false
+
+abbrev pub is_int_behind : List Reference → Base → Bool
+is_int_behind [] base = is_int_base base
+is_int_behind (reference ∷ references) base = false
+
+abbrev pub is_int_type : Ty → Bool
+is_int_type ty = is_int_behind ty.references ty.base
+
+abbrev pub is_copyable_behind : List Reference → Base → Bool
+is_copyable_behind [] base = is_int_base base
+is_copyable_behind (reference ∷ references) base = not (is_mutable reference.mutability)
+
+-- a type whose values `copy` may take: `int` or a shared reference
+abbrev pub is_copyable_type : Ty → Bool
+is_copyable_type ty = is_copyable_behind ty.references ty.base

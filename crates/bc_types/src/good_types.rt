@@ -1,0 +1,162 @@
+//! Declarations of which none is bad.
+ghost use Rattle.std.specs.Prelude.{◌≡◌, ℕ, reverse, IfOk, OnOk};
+ghost use Rattle.std.specs.Option.{option_copied};
+ghost use Rattle.bc_types.specs.Declarations.{is_declared as declared, first_bad, struct_of, extern_of};
+ghost use Rattle.bc_types.specs.Drops.{holds_drop as holding};
+ghost use Rattle.bc_types.specs.Replaced.{declared_field as field_there, field_type};
+
+use crate::good::{is_declared, is_good};
+use crate::replaced::replace_ty;
+use crate::table::Table;
+use bc_syntax::{
+    Base, Declaration, ExternDeclaration, Instance, ItemName, StructDeclaration, Ty, Types,
+};
+use std::alloc::{AllocError, Global};
+use std::marker::Model;
+use thiserror::Error;
+
+/// Why declarations are not taken.
+/// (Own.)
+#[derive(Clone, Copy, Debug, PartialEq, Eq, Error)]
+pub enum DeclFault {
+    #[error("declaration {index} is bad")]
+    BadDecl { index: usize },
+    #[error("out of memory")]
+    NoMemory,
+}
+
+impl From<AllocError> for DeclFault {
+    ghost use Rattle.bc_types.specs.declared.good_types.DeclFault.TheVariants.{NoMemory};
+
+    ghost from_gives = { λ _ fault. fault ≡ NoMemory };
+
+    fn from(_refused: AllocError) -> DeclFault {
+        DeclFault::NoMemory
+    }
+}
+
+/// The type of a field as its struct declares it.
+fn declared_field<'a>(table: &'a Table, name: &ItemName, field: u8) -> Option<&'a Ty>
+    ensures { option_copied result ≡ field_there table.now name.now field }
+{
+    match table.struct_of(name) {
+        Some(declaration) => declaration.fields.as_slice().get(usize::from(field)),
+        None => None,
+    }
+}
+
+/// Puts declarations into a table, up to the first bad one.
+fn fill(alloc: Global, declarations: &[Declaration]) -> Result<Table, DeclFault>
+    ensures ok { IfOk result (λ table. table ≡ declarations.now) }
+    ensures good { OnOk result (first_bad declarations.now ≡ None) }
+    ensures bad { (number : ℕ) → result ≡ Err (DeclFault.BadDecl number) → first_bad declarations.now ≡ Some number }
+{
+    let mut table = Table::new(alloc);
+    for (index, declaration) in declarations.iter().enumerate() {
+        if !is_good(&table, declaration) {
+            return Err(DeclFault::BadDecl { index });
+        }
+        table = table.with(alloc, declaration)?;
+    }
+    Ok(table)
+}
+
+/// Declarations of which none is bad: no name is used twice by structs or twice by extern functions, each struct that is
+/// mentioned is an earlier declaration and has its number of regions, and no parameter marked `+` stands in an invariant
+/// position of a field (rustc-dev-guide, "Variance"). It borrows nothing.
+#[derive(Drop)]
+pub struct GoodTypes {
+    table: Table,
+}
+
+impl Model for GoodTypes {
+    ghost use Rattle.std.specs.Prelude.{◌≡◌, List, None};
+    ghost use Rattle.bc_syntax.specs.declared.syntax.Declaration.{Declaration};
+    ghost use Rattle.bc_types.specs.Declarations.{first_bad};
+
+    ghost Value = { List Declaration };
+
+    ghost view = { λ t. t.table };
+
+    ghost invariant = { λ t. first_bad t.table ≡ None };
+}
+
+/// What tells good declarations from bad ones.
+/// (Own.)
+pub trait CheckTypes {
+    /// Takes declarations where none is bad. It answers `BadDecl` with the number of the first bad one, counted from 0,
+    /// where there is one, and `NoMemory` only where memory was refused.
+    fn check(&self, alloc: Global) -> Result<GoodTypes, DeclFault>;
+}
+
+impl CheckTypes for Types {
+    fn check(&self, alloc: Global) -> Result<GoodTypes, DeclFault>
+        ensures ok { IfOk result (λ good. good ≡ self.now) }
+        ensures good { OnOk result (first_bad self.now ≡ None) }
+        ensures bad { (number : ℕ) → result ≡ Err (DeclFault.BadDecl number) → first_bad self.now ≡ Some number }
+    {
+        let table = fill(alloc, self.declarations())?;
+        Ok(GoodTypes { table })
+    }
+}
+
+impl GoodTypes {
+    /// The struct of a name; `None` where none has it.
+    /// (Own.)
+    pub fn struct_of(&self, name: &ItemName) -> Option<&StructDeclaration>
+        ensures found { option_copied result ≡ struct_of self.now name.now }
+        ensures good { first_bad self.now ≡ None }
+    {
+        self.table.struct_of(name)
+    }
+
+    /// The extern function of a name; `None` where none has it.
+    /// (Own.)
+    pub fn extern_of(&self, name: &ItemName) -> Option<&ExternDeclaration>
+        ensures found { option_copied result ≡ extern_of self.now name.now }
+        ensures good { first_bad self.now ≡ None }
+    {
+        self.table.extern_of(name)
+    }
+
+    /// Whether a type holds a drop: it is a struct that is marked `drop`, or has a field whose type holds one.
+    /// (Own.)
+    pub fn holds_drop(&self, ty: &Ty) -> bool
+        ensures { result ≡ holding self.now ty.now }
+    {
+        self.table.holds_drop(ty)
+    }
+
+    /// The type of a field as its struct declares it; `None` where there is no such struct or field.
+    /// (Own.)
+    pub fn declared_field(&self, name: &ItemName, field: u8) -> Option<&Ty>
+        ensures { option_copied result ≡ field_there self.now name.now field }
+    {
+        declared_field(&self.table, name, field)
+    }
+
+    /// Whether a mentioned struct is declared with its number of regions.
+    /// (Own.)
+    pub fn declares(&self, base: &Base) -> bool
+        ensures { result ≡ declared (reverse self.now) base.now }
+    {
+        is_declared(&self.table, base)
+    }
+
+    /// The type of a field of a struct, with the struct's regions in it; `None` where there is no such struct or field. The
+    /// error is want of memory alone.
+    /// (Own.)
+    pub fn field_type(
+        &self,
+        alloc: Global,
+        instance: &Instance,
+        field: u8,
+    ) -> Result<Option<Ty>, AllocError>
+        ensures { IfOk result (λ ty. ty ≡ field_type self.now instance.now field) }
+    {
+        match declared_field(&self.table, &instance.name, field) {
+            Some(ty) => Ok(Some(replace_ty(alloc, instance.regions.as_slice(), ty)?)),
+            None => Ok(None),
+        }
+    }
+}

@@ -1,0 +1,19 @@
+//! Declarations: which are good, what is found under their names, and types over them.
+#![tactic(auto)]
+
+mod good;
+mod good_types;
+mod mutabilities;
+mod replaced;
+mod shapes;
+mod subtype;
+mod subtyping;
+mod table;
+
+pub use good_types::{CheckTypes, DeclFault, GoodTypes};
+pub use mutabilities::is_mutable;
+pub use replaced::{replace_region, replace_ty};
+pub use shapes::{have_one_shape, is_copyable_type, is_int_type};
+pub use subtype::{Constraint, push_outlives};
+pub use subtyping::push_sub;
+pub use table::{copy_clauses, copy_type, takes_regions};

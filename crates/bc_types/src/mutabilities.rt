@@ -1,0 +1,13 @@
+//! Shared and mutable.
+ghost use Rattle.std.specs.Prelude.{◌≡◌};
+ghost use Rattle.bc_types.specs.Mutabilities.{is_mutable as mutable};
+
+use bc_syntax::Mutability;
+
+/// Whether something is mutable.
+/// (Own.)
+pub fn is_mutable(mutability: Mutability) -> bool
+    ensures { result ≡ mutable mutability }
+{
+    matches!(mutability, Mutability::Mutable)
+}

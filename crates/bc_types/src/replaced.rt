@@ -1,0 +1,98 @@
+//! A declaration's regions replaced by arguments.
+ghost use Rattle.std.specs.Prelude.{◌≡◌, ◌++◌, map, IfOk, OnOk};
+ghost use Rattle.bc_types.specs.Replaced.{replaced_region, replaced_reference, replaced_instance, replaced_base, replaced_ty};
+
+use bc_syntax::{Base, Instance, ItemName, Reference, Region, ShortSequence, Ty};
+use std::alloc::{AllocError, Global};
+
+/// A region of a declaration where the declared ones are replaced by arguments: `'static` stays.
+/// (Own.)
+pub fn replace_region(arguments: &[Region], region: Region) -> Region
+    ensures { result ≡ replaced_region arguments.now region }
+{
+    match region {
+        Region::Universal(number) => {
+            if number == 0 {
+                region
+            } else {
+                match arguments.get(usize::from(number) - 1) {
+                    Some(argument) => *argument,
+                    None => region,
+                }
+            }
+        }
+        Region::Variable(_) => region,
+    }
+}
+
+fn push_replaced_references(
+    references: &mut ShortSequence<Reference, 7>,
+    arguments: &[Region],
+    more: &[Reference],
+) -> Result<(), AllocError>
+    ensures { OnOk result (references.new ≡ references.old ++ map (replaced_reference arguments.now) more.now) }
+{
+    for reference in more {
+        references.push(Reference {
+            region: replace_region(arguments, reference.region),
+            mutability: reference.mutability,
+        })?;
+    }
+    Ok(())
+}
+
+fn push_replaced_regions(
+    regions: &mut ShortSequence<Region, 4>,
+    arguments: &[Region],
+    more: &[Region],
+) -> Result<(), AllocError>
+    ensures { OnOk result (regions.new ≡ regions.old ++ map (replaced_region arguments.now) more.now) }
+{
+    for region in more {
+        regions.push(replace_region(arguments, *region))?;
+    }
+    Ok(())
+}
+
+pub(crate) fn copy_name(name: &ItemName) -> Result<ItemName, AllocError>
+    ensures { IfOk result (λ copy. copy ≡ name.now) }
+{
+    name.clone()
+}
+
+fn replace_instance(
+    alloc: Global,
+    arguments: &[Region],
+    instance: &Instance,
+) -> Result<Instance, AllocError>
+    ensures { IfOk result (λ replaced. replaced ≡ replaced_instance arguments.now instance.now) }
+{
+    let mut regions = ShortSequence::new(alloc);
+    push_replaced_regions(&mut regions, arguments, instance.regions.as_slice())?;
+    Ok(Instance {
+        name: copy_name(&instance.name)?,
+        regions,
+    })
+}
+
+fn replace_base(alloc: Global, arguments: &[Region], base: &Base) -> Result<Base, AllocError>
+    ensures { IfOk result (λ replaced. replaced ≡ replaced_base arguments.now base.now) }
+{
+    match base {
+        Base::Int => Ok(Base::Int),
+        Base::Struct(instance) => Ok(Base::Struct(replace_instance(alloc, arguments, instance)?)),
+    }
+}
+
+/// A type of a declaration with each region replaced. The error is want of memory alone.
+/// (Own.)
+pub fn replace_ty(alloc: Global, arguments: &[Region], ty: &Ty) -> Result<Ty, AllocError>
+    ensures { IfOk result (λ replaced. replaced ≡ replaced_ty arguments.now ty.now) }
+{
+    let mut references = ShortSequence::new(alloc);
+    push_replaced_references(&mut references, arguments, ty.references.as_slice())?;
+    Ok(Ty {
+        references,
+        base: replace_base(alloc, arguments, &ty.base)?,
+    })
+}

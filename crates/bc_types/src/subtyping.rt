@@ -1,0 +1,124 @@
+//! Subtypes with variance (RFC 2094, "Subtyping"; rustc-dev-guide, "Variance").
+ghost use Rattle.std.specs.Prelude.{◌≡◌, ◌++◌, OnOk};
+ghost use Rattle.bc_types.specs.Subtyping.{related, related_arguments, related_bases, related_types, sub};
+
+use crate::good::is_invariant;
+use crate::good_types::GoodTypes;
+use crate::mutabilities::is_mutable;
+use crate::subtype::{Constraint, push_outlives};
+use bc_syntax::{Base, Reference, Region, Ty, Variance};
+use std::alloc::AllocError;
+
+fn push_related(
+    constraints: &mut Vec<Constraint>,
+    invariant: bool,
+    longer: Region,
+    shorter: Region,
+) -> Result<(), AllocError>
+    ensures { OnOk result (constraints.new.items ≡ constraints.old.items ++ related invariant longer shorter) }
+{
+    push_outlives(constraints, longer, shorter)?;
+    if invariant {
+        push_outlives(constraints, shorter, longer)?;
+    }
+    Ok(())
+}
+
+fn push_related_arguments(
+    constraints: &mut Vec<Constraint>,
+    invariant: bool,
+    variances: &[Variance],
+    regions: &[Region],
+    others: &[Region],
+) -> Result<(), AllocError>
+    ensures { OnOk result (constraints.new.items ≡ constraints.old.items ++ related_arguments invariant variances.now regions.now others.now) }
+{
+    match variances {
+        [] => Ok(()),
+        [variance, variances @ ..] => match regions {
+            [] => Ok(()),
+            [region, more @ ..] => match others {
+                [] => Ok(()),
+                [other, rest @ ..] => {
+                    let both = invariant || is_invariant(*variance);
+                    push_related(constraints, both, *region, *other)?;
+                    push_related_arguments(constraints, invariant, variances, more, rest)
+                }
+            },
+        },
+    }
+}
+
+fn push_related_bases(
+    constraints: &mut Vec<Constraint>,
+    types: &GoodTypes,
+    invariant: bool,
+    base: &Base,
+    other: &Base,
+) -> Result<(), AllocError>
+    ensures { OnOk result (constraints.new.items ≡ constraints.old.items ++ related_bases types.now invariant base.now other.now) }
+{
+    match base {
+        Base::Int => Ok(()),
+        Base::Struct(instance) => match other {
+            Base::Int => Ok(()),
+            Base::Struct(other) => match types.struct_of(&instance.name) {
+                Some(declaration) => push_related_arguments(
+                    constraints,
+                    invariant,
+                    declaration.variances.as_slice(),
+                    instance.regions.as_slice(),
+                    other.regions.as_slice(),
+                ),
+                None => Ok(()),
+            },
+        },
+    }
+}
+
+fn push_related_types(
+    constraints: &mut Vec<Constraint>,
+    types: &GoodTypes,
+    invariant: bool,
+    references: &[Reference],
+    base: &Base,
+    others: &[Reference],
+    other: &Base,
+) -> Result<(), AllocError>
+    ensures { OnOk result (constraints.new.items
+        ≡ constraints.old.items ++ related_types types.now invariant references.now base.now others.now other.now) }
+{
+    match references {
+        [] => push_related_bases(constraints, types, invariant, base, other),
+        [one, more @ ..] => match others {
+            [] => Ok(()),
+            [first, rest @ ..] => {
+                let behind = invariant || is_mutable(one.mutability);
+                push_related(constraints, invariant, one.region, first.region)?;
+                push_related_types(constraints, types, behind, more, base, rest, other)
+            }
+        },
+    }
+}
+
+/// Appends what makes the first type a subtype of the second, where both have one shape. The error is want of memory
+/// alone.
+/// (RFC 2094, "Subtyping".)
+pub fn push_sub(
+    constraints: &mut Vec<Constraint>,
+    types: &GoodTypes,
+    value: &Ty,
+    target: &Ty,
+) -> Result<(), AllocError>
+    ensures { OnOk result (constraints.new.items ≡ constraints.old.items ++ sub types.now value.now target.now) }
+{
+    push_related_types(
+        constraints,
+        types,
+        false,
+        value.references.as_slice(),
+        &value.base,
+        target.references.as_slice(),
+        &target.base,
+    )
+}

@@ -1,0 +1,337 @@
+//! Declarations, and where they stand under their names.
+ghost use Rattle.std.specs.Prelude.{◌≡◌, ◌++◌, ◌∷◌, ◌||◌, [], false, reverse, length, IfOk, OnOk};
+ghost use Rattle.std.specs.List.{list_any};
+ghost use Rattle.std.specs.Option.{option_copied, option_map_or};
+ghost use Rattle.bc_types.specs.Declarations.{struct_of, extern_of, takes_regions as takes};
+ghost use Rattle.std.specs.Str.{bytes_eq};
+ghost use Rattle.indexmap.specs.IndexMap.{get_by};
+ghost use Rattle.bc_types.specs.Known.{known_struct, known_extern, Adds, struct_at as struct_there, extern_at as extern_there};
+ghost use Rattle.bc_types.specs.Drops.{holds_drop as holding, struct_holds_drop as struct_holding};
+
+use crate::replaced::copy_name;
+use bc_syntax::{
+    Base, Declaration, ExternDeclaration, Header, Instance, ItemName, Outlives, RegionName,
+    Sequence, StructDeclaration, Ty,
+};
+use indexmap::IndexMap;
+use std::alloc::{AllocError, Global};
+use std::marker::Model;
+
+/// Where a struct stands among declarations, and whether it holds a drop.
+#[derive(Clone, Copy)]
+pub(crate) struct KnownStruct {
+    pub(crate) position: usize,
+    pub(crate) holds_drop: bool,
+}
+
+/// Declarations that are looked up by name: of several with one kind and name the last.
+#[derive(Drop)]
+pub(crate) struct Table {
+    declarations: Sequence<Declaration>,
+    structs: IndexMap<Vec<u8>, KnownStruct>,
+    externs: IndexMap<Vec<u8>, usize>,
+}
+
+impl Model for Table {
+    ghost use Rattle.std.specs.Prelude.{List};
+    ghost use Rattle.bc_syntax.specs.declared.syntax.Declaration.{Declaration};
+    ghost use Rattle.std.specs.Str.{bytes_eq};
+    ghost use Rattle.indexmap.specs.IndexMap.{get_by};
+    ghost use Rattle.bc_types.specs.Known.{AreKnown};
+
+    ghost Value = { List Declaration };
+
+    ghost view = { λ t. t.declarations };
+
+    ghost invariant = { λ t. AreKnown (λ k. k.items) t.declarations t.structs t.externs };
+}
+
+fn copy_struct(declaration: &StructDeclaration) -> Result<StructDeclaration, AllocError>
+    ensures { IfOk result (λ copy. copy ≡ declaration.now) }
+{
+    declaration.clone()
+}
+
+fn copy_names(names: &Sequence<RegionName>) -> Result<Sequence<RegionName>, AllocError>
+    ensures { IfOk result (λ copy. copy ≡ names.now) }
+{
+    names.clone()
+}
+
+fn copy_types(types: &Sequence<Ty>) -> Result<Sequence<Ty>, AllocError>
+    ensures { IfOk result (λ copy. copy ≡ types.now) }
+{
+    types.clone()
+}
+
+/// The same clauses again. `AllocError` only where memory was refused. (Own.)
+pub fn copy_clauses(clauses: &Sequence<Outlives>) -> Result<Sequence<Outlives>, AllocError>
+    ensures { IfOk result (λ copy. copy ≡ clauses.now) }
+{
+    clauses.clone()
+}
+
+/// The same type again. `AllocError` only where memory was refused. (Own.)
+pub fn copy_type(ty: &Ty) -> Result<Ty, AllocError>
+    ensures { IfOk result (λ copy. copy ≡ ty.now) }
+{
+    ty.clone()
+}
+
+fn copy_header(header: &Header) -> Result<Header, AllocError>
+    ensures { IfOk result (λ copy. copy ≡ header.now) }
+{
+    Ok(Header {
+        kind: header.kind,
+        regions: copy_names(&header.regions)?,
+        clauses: copy_clauses(&header.clauses)?,
+        parameters: copy_types(&header.parameters)?,
+        result: copy_type(&header.result)?,
+    })
+}
+
+fn copy_extern(declaration: &ExternDeclaration) -> Result<ExternDeclaration, AllocError>
+    ensures { IfOk result (λ copy. copy ≡ declaration.now) }
+{
+    Ok(ExternDeclaration {
+        name: copy_name(&declaration.name)?,
+        header: copy_header(&declaration.header)?,
+    })
+}
+
+/// Whether a struct has as many regions as an instance gives it.
+/// (Own.)
+pub fn takes_regions(instance: &Instance, declaration: &StructDeclaration) -> bool
+    ensures { result ≡ takes instance.now declaration.now }
+{
+    declaration.regions.len() == instance.regions.as_slice().len()
+}
+
+fn find_struct(structs: &IndexMap<Vec<u8>, KnownStruct>, name: &[u8]) -> Option<KnownStruct>
+    ensures { result ≡ get_by (λ key. bytes_eq name.now key.items) structs.now }
+{
+    structs.get(name).copied()
+}
+
+fn find_extern(externs: &IndexMap<Vec<u8>, usize>, name: &[u8]) -> Option<usize>
+    ensures { result ≡ get_by (λ key. bytes_eq name.now key.items) externs.now }
+{
+    externs.get(name).copied()
+}
+
+fn copy_bytes(alloc: Global, bytes: &[u8]) -> Result<Vec<u8>, AllocError>
+    ensures { IfOk result (λ copy. copy.items ≡ bytes.now) }
+{
+    bytes.to_vec(alloc)
+}
+
+fn add_struct(
+    alloc: Global,
+    structs: &mut IndexMap<Vec<u8>, KnownStruct>,
+    name: &[u8],
+    known: KnownStruct,
+) -> Result<(), AllocError>
+    ensures { OnOk result (Adds (λ key. key.items) structs.old structs.new name.now known) }
+{
+    let key = copy_bytes(alloc, name)?;
+    structs.insert(key, known)?;
+    Ok(())
+}
+
+fn add_extern(
+    alloc: Global,
+    externs: &mut IndexMap<Vec<u8>, usize>,
+    name: &[u8],
+    position: usize,
+) -> Result<(), AllocError>
+    ensures { OnOk result (Adds (λ key. key.items) externs.old externs.new name.now position) }
+{
+    let key = copy_bytes(alloc, name)?;
+    externs.insert(key, position)?;
+    Ok(())
+}
+
+fn struct_at(declarations: &[Declaration], position: usize) -> Option<&StructDeclaration>
+    ensures { option_copied result ≡ struct_there declarations.now position }
+{
+    match declarations.get(position)? {
+        Declaration::Struct(declaration) => Some(declaration),
+        Declaration::Extern(_) => None,
+    }
+}
+
+fn extern_at(declarations: &[Declaration], position: usize) -> Option<&ExternDeclaration>
+    ensures { option_copied result ≡ extern_there declarations.now position }
+{
+    match declarations.get(position)? {
+        Declaration::Struct(_) => None,
+        Declaration::Extern(declaration) => Some(declaration),
+    }
+}
+
+impl Table {
+    /// No declarations.
+    pub(crate) fn new(alloc: Global) -> Table
+        ensures { result ≡ [] }
+    {
+        Table {
+            declarations: Sequence::new(alloc),
+            structs: IndexMap::new(alloc),
+            externs: IndexMap::new(alloc),
+        }
+    }
+
+    /// The table with one declaration more, which stands behind the others.
+    pub(crate) fn with(self, alloc: Global, declaration: &Declaration) -> Result<Table, AllocError>
+        ensures { IfOk result (λ table. table ≡ self ++ declaration.now ∷ []) }
+    {
+        match declaration {
+            Declaration::Struct(declaration) => self.with_struct(alloc, declaration),
+            Declaration::Extern(declaration) => self.with_extern(alloc, declaration),
+        }
+    }
+
+    fn with_struct(
+        self,
+        alloc: Global,
+        declaration: &StructDeclaration,
+    ) -> Result<Table, AllocError>
+        ensures { IfOk result (λ table. table ≡ self ++ Declaration.Struct declaration.now ∷ []) }
+    {
+        let known = KnownStruct {
+            position: self.declarations.len(),
+            holds_drop: self.finds_drop(declaration),
+        };
+        let copy = Declaration::Struct(copy_struct(declaration)?);
+        let Table {
+            mut declarations,
+            mut structs,
+            externs,
+        } = self;
+        add_struct(
+            alloc,
+            &mut structs,
+            declaration.name.bytes.as_slice(),
+            known,
+        )?;
+        declarations.push(copy)?;
+        Ok(Table {
+            declarations,
+            structs,
+            externs,
+        })
+    }
+
+    fn with_extern(
+        self,
+        alloc: Global,
+        declaration: &ExternDeclaration,
+    ) -> Result<Table, AllocError>
+        ensures { IfOk result (λ table. table ≡ self ++ Declaration.Extern declaration.now ∷ []) }
+    {
+        let position = self.declarations.len();
+        let copy = Declaration::Extern(copy_extern(declaration)?);
+        let Table {
+            mut declarations,
+            structs,
+            mut externs,
+        } = self;
+        add_extern(
+            alloc,
+            &mut externs,
+            declaration.name.bytes.as_slice(),
+            position,
+        )?;
+        declarations.push(copy)?;
+        Ok(Table {
+            declarations,
+            structs,
+            externs,
+        })
+    }
+
+    /// What is known of the struct of a name.
+    fn known_struct(&self, name: &ItemName) -> Option<KnownStruct>
+        ensures { result ≡ known_struct (reverse self.now) name.now.bytes }
+    {
+        find_struct(&self.structs, name.bytes.as_slice())
+    }
+
+    /// Where the extern function of a name stands.
+    fn known_extern(&self, name: &ItemName) -> Option<usize>
+        ensures { result ≡ known_extern (reverse self.now) name.now.bytes }
+    {
+        find_extern(&self.externs, name.bytes.as_slice())
+    }
+
+    /// The struct of a name.
+    pub(crate) fn struct_of(&self, name: &ItemName) -> Option<&StructDeclaration>
+        ensures { option_copied result ≡ struct_of self.now name.now }
+    {
+        match self.known_struct(name) {
+            Some(known) => struct_at(self.declarations.as_slice(), known.position),
+            None => None,
+        }
+    }
+
+    /// The extern function of a name.
+    pub(crate) fn extern_of(&self, name: &ItemName) -> Option<&ExternDeclaration>
+        ensures { option_copied result ≡ extern_of self.now name.now }
+    {
+        match self.known_extern(name) {
+            Some(position) => extern_at(self.declarations.as_slice(), position),
+            None => None,
+        }
+    }
+
+    /// Whether the struct of a name has been found to hold a drop.
+    fn marks_drop(&self, name: &ItemName) -> bool
+        ensures { result ≡ option_map_or (λ known. known.holds_drop) (known_struct (reverse self.now) name.now.bytes) false }
+    {
+        match self.known_struct(name) {
+            Some(known) => known.holds_drop,
+            None => false,
+        }
+    }
+
+    fn declares(&self, instance: &Instance) -> bool
+        ensures { result ≡ option_map_or (takes instance.now) (struct_of self.now instance.now.name) false }
+    {
+        match self.struct_of(&instance.name) {
+            Some(declaration) => takes_regions(instance, declaration),
+            None => false,
+        }
+    }
+
+    fn struct_holds_drop(&self, instance: &Instance) -> bool
+        ensures { result ≡ struct_holding (reverse self.now) instance.now }
+    {
+        self.declares(instance) && self.marks_drop(&instance.name)
+    }
+
+    /// Whether a type holds a drop.
+    pub(crate) fn holds_drop(&self, ty: &Ty) -> bool
+        ensures { result ≡ holding self.now ty.now }
+    {
+        match ty.references.as_slice() {
+            [] => match &ty.base {
+                Base::Int => false,
+                Base::Struct(instance) => self.struct_holds_drop(instance),
+            },
+            [_, ..] => false,
+        }
+    }
+
+    fn any_holds_drop(&self, types: &[Ty]) -> bool
+        ensures { result ≡ list_any (holding self.now) types.now }
+    {
+        types.iter().any(|ty| self.holds_drop(ty))
+    }
+
+    /// Whether a struct whose fields mention those of the table holds a drop.
+    fn finds_drop(&self, declaration: &StructDeclaration) -> bool
+        ensures { result ≡ declaration.now.has_drop || list_any (holding self.now) declaration.now.fields }
+    {
+        declaration.has_drop || self.any_holds_drop(declaration.fields.as_slice())
+    }
+}
