@@ -4,8 +4,8 @@ use Rattle.std.specs.Bool.{Decides}
 use Rattle.std.proofs.lemmas.Bool.Decides.{Decides-and, Decides-like}
 use Rattle.bc_text.proofs.Equality.{name}
 use Rattle.std.proofs.lemmas.Slice.Eq.{slice_eq-Decides}
-use Rattle.bc_syntax.proofs.Equality.{body, declaration}
-use Rattle.bc_prov.proofs.Equality.{apart, outcome}
+use Rattle.bc_syntax.proofs.Equality.{apart, body, declaration}
+use Rattle.bc_prov.proofs.Equality.{outcome}
 use Rattle.bc_book.specs.declared.call.Call.{Call}
 use Rattle.bc_book.specs.declared.call.Call.TheVariants as calls
 use Rattle.bc_book.specs.declared.call.PutReply.{PutReply}

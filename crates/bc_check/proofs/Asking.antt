@@ -1,5 +1,5 @@
 -- Names that are gathered in their order.
-use Rattle.std.proofs.Common.{◌≡◌, ℕ, zero, suc, ◌<◌, ◌≤◌, ◌+◌, List, [], ◌∷◌, ◌++◌, length, get_or, take, map, Option, Some, None, refl, sym, ap, ◌∙◌, subst, arith, Ordering, Less, Equal, Greater, inl, inr}
+use Rattle.std.proofs.Common.{◌≡◌, ℕ, ◌<◌, ◌≤◌, ◌+◌, List, [], ◌∷◌, ◌++◌, length, get_or, take, map, Option, Some, None, refl, sym, ap, ◌∙◌, subst, arith, Ordering, Less, Equal, Greater, inl, inr}
 use Rattle.std.specs.List.{All, Contains}
 use Rattle.std.specs.List.Sorted.{IsStrictlySortedBy}
 use Rattle.std.specs.Ordering.{match_ordering}
@@ -8,20 +8,11 @@ use Rattle.std.proofs.lemmas.List.{map-append, take_more, take_all}
 use Rattle.std.proofs.lemmas.List.Elements.{All-contains, All-contains_itself, Contains-append_left, Contains-append_right, Contains-append_cases}
 use Rattle.std.proofs.lemmas.Map.Lookups.{CmpEqualImpliesEq}
 use Rattle.std.proofs.lemmas.Map.Views.{All-insert_key}
+use Rattle.bc_flow.proofs.Membership.{Contains-one, Contains-head, Contains-later}
 use Rattle.bc_text.specs.Names.{NameParts, name_order}
 use Rattle.bc_text.proofs.Equality.{exact_names}
 use Rattle.bc_book.specs.declared.call.Call.{Call}
 use Rattle.bc_check.specs.Asked.{root_put, AreAsked}
-
-at_head : {X : Type 0} (x : X) (xs : List X) → Contains (x ∷ xs) x
-at_head x xs = (0, omega arith, refl)
-
-in_tail : {X : Type 0} (y x : X) (xs : List X) → Contains xs x → Contains (y ∷ xs) x
-in_tail y x xs h = Contains-append_right (y ∷ []) xs x h
-
-the_one : {X : Type 0} (y x : X) → Contains (y ∷ []) x → y ≡ x
-the_one y x (zero, below, is) = is
-the_one y x (suc k, below, is) = absurd (omega arith)
 
 -- an ordering with what is known of it
 chosen : {X : Type 0} (P : List X → Type 0) (o : Ordering) (a b c : List X) → P a → (o ≡ Equal → P b) → P c → P (match_ordering o a b c)
@@ -31,17 +22,17 @@ chosen P Greater a b c x y z = z
 
 -- a name that is put in is there
 put_in : {X : Type 0} (cmp : X → X → Ordering) → CmpEqualImpliesEq cmp → (k : X) (ks : List X) → Contains (insert_key cmp ks k) k
-put_in cmp exact k [] = at_head k []
+put_in cmp exact k [] = Contains-head k []
 put_in cmp exact k (x ∷ ks) =
-    chosen (λ xs. Contains xs k) (cmp k x) _ _ _ (at_head k (x ∷ ks)) (λ e. subst (λ y. Contains (y ∷ ks) k) (exact k x e) (at_head k ks)) (in_tail x k _ (put_in cmp exact k ks))
+    chosen (λ xs. Contains xs k) (cmp k x) _ _ _ (Contains-head k (x ∷ ks)) (λ e. subst (λ y. Contains (y ∷ ks) k) (exact k x e) (Contains-head k ks)) (Contains-later x _ k (put_in cmp exact k ks))
 
 -- and those that were there stay
 stays_in : {X : Type 0} (cmp : X → X → Ordering) (k q : X) (ks : List X) → Contains ks q → Contains (insert_key cmp ks k) q
 stays_in cmp k q [] h = absurd (omega (arith, h.1))
 stays_in cmp k q (x ∷ ks) h =
-    chosen (λ xs. Contains xs q) (cmp k x) _ _ _ (in_tail k q (x ∷ ks) h) (λ _. h) (elim (Contains-append_cases (x ∷ []) ks q h) [
-      | inl one ↦ subst (λ y. Contains (x ∷ insert_key cmp ks k) y) (the_one x q one) (at_head x _)
-      | inr more ↦ in_tail x q _ (stays_in cmp k q ks more)
+    chosen (λ xs. Contains xs q) (cmp k x) _ _ _ (Contains-later k (x ∷ ks) q h) (λ _. h) (elim (Contains-append_cases (x ∷ []) ks q h) [
+      | inl one ↦ subst (λ y. Contains (x ∷ insert_key cmp ks k) y) (Contains-one x q one) (Contains-head x _)
+      | inr more ↦ Contains-later x _ q (stays_in cmp k q ks more)
     ])
 
 same_some : {X : Type 0} (x y : X) → Some x ≡ Some y → x ≡ y
@@ -64,14 +55,14 @@ added calls call name names new h root is sorted =
     let more : map root_put (calls ++ call ∷ []) ≡ roots ++ Some name ∷ [] = roots-snoc calls call (Some name) root in
     let P : NameParts → Type 0 = λ q. Contains (roots ++ Some name ∷ []) (Some q) in
     let old : All P names = λ k d below. Contains-append_left roots (Some name ∷ []) (Some (get_or names k d)) ((h.exact (get_or names k d)).0 (All-contains_itself names k d below)) in
-    let all : All P new = subst (All P) (sym is) (All-insert_key name_order name P names old (Contains-append_right roots (Some name ∷ []) (Some name) (at_head (Some name) []))) in
+    let all : All P new = subst (All P) (sym is) (All-insert_key name_order name P names old (Contains-append_right roots (Some name ∷ []) (Some name) (Contains-head (Some name) []))) in
     record {
       ascending = sorted;
       exact = λ q. (
         λ there. subst (λ (l : List (Option NameParts)). Contains l (Some q)) (sym more) (All-contains P new q all there),
         λ there. subst (λ (l : List NameParts). Contains l q) (sym is) (elim (Contains-append_cases roots (Some name ∷ []) (Some q) (subst (λ (l : List (Option NameParts)). Contains l (Some q)) more there)) [
           | inl before ↦ stays_in name_order name q names ((h.exact q).1 before)
-          | inr one ↦ subst (λ (n : NameParts). Contains (insert_key name_order names name) n) (same_some name q (the_one (Some name) (Some q) one)) (put_in name_order exact_names name names)
+          | inr one ↦ subst (λ (n : NameParts). Contains (insert_key name_order names name) n) (same_some name q (Contains-one (Some name) (Some q) one)) (put_in name_order exact_names name names)
         ]),
       );
     }
@@ -87,7 +78,7 @@ left_out calls call names h none =
         λ there. subst (λ (l : List (Option NameParts)). Contains l (Some q)) (sym more) (Contains-append_left roots (None ∷ []) (Some q) ((h.exact q).0 there)),
         λ there. elim (Contains-append_cases roots (None ∷ []) (Some q) (subst (λ (l : List (Option NameParts)). Contains l (Some q)) more there)) [
           | inl before ↦ (h.exact q).1 before
-          | inr one ↦ (let never : None ≡ Some q = the_one None (Some q) one in absurd cc)
+          | inr one ↦ (let never : None ≡ Some q = Contains-one None (Some q) one in absurd cc)
         ],
       );
     }

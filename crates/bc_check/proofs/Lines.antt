@@ -1,8 +1,9 @@
 -- The first line of a text.
 use Rattle.std.proofs.Common.{◌≡◌, ℕ, ◌<◌, true, false, cond, List, [], ◌∷◌, length, take, drop, ◌+◌, refl, ap, sym, ◌∙◌, arith}
 use Rattle.std.specs.Prelude.{◌==◌}
+use Rattle.std.specs.List.{onto_first}
 use Rattle.std.specs.Io.BufRead.{take_through, drop_through}
-use Rattle.bc_check.specs.Parts.{Part, Parts, lines_of, onto_first, without_end, parts, opened, sections_from}
+use Rattle.bc_check.specs.Parts.{Part, Parts, lines_of, without_end, parts, opened, sections_from}
 
 abbrev header_with : ℕ → List ℕ → Parts → List Part
 header_with line header rest = record { line = line; header = header; text = rest.text } ∷ rest.sections

@@ -1,7 +1,8 @@
 -- The scan for the next header line, byte by byte.
 use Rattle.std.proofs.Common.{◌≡◌, ℕ, ◌+◌, Bool, true, false, List, [], ◌∷◌, ◌++◌, refl}
 use Rattle.std.specs.Prelude.{◌==◌}
-use Rattle.bc_check.specs.Parts.{Parts, lines_of, onto_first, parts, sections_from}
+use Rattle.std.specs.List.{onto_first}
+use Rattle.bc_check.specs.Parts.{Parts, lines_of, parts, sections_from}
 
 -- what is left of a line, and what comes behind it
 abbrev pub within : ℕ → List (List ℕ) → Parts

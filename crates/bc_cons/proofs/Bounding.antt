@@ -1,16 +1,17 @@
--- The numbers of regions are below the bound that was computed.
-use Rattle.std.proofs.Common.{ℕ, ◌+◌, ◌<◌, ◌≤◌, max, List, [], ◌∷◌, map, arith}
+-- The bound that was computed is the least that the numbers of regions are below.
+use Rattle.std.proofs.Common.{ℕ, ◌+◌, ◌<◌, ◌≤◌, max, List, [], ◌∷◌, map, filter, arith}
 use Rattle.std.specs.List.{All}
-use Rattle.std.proofs.lemmas.List.Elements.{All-nil, All-cons, All-map, All-weaker}
+use Rattle.std.proofs.lemmas.List.Elements.{All-nil, All-cons, All-head, All-tail, All-map, All-weaker}
 use Rattle.bc_syntax.specs.declared.syntax.Ty.{Ty}
 use Rattle.bc_syntax.specs.declared.syntax.Region.{Region}
 use Rattle.bc_types.specs.declared.subtype.Constraint.{Constraint as RegionConstraint}
+use Rattle.bc_mir.specs.Mir.{Mir}
 use Rattle.bc_mir.specs.Regions.{region_number}
 use Rattle.bc_cons.specs.declared.facts.Constraint.{Constraint}
-use Rattle.bc_cons.specs.Constraints.{numbered}
+use Rattle.bc_cons.specs.Constraints.{numbered, differ, all_pairs}
 use Rattle.bc_cons.specs.Mentions.{regions_of}
 use Rattle.bc_cons.specs.Bounds.{regions_bound, types_bound, pairs_bound}
-use Rattle.bc_cons.specs.Below.{TyIsBelow, TysAreBelow, PairsAreBelow}
+use Rattle.bc_cons.specs.Below.{TyIsBelow, TysAreBelow, PairsAreBelow, IsRegionCount}
 use Rattle.bc_cons.specs.Facts.{ArePairsWithin}
 
 regions_bound_least : (u least : ℕ) (rs : List Region) → least ≤ regions_bound u least rs
@@ -63,3 +64,37 @@ pairs_are_below u least (p ∷ ps) =
 pub numbered_within : (u least : ℕ) (ps : List RegionConstraint) → ArePairsWithin (pairs_bound u least ps) (map (numbered u) ps)
 numbered_within u least ps =
     All-map (λ (c : Constraint). (c.longer < pairs_bound u least ps) × (c.shorter < pairs_bound u least ps)) (numbered u) ps (pairs_are_below u least ps)
+
+-- ---- the bound is no more than another
+
+regions_low : (u least n : ℕ) (rs : List Region) → least ≤ n → All (λ (r : Region). region_number u r < n) rs → regions_bound u least rs ≤ n
+regions_low u least n [] le below = le
+regions_low u least n (r ∷ rs) le below =
+    let here = All-head (λ (q : Region). region_number u q < n) r rs below in
+    regions_low u (max least (region_number u r + 1)) n rs (omega (arith, le, here)) (All-tail (λ (q : Region). region_number u q < n) r rs below)
+
+types_low : (u least n : ℕ) (tys : List Ty) → least ≤ n → TysAreBelow u n tys → types_bound u least tys ≤ n
+types_low u least n [] le below = le
+types_low u least n (ty ∷ tys) le below =
+    let here = All-head (λ (t : Ty). TyIsBelow u n t) ty tys below in
+    types_low u (regions_bound u least (regions_of ty)) n tys (regions_low u least n (regions_of ty) le here) (All-tail (λ (t : Ty). TyIsBelow u n t) ty tys below)
+
+pairs_low : (u least n : ℕ) (ps : List RegionConstraint) → least ≤ n → ArePairsWithin n (map (numbered u) ps) → pairs_bound u least ps ≤ n
+pairs_low u least n [] le within = le
+pairs_low u least n (p ∷ ps) le within =
+    let here = All-head (λ (c : Constraint). (c.longer < n) × (c.shorter < n)) (numbered u p) (map (numbered u) ps) within in
+    pairs_low u (max (max least (region_number u p.longer + 1)) (region_number u p.shorter + 1)) n ps (omega (arith, le, here.0, here.1))
+    (All-tail (λ (c : Constraint). (c.longer < n) × (c.shorter < n)) (numbered u p) (map (numbered u) ps) within)
+
+pub is_region_count : (mir : Mir) → IsRegionCount mir (pairs_bound mir.universals (types_bound mir.universals mir.universals mir.locals) (filter differ (all_pairs mir)))
+is_region_count mir =
+    let u = mir.universals in
+    let declared = types_bound u u mir.locals in
+    let pairs = filter differ (all_pairs mir) in
+    let le = pairs_bound_least u declared pairs in
+    record {
+      universals = omega (arith, types_bound_least u u mir.locals, le);
+      types = tys_more u declared (pairs_bound u declared pairs) mir.locals le (types_are_below u u mir.locals);
+      constraints = numbered_within u declared pairs;
+      least = λ n small below within. pairs_low u declared n pairs (types_low u u n mir.locals small below) within;
+    }

@@ -1,7 +1,7 @@
 -- The rows of start elements, also past the last.
-use Rattle.std.proofs.Common.{◌≡◌, ℕ, ◌+◌, ◌<◌, ◌≤◌, inl, inr, Bool, true, false, ◌&&◌, nat_lt, ◌==◌, List, [], ◌∷◌, length, refl, sym, ap, ◌∙◌, arith}
+use Rattle.std.proofs.Common.{◌≡◌, ℕ, ◌+◌, ◌<◌, ◌≤◌, inl, inr, Bool, false, ◌&&◌, nat_lt, ◌==◌, List, [], ◌∷◌, length, refl, sym, ap, ◌∙◌, arith}
 use Rattle.std.specs.List.{All, list_any, enumerate_from}
-use Rattle.std.proofs.lemmas.Bool.{cases_lt, le-ltb, ne_eqb}
+use Rattle.std.proofs.lemmas.Bool.{cases_lt, le-ltb, ne_eqb, and_right}
 use Rattle.std.proofs.lemmas.List.{get_or_past}
 use Rattle.std.proofs.lemmas.List.Elements.{All-head, All-tail}
 use Rattle.bc_syntax.specs.declared.syntax.Ty.{Ty}
@@ -29,15 +29,11 @@ unstarted u bound r p n live (ty ∷ tys) past below =
     let here = All-head (λ (t : Ty). TyIsBelow u bound t) ty tys below in
     rw (unmentioned u bound r (regions_of ty) past here) (unstarted u bound r p (n + 1) live tys past (All-tail (λ (t : Ty). TyIsBelow u bound t) ty tys below))
 
-nothing_and : (b : Bool) → (b && false) ≡ false
-nothing_and true = refl
-nothing_and false = refl
-
 -- such a region starts with nothing
 pub no_start : (mir : Mir) (live : ℕ → ℕ → Bool) (bound r e : ℕ) → mir.universals ≤ bound → TysAreBelow mir.universals bound mir.locals → bound ≤ r → starts_with mir live r e ≡ false
 no_start mir live bound r e least below past =
     let none : nat_lt r mir.universals ≡ false = le-ltb r mir.universals (omega (arith, least, past)) in
-    rw (none, unstarted mir.universals bound r e 0 live mir.locals past below) (nothing_and (nat_lt e (length mir.steps)))
+    rw (none, unstarted mir.universals bound r e 0 live mir.locals past below) (and_right (nat_lt e (length mir.steps)) false refl)
 
 -- the rows are the starts of every region
 pub all_starts : (mir : Mir) (live : ℕ → ℕ → Bool) (rows : List (List Bool)) (bound : ℕ) → length rows ≡ bound → mir.universals ≤ bound → TysAreBelow mir.universals bound mir.locals →

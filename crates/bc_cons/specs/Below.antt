@@ -1,10 +1,13 @@
--- Numbers of regions below a bound.
-use Rattle.std.specs.Prelude.{ℕ, ◌<◌, List}
+-- How many regions a body has.
+use Rattle.std.specs.Prelude.{ℕ, ◌<◌, ◌≤◌, List}
 use Rattle.std.specs.List.{All}
 use Rattle.bc_syntax.specs.declared.syntax.Ty.{Ty}
 use Rattle.bc_syntax.specs.declared.syntax.Region.{Region}
 use Rattle.bc_types.specs.declared.subtype.Constraint.{Constraint as RegionConstraint}
+use Rattle.bc_mir.specs.Mir.{Mir}
 use Rattle.bc_mir.specs.Regions.{region_number}
+use Rattle.bc_cons.specs.Constraints.{constraints_of}
+use Rattle.bc_cons.specs.Facts.{ArePairsWithin}
 use Rattle.bc_cons.specs.Mentions.{regions_of}
 
 -- the regions of a type, of each type, and of each pair have numbers below the bound
@@ -17,3 +20,11 @@ TysAreBelow universals bound tys = All (λ (ty : Ty). TyIsBelow universals bound
 abbrev pub PairsAreBelow : ℕ → ℕ → List RegionConstraint → Type 0
 PairsAreBelow universals bound pairs =
     All (λ (pair : RegionConstraint). (region_number universals pair.longer < bound) × (region_number universals pair.shorter < bound)) pairs
+
+-- the least number that those of the universal regions, of the regions in the types of locals and of those in constraints
+-- are below
+pub record IsRegionCount (mir : Mir) (count : ℕ) : Type 0 where
+  pub universals : mir.universals ≤ count
+  pub types : TysAreBelow mir.universals count mir.locals
+  pub constraints : ArePairsWithin count (constraints_of mir)
+  pub least : (n : ℕ) → mir.universals ≤ n → TysAreBelow mir.universals n mir.locals → ArePairsWithin n (constraints_of mir) → count ≤ n

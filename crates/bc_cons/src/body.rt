@@ -5,7 +5,7 @@ ghost use Rattle.bc_flow.specs.Flow.{holds};
 ghost use Rattle.bc_mir.specs.Regions.{region_number as number_of};
 ghost use Rattle.bc_cons.specs.Constraints.{same_region, differ, pairs_at, all_pairs, numbered, constraints_of};
 ghost use Rattle.bc_cons.specs.Starts.{starts_with};
-ghost use Rattle.bc_cons.specs.Bounds.{region_count};
+ghost use Rattle.bc_cons.specs.Below.{IsRegionCount};
 
 use crate::bounds::{pairs_bound, types_bound};
 use crate::facts::{Constraint, Facts};
@@ -79,7 +79,7 @@ fn by_number(
 pub fn constraints(alloc: Global, typed: &Typed, live: &LiveSets) -> Result<Facts, AllocError>
     ensures elements { IfOk result (λ facts. facts.elements ≡ length typed.now.steps + typed.now.universals) }
     ensures universals { IfOk result (λ facts. typed.now.universals ≤ length facts.starts) }
-    ensures regions { IfOk result (λ facts. length facts.starts ≡ region_count typed.now) }
+    ensures regions { IfOk result (λ facts. IsRegionCount typed.now (length facts.starts)) }
     ensures starts { IfOk result (λ facts. (r e : ℕ) → holds facts.starts r e ≡ starts_with typed.now (holds live.now) r e) }
     ensures pairs { IfOk result (λ facts. facts.pairs ≡ constraints_of typed.now) }
 {

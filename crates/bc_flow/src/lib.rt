@@ -15,5 +15,5 @@ mod traversal;
 pub use bit_set::BitSet;
 pub use dataflow::{every_node, every_node_back, flow};
 pub use graph::{Edge, reversed};
-pub use tables::{Entry, copy_table, empty_table, join, join_without, table, transposed};
+pub use tables::{Entry, copy_table, empty_table, holds, join, join_without, table, transposed};
 pub use traversal::postorder;

@@ -1,8 +1,8 @@
 -- The list of errors has exactly the errors.
-use Rattle.std.proofs.Common.{◌≡◌, ℕ, ◌+◌, ◌<◌, ◌⊎◌, inl, inr, ◌↔◌, Bool, true, false, List, [], ◌∷◌, Option, Some, None, refl, sym, ap, ◌∙◌, subst, arith}
+use Rattle.std.proofs.Common.{◌≡◌, ℕ, ◌+◌, ◌<◌, ◌⊎◌, inl, inr, ◌↔◌, Bool, true, false, List, [], ◌∷◌, Some, refl, sym, ap, ◌∙◌, subst, arith}
 use Rattle.std.specs.Prelude.{◌&&◌, ◌||◌, not, if◌then◌else◌, slice_get}
 use Rattle.std.specs.List.{Contains, enumerate_from, range_with_len}
-use Rattle.std.proofs.lemmas.Bool.{and_parts, and_from, both_ways, false_from_ne_true}
+use Rattle.std.proofs.lemmas.Bool.{and_parts, and_from, both_ways, false_from_ne_true, not-true}
 use Rattle.std.proofs.lemmas.Option.{slice_get_within, get_or_from_slice_get}
 use Rattle.std.proofs.lemmas.List.Elements.{Contains-append_left, Contains-append_right, Contains-append_cases}
 use Rattle.bc_syntax.specs.declared.syntax.Mutability.{Mutability}
@@ -17,7 +17,8 @@ use Rattle.bc_types.specs.Mutabilities.{is_mutable}
 use Rattle.bc_mir.specs.Points.{loan_of}
 use Rattle.bc_mir.specs.Accesses.{accesses_of}
 use Rattle.bc_flow.proofs.Membership.{Contains-nil, Contains-one, Contains-head, from_flat_map, in_flat_map, from_enumerate, in_enumerate, from_range, in_range}
-use Rattle.bc_loans.specs.Loans.{with_point, loans_of_step, loans_of}
+use Rattle.bc_loans.specs.Loans.{loans_of_step, loans_of}
+use Rattle.bc_loans.proofs.Listing.{from_with_point}
 use Rattle.bc_judge.specs.declared.error.BorrowError.{BorrowError}
 use Rattle.bc_judge.specs.declared.error.BorrowError.TheVariants.{Conflict, Lifetime}
 use Rattle.bc_judge.specs.Conflicts.{ScopeTest, is_write, is_conflict, is_relevant_at, point_of, conflict_with, conflicts_of_access, conflicts_of_step, conflicts_of}
@@ -32,10 +33,6 @@ from_if false x y h = absurd (Contains-nil y h)
 
 in_if : {X : Type 0} (b : Bool) (x : X) → b ≡ true → Contains (if b then x ∷ [] else []) x
 in_if b x is = rw is (Contains-head x [])
-
-not_true : (b : Bool) → not b ≡ true → b ≡ false
-not_true true h = absurd cc
-not_true false h = refl
 
 -- ---- numbered elements
 
@@ -52,16 +49,12 @@ numbered xs k x is =
 
 -- ---- conflicts
 
-from_with_point : (p : ℕ) (made : Option Loan) (loan : ℕ × Loan) → Contains (with_point p made) loan → p ≡ loan.0
-from_with_point p None loan h = absurd (Contains-nil loan h)
-from_with_point p (Some there) loan h = ap (λ (l : ℕ × Loan). l.0) (Contains-one (p, there) loan h)
-
 -- a point makes each loan
 maker_of : (mir : Mir) (n : ℕ) (loan : ℕ × Loan) → slice_get (loans_of mir) n ≡ Some loan → (step : Step) × (slice_get mir.steps loan.0 ≡ Some step)
 maker_of mir n loan is =
     let found = from_flat_map loans_of_step (enumerate_from 0 mir.steps) loan (n, slice_get_within (loans_of mir) n loan is, get_or_from_slice_get (loans_of mir) n loan loan is) in
     let there = at_number mir.steps found.0 found.1 in
-    (found.0.1, subst (λ k. slice_get mir.steps k ≡ Some found.0.1) (from_with_point found.0.0 (loan_of found.0.1.instruction) loan found.2) there)
+    (found.0.1, subst (λ k. slice_get mir.steps k ≡ Some found.0.1) (sym (from_with_point found.0.0 (loan_of found.0.1.instruction) loan found.2)) there)
 
 printed_at : (steps : List Step) (p : ℕ) (step : Step) → slice_get steps p ≡ Some step → point_of steps p ≡ step.point
 printed_at steps p step is = rw is
@@ -142,7 +135,7 @@ from_lifetimes mir in_scope value known tells e h =
       longer_declared = longer;
       shorter_declared = shorter;
       has_end = both.0;
-      unknown = λ k. both_ways (known a.0 b.0) (not_true (known a.0 b.0) both.1) ((tells a.0 b.0 longer shorter).1 k);
+      unknown = λ k. both_ways (known a.0 b.0) (not-true (known a.0 b.0) both.1) ((tells a.0 b.0 longer shorter).1 k);
     } in
     subst (IsError mir in_scope value) one.1 found
 

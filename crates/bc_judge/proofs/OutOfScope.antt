@@ -1,9 +1,7 @@
 -- Loans that are not in scope give no conflict.
 use Rattle.std.proofs.Common.{◌≡◌, ℕ, ◌+◌, ◌≤◌, Bool, false, List, [], ◌++◌, length, sym, ap, ◌∙◌, arith, append-nil, Option, Some, None}
 use Rattle.std.specs.Prelude.{slice_get, MatchOption, is_some}
-use Rattle.std.proofs.lemmas.List.{get_or_past}
 use Rattle.bc_flow.specs.BitSet.{has, IsNextMember}
-use Rattle.bc_flow.specs.Flow.{holds}
 use Rattle.bc_judge.specs.declared.error.BorrowError.{BorrowError}
 use Rattle.bc_mir.specs.declared.access.Access.{Access}
 use Rattle.bc_mir.specs.declared.mir.Point.{Point}
@@ -49,9 +47,6 @@ access-end mir set at access loans items whole from none before =
 
 pub nothing-added : {X : Type 0} (items more : List X) → more ≡ [] → items ≡ items ++ more
 nothing-added items more none = sym (append-nil items) ∙ ap (λ xs. items ++ xs) (sym none)
-
-pub no_row : (rows : List (List Bool)) (n f : ℕ) → length rows ≤ n → holds rows n f ≡ false
-no_row rows n f past = ap (λ r. has r f) (get_or_past rows n [] past)
 
 -- a set with no next member from 0 on is empty
 pub empty_set : (set : List Bool) (next : Option ℕ) → is_some next ≡ false → MatchOption next ((i : ℕ) → 0 ≤ i → has set i ≡ false) (λ member. IsNextMember set 0 member) → (i : ℕ) → has set i ≡ false

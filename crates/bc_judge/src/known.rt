@@ -5,7 +5,7 @@ ghost use Rattle.bc_flow.specs.Flow.{holds, HaveSize};
 ghost use Rattle.bc_judge.specs.Lifetimes.{TellsKnown};
 ghost use Rattle.bc_judge.specs.Known.{edge_of, entries_of};
 
-use bc_flow::{BitSet, Edge, Entry, every_node, flow, table};
+use bc_flow::{BitSet, Edge, Entry, every_node, flow, holds, table};
 use bc_mir::Typed;
 use bc_syntax::Outlives;
 use std::alloc::{AllocError, Global};
@@ -32,10 +32,7 @@ impl KnownRelations {
     pub fn contains(&self, longer: usize, shorter: usize) -> bool
         ensures { result ≡ holds self.now longer shorter }
     {
-        match self.rows.get(longer) {
-            Some(row) => row.has(shorter),
-            None => false,
-        }
+        holds(&self.rows, longer, shorter)
     }
 }
 

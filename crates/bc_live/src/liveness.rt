@@ -4,7 +4,7 @@ ghost use Rattle.bc_flow.specs.Flow.{holds, HaveSize};
 ghost use Rattle.bc_live.specs.Live.{IsLive};
 
 use crate::entries::{definition_entries, use_entries};
-use bc_flow::{BitSet, every_node_back, flow, reversed, table, transposed};
+use bc_flow::{BitSet, every_node_back, flow, holds, reversed, table, transposed};
 use bc_mir::Typed;
 use std::alloc::{AllocError, Global};
 use std::marker::Model;
@@ -30,10 +30,7 @@ impl LiveSets {
     pub fn live(&self, local: usize, point: usize) -> bool
         ensures { result ≡ holds self.now local point }
     {
-        match self.rows.get(local) {
-            Some(row) => row.has(point),
-            None => false,
-        }
+        holds(&self.rows, local, point)
     }
 
     /// The points on whose entry each local is live: one set for each local, in order. (Own.)

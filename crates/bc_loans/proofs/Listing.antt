@@ -103,7 +103,7 @@ overwritten_is_kills mir loans l made is p = kills_at loans l made is (slice_get
 
 -- ---- numbers
 
-from_with_point : (p : ℕ) (o : Option Loan) (made : Made) → Contains (with_point p o) made → made.0 ≡ p
+pub from_with_point : (p : ℕ) (o : Option Loan) (made : Made) → Contains (with_point p o) made → made.0 ≡ p
 from_with_point p None made h = absurd (Contains-nil made h)
 from_with_point p (Some loan) made h = ap (λ (m : Made). m.0) (sym (Contains-one (p, loan) made h))
 

@@ -1,9 +1,8 @@
 -- The loans that flow along the edges are those with a path.
-use Rattle.std.proofs.Common.{◌≡◌, ℕ, ◌<◌, ◌≤◌, inl, inr, ◌↔◌, Bool, true, false, not, ◌||◌, ◌&&◌, List, [], ◌∷◌, ◌++◌, length, take, drop, refl, sym, ap, ◌∙◌, subst, Some, get_or, arith}
+use Rattle.std.proofs.Common.{◌≡◌, ℕ, ◌<◌, ◌≤◌, inl, inr, ◌↔◌, Bool, true, false, not, ◌||◌, ◌&&◌, List, [], ◌∷◌, ◌++◌, length, refl, sym, ap, ◌∙◌, subst, Some, get_or, arith}
 use Rattle.std.specs.Prelude.{slice_get}
 use Rattle.std.specs.List.{All}
-use Rattle.std.proofs.lemmas.Grind.{common_steps}
-use Rattle.std.proofs.lemmas.Bool.{false_from_ne_true, both_ways, or_parts, and_parts, and_from, not-true, not_from_false, cases_lt, lt-ltb}
+use Rattle.std.proofs.lemmas.Bool.{false_from_ne_true, both_ways, or_parts, and_parts, and_from, not-true, not-false, not_from_false, cases_lt, lt-ltb}
 use Rattle.std.proofs.lemmas.List.{get_or_past}
 use Rattle.std.proofs.lemmas.List.Elements.{All-nil, All-cons, All-head, All-tail, All-push}
 use Rattle.std.proofs.lemmas.Option.{slice_get_within, slice_get-get_or}
@@ -26,10 +25,6 @@ use Rattle.bc_loans.specs.Scope.{IsInScope}
 use Rattle.bc_loans.specs.Step.{AreExits, Enters}
 use Rattle.bc_loans.proofs.Listing.{same_found, made_is_listed, overwritten_is_kills}
 
--- what a `Vec` holds after all its items were lent and came back
-pub refilled : (n : ℕ) (new old : List (List Bool)) → length new ≡ length old → n ≡ length old → take n (new ++ drop (length new) old) ≡ new
-refilled n new old p q = grind (arith, common_steps)
-
 -- the points in the value of a loan's region
 abbrev Inside : Mir → (ℕ → ℕ → Bool) → ℕ × Loan → ℕ → Type 0
 Inside mir value made p = value (region_number mir.universals made.1.region) p ≡ true
@@ -42,14 +37,10 @@ pub record AreSets (mir : Mir) (value : ℕ → ℕ → Bool) (l : ℕ) (made : 
   pub seeds_are : (p : ℕ) → holds seeds p l ≡ (holds makers p l && not (holds over p l))
   pub kills_are : (p : ℕ) → holds kills p l ≡ (holds over p l || holds outside p l)
 
-from_not : (b : Bool) → not b ≡ false → b ≡ true
-from_not true h = refl
-from_not false h = absurd cc
-
 inside_from : (mir : Mir) (value : ℕ → ℕ → Bool) (l : ℕ) (made : ℕ × Loan) (outside makers over seeds kills : List (List Bool)) → AreSets mir value l made outside makers over seeds kills →
     (p : ℕ) → p < length mir.steps → holds outside p l ≡ false → Inside mir value made p
 inside_from mir value l made outside makers over seeds kills sets p below h =
-    from_not (value (region_number mir.universals made.1.region) p) (sym (sets.outside_are p below) ∙ h)
+    not-false (value (region_number mir.universals made.1.region) p) (sym (sets.outside_are p below) ∙ h)
 
 outside_from : (mir : Mir) (value : ℕ → ℕ → Bool) (l : ℕ) (made : ℕ × Loan) (outside makers over seeds kills : List (List Bool)) → AreSets mir value l made outside makers over seeds kills →
     (p : ℕ) → p < length mir.steps → Inside mir value made p → holds outside p l ≡ false

@@ -10,7 +10,9 @@ use crate::entries::made_entries;
 use crate::loan_list::loans;
 use crate::outside::loans_outside;
 use crate::overwrites::overwrite_rows;
-use bc_flow::{BitSet, Edge, Entry, empty_table, every_node, flow, join, join_without, table};
+use bc_flow::{
+    BitSet, Edge, Entry, empty_table, every_node, flow, holds, join, join_without, table,
+};
 use bc_mir::Typed;
 use bc_solve::Values;
 use std::alloc::{AllocError, Global};
@@ -37,10 +39,7 @@ impl Scopes {
     pub fn on_entry(&self, point: usize, loan: usize) -> bool
         ensures { result ≡ holds self.now point loan }
     {
-        match self.rows.get(point) {
-            Some(row) => row.has(loan),
-            None => false,
-        }
+        holds(&self.rows, point, loan)
     }
 
     /// The loans in scope on entry to each point: one set for each point, in order. (Own.)

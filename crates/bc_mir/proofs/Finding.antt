@@ -1,4 +1,4 @@
-use Rattle.std.proofs.Common.{◌≡◌, ℕ, zero, suc, Bool, true, false, not, ◌&&◌, cond, Option, Some, None, option_and_then, ◌⊎◌, inl, inr, List, [], ◌∷◌, ◌++◌, reverse, refl, sym, ap, ◌∙◌, arith}
+use Rattle.std.proofs.Common.{◌≡◌, ℕ, Bool, true, false, not, ◌&&◌, cond, Option, Some, None, option_and_then, List, [], ◌∷◌, ◌++◌, reverse, refl, sym, ap, ◌∙◌}
 use Rattle.std.proofs.lemmas.Bool.{eqb-true, eq-eqb}
 use Rattle.std.proofs.lemmas.List.{reverse-reverse}
 use Rattle.std.specs.List.{Contains}
@@ -10,6 +10,7 @@ use Rattle.bc_syntax.specs.declared.syntax.Projection.TheVariants.{Deref, Field}
 use Rattle.bc_types.specs.Mutabilities.{is_mutable}
 use Rattle.bc_mir.specs.Places.{are_mutable, same_projection, rest_after}
 use Rattle.bc_mir.specs.Supporters.{place_of, is_shared}
+use Rattle.bc_flow.proofs.Membership.{Contains-nil}
 
 same_projection-is : (a b : Projection) → same_projection a b ≡ true → a ≡ b
 same_projection-is Deref Deref same = refl
@@ -46,25 +47,12 @@ pub are_mutable-option : (found : Option Reference) → are_mutable (option_to_l
 are_mutable-option None = refl
 are_mutable-option (Some reference) = not-not (is_mutable reference.mutability)
 
-pub contains-first : {A : Type 0} (x : A) (xs : List A) → Contains (x ∷ xs) x
-contains-first x xs = (0, omega arith, refl)
-
-pub contains-behind : {A : Type 0} (x y : A) (xs : List A) → Contains xs y → Contains (x ∷ xs) y
-contains-behind x y xs (k, below, is) = (suc k, omega arith, is)
-
-pub contains-cases : {A : Type 0} (x y : A) (xs : List A) → Contains (x ∷ xs) y → (x ≡ y) ⊎ Contains xs y
-contains-cases x y xs (zero, below, is) = inl is
-contains-cases x y xs (suc k, below, is) = inr (k, omega arith, is)
-
-pub contains-nothing : {A : Type 0} (y : A) → Contains [] y → ⊥
-contains-nothing y (k, below, is) = omega arith
-
 pub goes-on : (shared : Bool) (place : Place) (places : List Place) → shared ≡ false → Contains places place → Contains (cond shared [] places) place
 goes-on true place places same contains = cc
 goes-on false place places same contains = contains
 
 pub went-on : (shared : Bool) (place : Place) (places : List Place) → Contains (cond shared [] places) place → (shared ≡ false) × Contains places place
-went-on true place places contains = absurd (contains-nothing place contains)
+went-on true place places contains = absurd (Contains-nil place contains)
 went-on false place places contains = (refl, contains)
 
 pub map_or-true : {A : Type 0} (f : A → Bool) (value : Option A) → option_map_or f value false ≡ true → (x : A) × (value ≡ Some x) × (f x ≡ true)

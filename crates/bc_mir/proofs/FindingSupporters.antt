@@ -19,8 +19,9 @@ use Rattle.bc_types.specs.Replaced.{field_type}
 use Rattle.bc_mir.specs.PlaceTypes.{type_behind, type_of_place}
 use Rattle.bc_mir.specs.Supports.{goes_on_mutable, supports}
 use Rattle.bc_mir.specs.Supporters.{place_of, is_shared, reference_taken, last_taken_of, supporters_from, supporters}
+use Rattle.bc_flow.proofs.Membership.{Contains-nil, Contains-head, Contains-cons, Contains-later}
 use Rattle.bc_mir.proofs.Supporters.{along, leads, leads_more}
-use Rattle.bc_mir.proofs.Finding.{allowed-some, rest_after-is, rest_after-append, are_mutable-option, contains-first, contains-behind, contains-cases, contains-nothing, goes-on, went-on, map_or-true, and_then-some, same-place}
+use Rattle.bc_mir.proofs.Finding.{allowed-some, rest_after-is, rest_after-append, are_mutable-option, goes-on, went-on, map_or-true, and_then-some, same-place}
 
 along_append : (types : List Declaration) (first second : List Projection) (references : List Reference) (base : Base) → type_behind types (first ++ second) references base ≡ option_and_then (along types second) (type_behind types first references base)
 along_append types [] second references base = refl
@@ -69,8 +70,8 @@ none_shared-is types locals local (last ∷ taken) before ty typed =
     ∙ sym split
 
 starts : (types : List Declaration) (locals : List Ty) (local : ℕ) (before : List Projection) → Contains (supporters_from types locals local before) (place_of local before)
-starts types locals local [] = contains-first (place_of local []) []
-starts types locals local (last ∷ before) = contains-first (place_of local (last ∷ before)) _
+starts types locals local [] = Contains-head (place_of local []) []
+starts types locals local (last ∷ before) = Contains-head (place_of local (last ∷ before)) _
 
 -- a place from which no dereference of a shared reference was taken away is found
 found : (types : List Declaration) (locals : List Ty) (local : ℕ) (taken before : List Projection) → none_shared types locals local taken before ≡ true → Contains (supporters_from types locals local (taken ++ before)) (place_of local before)
@@ -78,7 +79,7 @@ found types locals local [] before none = starts types locals local before
 found types locals local (last ∷ taken) before none =
     let shared : Bool = is_shared (last_taken_of types locals local (last ∷ (taken ++ before))) in
     let parts = and_parts (none_shared types locals local taken before) (not shared) none in
-    contains-behind (place_of local (last ∷ (taken ++ before))) (place_of local before) (cond shared [] (supporters_from types locals local (taken ++ before)))
+    Contains-later (place_of local (last ∷ (taken ++ before))) (cond shared [] (supporters_from types locals local (taken ++ before))) (place_of local before)
     (goes-on shared (place_of local before) (supporters_from types locals local (taken ++ before)) (not-true shared parts.1) (found types locals local taken before parts.0))
 
 -- a place that was found, by what was taken away
@@ -106,13 +107,13 @@ mutual-cases types locals local last projections place rest (inr contains) =
 
 none-left : (types : List Declaration) (local : ℕ) (locals : List Ty) (place : Place) → (place_of local [] ≡ place) ⊎ Contains [] place → IsTaken types locals local [] place
 none-left types local locals place (inl same) = record { taken = []; before = []; parts = refl; is = sym same; none = refl }
-none-left types local locals place (inr contains) = absurd (contains-nothing place contains)
+none-left types local locals place (inr contains) = absurd (Contains-nil place contains)
 
 was-found : (types : List Declaration) (locals : List Ty) (local : ℕ) (projections : List Projection) (place : Place) → Contains (supporters_from types locals local projections) place → IsTaken types locals local projections place
-was-found types locals local [] place contains = none-left types local locals place (contains-cases (place_of local []) place [] contains)
+was-found types locals local [] place contains = none-left types local locals place (Contains-cons (place_of local []) [] place contains)
 was-found types locals local (last ∷ projections) place contains =
     mutual-cases types locals local last projections place (was-found types locals local projections place)
-    (contains-cases (place_of local (last ∷ projections)) place (cond (is_shared (last_taken_of types locals local (last ∷ projections))) [] (supporters_from types locals local projections)) contains)
+    (Contains-cons (place_of local (last ∷ projections)) (cond (is_shared (last_taken_of types locals local (last ∷ projections))) [] (supporters_from types locals local projections)) place contains)
 
 finds : (types : List Declaration) (locals : List Ty) (prefix place : Place) → supports types locals prefix place ≡ true → Contains (supporters types locals place) prefix
 finds types locals prefix place holds =

@@ -10,6 +10,7 @@ use Rattle.bc_syntax.specs.declared.syntax.Block.{Block}
 use Rattle.bc_syntax.specs.declared.syntax.Statement.{Statement as Simple}
 use Rattle.bc_syntax.specs.declared.syntax.Terminator.{Terminator as Ending}
 use Rattle.bc_syntax.specs.declared.syntax.Terminator.TheVariants.{Goto, If, Call, Return, Stop}
+use Rattle.bc_syntax.proofs.Headers.{header_parts}
 use Rattle.bc_syntax.specs.Fits.{Fits as Sized, universal_count, locals_of, point_count, clause_fits, ty_fits, statement_fits, terminator_fits, block_fits}
 use Rattle.bc_flow.specs.declared.graph.Edge.{Edge}
 use Rattle.bc_mir.specs.declared.mir.Step.{Step}
@@ -122,20 +123,22 @@ some-point (block ∷ blocks) some = omega (arith, length-append (block_steps 0 
 types-fit : (body : Body) → Sized body → list_all (ty_fits true (universal_count body.header)) (locals_of body) ≡ true
 types-fit body sized =
     let n = universal_count body.header in
-    let parameters = (and_parts (list_all (ty_fits false n) body.header.parameters) _ sized.header.parameters).0 in
-    and_from _ _ (ty-wider n body.header.result sized.header.result)
+    let header = header_parts 15 body.header sized.header in
+    let parameters = (and_parts (list_all (ty_fits false n) body.header.parameters) _ header.parameters).0 in
+    and_from _ _ (ty-wider n body.header.result header.result)
     (list_all-append (ty_fits true n) body.header.parameters body.lets ∙ and_from _ _ (types-wider n body.header.parameters parameters) sized.lets)
 
 -- a unit that fits is typed
 pub typed : (types : List Declaration) (body : Body) → Sized body → Fits (mir_of types body) → IsTyped (mir_of types body)
 typed types body sized fits =
     let mir = mir_of types body in
+    let header = header_parts 15 body.header sized.header in
     let count : length mir.steps ≡ point_count body.blocks = length-steps_from 0 body.blocks in
     record {
       fits = fits;
       some_universal = omega arith;
-      universals = sized.header.universals;
-      clauses = (and_parts (list_all (clause_fits (universal_count body.header)) body.header.clauses) _ sized.header.clauses).0;
+      universals = omega (arith, header.few);
+      clauses = (and_parts (list_all (clause_fits (universal_count body.header)) body.header.clauses) _ header.clauses).0;
       some_local = omega arith;
       locals = sized.locals;
       types = types-fit body sized;

@@ -1,5 +1,5 @@
 -- Replacing regions changes no mutability.
-use Rattle.std.proofs.Common.{◌≡◌, Bool, true, ◌&&◌, slice_get, Option, Some, None, List, [], ◌∷◌, map, refl, sym, ap, ◌∙◌}
+use Rattle.std.proofs.Common.{◌≡◌, true, ◌&&◌, slice_get, Option, Some, None, List, [], ◌∷◌, map, refl, sym, ap, ◌∙◌}
 use Rattle.std.specs.Option.{option_map, option_map_or}
 use Rattle.bc_syntax.specs.declared.syntax.Region.{Region}
 use Rattle.bc_syntax.specs.declared.syntax.Base.{Base}
@@ -14,10 +14,7 @@ use Rattle.bc_types.specs.Mutabilities.{is_mutable}
 use Rattle.bc_mir.specs.Places.{are_mutable}
 use Rattle.bc_types.specs.Replaced.{replaced_region, replaced_reference, replaced_base, replaced_ty, declared_field}
 use Rattle.bc_mir.specs.PlaceTypes.{references_behind, references_of_place, mutable_behind, mutable_on_way}
-
--- projections dereference no shared reference
-abbrev pub passes : List Declaration → List Projection → Ty → Bool
-passes types projections ty = are_mutable (references_behind types projections ty.references ty.base)
+use Rattle.bc_mir.specs.Supports.{leads_mutable}
 
 pub mutable_replaced : (types : List Declaration) (arguments : List Region) (projections : List Projection) (references : List Reference) (base : Base) → are_mutable (references_behind types projections (map (replaced_reference arguments) references) (replaced_base arguments base)) ≡ are_mutable (references_behind types projections references base)
 mutable_replaced types arguments [] references base = refl
@@ -29,7 +26,7 @@ mutable_replaced types arguments (Field k ∷ projections) [] Int = refl
 mutable_replaced types arguments (Field k ∷ projections) [] (Struct instance) =
     by (declared_field types instance.name k) (λ ty. mutable_replaced types (map (replaced_region arguments) instance.regions) projections ty.references ty.base ∙ sym (mutable_replaced types instance.regions projections ty.references ty.base))
   where
-    by : (found : Option Ty) → ((ty : Ty) → passes types projections (replaced_ty (map (replaced_region arguments) instance.regions) ty) ≡ passes types projections (replaced_ty instance.regions ty))
+    by : (found : Option Ty) → ((ty : Ty) → leads_mutable types projections (replaced_ty (map (replaced_region arguments) instance.regions) ty) ≡ leads_mutable types projections (replaced_ty instance.regions ty))
         → are_mutable (option_map_or (λ (ty : Ty). references_behind types projections ty.references ty.base) (option_map (replaced_ty (map (replaced_region arguments) instance.regions)) found) [])
         ≡ are_mutable (option_map_or (λ (ty : Ty). references_behind types projections ty.references ty.base) (option_map (replaced_ty instance.regions) found) [])
     by None same = refl
@@ -46,7 +43,7 @@ mutable_tells types (Field k ∷ projections) [] Int = refl
 mutable_tells types (Field k ∷ projections) [] (Struct instance) =
     by (declared_field types instance.name k) (λ ty. mutable_tells types projections ty.references ty.base ∙ sym (mutable_replaced types instance.regions projections ty.references ty.base))
   where
-    by : (found : Option Ty) → ((ty : Ty) → mutable_behind types projections ty.references ty.base ≡ passes types projections (replaced_ty instance.regions ty))
+    by : (found : Option Ty) → ((ty : Ty) → mutable_behind types projections ty.references ty.base ≡ leads_mutable types projections (replaced_ty instance.regions ty))
         → option_map_or (λ (ty : Ty). mutable_behind types projections ty.references ty.base) found true
         ≡ are_mutable (option_map_or (λ (ty : Ty). references_behind types projections ty.references ty.base) (option_map (replaced_ty instance.regions) found) [])
     by None same = refl

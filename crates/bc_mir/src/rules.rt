@@ -1,7 +1,6 @@
 //! The typing rules over declarations (own, over the language of RFC 2094, "The MIR").
-ghost use Rattle.std.specs.Prelude.{◌≡◌, ◌∷◌, ◌++◌, [], reverse, IfOk, OnOk};
+ghost use Rattle.std.specs.Prelude.{◌≡◌, ◌∷◌, ◌++◌, [], IfOk, OnOk};
 ghost use Rattle.std.specs.List.{list_all};
-ghost use Rattle.bc_types.specs.Declarations.{has_declared_base as declared_base};
 ghost use Rattle.bc_mir.specs.Rules.{int_type as type_int, type_of_operand as operand_there, has_shape as shape_found, is_int_found as int_found, is_operand_int as int_operand, have_shapes as shapes_found, type_to_write as written_there, type_to_borrow as borrowed_there, type_referenced as referenced, struct_type as type_struct, can_create as creatable, type_of_rvalue as rvalue_there, of_one_shape, can_drop as droppable, statement_keeps_rules as statement_kept, can_call as callable, terminator_keeps_rules as terminator_kept, header_keeps_rules as header_kept};
 
 use crate::place_types::{goes_only_mutable, push_references, type_of_place};
@@ -412,15 +411,9 @@ pub(crate) fn terminator_keeps_rules(
     }
 }
 
-fn has_declared_base(types: &GoodTypes, ty: &Ty) -> bool
-    ensures { result ≡ declared_base (reverse types.now) ty.now }
-{
-    types.declares(&ty.base)
-}
-
 /// Whether each struct that the locals' types mention is declared with its number of regions.
 pub(crate) fn header_keeps_rules(types: &GoodTypes, locals: &[Ty]) -> bool
     ensures { result ≡ header_kept types.now locals.now }
 {
-    locals.iter().all(|ty| has_declared_base(types, ty))
+    types.declares(locals)
 }

@@ -1,8 +1,9 @@
 -- `==` on outcomes decides `≡`.
-use Rattle.std.proofs.Common.{◌≡◌, false, true≢false, refl, sym, ap}
+use Rattle.std.proofs.Common.{◌≡◌, refl, ap}
 use Rattle.std.specs.Bool.{Decides}
 use Rattle.std.proofs.lemmas.Bool.Decides.{Decides-and, Decides-like, Decides-eqb}
 use Rattle.std.proofs.lemmas.Slice.Eq.{slice_eq-Decides}
+use Rattle.bc_syntax.proofs.Equality.{apart}
 use Rattle.bc_text.proofs.Equality.{name}
 use Rattle.bc_mir.specs.declared.mir.Point.{Point}
 use Rattle.bc_mir.specs.declared.typed.Where.{Where}
@@ -17,9 +18,6 @@ use Rattle.bc_mir.specs.contracts.typed.WherePartialEq.TheImpl as place_impl
 use Rattle.bc_judge.specs.contracts.error.BorrowErrorPartialEq.TheImpl as error_impl
 use Rattle.bc_prov.specs.contracts.outcome.BodyErrorsPartialEq.TheImpl as body_impl
 use Rattle.bc_prov.specs.contracts.outcome.OutcomePartialEq.TheImpl as outcome_impl
-
-pub apart : {P : Type 0} → (P → ⊥) → Decides false P
-apart never = (λ f. absurd (true≢false (sym f)), λ p. absurd (never p))
 
 pub point : (a b : Point) → Decides ((point_impl.ghosts).eq a b) (a ≡ b)
 point a b =

@@ -1,10 +1,10 @@
 -- A session's own list beside the entries that a loop has seen.
-use Rattle.std.proofs.Common.{◌≡◌, ◌≢◌, ℕ, suc, ◌+◌, ◌<◌, ◌≤◌, ◌==◌, Bool, cond, false, true≢false, eq-eqb, ne_eqb, List, [], ◌∷◌, ◌++◌, length, take, drop, get_or, append_assoc, refl, sym, ap, ◌∙◌, arith}
+use Rattle.std.proofs.Common.{◌≡◌, ◌≢◌, ℕ, suc, ◌+◌, ◌<◌, ◌≤◌, ◌==◌, Bool, cond, false, true≢false, eq-eqb, ne_eqb, List, [], ◌∷◌, ◌++◌, length, take, drop, get_or, append_assoc, sym, ap, ◌∙◌}
 use Rattle.std.specs.Prelude.{map, filter}
 use Rattle.std.specs.Bool.{Decides}
 use Rattle.std.proofs.Math.Seq.{split_at}
 use Rattle.std.proofs.lemmas.Bool.Decides.{Decides-like, Decides-eqb, Decides-at}
-use Rattle.std.proofs.lemmas.List.{append-nil, append_cancel_left, map-append, take_more, take_all}
+use Rattle.std.proofs.lemmas.List.{append-nil, append_cancel_left, map-append, nil_from_length, take_more, take_all}
 use Rattle.std.proofs.lemmas.List.Elements.{filter-append}
 use Rattle.bc_book.specs.declared.call.Event.{Event}
 use Rattle.bc_book.specs.declared.call.Entry.{Entry}
@@ -20,10 +20,6 @@ one_call number e rest mine = ap (λ (b : Bool). map (λ (x : Entry). x.event) (
 
 no_call : (number : ℕ) (e : Entry) → e.session ≢ number → calls number (e ∷ []) ≡ []
 no_call number e other = ap (λ (b : Bool). map (λ (x : Entry). x.event) (cond b (e ∷ []) [])) (ne_eqb e.session number other)
-
-empty : {A : Type 0} (l : List A) → length l ≡ 0 → l ≡ []
-empty [] none = refl
-empty (x ∷ l) none = absurd (omega arith)
 
 -- one more entry e of the history, which is the session's or not
 pub own_more : (own rest tail : List Event) (number : ℕ) (entries : List Entry) (i : ℕ) (e : Entry)
@@ -58,6 +54,6 @@ pub own_all : (own rest : List Event) (number : ℕ) (entries : List Entry) (i :
 own_all own rest number entries i r is done result =
     let seen : calls number (take i entries) ≡ calls number entries = ap (calls number) (take_all i entries done) in
     Decides-like r
-    (λ none. is ∙ ap (λ l. calls number (take i entries) ++ l) (empty rest none) ∙ append-nil (calls number (take i entries)) ∙ seen)
+    (λ none. is ∙ ap (λ l. calls number (take i entries) ++ l) (nil_from_length rest none) ∙ append-nil (calls number (take i entries)) ∙ seen)
     (λ all. ap length (append_cancel_left (calls number (take i entries)) rest [] (sym is ∙ all ∙ sym seen ∙ sym (append-nil (calls number (take i entries))))))
     (Decides-at r (length rest == 0) result (Decides-eqb (length rest) 0))

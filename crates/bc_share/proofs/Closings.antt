@@ -1,7 +1,7 @@
 -- A history beside one session.
-use Rattle.std.proofs.Common.{◌≡◌, ℕ, zero, suc, ◌<◌, List, [], ◌∷◌, get_or, sym, subst, arith}
+use Rattle.std.proofs.Common.{◌≡◌, zero, suc, List, [], ◌∷◌, get_or, sym, subst, arith}
 use Rattle.std.specs.Prelude.{All}
-use Rattle.std.specs.List.{Contains}
+use Rattle.bc_flow.proofs.Membership.{Contains-one}
 use Rattle.bc_book.specs.declared.call.Entry.{Entry}
 use Rattle.bc_book.specs.Calls.{calls}
 use Rattle.bc_share.specs.Sessions.{SessionView}
@@ -11,18 +11,11 @@ all_one : {X : Type 0} (P : X → Type 0) (x : X) → P x → All P (x ∷ [])
 all_one P x p zero d small = p
 all_one P x p (suc k) d small = absurd (omega arith)
 
-the_one : (n m : ℕ) → Contains (n ∷ []) m → m ≡ n
-the_one n m c = alone c.0 c.1 c.2
-  where
-    alone : (k : ℕ) → k < 1 → get_or (n ∷ []) k m ≡ m → m ≡ n
-    alone zero small is = sym is
-    alone (suc k) small is = absurd (omega arith)
-
 pub one_agrees : (sessions : List SessionView) (s : SessionView) (h : List Entry) → sessions ≡ s ∷ [] → Agrees sessions h
     → (s.own ≡ calls s.number h) × All (λ (e : Entry). e.session ≡ s.number) h
 one_agrees sessions s h one agrees =
     let a = subst (λ (l : List SessionView). Agrees l h) one agrees in
-    (a.own 0 s (omega arith), λ k d small. the_one s.number (get_or h k d).session (a.others k d small))
+    (a.own 0 s (omega arith), λ k d small. sym (Contains-one s.number (get_or h k d).session (a.others k d small)))
 
 pub theirs_one : (sessions : List SessionView) (s : SessionView) (h : List Entry) → sessions ≡ s ∷ [] → s.entries ≡ h → IsTheirs sessions h
 theirs_one sessions s h one is = subst (λ (l : List SessionView). IsTheirs l h) (sym one) (all_one (λ (x : SessionView). x.entries ≡ h) s is)

@@ -72,7 +72,7 @@ use Rattle.bc_syntax.specs.contracts.syntax.StructDeclarationPartialEq.TheImpl a
 use Rattle.bc_syntax.specs.contracts.syntax.ExternDeclarationPartialEq.TheImpl as extern_declaration_impl
 use Rattle.bc_syntax.specs.contracts.syntax.DeclarationPartialEq.TheImpl as declaration_impl
 
-apart : {P : Type 0} → (P → ⊥) → Decides false P
+pub apart : {P : Type 0} → (P → ⊥) → Decides false P
 apart never = (λ f. absurd (true≢false (sym f)), λ p. absurd (never p))
 
 pub region : (a b : Region) → Decides ((region_impl.ghosts).eq a b) (a ≡ b)

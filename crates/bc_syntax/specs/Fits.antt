@@ -155,21 +155,14 @@ clauses_fit universals clauses = list_all (clause_fits universals) clauses && na
 abbrev pub parameters_fit : ℕ → List Ty → Bool
 parameters_fit universals parameters = list_all (ty_fits false universals) parameters && nat_le (length parameters) 16
 
-pub record HeaderFits (header : Header) : Type 0 where
-  pub regions : are_new [] header.regions ≡ true
-  pub universals : universal_count header ≤ 16
-  pub clauses : clauses_fit (universal_count header) header.clauses ≡ true
-  pub parameters : parameters_fit (universal_count header) header.parameters ≡ true
-  pub result : ty_fits false (universal_count header) header.result ≡ true
+-- a header with at most so many declared regions
+abbrev pub header_fits : ℕ → Header → Bool
+header_fits limit header = are_new [] header.regions && nat_le (length header.regions) limit && clauses_fit (universal_count header) header.clauses && parameters_fit (universal_count header) header.parameters && ty_fits false (universal_count header) header.result
 
 -- ---- declarations
 
 abbrev pub struct_fits : StructDeclaration → Bool
 struct_fits d = item_fits d.name && are_new [] d.regions && nat_le (length d.regions) 8 && length d.variances == length d.regions && list_all (ty_fits false (length d.regions + 1)) d.fields && nat_le (length d.fields) 16
-
--- a header with at most so many declared regions
-abbrev pub header_fits : ℕ → Header → Bool
-header_fits limit header = are_new [] header.regions && nat_le (length header.regions) limit && clauses_fit (universal_count header) header.clauses && parameters_fit (universal_count header) header.parameters && ty_fits false (universal_count header) header.result
 
 abbrev pub extern_fits : ExternDeclaration → Bool
 extern_fits d = item_fits d.name && header_fits 8 d.header
@@ -191,7 +184,7 @@ pub record TypesFit (ds : List Declaration) : Type 0 where
 -- ---- bodies
 
 pub record Fits (body : Body) : Type 0 where
-  pub header : HeaderFits body.header
+  pub header : header_fits 15 body.header ≡ true
   pub lets : list_all (ty_fits true (universal_count body.header)) body.lets ≡ true
   pub locals : length (locals_of body) ≤ 256
   pub some_block : 1 ≤ length body.blocks

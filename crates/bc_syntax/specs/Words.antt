@@ -1,8 +1,7 @@
 -- Words that name things: regions, structs and extern functions.
-use Rattle.std.specs.Prelude.{ℕ, Bool, true, false, not, ◌||◌, ◌&&◌, ◌==◌, nat_le, List, length, drop, slice_index, Option, Some, None}
+use Rattle.std.specs.Prelude.{ℕ, Bool, not, ◌||◌, ◌&&◌, ◌==◌, nat_le, List, length, drop, slice_index, is_some}
 use Rattle.std.specs.Char.{is_ascii_digit, is_ascii_alphabetic, is_ascii_lowercase}
 use Rattle.std.specs.List.{list_all}
-use Rattle.bc_syntax.specs.declared.symbol.Symbol.{Symbol}
 use Rattle.bc_syntax.specs.Bytes.{is_run_byte}
 use Rattle.bc_syntax.specs.Symbol.{keyword_of}
 
@@ -20,12 +19,8 @@ is_region_name name = is_ascii_lowercase (slice_index name 0) && list_all is_reg
 unfoldable pub is_label : List ℕ → Bool
 is_label run = slice_index run 0 == 98 && slice_index run 1 == 98 && is_number (drop 2 run)
 
-abbrev pub is_found : Option Symbol → Bool
-is_found None = false
-is_found (Some symbol) = true
-
 abbrev pub is_keyword : List ℕ → Bool
-is_keyword word = is_found (keyword_of word)
+is_keyword word = is_some (keyword_of word)
 
 -- letters, digits and `_` that begin with a letter and are no label and no keyword
 unfoldable pub is_word : List ℕ → Bool

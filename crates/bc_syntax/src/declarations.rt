@@ -4,9 +4,9 @@ ghost use Rattle.std.specs.List.{list_all, filter};
 ghost use Rattle.bc_syntax.specs.Fits as spec;
 ghost use Rattle.bc_syntax.specs.Fits.{TypesFit};
 
-use crate::fits::{Limits, are_new, clauses_fit, item_fits, ty_fits, tys_fit};
+use crate::fits::{Limits, are_new, header_fits, item_fits, tys_fit};
 use crate::sequence::Sequence;
-use crate::syntax::{Declaration, ExternDeclaration, Header, StructDeclaration};
+use crate::syntax::{Declaration, ExternDeclaration, StructDeclaration};
 use std::marker::Model;
 
 fn struct_fits(declaration: &StructDeclaration) -> bool
@@ -27,28 +27,6 @@ fn struct_fits(declaration: &StructDeclaration) -> bool
         && declaration.variances.len() == regions.len()
         && tys_fit(limits, fields)
         && fields.len() <= 16
-}
-
-/// Whether a header has a spelling where it may declare at most so many regions.
-fn header_fits(header: &Header, limit: usize) -> bool
-    requires { limit ≤ 15 }
-    ensures { result ≡ spec.header_fits limit header.now }
-{
-    let regions = header.regions.as_slice();
-    if regions.len() > limit {
-        return false;
-    }
-    let limits = Limits {
-        variables: false,
-        universals: regions.len() + 1,
-        locals: 0,
-    };
-    let parameters = header.parameters.as_slice();
-    are_new(regions)
-        && clauses_fit(limits.universals, header.clauses.as_slice())
-        && tys_fit(limits, parameters)
-        && parameters.len() <= 16
-        && ty_fits(limits, &header.result)
 }
 
 fn extern_fits(declaration: &ExternDeclaration) -> bool

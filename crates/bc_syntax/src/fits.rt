@@ -3,7 +3,7 @@ ghost use Rattle.std.specs.Prelude.{◌≡◌, ◌+◌, ◌≤◌, ◌<◌, ◌&
 ghost use Rattle.std.specs.List.{list_all, list_any};
 ghost use Rattle.std.specs.Str.{bytes_eq};
 ghost use Rattle.bc_syntax.specs.Fits as spec;
-ghost use Rattle.bc_syntax.specs.Fits.{Fits, HeaderFits, universal_count as universals_of, locals_of, point_count};
+ghost use Rattle.bc_syntax.specs.Fits.{Fits, universal_count as universals_of, locals_of, point_count};
 ghost use Rattle.bc_syntax.specs.declared.syntax.RegionName.{RegionName};
 
 use crate::syntax::{
@@ -310,11 +310,13 @@ fn has_few_points(blocks: &[Block]) -> bool
     true
 }
 
-fn header_fits(header: &Header) -> bool
-    ensures { IsTrue result ↔ HeaderFits header.now }
+/// Whether a header has a spelling where it may declare at most so many regions.
+pub(crate) fn header_fits(header: &Header, limit: usize) -> bool
+    requires { limit ≤ 15 }
+    ensures { result ≡ spec.header_fits limit header.now }
 {
     let regions = header.regions.as_slice();
-    if regions.len() > 15 {
+    if regions.len() > limit {
         return false;
     }
     let limits = Limits {
@@ -336,7 +338,7 @@ pub fn fits(body: &Body) -> bool
     ensures { IsTrue result ↔ Fits body.now }
 {
     let blocks = body.blocks.as_slice();
-    if !header_fits(&body.header) || body.lets.len() > 255 {
+    if !header_fits(&body.header, 15) || body.lets.len() > 255 {
         return false;
     }
     let limits = Limits {

@@ -23,4 +23,6 @@ pub use syntax::{
     Ty, UnitKind, Variance,
 };
 pub use unit::Unit;
-pub use words::{are_run_bytes, is_number, is_region_name, is_word};
+pub use words::{
+    are_run_bytes, is_number, is_number_of, is_region_name, is_region_name_of, is_word,
+};

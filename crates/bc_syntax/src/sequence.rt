@@ -93,7 +93,7 @@ impl<T: PartialEq> PartialEq for Sequence<T> {
     ghost laws = { lists_per T.laws };
 
     fn eq(&self, other: &Self) -> bool {
-        self.as_slice() == other.as_slice()
+        self.items == other.items
     }
 }
 

@@ -27,20 +27,38 @@ pub fn are_run_bytes(bytes: &[u8]) -> bool
     bytes.iter().all(|byte| is_run_byte(*byte))
 }
 
-/// Whether bytes are `0`, or digits without a leading zero. Own.
+/// Whether bytes are `0`, or digits without a leading zero, where it is known whether they are digits. Own.
+#[inline(always)]
 #[tactic(auto, unfolding(crate::specs::Words::is_number))]
+pub fn is_number_of(digits: &[u8], are_digits: bool) -> bool
+    requires { are_digits ≡ list_all is_ascii_digit digits.now }
+    ensures { result ≡ is_number digits.now }
+{
+    are_digits && !digits.is_empty() && (digits.len() == 1 || byte_at(digits, 0) != b'0')
+}
+
+/// Whether bytes are `0`, or digits without a leading zero. Own.
 pub fn is_number(digits: &[u8]) -> bool
     ensures { result ≡ is_number digits.now }
 {
-    are_digits(digits) && !digits.is_empty() && (digits.len() == 1 || byte_at(digits, 0) != b'0')
+    is_number_of(digits, are_digits(digits))
+}
+
+/// Whether bytes are the name of a region without its `'`, where it is known whether they are lower-case letters, digits
+/// and `_`. Own.
+#[tactic(auto, unfolding(crate::specs::Words::is_region_name))]
+pub fn is_region_name_of(name: &[u8], are_region_bytes: bool) -> bool
+    requires { are_region_bytes ≡ list_all is_region_byte name.now }
+    ensures { result ≡ is_region_name name.now }
+{
+    byte_at(name, 0).is_ascii_lowercase() && are_region_bytes
 }
 
 /// Whether bytes are the name of a region without its `'`: a lower-case letter, then such letters, digits and `_`. Own.
-#[tactic(auto, unfolding(crate::specs::Words::is_region_name))]
 pub fn is_region_name(name: &[u8]) -> bool
     ensures { result ≡ is_region_name name.now }
 {
-    byte_at(name, 0).is_ascii_lowercase() && are_region_bytes(name)
+    is_region_name_of(name, are_region_bytes(name))
 }
 
 #[tactic(auto, unfolding(crate::specs::Words::is_label))]

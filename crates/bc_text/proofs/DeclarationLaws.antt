@@ -15,7 +15,6 @@ use Rattle.bc_syntax.specs.declared.syntax.Base.TheVariants as bases
 use Rattle.bc_syntax.specs.declared.syntax.Reference.{Reference}
 use Rattle.bc_syntax.specs.declared.syntax.Ty.{Ty}
 use Rattle.bc_syntax.specs.declared.syntax.ItemName.{ItemName}
-use Rattle.bc_syntax.specs.declared.syntax.Header.{Header}
 use Rattle.bc_syntax.specs.declared.syntax.Variance.{Variance}
 use Rattle.bc_syntax.specs.declared.syntax.Variance.TheVariants.{Covariant, Invariant}
 use Rattle.bc_syntax.specs.declared.syntax.StructDeclaration.{StructDeclaration}
@@ -23,10 +22,10 @@ use Rattle.bc_syntax.specs.declared.syntax.ExternDeclaration.{ExternDeclaration}
 use Rattle.bc_syntax.specs.declared.syntax.Declaration.{Declaration}
 use Rattle.bc_syntax.specs.declared.syntax.Declaration.TheVariants as declarations
 use Rattle.bc_syntax.specs.Symbol.{same}
-use Rattle.bc_syntax.specs.Fits.{is_new, are_new, item_fits, ty_fits, struct_fits, header_fits, extern_fits, declaration_fits, is_struct, clauses_fit, parameters_fit, TypesFit}
+use Rattle.bc_syntax.specs.Fits.{is_new, are_new, item_fits, ty_fits, struct_fits, header_fits, extern_fits, declaration_fits, is_struct, TypesFit}
 use Rattle.bc_print.specs.Token.{Token, Fixed, Word, End}
 use Rattle.bc_tokens.specs.Token.{Tokens, tokens}
-use Rattle.bc_tokens.specs.Parser.{Outcome, Parser, Reads, and_then, sees, sees_word, after, at_end, expect, pure, declared_list, is_fixed}
+use Rattle.bc_tokens.specs.Parser.{Parser, Reads, and_then, sees, after, at_end, expect, pure, declared_list}
 use Rattle.bc_text.specs.Reading as read
 use Rattle.bc_text.specs.Reading.{Marks, variances_of, regions_of, structs_in, answer_of}
 use Rattle.bc_print.specs.Spelling as spell
@@ -34,10 +33,8 @@ use Rattle.bc_text.specs.Spells as texts
 use Rattle.bc_text.proofs.Begins.{Begins, join, split, bind_ok, ok_is, chosen, eaten, eat_again, eat_other, expect_takes, expect_again, sees_takes, sees_again, sees_none, sees_word_same, sees_word_none}
 use Rattle.bc_text.proofs.NameLaws.{Declares, Anything, NoLess, new_region_takes, new_region_again, item_name_takes, item_name_again}
 use Rattle.bc_text.proofs.TypeLaws.{ty_takes, ty_again}
-use Rattle.bc_text.proofs.Lists.{Closes}
-use Rattle.bc_text.proofs.NewLists as new
-use Rattle.bc_text.proofs.NewLists.{declared_list_takes, declared_list_again, are_fitting}
-use Rattle.bc_text.proofs.UnitLaws.{HeaderIs, header_of_takes, header_of_again, end_takes, end_again, answer_Ok}
+use Rattle.bc_text.proofs.Lists.{SpellsBeside, Closes, are_fitting, declared_list_takes, declared_list_again}
+use Rattle.bc_text.proofs.UnitLaws.{header_of_takes, header_of_again, header_fit, header_is, end_takes, end_again, answer_Ok}
 use Rattle.bc_text.proofs.Ends.{tokens_are_text, within, ends_there, all_of_it, begins_whole}
 
 -- ---- marks
@@ -81,7 +78,7 @@ mark_again before ts m rest b fits ends =
     let a = split ts (spell.variance m.0) (spell.region_name m.1) rest b in
     rw (variance_again ts m.0 a.0 a.1, new_region_again (regions_of before) a.0 m.1 rest a.2 fits) refl
 
-mark_law : new.Declares read.mark spell.mark mark_fits Anything
+mark_law : SpellsBeside read.mark spell.mark mark_fits Anything
 mark_law = record { takes = mark_takes; again = mark_again }
 
 mark_apart : (m : Mark) (l : List Token) (ts rest : Tokens) → Begins ts (spell.mark m ++ l) rest → sees s.Greater ts ≡ false
@@ -262,7 +259,7 @@ struct_takes ts y e =
     let late = cond has_drop (after c.0.1) c.0.1 in
     let f = bind_ok (read.fields (regions_of marks) late) (λ fs last. Ok (made b.0.0 marks has_drop fs, last)) y c.2 in
     let name = item_name_takes ts b.0 b.1 in
-    let list = declared_list_takes read.mark spell.mark mark_fits Anything mark_law read.begins_mark 8 b.0.1 c.0 c.1 in
+    let list = declared_list_takes mark_law read.begins_mark 8 b.0.1 c.0 c.1 in
     let declares : Declares (regions_of marks) = sym (fitting_is [] marks) ∙ list.1.0 in
     let fs = all_fields_take (regions_of marks) declares late f.0 f.1 in
     let marks_text : Begins b.0.1 (spell.angled spell.mark (zip (variances_of marks) (regions_of marks))) c.0.1 = subst (λ (l : Marks). Begins b.0.1 (spell.angled spell.mark l) c.0.1) (sym (zipped marks)) list.0 in
@@ -318,27 +315,10 @@ struct_again ts d rest b fits =
     let few : length marks ≤ 8 = subst (λ n. n ≤ 8) (length-map marks (λ (m : Mark). m.1)) (subst (λ (l : List RegionName). length l ≤ 8) (sym seconds) is.few) in
     rw (
       item_name_again ts d.name a.0 a.1 is.name,
-      declared_list_again read.mark spell.mark mark_fits Anything mark_law read.begins_mark 8 marks_close a.0 marks c.0 c.1 (new_names, few) (no_less d.has_drop d c.0 rest c.2),
+      declared_list_again mark_law read.begins_mark 8 marks_close a.0 marks c.0 c.1 (new_names, few) (no_less d.has_drop d c.0 rest c.2),
     ) (struct_of_again d marks seconds firsts is c.0 rest c.2)
 
 -- ---- extern functions
-
-header_fit : (limit : ℕ) (h : Header) → HeaderIs limit h → header_fits limit h ≡ true
-header_fit limit h is =
-    let g = is.signature is.declares in
-    and_from _ _ (and_from _ _ (and_from _ _ (and_from (are_new [] h.regions) _ is.declares (le-leb (length h.regions) limit is.few)) g.clauses) g.parameters) g.result
-
-header_is : (limit : ℕ) (h : Header) → header_fits limit h ≡ true → HeaderIs limit h
-header_is limit h fits =
-    let a = and_parts _ (ty_fits false (length h.regions + 1) h.result) fits in
-    let b = and_parts _ (parameters_fit (length h.regions + 1) h.parameters) a.0 in
-    let c = and_parts _ (clauses_fit (length h.regions + 1) h.clauses) b.0 in
-    let d = and_parts (are_new [] h.regions) _ c.0 in
-    record {
-      declares = d.0;
-      few = leb-true (length h.regions) limit d.1;
-      signature = λ _. record { regions_are = refl; clauses = c.1; parameters = b.1; result = a.1 };
-    }
 
 extern_takes : (ts : Tokens) (y : ExternDeclaration × Tokens) → read.extern_declaration ts ≡ Ok y → Begins ts (spell.extern_rest y.0) y.1 × (extern_fits y.0 ≡ true)
 unfolding read.extern_declaration

@@ -6,7 +6,6 @@ pub mod Turns
 pub mod Begins
 pub mod NumberLaws
 pub mod Lists
-pub mod NewLists
 pub mod NameLaws
 pub mod TypeLaws
 pub mod PlaceLaws

@@ -1,7 +1,7 @@
 -- Regions, names and instances that are read are those that were spelled, and what was spelled is read again.
 use Rattle.std.proofs.Common.{◌≡◌, ℕ, Bool, true, false, cond, ◌&&◌, ◌+◌, ltb, List, [], ◌∷◌, ◌++◌, length, Option, Some, None, Ok, refl, sym, ap, subst, inl, inr}
 use Rattle.std.specs.Prelude.{get_or}
-use Rattle.std.proofs.lemmas.Bool.{and_from, and_parts, leb-true, le-leb}
+use Rattle.std.proofs.lemmas.Bool.{and_from, and_parts, and_right, leb-true, le-leb}
 use Rattle.bc_syntax.specs.declared.symbol.Symbol.TheVariants as s
 use Rattle.bc_print.specs.declared.numbering.Numbering.TheVariants as n
 use Rattle.bc_syntax.specs.declared.syntax.Region.{Region}
@@ -60,10 +60,6 @@ universal_again regions ts k rest declares p fits =
 
 -- ---- regions
 
-and-false : (a b : Bool) → b ≡ false → (a && b) ≡ false
-and-false true b e = e
-and-false false b e = refl
-
 pub region_takes : (variables : Bool) (regions : List RegionName) (ts : Tokens) (y : Region × Tokens) → read.region variables regions ts ≡ Ok y → Begins ts (spell.region regions y.0) y.1 × (region_fits variables (length regions + 1) y.0 ≡ true)
 unfolding read.region
 region_takes variables regions ts y e =
@@ -81,7 +77,7 @@ region_takes variables regions ts y e =
 pub region_again : (variables : Bool) (regions : List RegionName) (ts : Tokens) (r : Region) (rest : Tokens) → Declares regions → Begins ts (spell.region regions r) rest → region_fits variables (length regions + 1) r ≡ true → read.region variables regions ts ≡ Ok (r, rest)
 unfolding read.region
 region_again variables regions ts (Universal k) rest declares p fits =
-    rw (and-false variables (sees_numbered n.Variable ts) (sees_numbered_none n.Variable ts (Named (get_or (universal_names regions) k [])) [] rest p refl), universal_again regions ts k rest declares p fits) refl
+    rw (and_right variables (sees_numbered n.Variable ts) (sees_numbered_none n.Variable ts (Named (get_or (universal_names regions) k [])) [] rest p refl), universal_again regions ts k rest declares p fits) refl
 region_again variables regions ts (Variable v) rest declares p fits =
     let parts = and_parts variables _ fits in
     rw (parts.0, sees_numbered_same n.Variable ts v [] rest p, numbered_again n.Variable 1023 ts v rest p (leb-true v 1023 parts.1)) refl
@@ -144,7 +140,7 @@ instance_takes variables regions ts y declares e =
     let b = bind_ok (read.item_name ts) (λ name rest. and_then (angled_list (read.begins_region variables) (read.region variables regions) 15 rest) (λ rs last. Ok (record { name = name; regions = rs }, last))) y e in
     let c = bind_ok (angled_list (read.begins_region variables) (read.region variables regions) 15 b.0.1) (λ rs last. Ok (record { name = b.0.0; regions = rs }, last)) y b.2 in
     let name = item_name_takes ts b.0 b.1 in
-    let list = angled_takes (read.region variables regions) (spell.region regions) fits Anything (region_law variables regions declares) (read.begins_region variables) 15 b.0.1 c.0 c.1 in
+    let list = angled_takes (region_law variables regions declares) (read.begins_region variables) 15 b.0.1 c.0 c.1 in
     subst (λ (q : Instance × Tokens). Begins ts (spell.instance regions q.0) q.1 × (instance_fits variables (length regions + 1) q.0 ≡ true)) (ok_is (record { name = b.0.0; regions = c.0.0 }, c.0.1) y c.2)
     (join ts (spell.item_name b.0.0) b.0.1 (spell.angled (spell.region regions) c.0.0) c.0.1 name.0 list.0, and_from (item_fits b.0.0) _ name.1 (and_from (list_all fits c.0.0) _ list.1.0 (le-leb (length c.0.0) 15 list.1.1)))
 
@@ -157,5 +153,5 @@ instance_again variables regions ts i rest declares p fits other =
     let a = split ts (spell.item_name i.name) (spell.angled (spell.region regions) i.regions) rest p in
     rw (
       item_name_again ts i.name a.0 a.1 parts.0,
-      angled_again (read.region variables regions) (spell.region regions) test Anything (region_law variables regions declares) (read.begins_region variables) 15 (regions_close regions) a.0 i.regions rest a.2 (list.0, leb-true (length i.regions) 15 list.1) other,
+      angled_again (region_law variables regions declares) (read.begins_region variables) 15 (regions_close regions) a.0 i.regions rest a.2 (list.0, leb-true (length i.regions) 15 list.1) other,
     ) refl

@@ -1,24 +1,19 @@
 -- The number of a declared region and its name tell each other.
 use Rattle.std.proofs.Common.{◌≡◌, ℕ, zero, suc, ◌+◌, ◌≤◌, ◌<◌, Bool, true, false, ltb, List, [], ◌∷◌, ◌++◌, length, map, Option, Some, None, refl, sym, ap, ◌∙◌, subst, inl, inr, append_assoc, arith}
-use Rattle.std.specs.Prelude.{codes, get_or, not}
+use Rattle.std.specs.Prelude.{codes, get_or}
 use Rattle.std.specs.List.{position_from, list_any}
+use Rattle.std.specs.Option.{option_map}
 use Rattle.std.specs.Str.{bytes_eq}
-use Rattle.std.proofs.lemmas.Bool.{cases_Bool, and_parts, leb-true, ltb-true, lt-ltb}
+use Rattle.std.proofs.lemmas.Bool.{cases_Bool, and_parts, leb-true, ltb-true, lt-ltb, not-true}
 use Rattle.std.proofs.lemmas.Slice.Eq.{bytes_eq-Decides}
 use Rattle.bc_syntax.specs.declared.syntax.RegionName.{RegionName}
 use Rattle.bc_syntax.specs.Fits.{is_new, are_new}
+use Rattle.bc_syntax.proofs.Keywords.{is_text}
 use Rattle.bc_print.specs.Universals.{universal_names}
-use Rattle.bc_text.specs.Universals.{number_of, next}
-
-pub is_text : (xs ys : List ℕ) → bytes_eq xs ys ≡ true → xs ≡ ys
-is_text xs ys e = grind (arith, bytes_eq-Decides xs ys, e)
+use Rattle.bc_text.specs.Universals.{number_of}
 
 same_text : (xs : List ℕ) → bytes_eq xs xs ≡ true
 same_text xs = (bytes_eq-Decides xs xs).1 refl
-
-is_false : (b : Bool) → not b ≡ true → b ≡ false
-is_false false e = refl
-is_false true e = absurd cc
 
 -- a name among those that are declared
 abbrev named : List ℕ → RegionName → Bool
@@ -40,7 +35,7 @@ found_at (r ∷ regions) name i k e =
           (suc found.0, omega (arith, found.1), omega (arith, found.2), found.3)
     ]
 
-next_is : (o : Option ℕ) (k : ℕ) → next o ≡ Some k → (j : ℕ) × (o ≡ Some j) × (k ≡ suc j)
+next_is : (o : Option ℕ) (k : ℕ) → option_map (λ position. position + 1) o ≡ Some k → (j : ℕ) × (o ≡ Some j) × (k ≡ suc j)
 next_is None k e = absurd cc
 next_is (Some j) k e = let is : j + 1 ≡ k = cc in (j, refl, omega (arith, is))
 
@@ -53,7 +48,7 @@ number_found regions name k e =
           let zero_is : 0 ≡ k = cc in
           (subst (λ n. get_or (universal_names regions) n [] ≡ name) zero_is (sym (is_text name (codes "static") first)), subst (λ n. ltb n (length regions + 1) ≡ true) zero_is (lt-ltb 0 (length regions + 1) (omega arith)))
       | inr other ↦
-          let declared : next (position_from (named name) 0 regions) ≡ Some k = rw other at e in
+          let declared : option_map (λ position. position + 1) (position_from (named name) 0 regions) ≡ Some k = rw other at e in
           let behind = next_is (position_from (named name) 0 regions) k declared in
           let found = found_at regions name 0 behind.0 behind.1 in
           let same : behind.0 ≡ found.0 = omega (arith, found.1) in
@@ -84,7 +79,7 @@ new_is before r e =
     let a = and_parts _ _ e in
     let b = and_parts _ _ a.0 in
     let c = and_parts _ _ b.0 in
-    record { short = leb-true (length r.bytes) 16 c.1; not_static = is_false _ b.1; apart = is_false _ a.1 }
+    record { short = leb-true (length r.bytes) 16 c.1; not_static = not-true _ b.1; apart = not-true _ a.1 }
 
 length_after : (before : List RegionName) (r : RegionName) → length (before ++ r ∷ []) ≡ suc (length before)
 length_after [] r = refl

@@ -187,7 +187,7 @@ module _ (locals : ℕ) (few : locals ≤ 256) where
   unfolding read.operands
   operands_take ts y e =
       let b = bind_ok (expect s.OpenParen ts) (λ _ rest. closed_list read.begins_operand (read.operand locals) 16 s.CloseParen rest) y e in
-      let list = list_takes (read.operand locals) spell.operand (operand_fits locals) NoDot operand_law read.begins_operand 16 s.CloseParen b.0.1 y b.2 in
+      let list = list_takes operand_law read.begins_operand 16 s.CloseParen b.0.1 y b.2 in
       (join ts (Fixed s.OpenParen ∷ []) b.0.1 (spell.commas spell.operand y.0 ++ spell.symbol s.CloseParen) y.1 (expect_takes s.OpenParen ts b.0 b.1) list.0, and_from (list_all (operand_fits locals) y.0) _ list.1.0 (le-leb (length y.0) 16 list.1.1))
 
   pub operands_again : (ts : Tokens) (os : List Operand) (rest : Tokens) → Begins ts (spell.operands os) rest → operands_fit locals os ≡ true → read.operands locals ts ≡ Ok (os, rest)
@@ -195,4 +195,4 @@ module _ (locals : ℕ) (few : locals ≤ 256) where
   operands_again ts os rest b fits =
       let a = split ts (Fixed s.OpenParen ∷ []) (spell.commas spell.operand os ++ spell.symbol s.CloseParen) rest b in
       let parts = and_parts (list_all (operand_fits locals) os) _ fits in
-      rw (expect_again s.OpenParen ts a.0 a.1) (list_again (read.operand locals) spell.operand (operand_fits locals) NoDot operand_law read.begins_operand 16 s.CloseParen operands_close a.0 os rest a.2 (parts.0, leb-true (length os) 16 parts.1))
+      rw (expect_again s.OpenParen ts a.0 a.1) (list_again operand_law read.begins_operand 16 s.CloseParen operands_close a.0 os rest a.2 (parts.0, leb-true (length os) 16 parts.1))

@@ -7,6 +7,7 @@ use Rattle.std.specs.List.{AllByRecursion, flat_map, list_all, take_while, prefi
 use Rattle.std.proofs.lemmas.Fmt.{decimal_digit, decimal_step}
 use Rattle.std.proofs.lemmas.Bool.{cases_lt, and_parts, or_parts, not-false, eqb-true, eqb-false, both_ways, and_from, le-leb, lt-ltb, leb-true, ltb-true, cond_both}
 use Rattle.std.proofs.lemmas.Bool.Decides.{nat_tests}
+use Rattle.std.proofs.lemmas.Option.{cond_some}
 use Rattle.std.proofs.lemmas.List.{take-append-drop, append-nil, length-append, drop_at, flat_map_more, nil_from_length}
 use Rattle.std.proofs.lemmas.List.Folds.{length-prefix_len}
 use Rattle.std.proofs.lemmas.List.Sums.{take_while-cons}
@@ -200,10 +201,6 @@ reads_all bytes rest name h f whole is e = by (h.only whole is e)
 
 -- ---- what the calls of `read` answered
 
-some_test : {A : Type 0} (b : Bool) (x y : A) → cond b (Some x) None ≡ Some y → (b ≡ true) × (x ≡ y)
-some_test true x y e = (refl, cc)
-some_test false x y e = absurd cc
-
 none_test : {A : Type 0} (b : Bool) (x : A) → cond b (Some x) None ≡ None → b ≡ false
 none_test true x e = absurd cc
 none_test false x e = refl
@@ -216,7 +213,7 @@ grown name n = cond (nat_le n 63 && nat_lt (length name.segments) 7) (Some (with
 
 pub starts : (bytes root rest : List ℕ) (name : NameParts) → root ≡ run bytes → rest ≡ drop (length root) bytes → rooted root ≡ Some name → Reads bytes rest name
 starts bytes root rest name r d o =
-    let t = some_test (is_root root) (record { root = root; segments = [] }) name o in
+    let t = cond_some (is_root root) (record { root = root; segments = [] }) name o in
     let h = reads_root bytes (subst (λ (s : List ℕ). is_root s ≡ true) r t.0) in
     let same : rest ≡ drop (length (run bytes)) bytes = d ∙ ap (λ (s : List ℕ). drop (length s) bytes) r in
     subst (λ (bs : List ℕ). Reads bytes bs name) (sym same)
@@ -227,7 +224,7 @@ starts_not bytes root r o = no_root bytes (subst (λ (s : List ℕ). is_root s �
 
 pub goes_on : (bytes rest more : List ℕ) (name next : NameParts) (n len : ℕ) → Reads bytes rest name → first_segment rest ≡ Some (n, len) → more ≡ drop len rest → grown name n ≡ Some next → Reads bytes more next
 goes_on bytes rest more name next n len h f d o =
-    let t = some_test (nat_le n 63 && nat_lt (length name.segments) 7) (with_segments name (name.segments ++ n ∷ [])) next o in
+    let t = cond_some (nat_le n 63 && nat_lt (length name.segments) 7) (with_segments name (name.segments ++ n ∷ [])) next o in
     let parts = and_parts (nat_le n 63) (nat_lt (length name.segments) 7) t.0 in
     subst (λ (bs : List ℕ). Reads bytes bs next) (sym d)
     (subst (Reads bytes (drop len rest)) t.1 (reads_segment bytes rest name n len h f (leb-true n 63 parts.0) (ltb-true (length name.segments) 7 parts.1)))

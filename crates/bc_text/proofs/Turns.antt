@@ -9,7 +9,7 @@ use Rattle.bc_syntax.specs.declared.syntax.Ty.{Ty}
 use Rattle.bc_syntax.specs.declared.symbol.Symbol.TheVariants as symbols
 use Rattle.bc_print.specs.declared.numbering.Numbering.TheVariants as numberings
 use Rattle.bc_tokens.specs.Token.{Tokens}
-use Rattle.bc_tokens.specs.Parser.{Parser, pure, past_limit, refuse, sees, sees_numbered, separated_from, separated_turn, declared_from, declared_turn}
+use Rattle.bc_tokens.specs.Parser.{Outcome, Parser, pure, past_limit, refuse, sees, sees_numbered, declared_from, declared_turn}
 use Rattle.bc_text.specs.Reading.{ty_from, ty_turn, projections_from, projections_turn, block_from, block_turn, blocks_from, blocks_turn, lets_from, lets_turn, begins_ty, begins_point, fields_from, fields_turn, declarations_from, declarations_turn, begins_declaration}
 use Rattle.bc_syntax.specs.declared.syntax.Declaration.{Declaration}
 
@@ -35,10 +35,6 @@ pub lets_go : (regions : List RegionName) (number n : ℕ) (found : List Ty) (ts
 unfolding lets_from
 lets_go regions number n found ts = refl
 
-pub items_go : {A : Type 0} (begins : Tokens → Bool) (item : Parser A) (n : ℕ) (found : List A) (ts : Tokens) → separated_from begins item (suc n) found ts ≡ separated_turn item (separated_from begins item n) found ts
-unfolding separated_from
-items_go begins item n found ts = refl
-
 pub projections_stop : (found : List Projection) (ts : Tokens) → projections_from 0 found ts ≡ cond (sees symbols.Dot ts) (past_limit ts) (pure found ts)
 unfolding projections_from
 projections_stop found ts = refl
@@ -55,10 +51,6 @@ pub lets_stop : (regions : List RegionName) (number : ℕ) (found : List Ty) (ts
 unfolding lets_from
 lets_stop regions number found ts = refl
 
-pub items_stop : {A : Type 0} (begins : Tokens → Bool) (item : Parser A) (found : List A) (ts : Tokens) → separated_from begins item 0 found ts ≡ cond (begins ts) (past_limit ts) (refuse ts)
-unfolding separated_from
-items_stop begins item found ts = refl
-
 pub blocks_go : (regions : List RegionName) (locals : ℕ) (n left : ℕ) (found : List Block) (ts : Tokens) → blocks_from regions locals (suc n) left found ts ≡ cond (sees_numbered numberings.Label ts) (blocks_turn regions locals (blocks_from regions locals n) left found ts) (pure found ts)
 unfolding blocks_from
 blocks_go regions locals n left found ts = refl
@@ -66,14 +58,6 @@ blocks_go regions locals n left found ts = refl
 pub blocks_stop : (regions : List RegionName) (locals : ℕ) (left : ℕ) (found : List Block) (ts : Tokens) → blocks_from regions locals 0 left found ts ≡ refuse ts
 unfolding blocks_from
 blocks_stop regions locals left found ts = refl
-
-pub new_items_go : {A : Type 0} (begins : Tokens → Bool) (item : List A → Parser A) (n : ℕ) (found : List A) (ts : Tokens) → declared_from begins item (suc n) found ts ≡ declared_turn item (declared_from begins item n) found ts
-unfolding declared_from
-new_items_go begins item n found ts = refl
-
-pub new_items_stop : {A : Type 0} (begins : Tokens → Bool) (item : List A → Parser A) (found : List A) (ts : Tokens) → declared_from begins item 0 found ts ≡ cond (begins ts) (past_limit ts) (refuse ts)
-unfolding declared_from
-new_items_stop begins item found ts = refl
 
 pub fields_go : (regions : List RegionName) (n : ℕ) (found : List Ty) (ts : Tokens) → fields_from regions (suc n) found ts ≡ cond (begins_ty ts) (fields_turn regions (fields_from regions n) found ts) (pure found ts)
 unfolding fields_from
@@ -90,3 +74,12 @@ declarations_go n found ts = refl
 pub declarations_stop : (found : List Declaration) (ts : Tokens) → declarations_from 0 found ts ≡ refuse ts
 unfolding declarations_from
 declarations_stop found ts = refl
+
+-- a turn of a list, and what comes behind the last
+pub items_go : {A : Type 0} {x : Outcome (List A)} (begins : Tokens → Bool) (item : List A → Parser A) (found : List A) (ts : Tokens) (n at : ℕ) → at < n → x ≡ declared_from begins item (n - at) found ts → x ≡ declared_turn item (declared_from begins item (n - (at + 1))) found ts
+unfolding declared_from
+items_go begins item found ts n at below e = one_more (λ k. declared_from begins item k found ts) n at below e
+
+pub items_stop : {A : Type 0} {x : Outcome (List A)} (begins : Tokens → Bool) (item : List A → Parser A) (found : List A) (ts : Tokens) (n at : ℕ) → n ≤ at → x ≡ declared_from begins item (n - at) found ts → x ≡ cond (begins ts) (past_limit ts) (refuse ts)
+unfolding declared_from
+items_stop begins item found ts n at done e = no_more (λ k. declared_from begins item k found ts) n at done e

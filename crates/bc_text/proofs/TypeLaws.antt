@@ -179,7 +179,7 @@ pub parameters_take : (regions : List RegionName) (ts : Tokens) (y : List Ty × 
 unfolding read.parameters
 parameters_take regions ts y declares e =
     let b = bind_ok (expect s.OpenParen ts) (λ _ rest. closed_list read.begins_ty (read.ty false regions) 16 s.CloseParen rest) y e in
-    let list = list_takes (read.ty false regions) (spell.ty regions) (ty_fits false (length regions + 1)) NoLess (ty_law regions declares) read.begins_ty 16 s.CloseParen b.0.1 y b.2 in (
+    let list = list_takes (ty_law regions declares) read.begins_ty 16 s.CloseParen b.0.1 y b.2 in (
       join ts (Fixed s.OpenParen ∷ []) b.0.1 (spell.commas (spell.ty regions) y.0 ++ spell.symbol s.CloseParen) y.1 (expect_takes s.OpenParen ts b.0 b.1) list.0,
       and_from (list_all (ty_fits false (length regions + 1)) y.0) _ list.1.0 (le-leb (length y.0) 16 list.1.1),
     )
@@ -189,4 +189,4 @@ unfolding read.parameters
 parameters_again regions ts ps rest declares b fits =
     let a = split ts (Fixed s.OpenParen ∷ []) (spell.commas (spell.ty regions) ps ++ spell.symbol s.CloseParen) rest b in
     let parts = and_parts (list_all (ty_fits false (length regions + 1)) ps) _ fits in
-    rw (expect_again s.OpenParen ts a.0 a.1) (list_again (read.ty false regions) (spell.ty regions) (ty_fits false (length regions + 1)) NoLess (ty_law regions declares) read.begins_ty 16 s.CloseParen (tys_close regions) a.0 ps rest a.2 (parts.0, leb-true (length ps) 16 parts.1))
+    rw (expect_again s.OpenParen ts a.0 a.1) (list_again (ty_law regions declares) read.begins_ty 16 s.CloseParen (tys_close regions) a.0 ps rest a.2 (parts.0, leb-true (length ps) 16 parts.1))

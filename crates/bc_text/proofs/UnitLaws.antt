@@ -17,7 +17,8 @@ use Rattle.bc_syntax.specs.declared.syntax.Block.{Block}
 use Rattle.bc_syntax.specs.declared.syntax.Header.{Header}
 use Rattle.bc_syntax.specs.declared.syntax.Body.{Body}
 use Rattle.bc_syntax.specs.Symbol.{same}
-use Rattle.bc_syntax.specs.Fits.{HeaderFits, Fits, is_new, are_new, clause_fits, clauses_fit, parameters_fit, ty_fits, block_fits}
+use Rattle.bc_syntax.specs.Fits.{header_fits, Fits, is_new, are_new, clause_fits, clauses_fit, parameters_fit, ty_fits, block_fits}
+use Rattle.bc_syntax.proofs.Headers.{header_parts}
 use Rattle.bc_print.specs.Token.{Token, Fixed, Numbered, Word, Region, NotAscii, Stray, End}
 use Rattle.bc_tokens.specs.Token.{Tokens, tokens}
 use Rattle.bc_tokens.specs.Parser.{Outcome, Reads, and_then, sees, sees_region, after, is_end, at_end, numbered, position, expect, pure, fail, fault, declared_list}
@@ -28,9 +29,7 @@ use Rattle.bc_text.specs.Spells as texts
 use Rattle.bc_text.proofs.Begins.{Begins, join, split, bind_ok, ok_is, chosen, chosen_parser, eaten, eat_again, eat_other, expect_takes, expect_again, numbered_takes, numbered_again, sees_none, sees_numbered_none}
 use Rattle.bc_text.proofs.NameLaws.{Declares, Anything, NoLess, universal_takes, universal_again, new_region_takes, new_region_again}
 use Rattle.bc_text.proofs.TypeLaws.{ty_takes, ty_again, parameters_take, parameters_again}
-use Rattle.bc_text.proofs.Lists.{Spells, Closes, opened_take, opened_again, opened_none}
-use Rattle.bc_text.proofs.NewLists as new
-use Rattle.bc_text.proofs.NewLists.{declared_list_takes, declared_list_again, are_fitting}
+use Rattle.bc_text.proofs.Lists.{SpellsBeside, Spells, Closes, are_fitting, declared_list_takes, declared_list_again, opened_take, opened_again, opened_none}
 use Rattle.bc_text.proofs.Ends.{IsText, tokens_are_text, within, ends_there, all_of_it, begins_whole}
 use Rattle.bc_text.proofs.BlockLaws.{blocks_take, blocks_again}
 
@@ -66,19 +65,15 @@ module _ (regions : List RegionName) (declares : Declares regions) where
   clauses_take : (ts : Tokens) (y : List Outlives × Tokens) → read.clauses regions ts ≡ Ok y → Begins ts (spell.clauses regions y.0) y.1 × (clauses_fit count y.0 ≡ true)
   unfolding read.clauses
   clauses_take ts y e =
-      let list = opened_take (read.clause regions) (spell.clause regions) (clause_fits count) Anything clause_law sees_region 32 s.Where ts y e in
-      let fit = and_from (list_all (clause_fits count) y.0) _ list.1.0 (le-leb (length y.0) 32 list.1.1) in
-      elim list.0 [
-        | inl none ↦ (subst (λ (cs : List Outlives). Begins ts (spell.clauses regions cs) y.1) (sym none.0) (sym none.1), fit)
-        | inr some ↦ (subst (λ (cs : List Outlives). Begins ts (spell.clauses regions cs) y.1) (sym some.2) some.3, fit)
-      ]
+      let P : List Outlives × Tokens → Type 0 = λ q. Begins ts (spell.clauses regions q.0) q.1 × (clauses_fit count q.0 ≡ true) in
+      opened_take clause_law sees_region 32 s.Where ts y e P (refl, refl) (λ c cs rest text fit. (text, and_from (list_all (clause_fits count) (c ∷ cs)) _ fit.0 (le-leb (length (c ∷ cs)) 32 fit.1)))
 
   clauses_again : (ts : Tokens) (cs : List Outlives) (rest : Tokens) → Begins ts (spell.clauses regions cs) rest → clauses_fit count cs ≡ true → sees s.Where rest ≡ false → sees s.Comma rest ≡ false → read.clauses regions ts ≡ Ok (cs, rest)
   unfolding read.clauses
-  clauses_again ts [] rest b fits other comma = opened_none (read.clause regions) (spell.clause regions) (clause_fits count) Anything clause_law sees_region 32 s.Where ts (rw b other) ∙ rw b refl
+  clauses_again ts [] rest b fits other comma = opened_none clause_law sees_region 32 s.Where ts (rw b other) ∙ rw b refl
   clauses_again ts (c ∷ cs) rest b fits other comma =
       let parts = and_parts (list_all (clause_fits count) (c ∷ cs)) _ fits in
-      opened_again (read.clause regions) (spell.clause regions) (clause_fits count) Anything clause_law sees_region 32 s.Where (record { comma_ends = λ ts x rest b. tt }) ts c cs rest b (parts.0, leb-true (length (c ∷ cs)) 32 parts.1) tt comma
+      opened_again clause_law sees_region 32 s.Where (record { comma_ends = λ ts x rest b. tt }) ts c cs rest b (parts.0, leb-true (length (c ∷ cs)) 32 parts.1) tt comma
 
   -- ---- signatures
 
@@ -137,7 +132,7 @@ module _ (regions : List RegionName) (declares : Declares regions) where
 
 -- ---- headers
 
-new_law : new.Declares read.new_region spell.region_name is_new Anything
+new_law : SpellsBeside read.new_region spell.region_name is_new Anything
 new_law = record { takes = new_region_takes; again = λ found ts x rest b fits ends. new_region_again found ts x rest b fits }
 
 names_apart : (x : RegionName) (l : List Token) (ts rest : Tokens) → Begins ts (spell.region_name x ++ l) rest → sees s.Greater ts ≡ false
@@ -166,7 +161,7 @@ pub header_of_takes : (limit : ℕ) (ts : Tokens) (y : Header × Tokens) → rea
 unfolding read.header_of
 header_of_takes limit ts y e =
     let b = bind_ok (declared_list sees_region read.new_region limit ts) (λ rs rest. read.signature rs rest) y e in
-    let list = declared_list_takes read.new_region spell.region_name is_new Anything new_law sees_region limit ts b.0 b.1 in
+    let list = declared_list_takes new_law sees_region limit ts b.0 b.1 in
     let declares : Declares b.0.0 = sym (fitting_is [] b.0.0) ∙ list.1.0 in
     let g = signature_takes b.0.0 declares b.0.1 y b.2 in
     let whole = join ts (spell.angled spell.region_name b.0.0) b.0.1 (rest_of b.0.0 declares y.0) y.1 list.0 g.0 in
@@ -199,7 +194,7 @@ unfolding read.header_of
 header_of_again limit ts h rest b fits other =
     let tail = spell.clauses h.regions h.clauses ++ (spell.parameters h.regions h.parameters ++ (spell.symbol s.Arrow ++ spell.ty h.regions h.result)) in
     let a = split ts (spell.angled spell.region_name h.regions) tail rest b in
-    rw (declared_list_again read.new_region spell.region_name is_new Anything new_law sees_region limit names_close ts h.regions a.0 a.1 (fitting_is [] h.regions ∙ fits.declares, fits.few) (no_less h a.0 rest a.2))
+    rw (declared_list_again new_law sees_region limit names_close ts h.regions a.0 a.1 (fitting_is [] h.regions ∙ fits.declares, fits.few) (no_less h a.0 rest a.2))
     (signature_again h.regions fits.declares a.0 h rest a.2 (fits.signature fits.declares) other)
 
 header_takes : (ts : Tokens) (y : Header × Tokens) → read.header ts ≡ Ok y → Begins ts (spell.header y.0) y.1 × HeaderIs 15 y.0
@@ -215,17 +210,15 @@ header_again ts h rest b fits other =
     let a = split ts (spell.symbol s.Fn) (spell.signature h) rest b in
     rw (expect_again s.Fn ts a.0 a.1) (header_of_again 15 a.0 h rest a.2 fits other)
 
-header_fits : (h : Header) → HeaderIs 15 h → HeaderFits h
-header_fits h is =
+pub header_fit : (limit : ℕ) (h : Header) → HeaderIs limit h → header_fits limit h ≡ true
+header_fit limit h is =
     let g = is.signature is.declares in
-    record { regions = is.declares; universals = omega (arith, is.few); clauses = g.clauses; parameters = g.parameters; result = g.result }
+    and_from _ _ (and_from _ _ (and_from _ _ (and_from (are_new [] h.regions) _ is.declares (le-leb (length h.regions) limit is.few)) g.clauses) g.parameters) g.result
 
-header_is : (h : Header) → HeaderFits h → HeaderIs 15 h
-header_is h fits = record {
-  declares = fits.regions;
-  few = omega (arith, fits.universals);
-  signature = λ d. record { regions_are = refl; clauses = fits.clauses; parameters = fits.parameters; result = fits.result };
-}
+pub header_is : (limit : ℕ) (h : Header) → header_fits limit h ≡ true → HeaderIs limit h
+header_is limit h fits =
+    let p = header_parts limit h fits in
+    record { declares = p.regions; few = p.few; signature = λ _. record { regions_are = refl; clauses = p.clauses; parameters = p.parameters; result = p.result } }
 
 -- ---- lets
 
@@ -363,9 +356,10 @@ plus-zero k = omega arith
 locals_are : (h : Header) (ls : List Ty) → 1 + length h.parameters + length ls ≡ length (h.result ∷ (h.parameters ++ ls))
 locals_are h ls = omega (arith, length-append h.parameters ls)
 
-body_takes : (h : Header) (ts : Tokens) (y : Body × Tokens) → HeaderFits h → read.body_of h ts ≡ Ok y → (y.0.header ≡ h) × Begins ts (body_tokens y.0) (after y.1) × Fits y.0
+body_takes : (h : Header) (ts : Tokens) (y : Body × Tokens) → header_fits 15 h ≡ true → read.body_of h ts ≡ Ok y → (y.0.header ≡ h) × Begins ts (body_tokens y.0) (after y.1) × Fits y.0
 unfolding read.body_of
 body_takes h ts y fits e =
+    let parts = header_parts 15 h fits in
     let locals : List Ty → ℕ = λ ls. 1 + length h.parameters + length ls in
     let b = bind_ok (expect s.OpenBrace ts) (λ _ t2. and_then (read.lets_from h.regions (1 + length h.parameters) 256 [] t2) (λ ls t3. and_then (read.blocks h.regions (1 + length h.parameters + length ls) t3) (λ bs t4. and_then (expect s.CloseBrace t4) (λ _ t5. and_then (at_end t5) (λ _ t6. Ok (made_of h ls bs, t6)))))) y e in
     let c = bind_ok (read.lets_from h.regions (1 + length h.parameters) 256 [] b.0.1) (λ ls t3. and_then (read.blocks h.regions (1 + length h.parameters + length ls) t3) (λ bs t4. and_then (expect s.CloseBrace t4) (λ _ t5. and_then (at_end t5) (λ _ t6. Ok (made_of h ls bs, t6))))) y b.2 in
@@ -374,14 +368,14 @@ body_takes h ts y fits e =
     let bs = d.0.0 in
     let f = bind_ok (expect s.CloseBrace d.0.1) (λ _ t5. and_then (at_end t5) (λ _ t6. Ok (made_of h ls bs, t6))) y d.2 in
     let g = bind_ok (at_end f.0.1) (λ _ t6. Ok (made_of h ls bs, t6)) y f.2 in
-    let parameters = and_parts (list_all (ty_fits false (length h.regions + 1)) h.parameters) _ fits.parameters in
+    let parameters = and_parts (list_all (ty_fits false (length h.regions + 1)) h.parameters) _ parts.parameters in
     let few_parameters = leb-true (length h.parameters) 16 parameters.1 in
     let few : 1 + length h.parameters + 0 ≤ 256 = omega (arith, few_parameters) in
-    let let_part = lets_take h.regions fits.regions (1 + length h.parameters) 256 [] b.0.1 c.0 few c.1 in
+    let let_part = lets_take h.regions parts.regions (1 + length h.parameters) 256 [] b.0.1 c.0 few c.1 in
     let let_text : Begins b.0.1 (spell.lets h.regions (1 + length h.parameters) ls) c.0.1 = subst (λ (l : List Ty). Begins b.0.1 (spell.lets h.regions (1 + length h.parameters) l) c.0.1) (sym let_part.1) (subst (λ k. Begins b.0.1 (spell.lets h.regions k let_part.0) c.0.1) (plus-zero (1 + length h.parameters)) let_part.2) in
     let let_fits : list_all (ty_fits true (length h.regions + 1)) ls ≡ true = subst (λ (l : List Ty). list_all (ty_fits true (length h.regions + 1)) l ≡ true) (sym let_part.1) let_part.3 in
     let count : 1 + length h.parameters + length ls ≤ 256 = subst (λ (l : List Ty). 1 + length h.parameters + length l ≤ 256) (sym let_part.1) (omega (arith, let_part.4)) in
-    let block_part = blocks_take h.regions fits.regions (1 + length h.parameters + length ls) count c.0.1 d.0 d.1 in
+    let block_part = blocks_take h.regions parts.regions (1 + length h.parameters + length ls) count c.0.1 d.0 d.1 in
     let end = join d.0.1 (spell.symbol s.CloseBrace) f.0.1 (End ∷ []) (after g.0.1) (expect_takes s.CloseBrace d.0.1 f.0 f.1) (end_takes f.0.1 g.0 g.1) in
     let t3 = join c.0.1 (spell.blocks h.regions 0 bs) d.0.1 closing (after g.0.1) block_part.0 end in
     let t2 = join b.0.1 (spell.lets h.regions (1 + length h.parameters) ls) c.0.1 (spell.blocks h.regions 0 bs ++ closing) (after g.0.1) let_text t3 in
@@ -409,6 +403,7 @@ body_again : (ts : Tokens) (u : Body) (rest : Tokens) → Begins ts (body_tokens
 unfolding read.body_of same
 body_again ts u rest p fits =
     let h = u.header in
+    let declares = (header_parts 15 h fits.header).regions in
     let b = split ts (spell.symbol s.OpenBrace) (spell.lets h.regions (1 + length h.parameters) u.lets ++ (spell.blocks h.regions 0 u.blocks ++ closing)) rest p in
     let c = split b.0 (spell.lets h.regions (1 + length h.parameters) u.lets) (spell.blocks h.regions 0 u.blocks ++ closing) rest b.2 in
     let d = split c.0 (spell.blocks h.regions 0 u.blocks) closing rest c.2 in
@@ -424,8 +419,8 @@ body_again ts u rest p fits =
       f.0,
       rw (
         expect_again s.OpenBrace ts b.0 b.1,
-        lets_again h.regions fits.header.regions (1 + length h.parameters) 256 [] u.lets b.0 c.0 text fits.lets few room no_let,
-        blocks_again h.regions fits.header.regions (1 + length h.parameters + length u.lets) count c.0 u.blocks d.0 d.1 block_fit fits.points fits.few_blocks fits.some_block no_label,
+        lets_again h.regions declares (1 + length h.parameters) 256 [] u.lets b.0 c.0 text fits.lets few room no_let,
+        blocks_again h.regions declares (1 + length h.parameters + length u.lets) count c.0 u.blocks d.0 d.1 block_fit fits.points fits.few_blocks fits.some_block no_label,
         expect_again s.CloseBrace d.0 f.0 f.1,
         end_again f.0 rest f.2,
       ) refl,
@@ -438,7 +433,7 @@ unfolding read.unit
 unit_takes ts y e =
     let a = bind_ok (read.header ts) (λ h rest. read.body_of h rest) y e in
     let head = header_takes ts a.0 a.1 in
-    let body = body_takes a.0.0 a.0.1 y (header_fits a.0.0 head.1) a.2 in
+    let body = body_takes a.0.0 a.0.1 y (header_fit 15 a.0.0 head.1) a.2 in
     let text : Begins ts (spell.header y.0.header) a.0.1 = subst (λ (h : Header). Begins ts (spell.header h) a.0.1) (sym body.0) head.0 in
     (join ts (spell.header y.0.header) a.0.1 (body_tokens y.0) (after y.1) text body.1, body.2)
 
@@ -448,7 +443,7 @@ unit_again ts u rest p fits =
     let a = split ts (spell.header u.header) (body_tokens u) rest p in
     let brace = sees_none s.Less a.0 (Fixed s.OpenBrace) (spell.lets u.header.regions (spell.first_let u.header) u.lets ++ (spell.blocks u.header.regions 0 u.blocks ++ closing)) rest a.2 refl in
     let body = body_again a.0 u rest a.2 fits in
-    (body.0, rw (header_again ts u.header a.0 a.1 (header_is u.header fits.header) brace) body.1)
+    (body.0, rw (header_again ts u.header a.0 a.1 (header_is 15 u.header fits.header) brace) body.1)
 
 -- what is read has a spelling
 pub body_fits : (ts later : Tokens) (r : Result Body Refusal) (u : Body) → Reads (read.unit ts) r later → r ≡ Ok u → Fits u

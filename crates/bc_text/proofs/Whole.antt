@@ -44,7 +44,8 @@ use Rattle.bc_syntax.specs.declared.syntax.StructDeclaration.{StructDeclaration}
 use Rattle.bc_syntax.specs.declared.syntax.ExternDeclaration.{ExternDeclaration}
 use Rattle.bc_syntax.specs.declared.syntax.Declaration.{Declaration}
 use Rattle.bc_syntax.specs.declared.syntax.Declaration.TheVariants as declarations
-use Rattle.bc_syntax.specs.Fits.{HeaderFits, Fits, TypesFit}
+use Rattle.bc_syntax.specs.Fits.{Fits, TypesFit}
+use Rattle.bc_syntax.proofs.Headers.{header_parts}
 use Rattle.bc_syntax.specs.Words.{is_region_name, is_word}
 use Rattle.bc_print.specs.Token.{Token}
 use Rattle.bc_print.specs.Universals.{universal_names}
@@ -292,18 +293,19 @@ module _ (regions : List RegionName) (new : fit.are_new [] regions ≡ true) whe
 
 -- ---- units
 
-signature : (h : Header) → HeaderFits h → AllWhole (spell.signature h)
-signature h fits =
+signature : (limit : ℕ) (h : Header) → fit.header_fits limit h ≡ true → AllWhole (spell.signature h)
+signature limit h fits =
+    let parts = header_parts limit h fits in
     let rs = h.regions in
     let arrow = spell.symbol s.Arrow ++ spell.ty rs h.result in
     let rest = spell.parameters rs h.parameters ++ arrow in
-    joined (spell.angled spell.region_name rs) (spell.clauses rs h.clauses ++ rest) (region_names rs fits.regions)
-    (joined (spell.clauses rs h.clauses) rest (clauses rs fits.regions h.clauses fits.clauses) (joined (spell.parameters rs h.parameters) arrow (parameters rs fits.regions h.parameters fits.parameters) (tt, ty rs fits.regions false h.result fits.result)))
+    joined (spell.angled spell.region_name rs) (spell.clauses rs h.clauses ++ rest) (region_names rs parts.regions)
+    (joined (spell.clauses rs h.clauses) rest (clauses rs parts.regions h.clauses parts.clauses) (joined (spell.parameters rs h.parameters) arrow (parameters rs parts.regions h.parameters parts.parameters) (tt, ty rs parts.regions false h.result parts.result)))
 
 body : (u : Body) → Fits u → AllWhole (spell.body u)
 body u fits =
     let rs = u.header.regions in
-    let new = fits.header.regions in
+    let new = (header_parts 15 u.header fits.header).regions in
     let count = length (fit.locals_of u) in
     let all_locals : length (fit.locals_of u) ≡ 1 + (length u.header.parameters + length u.lets) = omega (arith, length-append u.header.parameters u.lets) in
     let few : spell.first_let u.header + length u.lets ≤ 256 = omega (arith, fits.locals, all_locals) in
@@ -312,7 +314,7 @@ body u fits =
     (tt, joined (spell.lets rs (spell.first_let u.header) u.lets) (spell.blocks rs 0 u.blocks ++ spell.symbol s.CloseBrace) (lets rs new (spell.first_let u.header) u.lets few fits.lets) blocks_part)
 
 pub unit_is_whole : (u : Body) → Fits u → AllWhole (spell.unit u)
-unit_is_whole u fits = (tt, joined (spell.signature u.header) (spell.body u) (signature u.header fits.header) (body u fits))
+unit_is_whole u fits = (tt, joined (spell.signature u.header) (spell.body u) (signature 15 u.header fits.header) (body u fits))
 
 -- ---- declarations
 
@@ -360,26 +362,11 @@ struct_rest d h =
     joined (spell.item_name d.name) (spell.angled spell.mark (zip d.variances d.regions) ++ (spell.drop_word d.has_drop ++ spell.fields d)) (whole_item d.name p1.0)
     (joined (spell.angled spell.mark (zip d.variances d.regions)) (spell.drop_word d.has_drop ++ spell.fields d) marks (joined (spell.drop_word d.has_drop) (spell.fields d) (drop_word d.has_drop) (tt, within)))
 
-header_parts : (h : Header) → fit.header_fits 8 h ≡ true → HeaderFits h
-header_parts h e =
-    let count = fit.universal_count h in
-    let a = fit.are_new [] h.regions in
-    let b = nat_le (length h.regions) 8 in
-    let c = fit.clauses_fit count h.clauses in
-    let p = fit.parameters_fit count h.parameters in
-    let r = fit.ty_fits false count h.result in
-    let q4 = and_parts (((a && b) && c) && p) r e in
-    let q3 = and_parts ((a && b) && c) p q4.0 in
-    let q2 = and_parts (a && b) c q3.0 in
-    let q1 = and_parts a b q2.0 in
-    let few = leb-true (length h.regions) 8 q1.1 in
-    record { regions = q1.0; universals = omega (arith, few); clauses = q2.1; parameters = q3.1; result = q4.1 }
-
 extern_rest : (d : ExternDeclaration) → fit.extern_fits d ≡ true → AllWhole (spell.extern_rest d)
 extern_rest d h =
     let p = and_parts (fit.item_fits d.name) (fit.header_fits 8 d.header) h in
     joined (spell.item_name d.name) (spell.signature d.header ++ spell.symbol s.Semicolon) (whole_item d.name p.0)
-    (joined (spell.signature d.header) (spell.symbol s.Semicolon) (signature d.header (header_parts d.header p.1)) (tt, tt))
+    (joined (spell.signature d.header) (spell.symbol s.Semicolon) (signature 8 d.header p.1) (tt, tt))
 
 declaration : (d : Declaration) → fit.declaration_fits d ≡ true → AllWhole (spell.declaration d)
 declaration (declarations.Struct d) h = (tt, struct_rest d h)

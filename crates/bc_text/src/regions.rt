@@ -152,7 +152,7 @@ fn some_regions(
     Err(refuse_past(begins_region(cursor, variables), cursor))
 }
 
-#[tactic(auto, unfolding(bc_tokens::specs::Parser::angled_list))]
+#[tactic(auto, unfolding(bc_tokens::specs::Parser::declared_list))]
 fn arguments(
     alloc: Global,
     cursor: &mut Cursor<'_>,

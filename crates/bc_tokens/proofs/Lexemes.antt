@@ -1,9 +1,9 @@
 -- The text of a token, with a blank behind it, is cut into that token again.
 use Rattle.std.proofs.Common.{◌≡◌, ℕ, zero, suc, ◌+◌, ◌-◌, ◌*◌, ◌^◌, ◌<◌, Bool, true, false, cond, List, [], ◌∷◌, ◌++◌, length, Option, Some, None, refl, ap, ◌∙◌, inl, inr, arith, rules}
-use Rattle.std.specs.Prelude.{slice_index, decimal, not, ◌&&◌, ◌==◌, ◌⊎◌, fold}
+use Rattle.std.specs.Prelude.{is_some, slice_index, decimal, not, ◌&&◌, ◌==◌, ◌⊎◌, fold}
 use Rattle.std.specs.Char.{is_ascii_digit, is_ascii_alphabetic, is_ascii_lowercase}
 use Rattle.std.specs.List.{list_all}
-use Rattle.std.proofs.lemmas.Bool.{and_parts, and_from}
+use Rattle.std.proofs.lemmas.Bool.{and_parts, and_from, not-true}
 use Rattle.std.proofs.lemmas.Bool.Decides.{nat_tests}
 use Rattle.std.proofs.lemmas.List.Sums.{take_while-cons}
 use Rattle.std.proofs.lemmas.Str.Parse.{IsNumeralModel, numerals_by_fold}
@@ -13,10 +13,11 @@ use Rattle.bc_syntax.specs.declared.symbol.Symbol.TheVariants as s
 use Rattle.bc_print.specs.declared.numbering.Numbering.TheVariants as n
 use Rattle.bc_syntax.specs.Bytes.{is_run_byte, run}
 use Rattle.bc_syntax.specs.Symbol.{text, keyword_of, sign_of}
-use Rattle.bc_syntax.specs.Words.{is_region_byte, is_number, is_region_name, is_label, is_found, is_keyword, is_word}
+use Rattle.bc_syntax.specs.Words.{is_region_byte, is_number, is_region_name, is_label, is_keyword, is_word}
 use Rattle.bc_print.specs.Token.{Token, Fixed, Numbered, Word, Region, NotAscii, Stray, End}
 use Rattle.bc_tokens.specs.Token.{is_blank, value, run_token, region_token, variable_token, lexeme}
 use Rattle.bc_print.specs.Printing.{token_text}
+use Rattle.bc_tokens.proofs.Runs.{more, digit_in_run, region_in_run}
 
 -- a token that texts have, and that is not their end
 abbrev pub IsWhole : Token → Type 0
@@ -45,12 +46,6 @@ all_pass p q to [] h = refl
 all_pass p q to (b ∷ bytes) h =
     let parts = and_parts (p b) (list_all p bytes) h in
     and_from (q b) (list_all q bytes) (to b parts.0) (all_pass p q to bytes parts.1)
-
-digit_in_run : (b : ℕ) → is_ascii_digit b ≡ true → is_run_byte b ≡ true
-digit_in_run b h = grind (arith, nat_tests)
-
-region_in_run : (b : ℕ) → is_region_byte b ≡ true → is_run_byte b ≡ true
-region_in_run b h = grind (arith, nat_tests)
 
 chosen_true : {A : Type 0} (b : Bool) (x y : A) → b ≡ true → cond b x y ≡ x
 chosen_true true x y e = refl
@@ -101,13 +96,9 @@ label_run k h = rw (no_number 98 (98 ∷ decimal k) refl, decimal_is_number k h,
 
 -- ---- words
 
-not_found : (o : Option Symbol) → not (is_found o) ≡ true → o ≡ None
+not_found : (o : Option Symbol) → not (is_some o) ≡ true → o ≡ None
 not_found None h = refl
 not_found (Some symbol) h = absurd cc
-
-is_false : (b : Bool) → not b ≡ true → b ≡ false
-is_false false h = refl
-is_false true h = absurd cc
 
 no_digit : (b : ℕ) → is_ascii_alphabetic b ≡ true → is_ascii_digit b ≡ false
 no_digit b h = grind (arith, nat_tests)
@@ -129,7 +120,7 @@ word_parts r h =
     let c = and_parts ((first && all) && not (is_label r)) (not (is_keyword r)) h in
     let b = and_parts (first && all) (not (is_label r)) c.0 in
     let a = and_parts first all b.0 in
-    record { first = a.0; all = a.1; label = is_false (is_label r) b.1; keyword = not_found (keyword_of r) c.1 }
+    record { first = a.0; all = a.1; label = not-true (is_label r) b.1; keyword = not_found (keyword_of r) c.1 }
 
 word_run : (r : List ℕ) → is_word r ≡ true → run_token r ≡ Word r
 unfolding run_token
@@ -142,9 +133,6 @@ word_run (b ∷ r) h =
 
 no_question : (b : ℕ) → is_ascii_lowercase b ≡ true → (b == 63) ≡ false
 no_question b h = grind (arith, nat_tests)
-
-one_more : (k : ℕ) → 1 + k ≡ suc k
-one_more k = omega arith
 
 two_more : (k : ℕ) → 2 + k ≡ suc (suc k)
 two_more k = omega arith
@@ -159,7 +147,7 @@ region_lexeme [] w rest h blank = let parts = name_parts [] h in let first = par
 region_lexeme (b ∷ r) w rest h blank =
     let parts = name_parts (b ∷ r) h in
     let e = run_stops (b ∷ r) w rest (all_pass is_region_byte is_run_byte region_in_run (b ∷ r) parts.1) (blank_ends w blank) in
-    rw (no_question b parts.0, e, h) (ap (λ k. (Region (b ∷ r), k)) (one_more (length (b ∷ r))))
+    rw (no_question b parts.0, e, h) (ap (λ k. (Region (b ∷ r), k)) (more (length (b ∷ r))))
 
 variable_lexeme : (k : ℕ) (w : ℕ) (rest : List ℕ) → k < 2 ^ 64 → is_blank w ≡ true → lexeme (39 ∷ 63 ∷ (decimal k ++ w ∷ rest)) ≡ (Numbered n.Variable k, suc (suc (length (decimal k))))
 unfolding lexeme variable_token

@@ -1,13 +1,13 @@
 -- What digits count, and what a token keeps of it.
 use Rattle.std.proofs.Common.{◌≡◌, ℕ, ◌+◌, ◌-◌, ◌*◌, ◌^◌, ◌<◌, ◌≤◌, Bool, true, false, cond, List, length, get_or, take, Some, None, Ok, Err, refl, ap, ◌∙◌, arith, inl, inr}
-use Rattle.std.specs.Prelude.{Option, nat_le}
+use Rattle.std.specs.Prelude.{Option, is_some, nat_le}
 use Rattle.std.proofs.lemmas.Bool.Decides.{nat_tests}
 use Rattle.std.proofs.lemmas.List.Sums.{fold_more}
 use Rattle.bc_print.specs.declared.numbering.Numbering.{Numbering as Numberings}
 use Rattle.bc_tokens.specs.declared.refusal.Refusal.TheVariants.{Limit}
 use Rattle.bc_print.specs.Token.{Token, Fixed, Numbered, Word, Region, NotAscii, Stray, End}
 use Rattle.bc_tokens.specs.Token.{Tokens, Counts, value}
-use Rattle.bc_tokens.specs.Parser.{first, after, position, fault, is_some, number_in, same_numbering, sees_numbered, numbered_to, numbered}
+use Rattle.bc_tokens.specs.Parser.{first, after, position, fault, number_in, same_numbering, sees_numbered, numbered_to, numbered}
 
 abbrev step : ℕ → ℕ → ℕ
 step n b = n * 10 + (b - 48)

@@ -21,7 +21,7 @@ use Rattle.bc_tokens.specs.Token.{value, word, run_token, region_token, variable
 
 -- ---- the front of a run, and the rest of it
 
-more : (k : ℕ) → 1 + k ≡ suc k
+pub more : (k : ℕ) → 1 + k ≡ suc k
 more k = omega arith
 
 positive : (k : ℕ) → eqb (suc k) 0 ≡ false
@@ -55,10 +55,10 @@ front_is_all p q inside (b ∷ bytes) =
           ]
     ]
 
-digit_in_run : (b : ℕ) → is_ascii_digit b ≡ true → is_run_byte b ≡ true
+pub digit_in_run : (b : ℕ) → is_ascii_digit b ≡ true → is_run_byte b ≡ true
 digit_in_run b h = grind (arith, nat_tests)
 
-region_in_run : (b : ℕ) → is_region_byte b ≡ true → is_run_byte b ≡ true
+pub region_in_run : (b : ℕ) → is_region_byte b ≡ true → is_run_byte b ≡ true
 region_in_run b h = grind (arith, nat_tests)
 
 others_are : (q : ℕ → Bool) (bytes rest : List ℕ) (front others : ℕ) → front ≡ prefix_len q bytes → rest ≡ drop front bytes

@@ -1,5 +1,5 @@
 -- Reading from left to right: a value and the tokens after it, or the first fault.
-use Rattle.std.specs.Prelude.{◌≡◌, ◌≢◌, ℕ, zero, suc, Bool, true, false, if◌then◌else◌, nat_le, List, [], ◌∷◌, ◌++◌, length, Option, Some, None, Result, Ok, Err}
+use Rattle.std.specs.Prelude.{◌≡◌, ◌≢◌, ℕ, zero, suc, Bool, true, false, if◌then◌else◌, nat_le, List, [], ◌∷◌, ◌++◌, length, Option, Some, None, is_some, Result, Ok, Err}
 use denote.Enum.Bare.{sameb}
 use Rattle.bc_print.specs.contracts.numbering.Numbering.{the_type}
 use Rattle.bc_print.specs.declared.numbering.Numbering.{Numbering}
@@ -60,10 +60,6 @@ number_in numbering (Region name) = None
 number_in numbering NotAscii = None
 number_in numbering Stray = None
 number_in numbering End = None
-
-abbrev pub is_some : {A : Type 0} → Option A → Bool
-is_some None = false
-is_some (Some x) = true
 
 unfoldable pub sees_numbered : Numbering → Tokens → Bool
 sees_numbered numbering ts = is_some (number_in numbering (first ts).token)
@@ -163,20 +159,17 @@ numbered_to limit (Some n) = λ ts. if nat_le n limit then Ok (n, after ts) else
 unfoldable pub numbered : Numbering → ℕ → Parser ℕ
 numbered numbering limit = λ ts. numbered_to limit (number_in numbering (first ts).token) ts
 
-abbrev pub region_to : ℕ → Option (List ℕ) → Parser (List ℕ)
-region_to limit None = refuse
-region_to limit (Some name) = λ ts. if nat_le (length name) limit then Ok (name, after ts) else Err (faults.Limit (position ts))
+-- a token that takes a name, up to a length
+abbrev pub name_to : ℕ → Option (List ℕ) → Parser (List ℕ)
+name_to limit None = refuse
+name_to limit (Some name) = λ ts. if nat_le (length name) limit then Ok (name, after ts) else Err (faults.Limit (position ts))
 
 unfoldable pub region_name : Parser (List ℕ)
-region_name = λ ts. region_to 16 (region_in (first ts).token) ts
-
-abbrev pub word_to : ℕ → Option (List ℕ) → Parser (List ℕ)
-word_to limit None = refuse
-word_to limit (Some name) = λ ts. if nat_le (length name) limit then Ok (name, after ts) else Err (faults.Limit (position ts))
+region_name = λ ts. name_to 16 (region_in (first ts).token) ts
 
 -- a word that is no keyword
 unfoldable pub word : Parser (List ℕ)
-word = λ ts. word_to 32 (word_in (first ts).token) ts
+word = λ ts. name_to 32 (word_in (first ts).token) ts
 
 abbrev pub is_end : Token → Bool
 is_end End = true
@@ -191,44 +184,7 @@ is_end Stray = false
 unfoldable pub at_end : Parser (Unit {0})
 at_end = λ ts. if is_end (first ts).token then Ok (tt, ts) else Err (fault ts)
 
--- ---- lists
-
-unfoldable pub separated_turn : {A : Type 0} → Parser A → (List A → Parser (List A)) → List A → Parser (List A)
-separated_turn item again found = do
-  x ← item
-  more ← eat Comma
-  if more then again (found ++ x ∷ []) else pure (found ++ x ∷ [])
-
--- Items with commas between, at least one and at most so many more; `begins` tells whether an item may begin here.
-unfoldable pub separated_from : {A : Type 0} → (Tokens → Bool) → Parser A → ℕ → List A → Parser (List A)
-separated_from begins item zero found = λ ts. if begins ts then past_limit ts else refuse ts
-separated_from begins item (suc room) found = separated_turn item (separated_from begins item room) found
-
--- no item, or items with commas between, and what closes the list
-unfoldable pub closed_list : {A : Type 0} → (Tokens → Bool) → Parser A → ℕ → Symbol → Parser (List A)
-closed_list begins item limit close = do
-  empty ← eat close
-  if empty then pure [] else (do
-    xs ← separated_from begins item limit []
-    expect close
-    pure xs)
-
--- items with commas between behind a symbol, and none where it does not come
-unfoldable pub opened_list : {A : Type 0} → (Tokens → Bool) → Parser A → ℕ → Symbol → Parser (List A)
-opened_list begins item limit opening = do
-  some ← eat opening
-  if some then separated_from begins item limit [] else pure []
-
--- items with commas between in `<` and `>`, and none where no `<` comes
-unfoldable pub angled_list : {A : Type 0} → (Tokens → Bool) → Parser A → ℕ → Parser (List A)
-angled_list begins item limit = do
-  some ← eat Less
-  if some then (do
-    xs ← separated_from begins item limit []
-    expect Greater
-    pure xs) else pure []
-
--- ---- lists of declarations, each read beside those before it
+-- ---- lists whose items are read beside those before them
 
 unfoldable pub declared_turn : {A : Type 0} → (List A → Parser A) → (List A → Parser (List A)) → List A → Parser (List A)
 declared_turn item again found = do
@@ -236,15 +192,46 @@ declared_turn item again found = do
   more ← eat Comma
   if more then again (found ++ x ∷ []) else pure (found ++ x ∷ [])
 
+-- Items with commas between, at least one and at most so many more; `begins` tells whether an item may begin here.
 unfoldable pub declared_from : {A : Type 0} → (Tokens → Bool) → (List A → Parser A) → ℕ → List A → Parser (List A)
 declared_from begins item zero found = λ ts. if begins ts then past_limit ts else refuse ts
 declared_from begins item (suc room) found = declared_turn item (declared_from begins item room) found
 
--- declarations with commas between in `<` and `>`, and none where no `<` comes
+-- such items, at least one, and what closes the list
+abbrev pub declared_until : {A : Type 0} → (Tokens → Bool) → (List A → Parser A) → ℕ → Symbol → Parser (List A)
+declared_until begins item limit close = do
+  xs ← declared_from begins item limit []
+  expect close
+  pure xs
+
+-- such items in `<` and `>`, and none where no `<` comes
 unfoldable pub declared_list : {A : Type 0} → (Tokens → Bool) → (List A → Parser A) → ℕ → Parser (List A)
 declared_list begins item limit = do
   some ← eat Less
-  if some then (do
-    xs ← declared_from begins item limit []
-    expect Greater
-    pure xs) else pure []
+  if some then declared_until begins item limit Greater else pure []
+
+-- ---- lists whose items are read alike
+
+-- an item that looks at none before it
+unfoldable pub alike : {A : Type 0} → Parser A → List A → Parser A
+alike item found = item
+
+-- items with commas between, at least one and at most so many more
+abbrev pub separated_from : {A : Type 0} → (Tokens → Bool) → Parser A → ℕ → List A → Parser (List A)
+separated_from begins item = declared_from begins (alike item)
+
+-- items in `<` and `>`, and none where no `<` comes
+abbrev pub angled_list : {A : Type 0} → (Tokens → Bool) → Parser A → ℕ → Parser (List A)
+angled_list begins item = declared_list begins (alike item)
+
+-- no item, or items with commas between, and what closes the list
+unfoldable pub closed_list : {A : Type 0} → (Tokens → Bool) → Parser A → ℕ → Symbol → Parser (List A)
+closed_list begins item limit close = do
+  empty ← eat close
+  if empty then pure [] else declared_until begins (alike item) limit close
+
+-- items with commas between behind a symbol, and none where it does not come
+unfoldable pub opened_list : {A : Type 0} → (Tokens → Bool) → Parser A → ℕ → Symbol → Parser (List A)
+opened_list begins item limit opening = do
+  some ← eat opening
+  if some then separated_from begins item limit [] else pure []

@@ -9,7 +9,9 @@ ghost use Rattle.bc_tokens.specs.Token.{Counts, Keeps, shown, value, word, run_t
 ghost use Rattle.bc_syntax.specs.Symbol.{keyword_of, sign_of};
 
 use bc_print::Numbering;
-use bc_syntax::{Symbol, behind, byte_at, region_len, run, run_len};
+use bc_syntax::{
+    Symbol, behind, byte_at, is_number_of, is_region_name_of, region_len, run, run_len,
+};
 
 /// What a token is. Own.
 #[derive(Clone, Copy, Debug, PartialEq, Eq)]
@@ -46,23 +48,6 @@ impl<'a> Token<'a> {
     }
 }
 
-#[inline(always)]
-#[tactic(auto, unfolding(bc_syntax::specs::Words::is_number))]
-fn is_number(digits: &[u8], are_digits: bool) -> bool
-    requires { are_digits ≡ list_all is_ascii_digit digits.now }
-    ensures { result ≡ is_number digits.now }
-{
-    are_digits && !digits.is_empty() && (digits.len() == 1 || byte_at(digits, 0) != b'0')
-}
-
-#[tactic(auto, unfolding(bc_syntax::specs::Words::is_region_name))]
-fn is_region_name(name: &[u8], are_region_bytes: bool) -> bool
-    requires { are_region_bytes ≡ list_all is_region_byte name.now }
-    ensures { result ≡ is_region_name name.now }
-{
-    byte_at(name, 0).is_ascii_lowercase() && are_region_bytes
-}
-
 /// How many digits stand at the front, and what they count.
 #[inline(always)]
 fn counted(bytes: &[u8]) -> (usize, u64)
@@ -95,7 +80,7 @@ fn number_run(bytes: &[u8]) -> (&[u8], u64, bool)
     let (digits, number) = counted(bytes);
     let others = run_len(behind(bytes, digits));
     let run = &bytes[..digits + others];
-    (run, number, is_number(run, others == 0))
+    (run, number, is_number_of(run, others == 0))
 }
 
 /// The run at the front, and whether it is a name of a region. It is gone over once.
@@ -107,7 +92,7 @@ fn region_run(bytes: &[u8]) -> (&[u8], bool)
     let front = region_len(bytes);
     let others = run_len(behind(bytes, front));
     let run = &bytes[..front + others];
-    (run, is_region_name(run, others == 0))
+    (run, is_region_name_of(run, others == 0))
 }
 
 /// The number at the front, and how many bytes its run has.

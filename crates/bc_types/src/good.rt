@@ -4,7 +4,7 @@ ghost use Rattle.std.specs.List.{list_all};
 ghost use Rattle.bc_types.specs.Declarations.{is_declared as declared, is_invariant as invariance, is_covariant as covariance, stands_well as standing, argument_positions, base_positions, positions_in, is_good_field as good_field, has_declared_base as declared_base, is_good as goodness};
 
 use crate::mutabilities::is_mutable;
-use crate::table::{Table, takes_regions};
+use crate::table::Table;
 use bc_syntax::{
     Base, Declaration, ExternDeclaration, Reference, Region, StructDeclaration, Ty, Variance,
 };
@@ -15,10 +15,7 @@ pub(crate) fn is_declared(table: &Table, base: &Base) -> bool
 {
     match base {
         Base::Int => true,
-        Base::Struct(instance) => match table.struct_of(&instance.name) {
-            Some(declaration) => takes_regions(instance, declaration),
-            None => false,
-        },
+        Base::Struct(instance) => table.declares(instance),
     }
 }
 
@@ -133,7 +130,8 @@ fn has_declared_base(table: &Table, ty: &Ty) -> bool
     is_declared(table, &ty.base)
 }
 
-fn have_declared_bases(table: &Table, types: &[Ty]) -> bool
+/// Whether each struct that types mention is declared with its number of regions.
+pub(crate) fn have_declared_bases(table: &Table, types: &[Ty]) -> bool
     ensures { result ≡ list_all (declared_base (reverse table.now)) types.now }
 {
     types.iter().all(|ty| has_declared_base(table, ty))

@@ -1,16 +1,15 @@
 //! Declarations of which none is bad.
 ghost use Rattle.std.specs.Prelude.{◌≡◌, ℕ, reverse, IfOk, OnOk};
+ghost use Rattle.std.specs.List.{list_all};
 ghost use Rattle.std.specs.Option.{option_copied};
-ghost use Rattle.bc_types.specs.Declarations.{is_declared as declared, first_bad, struct_of, extern_of};
+ghost use Rattle.bc_types.specs.Declarations.{has_declared_base as declared_base, first_bad, struct_of, extern_of};
 ghost use Rattle.bc_types.specs.Drops.{holds_drop as holding};
 ghost use Rattle.bc_types.specs.Replaced.{declared_field as field_there, field_type};
 
-use crate::good::{is_declared, is_good};
+use crate::good::{have_declared_bases, is_good};
 use crate::replaced::replace_ty;
 use crate::table::Table;
-use bc_syntax::{
-    Base, Declaration, ExternDeclaration, Instance, ItemName, StructDeclaration, Ty, Types,
-};
+use bc_syntax::{Declaration, ExternDeclaration, Instance, ItemName, StructDeclaration, Ty, Types};
 use std::alloc::{AllocError, Global};
 use std::marker::Model;
 use thiserror::Error;
@@ -135,12 +134,12 @@ impl GoodTypes {
         declared_field(&self.table, name, field)
     }
 
-    /// Whether a mentioned struct is declared with its number of regions.
+    /// Whether each struct that types mention is declared with its number of regions.
     /// (Own.)
-    pub fn declares(&self, base: &Base) -> bool
-        ensures { result ≡ declared (reverse self.now) base.now }
+    pub fn declares(&self, types: &[Ty]) -> bool
+        ensures { result ≡ list_all (declared_base (reverse self.now)) types.now }
     {
-        is_declared(&self.table, base)
+        have_declared_bases(&self.table, types)
     }
 
     /// The type of a field of a struct, with the struct's regions in it; `None` where there is no such struct or field. The

@@ -294,7 +294,8 @@ impl Table {
         }
     }
 
-    fn declares(&self, instance: &Instance) -> bool
+    /// Whether a struct is declared with the number of regions of an instance.
+    pub(crate) fn declares(&self, instance: &Instance) -> bool
         ensures { result ≡ option_map_or (takes instance.now) (struct_of self.now instance.now.name) false }
     {
         match self.struct_of(&instance.name) {

@@ -1,4 +1,5 @@
 //! What the analysis finds of a body, and how long each of its steps takes at best, in microseconds.
+use crate::timing::best_time;
 use bc_cons::{Facts, constraints};
 use bc_judge::judge;
 use bc_live::{LiveSets, live};
@@ -10,10 +11,6 @@ use bc_text::{read_types, read_unit};
 use std::alloc::{AllocError, Global};
 use std::io::Write;
 use std::sync::Arc;
-use std::time::Instant;
-
-/// How often each step is taken.
-const TURNS: u32 = 10;
 
 /// No declarations.
 fn no_types(alloc: Global) -> anyhow::Result<Arc<GoodTypes, Global>> {
@@ -24,75 +21,6 @@ fn no_types(alloc: Global) -> anyhow::Result<Arc<GoodTypes, Global>> {
     }
 }
 
-fn typing_time(
-    rt: &HostRuntime,
-    types: &Arc<GoodTypes, Global>,
-    unit: &Unit,
-) -> anyhow::Result<u128> {
-    let mut best = u128::MAX;
-    for _ in 0..TURNS {
-        let start = Instant::now(rt)?;
-        let _typed = type_unit(rt.alloc(), types, unit, &[])?;
-        best = best.min(start.elapsed(rt)?.as_micros());
-    }
-    Ok(best)
-}
-
-fn liveness_time(rt: &HostRuntime, typed: &Typed) -> anyhow::Result<u128> {
-    let mut best = u128::MAX;
-    for _ in 0..TURNS {
-        let start = Instant::now(rt)?;
-        let _live = live(rt.alloc(), typed)?;
-        best = best.min(start.elapsed(rt)?.as_micros());
-    }
-    Ok(best)
-}
-
-fn constraints_time(rt: &HostRuntime, typed: &Typed, live: &LiveSets) -> anyhow::Result<u128> {
-    let mut best = u128::MAX;
-    for _ in 0..TURNS {
-        let start = Instant::now(rt)?;
-        let _facts = constraints(rt.alloc(), typed, live)?;
-        best = best.min(start.elapsed(rt)?.as_micros());
-    }
-    Ok(best)
-}
-
-fn solving_time(rt: &HostRuntime, facts: &Facts) -> anyhow::Result<u128> {
-    let mut best = u128::MAX;
-    for _ in 0..TURNS {
-        let start = Instant::now(rt)?;
-        let _values = solve_plain(rt.alloc(), facts)?;
-        best = best.min(start.elapsed(rt)?.as_micros());
-    }
-    Ok(best)
-}
-
-fn scopes_time(rt: &HostRuntime, typed: &Typed, values: &Values) -> anyhow::Result<u128> {
-    let mut best = u128::MAX;
-    for _ in 0..TURNS {
-        let start = Instant::now(rt)?;
-        let _scopes = in_scope(rt.alloc(), typed, values)?;
-        best = best.min(start.elapsed(rt)?.as_micros());
-    }
-    Ok(best)
-}
-
-fn judging_time(
-    rt: &HostRuntime,
-    typed: &Typed,
-    values: &Values,
-    scopes: &Scopes,
-) -> anyhow::Result<u128> {
-    let mut best = u128::MAX;
-    for _ in 0..TURNS {
-        let start = Instant::now(rt)?;
-        let _verdict = judge(rt.alloc(), typed, values, scopes)?;
-        best = best.min(start.elapsed(rt)?.as_micros());
-    }
-    Ok(best)
-}
-
 fn measure_scopes<O: Write, E: Write>(
     rt: &HostRuntime,
     typed: &Typed,
@@ -101,7 +29,7 @@ fn measure_scopes<O: Write, E: Write>(
     out: &mut O,
     err: &mut E,
 ) -> anyhow::Result<()> {
-    let judging = judging_time(rt, typed, values, scopes)?;
+    let judging = best_time(rt, || Ok(judge(rt.alloc(), typed, values, scopes)?))?;
     writeln!(err, "judging {judging}")?;
     let verdict = judge(rt.alloc(), typed, values, scopes)?;
     let errors = verdict.errors.len();
@@ -116,7 +44,7 @@ fn measure_values<O: Write, E: Write>(
     out: &mut O,
     err: &mut E,
 ) -> anyhow::Result<()> {
-    let scoping = scopes_time(rt, typed, values)?;
+    let scoping = best_time(rt, || Ok(in_scope(rt.alloc(), typed, values)?))?;
     write!(err, "scopes {scoping}, ")?;
     let scopes = in_scope(rt.alloc(), typed, values)?;
     measure_scopes(rt, typed, values, &scopes, out, err)
@@ -132,7 +60,7 @@ fn measure_facts<O: Write, E: Write>(
     let regions = facts.regions();
     let pairs = facts.pairs().len();
     write!(out, "{regions} regions, {pairs} constraints, ")?;
-    let solving = solving_time(rt, facts)?;
+    let solving = best_time(rt, || Ok(solve_plain(rt.alloc(), facts)?))?;
     write!(err, "solving {solving}, ")?;
     let values = solve_plain(rt.alloc(), facts)?;
     measure_values(rt, typed, &values, out, err)
@@ -145,7 +73,7 @@ fn measure_live<O: Write, E: Write>(
     out: &mut O,
     err: &mut E,
 ) -> anyhow::Result<()> {
-    let demanding = constraints_time(rt, typed, live)?;
+    let demanding = best_time(rt, || Ok(constraints(rt.alloc(), typed, live)?))?;
     write!(err, "constraints {demanding}, ")?;
     let facts = constraints(rt.alloc(), typed, live)?;
     measure_facts(rt, typed, &facts, out, err)
@@ -159,7 +87,7 @@ fn measure_typed<O: Write, E: Write>(
 ) -> anyhow::Result<()> {
     let points = typed.steps().len();
     write!(out, "{points} points, ")?;
-    let liveness = liveness_time(rt, typed)?;
+    let liveness = best_time(rt, || Ok(live(rt.alloc(), typed)?))?;
     write!(err, "liveness {liveness}, ")?;
     let live = live(rt.alloc(), typed)?;
     measure_live(rt, typed, &live, out, err)
@@ -172,7 +100,7 @@ fn measure_over<O: Write, E: Write>(
     out: &mut O,
     err: &mut E,
 ) -> anyhow::Result<()> {
-    let typing = typing_time(rt, types, unit)?;
+    let typing = best_time(rt, || Ok(type_unit(rt.alloc(), types, unit, &[])?))?;
     write!(err, "microseconds: typing {typing}, ")?;
     let typed = type_unit(rt.alloc(), types, unit, &[])?;
     measure_typed(rt, &typed, out, err)

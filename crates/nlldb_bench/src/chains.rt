@@ -4,15 +4,12 @@ ghost use Rattle.bc_flow.specs.Flow.{AreEntriesWithin};
 ghost use Rattle.bc_cons.specs.Facts.{ArePairsWithin};
 
 use crate::random::Random;
+use crate::timing::best_time;
 use bc_cons::{Constraint, Facts};
 use bc_flow::{Entry, table};
 use bc_solve::{Values, solve_plain};
 use std::alloc::{AllocError, Global};
 use std::io::Write;
-use std::time::Instant;
-
-/// How often each list of constraints is solved for its time.
-const TURNS: u32 = 10;
 
 const REGIONS: u32 = 1040;
 
@@ -115,17 +112,6 @@ fn count(values: &Values) -> u64 {
     members
 }
 
-/// The shortest time of solving, in microseconds.
-fn best_time(rt: &HostRuntime, facts: &Facts) -> anyhow::Result<u128> {
-    let mut best = u128::MAX;
-    for _ in 0..TURNS {
-        let start = Instant::now(rt)?;
-        let _values = solve_plain(rt.alloc(), facts)?;
-        best = best.min(start.elapsed(rt)?.as_micros());
-    }
-    Ok(best)
-}
-
 fn measure_facts<O: Write, E: Write>(
     rt: &HostRuntime,
     name: &str,
@@ -133,7 +119,7 @@ fn measure_facts<O: Write, E: Write>(
     out: &mut O,
     err: &mut E,
 ) -> anyhow::Result<()> {
-    let best = best_time(rt, facts)?;
+    let best = best_time(rt, || Ok(solve_plain(rt.alloc(), facts)?))?;
     writeln!(err, "{name}: microseconds: solving {best}")?;
     let values = solve_plain(rt.alloc(), facts)?;
     let members = count(&values);

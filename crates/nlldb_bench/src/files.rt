@@ -1,13 +1,10 @@
 //! A file of many bodies, checked as the command does.
 use crate::readings::checksum;
+use crate::timing::best_time;
 use bc_check::check_over;
 use std::alloc::Global;
 use std::io;
 use std::io::Write;
-use std::time::Instant;
-
-/// How often the file is checked for its time.
-const TURNS: u32 = 10;
 
 /// How many bodies the file puts.
 const BODIES: u32 = 8806;
@@ -28,23 +25,18 @@ pub fn many_bodies(alloc: Global) -> io::Result<Vec<u8>> {
     Ok(out)
 }
 
-/// The shortest time of checking a file, in microseconds.
-fn best_time(rt: &HostRuntime, file: &[u8]) -> anyhow::Result<u128> {
-    let mut best = u128::MAX;
-    for _ in 0..TURNS {
-        let mut input = file;
-        let mut reports = Vec::new(rt.alloc());
-        let start = Instant::now(rt)?;
-        let _status = check_over(
-            rt.alloc(),
-            "file",
-            &mut input,
-            &mut reports,
-            &mut io::sink(),
-        );
-        best = best.min(start.elapsed(rt)?.as_micros());
-    }
-    Ok(best)
+/// What `check` leaves of a file: its status, and the reports.
+fn checked(rt: &HostRuntime, file: &[u8]) -> (u8, Vec<u8>) {
+    let mut input = file;
+    let mut reports = Vec::new(rt.alloc());
+    let status = check_over(
+        rt.alloc(),
+        "file",
+        &mut input,
+        &mut reports,
+        &mut io::sink(),
+    );
+    (status, reports)
 }
 
 /// Checks a file, and writes what `check` leaves of it to `out` and the shortest time to `err`.
@@ -55,22 +47,14 @@ pub fn measure_file<O: Write, E: Write>(
     out: &mut O,
     err: &mut E,
 ) -> anyhow::Result<()> {
-    let mut input = file;
-    let mut reports = Vec::new(rt.alloc());
-    let status = check_over(
-        rt.alloc(),
-        "file",
-        &mut input,
-        &mut reports,
-        &mut io::sink(),
-    );
+    let (status, reports) = checked(rt, file);
     let bytes = file.len();
     let sum = checksum(&reports);
     writeln!(
         out,
         "{name}: {bytes} bytes, status {status}, checksum {sum}"
     )?;
-    let best = best_time(rt, file)?;
+    let best = best_time(rt, || Ok(checked(rt, file)))?;
     writeln!(err, "{name}: microseconds: {best}")?;
     Ok(())
 }

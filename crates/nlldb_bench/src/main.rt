@@ -9,6 +9,7 @@ mod files;
 mod random;
 mod readings;
 mod texts;
+mod timing;
 
 use crate::analyses::measure_body;
 use crate::bodies::{borrows_and_reads, borrows_and_writes, branches};

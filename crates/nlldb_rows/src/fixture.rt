@@ -88,7 +88,7 @@ fn reports(outcome: &Outcome, errors: &[BorrowError]) -> bool {
 }
 
 /// Whether an outcome of this name is the wanted one.
-fn is_wanted(outcome: &Outcome, asked: &Name, wanted: &Wanted) -> bool {
+pub fn is_wanted(outcome: &Outcome, asked: &Name, wanted: &Wanted) -> bool {
     match wanted {
         Wanted::NoBody => matches!(outcome, Outcome::NoBody),
         Wanted::BadTypes(index) => matches!(outcome, Outcome::BadTypes(found) if found == index),

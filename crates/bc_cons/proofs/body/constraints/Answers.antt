@@ -1,5 +1,8 @@
-use Rattle.std.proofs.Common.{◌≤◌, arith}
-use Rattle.bc_cons.proofs.Bounding.{types_bound_least, types_are_below, tys_more, pairs_bound_least, numbered_within}
+use Rattle.std.proofs.Common.{◌≡◌, ◌≤◌, length, filter, refl, sym, subst, arith}
+use Rattle.bc_cons.specs.Constraints.{differ, all_pairs}
+use Rattle.bc_cons.specs.Bounds.{types_bound, pairs_bound}
+use Rattle.bc_cons.specs.Below.{IsRegionCount}
+use Rattle.bc_cons.proofs.Bounding.{types_bound_least, types_are_below, tys_more, pairs_bound_least, numbered_within, is_region_count}
 use Rattle.bc_cons.proofs.body.constraints.Goals as goal
 
 pub start_rows-requires-clause-universals : goal.start_rows-requires-clause-universals
@@ -27,3 +30,10 @@ returns-clause-universals c =
     let pairs = pairs_bound_least c.universals-universals.result c.types_bound-declared.result c.deref-2.result.now in
     rw (c.new.ensures.starts, c.in_ok-starts.ensures.regions)
     (omega (arith, c.universals-universals.ensures.value, c.from.ensures, c.types_bound-declared.ensures, c.pairs_bound-regions.ensures, types, pairs))
+
+pub returns-clause-regions : goal.returns-clause-regions
+returns-clause-regions c =
+    let mir = c.args.typed.now in
+    let count : length c.new.result.starts ≡ pairs_bound mir.universals (types_bound mir.universals mir.universals mir.locals) (filter differ (all_pairs mir)) =
+    rw (c.new.ensures.starts, c.in_ok-starts.ensures.regions, c.pairs_bound-regions.ensures, c.types_bound-declared.ensures, c.from.ensures, c.deref-2.ensures.value, c.in_ok-pairs.ensures, c.deref.ensures.value, c.in_ok-pairs_of_steps.ensures, c.universals-universals.ensures.value, c.types.ensures, c.locals.ensures.value, c.locals-2.ensures.value, c.steps.ensures.value) refl in
+    subst (IsRegionCount mir) (sym count) (is_region_count mir)

@@ -1,6 +1,7 @@
 use Rattle.bc_flow.specs.Flow.{holds}
+use Rattle.bc_flow.proofs.Turned.{no_row}
 use Rattle.bc_judge.specs.Conflicts.{conflicts_of_step}
-use Rattle.bc_judge.proofs.OutOfScope.{no_loan_in_scope, no_row, nothing-added}
+use Rattle.bc_judge.proofs.OutOfScope.{no_loan_in_scope, nothing-added}
 use Rattle.bc_judge.proofs.conflicts.push_point.Goals as goal
 
 pub returns-in-None : goal.returns-in-None

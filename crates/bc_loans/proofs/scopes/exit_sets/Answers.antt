@@ -1,6 +1,6 @@
 use Rattle.std.proofs.Common.{◌||◌, ◌&&◌, not, length, ap, ◌∙◌}
 use Rattle.bc_flow.specs.Flow.{holds}
-use Rattle.bc_loans.proofs.Ways.{refilled}
+use Rattle.bc_flow.proofs.Members.{refilled}
 use Rattle.bc_loans.proofs.scopes.exit_sets.Goals as goal
 
 pub returns-clause-exits : goal.returns-clause-exits

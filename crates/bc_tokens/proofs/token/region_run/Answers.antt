@@ -3,11 +3,11 @@ use Rattle.bc_syntax.specs.Words.{is_region_name}
 use Rattle.bc_tokens.proofs.Runs.{region_splits, all_region_bytes}
 use Rattle.bc_tokens.proofs.token.region_run.Goals as goal
 
-pub is_region_name-requires : goal.is_region_name-requires
-is_region_name-requires c = all_region_bytes c.args.bytes.now c.behind.result.now c.region_len-front.result c.run_len-others.result c.region_len-front.ensures.count c.behind.ensures c.run_len-others.ensures.count
+pub is_region_name_of-requires : goal.is_region_name_of-requires
+is_region_name_of-requires c = all_region_bytes c.args.bytes.now c.behind.result.now c.region_len-front.result c.run_len-others.result c.region_len-front.ensures.count c.behind.ensures c.run_len-others.ensures.count
 
 pub returns-clause-run : goal.returns-clause-run
 returns-clause-run c = region_splits c.args.bytes.now c.behind.result.now c.region_len-front.result c.run_len-others.result c.region_len-front.ensures.count c.behind.ensures c.run_len-others.ensures.count
 
 pub returns-clause-name : goal.returns-clause-name
-returns-clause-name c = c.is_region_name.ensures ∙ ap is_region_name (region_splits c.args.bytes.now c.behind.result.now c.region_len-front.result c.run_len-others.result c.region_len-front.ensures.count c.behind.ensures c.run_len-others.ensures.count)
+returns-clause-name c = c.is_region_name_of.ensures ∙ ap is_region_name (region_splits c.args.bytes.now c.behind.result.now c.region_len-front.result c.run_len-others.result c.region_len-front.ensures.count c.behind.ensures c.run_len-others.ensures.count)
