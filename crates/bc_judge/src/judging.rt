@@ -26,6 +26,6 @@ pub fn judge(
     ensures law { IfOk result (λ verdict. (e : AnError) → Contains verdict.errors e ↔ IsError typed.now (holds scopes.now) (holds values.now) e) }
     ensures requirements { IfOk result (λ verdict. verdict.requirements ≡ []) }
 {
-    let verdict = errors(alloc, typed, values.rows(), scopes.rows())?;
+    let verdict = errors(alloc, typed, values, scopes.rows())?;
     Ok(verdict)
 }

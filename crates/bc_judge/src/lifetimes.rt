@@ -5,25 +5,25 @@ ghost use Rattle.bc_judge.specs.Lifetimes.{end_of, failure_of, failures_of, life
 
 use crate::error::BorrowError;
 use crate::known::KnownRelations;
-use bc_flow::BitSet;
 use bc_mir::Typed;
+use bc_solve::Values;
 use std::alloc::AllocError;
 
 /// Whether the value of a universal region has the end of another.
-fn has_end(typed: &Typed, values: &[BitSet], longer: u8, shorter: u8) -> bool
+fn has_end(typed: &Typed, values: &Values, longer: u8, shorter: u8) -> bool
     ensures { result ≡ holds values.now longer (end_of typed.now shorter) }
 {
-    match values.get(usize::from(longer)) {
-        Some(value) => value.has(typed.steps().len() + usize::from(shorter)),
-        None => false,
-    }
+    values.contains(
+        usize::from(longer),
+        typed.steps().len() + usize::from(shorter),
+    )
 }
 
 /// Appends the failure of two regions, if there is one.
 fn push_failure(
     errors: &mut Vec<BorrowError>,
     typed: &Typed,
-    values: &[BitSet],
+    values: &Values,
     known: &KnownRelations,
     longer: u8,
     shorter: u8,
@@ -43,7 +43,7 @@ fn push_failure(
 fn push_failures(
     errors: &mut Vec<BorrowError>,
     typed: &Typed,
-    values: &[BitSet],
+    values: &Values,
     known: &KnownRelations,
     longer: u8,
 ) -> Result<(), AllocError>
@@ -60,7 +60,7 @@ fn push_failures(
 pub(crate) fn push_lifetimes(
     errors: &mut Vec<BorrowError>,
     typed: &Typed,
-    values: &[BitSet],
+    values: &Values,
     known: &KnownRelations,
 ) -> Result<(), AllocError>
     ensures { OnOk result (errors.new.items

@@ -12,6 +12,7 @@ use crate::known::{KnownRelations, known_relations};
 use crate::lifetimes::push_lifetimes;
 use bc_flow::BitSet;
 use bc_mir::Typed;
+use bc_solve::Values;
 use bc_syntax::{Outlives, Sequence};
 use std::alloc::{AllocError, Global};
 
@@ -28,7 +29,7 @@ pub struct Verdict {
 fn errors_where(
     alloc: Global,
     typed: &Typed,
-    values: &[BitSet],
+    values: &Values,
     scopes: &[BitSet],
     known: &KnownRelations,
 ) -> Result<Vec<BorrowError>, AllocError>
@@ -47,7 +48,7 @@ fn errors_where(
 pub fn errors(
     alloc: Global,
     typed: &Typed,
-    values: &[BitSet],
+    values: &Values,
     scopes: &[BitSet],
 ) -> Result<Verdict, AllocError>
     ensures errors { IfOk result (λ verdict. AreErrors typed.now (holds scopes.now) (holds values.now) verdict.errors) }

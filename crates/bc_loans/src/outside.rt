@@ -21,7 +21,7 @@ fn points_inside(
     ensures members { IfOk result (λ row. (p : ℕ) → has row p ≡ (nat_lt p points && holds values.now region p)) }
 {
     let mut row = BitSet::new(alloc, points)?;
-    match values.rows().get(region) {
+    match values.get(region) {
         Some(value) => row.union_below(value, points),
         None => {}
     }

@@ -12,7 +12,7 @@ use bc_judge::{BorrowError, judge};
 use bc_live::live;
 use bc_loans::in_scope;
 use bc_mir::{CheckTypes, DeclFault, GoodTypes, IllFault, Typed, Where, type_unit};
-use bc_solve::solve_plain;
+use bc_solve::solve_components;
 use bc_syntax::{Sequence, Types, Unit};
 use bc_text::Name;
 use std::alloc::{AllocError, Global};
@@ -43,7 +43,7 @@ pub fn errors_of(alloc: Global, typed: &Typed) -> Result<Sequence<BorrowError>, 
 {
     let live = live(alloc, typed)?;
     let facts = constraints(alloc, typed, &live)?;
-    let values = solve_plain(alloc, &facts)?;
+    let values = solve_components(alloc, &facts)?;
     let scopes = in_scope(alloc, typed, &values)?;
     let verdict = judge(alloc, typed, &values, &scopes)?;
     Ok(verdict.errors)

@@ -5,4 +5,4 @@
 mod tests;
 mod values;
 
-pub use values::{Values, solve_plain};
+pub use values::{Values, solve_components, solve_plain};

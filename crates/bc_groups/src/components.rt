@@ -1,0 +1,245 @@
+//! Groups of nodes: from each node of a group edges lead to each other.
+ghost use Rattle.std.specs.Prelude.{◌≡◌, ℕ, ◌<◌, ◌≤◌, ◌⊎◌, List, length, IfOk, OnOk, slice_index};
+ghost use Rattle.std.specs.List.{All, Contains};
+ghost use Rattle.bc_flow.specs.Graph.{AreWithin, Leads};
+ghost use Rattle.bc_flow.specs.Chains.{AreChains};
+ghost use Rattle.bc_flow.specs.declared.graph.Edge.{Edge as AnEdge};
+ghost use Rattle.bc_groups.specs.Groups.{AreGroups, AreMutual, IsAgreed};
+ghost use Rattle.bc_groups.specs.Naming.{IsNaming, IsNamed};
+ghost use Rattle.bc_groups.specs.Spread.{IsSpread, AreOpened, spread_work};
+
+use bc_flow::{Edge, EdgeChains, edge_chains, every_node, postorder, reversed};
+use std::alloc::{AllocError, Global};
+
+/// For each node the number of its group, and how many groups there are.
+#[derive(Drop)]
+pub struct Grouping {
+    pub group_of: Vec<usize>,
+    pub groups: usize,
+}
+
+/// Puts the nodes in groups: edges lead from each node of a group to each other of it.
+///
+/// The groups are the strong components, by a search in postorder and one back along the edges (Kosaraju's), and a third
+/// search shows it: a node that it does not find again is in a group of its own. Groups are numbered along the edges between
+/// them, which only the time of a caller depends on. The only error is want of memory.
+pub fn strong_components(
+    alloc: Global,
+    nodes: usize,
+    edges: &[Edge],
+) -> Result<Grouping, AllocError>
+    requires { AreWithin edges.now nodes }
+    ensures { IfOk result (λ found. AreGroups edges.now nodes found.groups found.group_of.items) }
+{
+    let order = postorder(alloc, nodes, edges)?;
+    let labels = labels(alloc, nodes, edges, &order)?;
+    let found = numbered(alloc, &labels, &order)?;
+    Ok(found)
+}
+
+/// For each node one that leads to it and to which it leads.
+fn labels(
+    alloc: Global,
+    nodes: usize,
+    edges: &[Edge],
+    order: &[usize],
+) -> Result<Vec<usize>, AllocError>
+    requires edges { AreWithin edges.now nodes }
+    requires order { All (λ n. n < nodes) order.now }
+    ensures count { IfOk result (λ labels. length labels.items ≡ nodes) }
+    ensures within { IfOk result (λ labels. All (λ n. n < nodes) labels.items) }
+    ensures paired { IfOk result (λ labels. (n : ℕ) → n < nodes → AreMutual edges.now n (slice_index labels.items n)) }
+{
+    let back = reversed(alloc, edges)?;
+    let all = vec![in alloc; 0; nodes]?;
+    let behind = owners(alloc, &back, &all, order)?;
+    let before = owners(alloc, edges, &behind, order)?;
+    let labels = agreed(alloc, &before, &behind)?;
+    Ok(labels)
+}
+
+/// For each node one from which edges lead to it: the root from which a search came to it first, or itself. A search begins at
+/// each root that no earlier one came to, the last root first, and stays among the nodes of the root's class.
+fn owners(
+    alloc: Global,
+    edges: &[Edge],
+    classes: &[usize],
+    roots: &[usize],
+) -> Result<Vec<usize>, AllocError>
+    requires edges { AreWithin edges.now (length classes.now) }
+    requires roots { All (λ n. n < length classes.now) roots.now }
+    ensures count { IfOk result (λ owners. length owners.items ≡ length classes.now) }
+    ensures within { IfOk result (λ owners. All (λ n. n < length classes.now) owners.items) }
+    ensures led { IfOk result (λ owners. (n : ℕ) → n < length classes.now → Leads edges.now (slice_index owners.items n) n) }
+{
+    let chains = edge_chains(alloc, classes.len(), edges)?;
+    let mut spread = Spread {
+        reached: vec![in alloc; false; classes.len()]?,
+        owners: every_node(alloc, classes.len())?,
+        opened: Vec::new(alloc),
+    };
+    let mut left = roots.len();
+    while left > 0 {
+        left -= 1;
+        spread.begin(roots[left], edges, &chains, classes)?;
+    }
+    Ok(spread.owners)
+}
+
+/// A search: the nodes that were reached, for each node the root from which it was, and the nodes whose edges are still to be
+/// followed.
+#[derive(Drop)]
+pub struct Spread {
+    pub reached: Vec<bool>,
+    pub owners: Vec<usize>,
+    pub opened: Vec<usize>,
+}
+
+impl Spread {
+    /// Reaches all that edges lead to from the root, unless it was reached before.
+    fn begin(
+        &mut self,
+        root: usize,
+        edges: &[Edge],
+        chains: &EdgeChains,
+        classes: &[usize],
+    ) -> Result<(), AllocError>
+        requires spread { IsSpread edges.now (length classes.now) self.old }
+        requires none_open { length self.old.opened.items ≡ 0 }
+        requires root { root < length classes.now }
+        requires edges { AreWithin edges.now (length classes.now) }
+        requires chains { AreChains 0 (length classes.now) edges.now chains.now.first.items chains.now.next.items }
+        ensures spread { OnOk result (IsSpread edges.now (length classes.now) self.new) }
+        ensures none_open { OnOk result (length self.new.opened.items ≡ 0) }
+    {
+        self.reach(root, root, classes)?;
+        while let Some(node) = self.opened.pop() {
+            self.visit(root, node, edges, chains, classes)?;
+        }
+        Ok(())
+    }
+
+    /// Reaches the nodes of the root's class to which an edge goes from the node.
+    fn visit(
+        &mut self,
+        root: usize,
+        node: usize,
+        edges: &[Edge],
+        chains: &EdgeChains,
+        classes: &[usize],
+    ) -> Result<(), AllocError>
+        requires spread { IsSpread edges.now (length classes.now) self.old }
+        requires opened { AreOpened edges.now (length classes.now) root self.old.opened.items }
+        requires root { root < length classes.now }
+        requires node { node < length classes.now }
+        requires led { Leads edges.now root node }
+        requires edges { AreWithin edges.now (length classes.now) }
+        requires chains { AreChains 0 (length classes.now) edges.now chains.now.first.items chains.now.next.items }
+        ensures spread { OnOk result (IsSpread edges.now (length classes.now) self.new) }
+        ensures opened { OnOk result (AreOpened edges.now (length classes.now) root self.new.opened.items) }
+        ensures work { OnOk result (spread_work self.new ≤ spread_work self.old) }
+    {
+        let mut at = chains.first[node];
+        while at < edges.len() {
+            let to = edges[at].to;
+            if classes[to] == classes[root] {
+                self.reach(root, to, classes)?;
+            }
+            at = chains.next[at];
+        }
+        Ok(())
+    }
+
+    /// Reaches a node, unless it was reached before.
+    fn reach(&mut self, root: usize, node: usize, classes: &[usize]) -> Result<(), AllocError>
+        requires marks { length self.old.reached.items ≡ length classes.now }
+        requires owner_count { length self.old.owners.items ≡ length classes.now }
+        requires root { root < length classes.now }
+        requires node { node < length classes.now }
+        ensures spread { OnOk result ((edges : List AnEdge) → Leads edges root node → IsSpread edges (length classes.now) self.old → IsSpread edges (length classes.now) self.new) }
+        ensures opened { OnOk result ((edges : List AnEdge) → Leads edges root node → AreOpened edges (length classes.now) root self.old.opened.items
+            → AreOpened edges (length classes.now) root self.new.opened.items) }
+        ensures work { OnOk result (spread_work self.new ≤ spread_work self.old) }
+    {
+        if !self.reached[node] {
+            self.opened.push(node)?;
+            self.reached[node] = true;
+            self.owners[node] = root;
+        }
+        Ok(())
+    }
+}
+
+/// For each node the one that leads to it and to which it leads, where the two lists agree, and else itself.
+fn agreed(alloc: Global, before: &[usize], behind: &[usize]) -> Result<Vec<usize>, AllocError>
+    requires { length before.now ≡ length behind.now }
+    ensures count { IfOk result (λ labels. length labels.items ≡ length before.now) }
+    ensures agreed { IfOk result (λ labels. (n : ℕ) → n < length before.now → IsAgreed before.now behind.now labels.items n) }
+{
+    let mut labels = Vec::with_capacity(alloc, before.len())?;
+    for node in 0..before.len() {
+        let label = if before[node] == behind[node] {
+            before[node]
+        } else {
+            node
+        };
+        labels.push(label)?;
+    }
+    Ok(labels)
+}
+
+/// Numbers the labels: nodes with one number have one label. The label of the last node in the order has number 0.
+fn numbered(alloc: Global, labels: &[usize], order: &[usize]) -> Result<Grouping, AllocError>
+    requires labels { All (λ n. n < length labels.now) labels.now }
+    requires order { All (λ n. n < length labels.now) order.now }
+    requires all { (n : ℕ) → n < length labels.now → Contains order.now n }
+    ensures count { IfOk result (λ found. length found.group_of.items ≡ length labels.now) }
+    ensures within { IfOk result (λ found. All (λ g. g < found.groups) found.group_of.items) }
+    ensures same { IfOk result (λ found. (a b : ℕ) → a < length labels.now → b < length labels.now
+        → slice_index found.group_of.items a ≡ slice_index found.group_of.items b → slice_index labels.now a ≡ slice_index labels.now b) }
+{
+    let none = labels.len();
+    let mut naming = Naming {
+        numbers: vec![in alloc; none; none]?,
+        names: Vec::new(alloc),
+    };
+    let mut group_of = vec![in alloc; 0; none]?;
+    let mut left = order.len();
+    while left > 0 {
+        left -= 1;
+        let node = order[left];
+        group_of[node] = naming.number(labels[node])?;
+    }
+    Ok(Grouping {
+        group_of,
+        groups: naming.names.len(),
+    })
+}
+
+/// For each label its number, where the count of labels stands for none, and the label of each number.
+#[derive(Drop)]
+pub struct Naming {
+    pub numbers: Vec<usize>,
+    pub names: Vec<usize>,
+}
+
+impl Naming {
+    /// The number of a label: a new one, where it has none.
+    fn number(&mut self, label: usize) -> Result<usize, AllocError>
+        requires label { label < length self.old.numbers.items }
+        requires naming { IsNaming self.old }
+        ensures naming { OnOk result (IsNaming self.new) }
+        ensures count { OnOk result (length self.new.numbers.items ≡ length self.old.numbers.items) }
+        ensures named { IfOk result (λ number. IsNamed self.new.names.items number label) }
+        ensures kept { OnOk result ((k l : ℕ) → IsNamed self.old.names.items k l → IsNamed self.new.names.items k l) }
+    {
+        let number = self.numbers[label];
+        if number != self.numbers.len() {
+            return Ok(number);
+        }
+        let number = self.names.len();
+        self.names.push(label)?;
+        self.numbers[label] = number;
+        Ok(number)
+    }
+}

@@ -1,0 +1,50 @@
+//! A graph with one node for each group of nodes.
+ghost use Rattle.std.specs.Prelude.{◌≡◌, ◌<◌, ℕ, map, length, IfOk};
+ghost use Rattle.std.specs.List.{All};
+ghost use Rattle.bc_flow.specs.Graph.{AreWithin};
+ghost use Rattle.bc_flow.specs.Flow.{HaveSize};
+ghost use Rattle.bc_groups.specs.Groups.{group_edge, AreGathered};
+
+use bc_flow::{BitSet, Edge, empty_table};
+use std::alloc::{AllocError, Global};
+
+/// Each edge between nodes as one between their groups, in the same order.
+pub fn group_edges(
+    alloc: Global,
+    edges: &[Edge],
+    group_of: &[usize],
+) -> Result<Vec<Edge>, AllocError>
+    requires { AreWithin edges.now (length group_of.now) }
+    ensures { IfOk result (λ condensed. condensed.items ≡ map (group_edge group_of.now) edges.now) }
+{
+    let mut condensed = Vec::with_capacity(alloc, edges.len())?;
+    for edge in edges {
+        condensed.push(Edge {
+            from: group_of[edge.from],
+            to: group_of[edge.to],
+        })?;
+    }
+    Ok(condensed)
+}
+
+/// For each group the set of all facts of its nodes.
+pub fn gathered(
+    alloc: Global,
+    rows: &[BitSet],
+    facts: usize,
+    group_of: &[usize],
+    groups: usize,
+) -> Result<Vec<BitSet>, AllocError>
+    requires facts { HaveSize facts rows.now }
+    requires nodes { length group_of.now ≡ length rows.now }
+    requires groups { All (λ g. g < groups) group_of.now }
+    ensures groups { IfOk result (λ gathered. length gathered.items ≡ groups) }
+    ensures facts { IfOk result (λ gathered. HaveSize facts gathered.items) }
+    ensures gathered { IfOk result (λ gathered. AreGathered (length rows.now) rows.now group_of.now gathered.items) }
+{
+    let mut gathered = empty_table(alloc, groups, facts)?;
+    for node in 0..rows.len() {
+        let _grown = gathered[group_of[node]].union(&rows[node]);
+    }
+    Ok(gathered)
+}

@@ -1,0 +1,10 @@
+//! Groups of the nodes of a graph: the strong components, and the graph between them.
+#![tactic(auto)]
+
+mod components;
+mod groups;
+#[cfg(test)]
+mod tests;
+
+pub use components::{Grouping, strong_components};
+pub use groups::{gathered, group_edges};

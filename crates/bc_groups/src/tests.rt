@@ -1,0 +1,40 @@
+use crate::{gathered, group_edges, strong_components};
+use bc_flow::{Edge, Entry, holds, table};
+use std::test::Fail;
+
+#[test]
+fn nodes_in_a_ring_are_one_group(rt: HostRuntime) -> Result<(), Fail> {
+    let edges = [
+        Edge { from: 0, to: 1 },
+        Edge { from: 1, to: 2 },
+        Edge { from: 2, to: 0 },
+        Edge { from: 3, to: 1 },
+        Edge { from: 2, to: 4 },
+    ];
+    let found = strong_components(rt.alloc(), 5, &edges)?;
+    assert_eq!(rt; found.groups, 3);
+    let group = found.group_of[0];
+    assert!(rt; found.group_of[1] == group && found.group_of[2] == group);
+    assert!(rt; found.group_of[3] < group && group < found.group_of[4]);
+    Ok(())
+}
+
+#[test]
+fn groups_have_the_edges_and_facts_of_their_nodes(rt: HostRuntime) -> Result<(), Fail> {
+    let alloc = rt.alloc();
+    let edges = [Edge { from: 0, to: 1 }, Edge { from: 1, to: 2 }];
+    let condensed = group_edges(alloc, &edges, &[1, 1, 0])?;
+    assert_eq!(rt; condensed.len(), 2);
+    assert!(rt; condensed[0].from == 1 && condensed[0].to == 1);
+    assert!(rt; condensed[1].from == 1 && condensed[1].to == 0);
+    let rows = table(
+        alloc,
+        3,
+        3,
+        &[Entry { node: 0, fact: 0 }, Entry { node: 1, fact: 2 }],
+    )?;
+    let joined = gathered(alloc, &rows, 3, &[1, 1, 0], 2)?;
+    assert!(rt; holds(&joined, 1, 0) && holds(&joined, 1, 2));
+    assert!(rt; !holds(&joined, 1, 1) && !holds(&joined, 0, 0));
+    Ok(())
+}
