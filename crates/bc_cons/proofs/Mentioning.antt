@@ -5,7 +5,7 @@ use Rattle.std.proofs.lemmas.List.Folds.{list_any-append}
 use Rattle.bc_syntax.specs.declared.syntax.Region.{Region}
 use Rattle.bc_syntax.specs.declared.syntax.Reference.{Reference}
 use Rattle.bc_syntax.specs.declared.syntax.Ty.{Ty}
-use Rattle.bc_mir.specs.Regions.{region_number}
+use Rattle.bc_points.specs.Regions.{region_number}
 use Rattle.bc_cons.specs.Mentions.{regions_of_references, regions_of_base}
 use Rattle.bc_cons.specs.Starts.{mentions}
 

@@ -9,7 +9,7 @@ use Rattle.bc_syntax.specs.declared.syntax.Region.{Region}
 use Rattle.bc_flow.specs.BitSet.{has}
 use Rattle.bc_flow.specs.Flow.{row, holds}
 use Rattle.bc_mir.specs.Mir.{Mir}
-use Rattle.bc_mir.specs.Regions.{region_number}
+use Rattle.bc_points.specs.Regions.{region_number}
 use Rattle.bc_cons.specs.Mentions.{regions_of}
 use Rattle.bc_cons.specs.Starts.{mentions, starts_with}
 use Rattle.bc_cons.specs.Below.{TyIsBelow, TysAreBelow}

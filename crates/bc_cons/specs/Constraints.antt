@@ -15,10 +15,10 @@ use Rattle.bc_mir.specs.declared.mir.Instruction.{Instruction}
 use Rattle.bc_mir.specs.declared.mir.Instruction.TheVariants.{Statement, Terminator}
 use Rattle.bc_types.specs.declared.subtype.Constraint.{Constraint as RegionConstraint}
 use Rattle.bc_mir.specs.Mir.{Mir}
-use Rattle.bc_mir.specs.Pairs.{assignment_pairs, call_pairs}
-use Rattle.bc_mir.specs.Places.{from_last_shared}
+use Rattle.bc_points.specs.Pairs.{assignment_pairs, call_pairs}
+use Rattle.bc_points.specs.Prefixes.{from_last_shared}
 use Rattle.bc_mir.specs.PlaceTypes.{references_of_place}
-use Rattle.bc_mir.specs.Regions.{region_number}
+use Rattle.bc_points.specs.Regions.{region_number}
 use Rattle.bc_types.specs.Subtype.{outlives}
 use Rattle.bc_cons.specs.declared.facts.Constraint.{Constraint}
 

@@ -5,7 +5,7 @@ use Rattle.std.specs.List.{list_any, enumerate_from}
 use Rattle.bc_syntax.specs.declared.syntax.Ty.{Ty}
 use Rattle.bc_syntax.specs.declared.syntax.Region.{Region}
 use Rattle.bc_mir.specs.Mir.{Mir}
-use Rattle.bc_mir.specs.Regions.{region_number}
+use Rattle.bc_points.specs.Regions.{region_number}
 use Rattle.bc_cons.specs.Mentions.{regions_of}
 
 -- a universal region starts with all points and its own end, and `'static` with all ends

@@ -2,7 +2,7 @@
 ghost use Rattle.std.specs.Prelude.{◌≡◌, ◌+◌, ◌≤◌, ℕ, map, filter, length, IfOk};
 ghost use Rattle.std.specs.List.{flat_map};
 ghost use Rattle.bc_flow.specs.Flow.{holds};
-ghost use Rattle.bc_mir.specs.Regions.{region_number as number_of};
+ghost use Rattle.bc_points.specs.Regions.{region_number as number_of};
 ghost use Rattle.bc_cons.specs.Constraints.{same_region, differ, pairs_at, all_pairs, numbered, constraints_of};
 ghost use Rattle.bc_cons.specs.Starts.{starts_with};
 ghost use Rattle.bc_cons.specs.Below.{IsRegionCount};
@@ -12,7 +12,8 @@ use crate::facts::{Constraint, Facts};
 use crate::pairs::push_pairs_at;
 use crate::starts::start_rows;
 use bc_live::LiveSets;
-use bc_mir::{Constraint as RegionConstraint, GoodTypes, Step, Typed, region_number};
+use bc_mir::{Constraint as RegionConstraint, GoodTypes, Step, Typed};
+use bc_points::region_number;
 use bc_syntax::{Region, Ty};
 use std::alloc::{AllocError, Global};
 

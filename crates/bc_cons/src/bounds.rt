@@ -3,7 +3,8 @@ ghost use Rattle.std.specs.Prelude.{◌≡◌};
 ghost use Rattle.bc_cons.specs.Mentions.{regions_of_references, regions_of_base, regions_of};
 ghost use Rattle.bc_cons.specs.Bounds.{regions_bound as bound_of_regions, types_bound as bound_of_types, pairs_bound as bound_of_pairs};
 
-use bc_mir::{Constraint as RegionConstraint, region_number};
+use bc_mir::Constraint as RegionConstraint;
+use bc_points::region_number;
 use bc_syntax::{Base, Reference, Region, Ty};
 
 /// One more than the greatest number of the regions, or `least` where that is more.

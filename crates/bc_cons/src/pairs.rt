@@ -3,10 +3,8 @@ ghost use Rattle.std.specs.Prelude.{◌≡◌, ◌++◌, map, OnOk};
 ghost use Rattle.bc_types.specs.Subtype.{outlives};
 ghost use Rattle.bc_cons.specs.Constraints.{reborrow_pairs, pairs_at};
 
-use bc_mir::{
-    Constraint as RegionConstraint, GoodTypes, Instruction, from_last_shared,
-    push_assignment_pairs, push_call_pairs, references_of_place,
-};
+use bc_mir::{Constraint as RegionConstraint, GoodTypes, Instruction, references_of_place};
+use bc_points::{from_last_shared, push_assignment_pairs, push_call_pairs};
 use bc_syntax::{Reference, Region, Rvalue, Statement, Terminator, Ty};
 use std::alloc::{AllocError, Global};
 

@@ -6,11 +6,12 @@ ghost use Rattle.bc_flow.specs.Flow.{holds, HaveSize};
 ghost use Rattle.bc_cons.specs.Starts.{universal_start, mentions as mention_test, variable_start, starts_with};
 ghost use Rattle.bc_cons.specs.Below.{TysAreBelow};
 ghost use Rattle.bc_cons.specs.Mentions.{regions_of_base};
-ghost use Rattle.bc_mir.specs.Regions.{region_number as number_of};
+ghost use Rattle.bc_points.specs.Regions.{region_number as number_of};
 
 use bc_flow::BitSet;
 use bc_live::LiveSets;
-use bc_mir::{Typed, region_number};
+use bc_mir::Typed;
+use bc_points::region_number;
 use bc_syntax::{Base, Reference, Region, Ty};
 use std::alloc::{AllocError, Global};
 

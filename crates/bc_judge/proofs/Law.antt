@@ -7,15 +7,15 @@ use Rattle.std.proofs.lemmas.Option.{slice_get_within, get_or_from_slice_get}
 use Rattle.std.proofs.lemmas.List.Elements.{Contains-append_left, Contains-append_right, Contains-append_cases}
 use Rattle.bc_syntax.specs.declared.syntax.Mutability.{Mutability}
 use Rattle.bc_syntax.specs.declared.syntax.Mutability.TheVariants.{Shared, Mutable}
-use Rattle.bc_mir.specs.declared.access.AccessKind.{AccessKind}
-use Rattle.bc_mir.specs.declared.access.AccessKind.TheVariants.{Read, Write}
+use Rattle.bc_points.specs.declared.access.AccessKind.{AccessKind}
+use Rattle.bc_points.specs.declared.access.AccessKind.TheVariants.{Read, Write}
 use Rattle.bc_mir.specs.declared.mir.Point.{Point}
 use Rattle.bc_mir.specs.declared.mir.Step.{Step}
-use Rattle.bc_mir.specs.declared.loan.Loan.{Loan}
+use Rattle.bc_points.specs.declared.loan.Loan.{Loan}
 use Rattle.bc_mir.specs.Mir.{Mir}
 use Rattle.bc_types.specs.Mutabilities.{is_mutable}
-use Rattle.bc_mir.specs.Points.{loan_of}
-use Rattle.bc_mir.specs.Accesses.{accesses_of}
+use Rattle.bc_points.specs.Points.{loan_of}
+use Rattle.bc_points.specs.Accesses.{accesses_of}
 use Rattle.bc_flow.proofs.Membership.{Contains-nil, Contains-one, Contains-head, from_flat_map, in_flat_map, from_enumerate, in_enumerate, from_range, in_range}
 use Rattle.bc_loans.specs.Loans.{loans_of_step, loans_of}
 use Rattle.bc_loans.proofs.Listing.{from_with_point}

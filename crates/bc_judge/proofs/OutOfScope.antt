@@ -3,12 +3,12 @@ use Rattle.std.proofs.Common.{◌≡◌, ℕ, ◌+◌, ◌≤◌, Bool, false, L
 use Rattle.std.specs.Prelude.{slice_get, MatchOption, is_some}
 use Rattle.bc_flow.specs.BitSet.{has, IsNextMember}
 use Rattle.bc_judge.specs.declared.error.BorrowError.{BorrowError}
-use Rattle.bc_mir.specs.declared.access.Access.{Access}
+use Rattle.bc_points.specs.declared.access.Access.{Access}
 use Rattle.bc_mir.specs.declared.mir.Point.{Point}
 use Rattle.bc_mir.specs.declared.mir.Step.{Step}
-use Rattle.bc_mir.specs.declared.loan.Loan.{Loan}
+use Rattle.bc_points.specs.declared.loan.Loan.{Loan}
 use Rattle.bc_mir.specs.Mir.{Mir}
-use Rattle.bc_mir.specs.Accesses.{accesses_of}
+use Rattle.bc_points.specs.Accesses.{accesses_of}
 use Rattle.bc_loans.specs.Loans.{loans_of}
 use Rattle.bc_judge.specs.Conflicts.{conflict_with, conflicts_of_access, conflicts_at}
 use Rattle.bc_judge.proofs.Walks.{from_on, nothing, walk-turn, walk-past, walk-end}

@@ -5,19 +5,19 @@ use Rattle.std.specs.Option.{option_map_or}
 use Rattle.bc_syntax.specs.declared.syntax.Ty.{Ty}
 use Rattle.bc_syntax.specs.declared.syntax.Declaration.{Declaration}
 use Rattle.bc_syntax.specs.declared.syntax.Place.{Place}
-use Rattle.bc_mir.specs.declared.access.Access.{Access}
-use Rattle.bc_mir.specs.declared.access.Depth.{Depth}
-use Rattle.bc_mir.specs.declared.access.Depth.TheVariants.{Shallow, Deep}
-use Rattle.bc_mir.specs.declared.access.AccessKind.{AccessKind}
-use Rattle.bc_mir.specs.declared.access.AccessKind.TheVariants.{Read, Write}
+use Rattle.bc_points.specs.declared.access.Access.{Access}
+use Rattle.bc_points.specs.declared.access.Depth.{Depth}
+use Rattle.bc_points.specs.declared.access.Depth.TheVariants.{Shallow, Deep}
+use Rattle.bc_points.specs.declared.access.AccessKind.{AccessKind}
+use Rattle.bc_points.specs.declared.access.AccessKind.TheVariants.{Read, Write}
 use Rattle.bc_mir.specs.declared.mir.Point.{Point}
 use Rattle.bc_mir.specs.declared.mir.Step.{Step}
-use Rattle.bc_mir.specs.declared.loan.Loan.{Loan}
+use Rattle.bc_points.specs.declared.loan.Loan.{Loan}
 use Rattle.bc_mir.specs.Mir.{Mir}
 use Rattle.bc_types.specs.Mutabilities.{is_mutable}
-use Rattle.bc_mir.specs.Places.{is_prefix, is_shallow_prefix}
-use Rattle.bc_mir.specs.Supports.{supports}
-use Rattle.bc_mir.specs.Accesses.{accesses_of}
+use Rattle.bc_points.specs.Prefixes.{is_prefix, is_shallow_prefix}
+use Rattle.bc_points.specs.Supports.{supports}
+use Rattle.bc_points.specs.Accesses.{accesses_of}
 use Rattle.bc_loans.specs.Loans.{loans_of}
 use Rattle.bc_judge.specs.declared.error.BorrowError.{BorrowError}
 use Rattle.bc_judge.specs.declared.error.BorrowError.TheVariants.{Conflict}

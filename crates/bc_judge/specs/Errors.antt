@@ -1,13 +1,13 @@
 -- The errors of a body, as a list in order, and what an error is.
 use Rattle.std.specs.Prelude.{◌≡◌, ℕ, ◌<◌, ◌⊎◌, Bool, true, List, ◌++◌, Some, slice_get}
 use Rattle.bc_syntax.specs.declared.syntax.Mutability.TheVariants.{Mutable}
-use Rattle.bc_mir.specs.declared.access.Access.{Access}
-use Rattle.bc_mir.specs.declared.access.AccessKind.TheVariants.{Write}
+use Rattle.bc_points.specs.declared.access.Access.{Access}
+use Rattle.bc_points.specs.declared.access.AccessKind.TheVariants.{Write}
 use Rattle.bc_mir.specs.declared.mir.Point.{Point}
 use Rattle.bc_mir.specs.declared.mir.Step.{Step}
-use Rattle.bc_mir.specs.declared.loan.Loan.{Loan}
+use Rattle.bc_points.specs.declared.loan.Loan.{Loan}
 use Rattle.bc_mir.specs.Mir.{Mir}
-use Rattle.bc_mir.specs.Accesses.{accesses_of}
+use Rattle.bc_points.specs.Accesses.{accesses_of}
 use Rattle.bc_loans.specs.Loans.{loans_of}
 use Rattle.bc_judge.specs.declared.error.BorrowError.{BorrowError}
 use Rattle.bc_judge.specs.declared.error.BorrowError.TheVariants.{Conflict, Lifetime}

@@ -3,7 +3,7 @@ ghost use Rattle.std.specs.Prelude.{◌≡◌, ◌++◌, ℕ, Bool, true, IfOk, 
 ghost use Rattle.std.specs.List.{flat_map, enumerate_from};
 ghost use Rattle.bc_flow.specs.BitSet.{has};
 ghost use Rattle.bc_flow.specs.Flow.{holds};
-ghost use Rattle.bc_mir.specs.Accesses.{accesses_of};
+ghost use Rattle.bc_points.specs.Accesses.{accesses_of};
 ghost use Rattle.bc_loans.specs.Loans.{loans_of};
 ghost use Rattle.bc_judge.specs.Conflicts.{is_conflict as conflict_test, point_of, conflict_with, conflicts_of_access, conflicts_at, conflicts_of_step, conflicts_of};
 
@@ -11,7 +11,8 @@ use crate::error::BorrowError;
 use crate::relevance::is_conflict;
 use bc_flow::BitSet;
 use bc_loans::loans;
-use bc_mir::{Access, Loan, Point, Step, Typed};
+use bc_mir::{Point, Step, Typed};
+use bc_points::{Access, Loan, accesses};
 use std::alloc::{AllocError, Global};
 
 /// A point, by its number, as it is printed. For a number that is no point's the answer is of no use.
@@ -106,7 +107,7 @@ fn push_step(
     if scope.next_member(0).is_none() {
         return Ok(());
     }
-    let accesses = typed.accesses(alloc, &step.instruction)?;
+    let accesses = accesses(alloc, typed, &step.instruction)?;
     push_accesses(errors, typed, loans, scope, step.point, &accesses)
 }
 

@@ -2,9 +2,8 @@
 ghost use Rattle.std.specs.Prelude.{◌≡◌};
 ghost use Rattle.bc_judge.specs.Conflicts.{is_relevant_at, is_write as write_test, is_conflict as conflict_test};
 
-use bc_mir::{
-    Access, AccessKind, Depth, GoodTypes, Loan, is_mutable, is_prefix, is_shallow_prefix, supports,
-};
+use bc_mir::{GoodTypes, is_mutable};
+use bc_points::{Access, AccessKind, Depth, Loan, is_prefix, is_shallow_prefix, supports};
 use bc_syntax::{Place, Ty};
 
 /// Whether an access to a place reaches a loan of a path: the path is a prefix of the place, or the place is a

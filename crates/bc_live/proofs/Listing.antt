@@ -8,8 +8,8 @@ use Rattle.bc_flow.proofs.Membership.{Contains-nil, Contains-one, Contains-head,
 use Rattle.bc_mir.specs.declared.mir.Step.{Step}
 use Rattle.bc_mir.specs.declared.mir.Instruction.{Instruction}
 use Rattle.bc_mir.specs.Mir.{Mir}
-use Rattle.bc_mir.specs.Points.{Uses, Defines}
-use Rattle.bc_mir.specs.Accesses.{uses_of, defines_of}
+use Rattle.bc_points.specs.Points.{Uses, Defines}
+use Rattle.bc_points.specs.Accesses.{uses_of, defines_of}
 use Rattle.bc_live.specs.Entries.{entries_at, listed, use_entries, definition_entries}
 
 -- the locals that each point has, as entries

@@ -6,7 +6,7 @@ use Rattle.bc_flow.specs.Graph.{turned}
 use Rattle.bc_flow.specs.Flow.{holds, HaveEntries, IsFlow}
 use Rattle.bc_flow.proofs.Ways.{LeadsTo, leads_from_flows, holds_from_leads}
 use Rattle.bc_mir.specs.Mir.{Mir, edges_of}
-use Rattle.bc_mir.specs.Points.{Uses, Defines}
+use Rattle.bc_points.specs.Points.{Uses, Defines}
 use Rattle.bc_live.specs.Live.{IsLive}
 use Rattle.bc_live.specs.Entries.{use_entries, definition_entries}
 use Rattle.bc_live.proofs.Listing.{use_is_listed, definition_is_listed}

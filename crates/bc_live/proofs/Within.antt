@@ -18,7 +18,7 @@ use Rattle.bc_mir.specs.declared.mir.Instruction.TheVariants.{Statement, Termina
 use Rattle.bc_mir.specs.Mir.{Mir}
 use Rattle.bc_mir.specs.Typed.{instruction_fits, steps_fit}
 use Rattle.bc_syntax.specs.Fits.{place_fits, operand_fits, operands_fit, rvalue_fits}
-use Rattle.bc_mir.specs.Accesses.{runs_drop, operand_uses, rvalue_uses, is_local, target_uses, target_defines, uses_of, defines_of}
+use Rattle.bc_points.specs.Accesses.{runs_drop, operand_uses, rvalue_uses, is_local, target_uses, target_defines, uses_of, defines_of}
 use Rattle.bc_flow.specs.Flow.{AreEntriesWithin}
 use Rattle.bc_flow.proofs.Membership.{Contains-nil, Contains-one}
 use Rattle.bc_live.specs.Entries.{listed, use_entries, definition_entries}

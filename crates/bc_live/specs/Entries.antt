@@ -4,7 +4,7 @@ use Rattle.std.specs.List.{flat_map, enumerate_from}
 use Rattle.bc_flow.specs.declared.tables.Entry.{Entry}
 use Rattle.bc_mir.specs.declared.mir.Step.{Step}
 use Rattle.bc_mir.specs.Mir.{Mir}
-use Rattle.bc_mir.specs.Accesses.{uses_of, defines_of}
+use Rattle.bc_points.specs.Accesses.{uses_of, defines_of}
 
 -- these locals, at a point
 abbrev pub entries_at : ℕ → List ℕ → List Entry

@@ -3,7 +3,7 @@ use Rattle.std.specs.Prelude.{◌≡◌, ℕ, List, [], ◌∷◌, ◌++◌, Som
 use Rattle.std.specs.List.{All}
 use Rattle.bc_flow.specs.Graph.{IsPath}
 use Rattle.bc_mir.specs.Mir.{Mir, edges_of}
-use Rattle.bc_mir.specs.Points.{Uses, Defines}
+use Rattle.bc_points.specs.Points.{Uses, Defines}
 
 -- a path from the point ends in a point that uses the local, and no earlier point of that path defines it
 pub record IsLive (mir : Mir) (local point : ℕ) : Type 0 where

@@ -3,7 +3,8 @@ ghost use Rattle.std.specs.Prelude.{◌≡◌, ◌++◌, IfOk, OnOk};
 ghost use Rattle.bc_live.specs.Entries.{entries_at, listed, use_entries as uses_of_points, definition_entries as definitions_of_points};
 
 use bc_flow::Entry;
-use bc_mir::{Typed, defines};
+use bc_mir::Typed;
+use bc_points::{defines, uses};
 use std::alloc::{AllocError, Global};
 
 /// Appends an entry for each local.
@@ -41,7 +42,7 @@ pub fn use_entries(alloc: Global, typed: &Typed) -> Result<Vec<Entry>, AllocErro
 {
     let mut entries = Vec::new(alloc);
     for (point, step) in typed.steps().iter().enumerate() {
-        let locals = typed.uses(alloc, &step.instruction)?;
+        let locals = uses(alloc, typed, &step.instruction)?;
         push_entries(&mut entries, point, &locals)?;
     }
     Ok(entries)

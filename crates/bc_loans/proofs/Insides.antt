@@ -6,8 +6,8 @@ use Rattle.std.proofs.lemmas.List.{get_or_past}
 use Rattle.std.proofs.lemmas.Option.{slice_get_past}
 use Rattle.bc_flow.specs.BitSet.{has}
 use Rattle.bc_flow.specs.Flow.{row, holds}
-use Rattle.bc_mir.specs.declared.loan.Loan.{Loan}
-use Rattle.bc_mir.specs.Regions.{region_number}
+use Rattle.bc_points.specs.declared.loan.Loan.{Loan}
+use Rattle.bc_points.specs.Regions.{region_number}
 use Rattle.bc_loans.specs.Inside.{is_inside}
 
 -- the row of one loan

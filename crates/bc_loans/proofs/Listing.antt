@@ -9,10 +9,10 @@ use Rattle.std.proofs.lemmas.List.Elements.{Contains-get_or, All-contains}
 use Rattle.bc_flow.specs.declared.tables.Entry.{Entry}
 use Rattle.bc_flow.specs.Flow.{holds, Lists, HaveEntries, AreEntriesWithin}
 use Rattle.bc_flow.proofs.Membership.{Contains-nil, Contains-one, Contains-head, from_flat_map, in_flat_map, from_enumerate, in_enumerate}
-use Rattle.bc_mir.specs.declared.loan.Loan.{Loan}
+use Rattle.bc_points.specs.declared.loan.Loan.{Loan}
 use Rattle.bc_mir.specs.declared.mir.Step.{Step}
 use Rattle.bc_mir.specs.Mir.{Mir}
-use Rattle.bc_mir.specs.Points.{loan_of, kills, Kills}
+use Rattle.bc_points.specs.Points.{loan_of, kills, Kills}
 use Rattle.bc_loans.specs.Loans.{with_point, loans_of_step, loans_of}
 use Rattle.bc_loans.specs.Entries.{made_at, made_entries, local_at, local_entries}
 use Rattle.bc_loans.specs.Overwrites.{begins_with, is_overwritten, is_overwritten_at}

@@ -10,9 +10,9 @@ use Rattle.bc_flow.specs.BitSet.{has, IsNextMember}
 use Rattle.bc_flow.specs.Flow.{row, holds}
 use Rattle.bc_syntax.specs.declared.syntax.Place.{Place}
 use Rattle.bc_syntax.specs.declared.syntax.Projection.{Projection}
-use Rattle.bc_mir.specs.declared.loan.Loan.{Loan}
+use Rattle.bc_points.specs.declared.loan.Loan.{Loan}
 use Rattle.bc_mir.specs.declared.mir.Step.{Step}
-use Rattle.bc_mir.specs.Places.{is_prefix, rest_after}
+use Rattle.bc_points.specs.Prefixes.{is_prefix, rest_after}
 use Rattle.bc_loans.specs.Overwrites.{begins_with, has_prefix, is_overwritten, is_overwritten_at}
 
 -- those of some loans below a number were tried

@@ -13,10 +13,10 @@ use Rattle.bc_flow.specs.Flow.{row, holds, HaveSize, Flows, begins, goes_on, IsF
 use Rattle.bc_flow.proofs.Ways.{end_of, end_of-nil, end_of-after, path_after}
 use Rattle.bc_syntax.specs.declared.syntax.Region.TheVariants.{Universal}
 use Rattle.bc_syntax.specs.declared.syntax.Mutability.TheVariants.{Shared}
-use Rattle.bc_mir.specs.declared.loan.Loan.{Loan}
+use Rattle.bc_points.specs.declared.loan.Loan.{Loan}
 use Rattle.bc_mir.specs.Mir.{Mir, edges_of}
-use Rattle.bc_mir.specs.Points.{Kills}
-use Rattle.bc_mir.specs.Regions.{region_number}
+use Rattle.bc_points.specs.Points.{Kills}
+use Rattle.bc_points.specs.Regions.{region_number}
 use Rattle.bc_loans.specs.Loans.{loans_of}
 use Rattle.bc_loans.specs.Inside.{is_inside}
 use Rattle.bc_loans.specs.Entries.{made_entries}

@@ -2,7 +2,7 @@
 use Rattle.std.specs.Prelude.{ℕ, List, [], ◌∷◌}
 use Rattle.std.specs.List.{flat_map, enumerate_from}
 use Rattle.bc_flow.specs.declared.tables.Entry.{Entry}
-use Rattle.bc_mir.specs.declared.loan.Loan.{Loan}
+use Rattle.bc_points.specs.declared.loan.Loan.{Loan}
 
 -- a loan at the point that makes it
 abbrev pub made_at : ℕ × (ℕ × Loan) → List Entry

@@ -1,8 +1,8 @@
 -- Whether a point is in the value of a loan's region.
 use Rattle.std.specs.Prelude.{ℕ, Bool, false, ◌&&◌, nat_lt, List, slice_get}
 use Rattle.std.specs.Option.{option_map_or}
-use Rattle.bc_mir.specs.declared.loan.Loan.{Loan}
-use Rattle.bc_mir.specs.Regions.{region_number}
+use Rattle.bc_points.specs.declared.loan.Loan.{Loan}
+use Rattle.bc_points.specs.Regions.{region_number}
 
 -- the point is one of so many, and in the value of the loan's region
 abbrev pub is_inside : ℕ → List (ℕ × Loan) → ℕ → (ℕ → ℕ → Bool) → ℕ → ℕ → Bool

@@ -2,11 +2,11 @@
 use Rattle.std.specs.Prelude.{ℕ, Bool, false, ◌==◌, List, slice_get}
 use Rattle.std.specs.Option.{option_map_or}
 use Rattle.bc_syntax.specs.declared.syntax.Place.{Place}
-use Rattle.bc_mir.specs.declared.loan.Loan.{Loan}
+use Rattle.bc_points.specs.declared.loan.Loan.{Loan}
 use Rattle.bc_mir.specs.declared.mir.Step.{Step}
 use Rattle.bc_mir.specs.declared.mir.Instruction.{Instruction}
-use Rattle.bc_mir.specs.Places.{is_prefix}
-use Rattle.bc_mir.specs.Points.{kills}
+use Rattle.bc_points.specs.Prefixes.{is_prefix}
+use Rattle.bc_points.specs.Points.{kills}
 
 -- the loan's path begins with a local
 abbrev pub begins_with : List (ℕ × Loan) → ℕ → ℕ → Bool

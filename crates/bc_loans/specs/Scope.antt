@@ -2,10 +2,10 @@
 use Rattle.std.specs.Prelude.{◌≡◌, ℕ, Bool, true, Some, List, [], ◌∷◌, ◌++◌, slice_get}
 use Rattle.std.specs.List.{All}
 use Rattle.bc_flow.specs.Graph.{IsPath}
-use Rattle.bc_mir.specs.declared.loan.Loan.{Loan}
+use Rattle.bc_points.specs.declared.loan.Loan.{Loan}
 use Rattle.bc_mir.specs.Mir.{Mir, edges_of}
-use Rattle.bc_mir.specs.Points.{Kills}
-use Rattle.bc_mir.specs.Regions.{region_number}
+use Rattle.bc_points.specs.Points.{Kills}
+use Rattle.bc_points.specs.Regions.{region_number}
 use Rattle.bc_loans.specs.Loans.{loans_of}
 
 -- A loan, by its number, is in scope on entry to a point, where `value` tells the points in the value of each region:

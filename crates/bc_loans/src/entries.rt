@@ -3,7 +3,7 @@ ghost use Rattle.std.specs.Prelude.{◌≡◌, IfOk};
 ghost use Rattle.bc_loans.specs.Entries.{made_entries as made_at_points, local_entries as at_locals};
 
 use bc_flow::Entry;
-use bc_mir::Loan;
+use bc_points::Loan;
 use std::alloc::{AllocError, Global};
 
 /// Each loan at the point that makes it.

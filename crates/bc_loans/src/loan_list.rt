@@ -3,7 +3,8 @@ ghost use Rattle.std.specs.Prelude.{◌≡◌, IfOk};
 ghost use Rattle.std.specs.List.{flat_map, enumerate_from};
 ghost use Rattle.bc_loans.specs.Loans.{loans_of_step, loans_of};
 
-use bc_mir::{Loan, Step, Typed, loan_of};
+use bc_mir::{Step, Typed};
+use bc_points::{Loan, loan_of};
 use std::alloc::{AllocError, Global};
 
 /// The loans that steps make.

@@ -2,11 +2,11 @@
 ghost use Rattle.std.specs.Prelude.{◌≡◌, ◌<◌, ◌&&◌, ℕ, nat_lt, not, length, IfOk};
 ghost use Rattle.bc_flow.specs.BitSet.{has};
 ghost use Rattle.bc_flow.specs.Flow.{holds, HaveSize};
-ghost use Rattle.bc_mir.specs.Regions.{region_number as number_of};
+ghost use Rattle.bc_points.specs.Regions.{region_number as number_of};
 ghost use Rattle.bc_loans.specs.Inside.{is_inside};
 
 use bc_flow::{BitSet, transposed};
-use bc_mir::{Loan, region_number};
+use bc_points::{Loan, region_number};
 use bc_solve::Values;
 use std::alloc::{AllocError, Global};
 

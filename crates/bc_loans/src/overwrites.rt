@@ -3,12 +3,13 @@ ghost use Rattle.std.specs.Prelude.{◌≡◌, ◌<◌, ◌||◌, ◌&&◌, ℕ,
 ghost use Rattle.std.specs.List.{All};
 ghost use Rattle.bc_flow.specs.BitSet.{has};
 ghost use Rattle.bc_flow.specs.Flow.{holds, HaveSize};
-ghost use Rattle.bc_mir.specs.declared.loan.Loan.{Loan as LoanValue};
+ghost use Rattle.bc_points.specs.declared.loan.Loan.{Loan as LoanValue};
 ghost use Rattle.bc_loans.specs.Overwrites.{begins_with, has_prefix, is_overwritten, is_overwritten_at};
 
 use crate::entries::local_entries;
 use bc_flow::{BitSet, table};
-use bc_mir::{Instruction, Loan, Step, is_prefix};
+use bc_mir::{Instruction, Step};
+use bc_points::{Loan, is_prefix};
 use bc_syntax::{Place, Statement, Terminator};
 use std::alloc::{AllocError, Global};
 

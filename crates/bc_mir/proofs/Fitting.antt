@@ -1,18 +1,10 @@
-use Rattle.std.proofs.Common.{◌≡◌, ℕ, zero, suc, ◌+◌, ◌<◌, Bool, true, false, cond, Option, Some, None, List, [], ◌∷◌, ◌++◌, length, get_or, refl, ap, ◌∙◌, arith}
+use Rattle.std.proofs.Common.{◌≡◌, ℕ, zero, suc, ◌<◌, Bool, true, false, cond, Option, Some, None, List, [], ◌∷◌, length, get_or, refl, ap, ◌∙◌, arith}
 use Rattle.std.specs.Option.{option_map}
-use Rattle.std.proofs.lemmas.List.FromFn.{map-range_with_len_more}
 use Rattle.bc_mir.specs.declared.mir.Point.{Point}
 use Rattle.bc_mir.specs.declared.mir.Step.{Step}
-use Rattle.bc_mir.specs.declared.access.Depth.TheVariants.{Shallow}
-use Rattle.bc_mir.specs.declared.access.AccessKind.TheVariants.{Write}
 use Rattle.bc_mir.specs.declared.typed.Where.TheVariants.{Header, At}
 use Rattle.bc_mir.specs.Mir.{Mir}
-use Rattle.bc_mir.specs.Accesses.{return_accesses, access_of, local_place}
 use Rattle.bc_mir.specs.Typing.{header_fits, fits_at, first_unfit, Fits}
-
--- `return` writes one local more
-pub return_accesses-more : (n : ℕ) → return_accesses (n + 1) ≡ return_accesses n ++ access_of Shallow Write (local_place n) ∷ []
-return_accesses-more n = map-range_with_len_more _ 0 n n (omega arith)
 
 pub test_passed : (b : Bool) (rest : Option Point) (p : Point) → cond b rest (Some p) ≡ None → (b ≡ true) × (rest ≡ None)
 test_passed true rest p none = (refl, none)

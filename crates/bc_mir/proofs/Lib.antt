@@ -1,13 +1,6 @@
-pub mod Prefixes
 pub mod Mirs
 pub mod Fitting
 pub mod Wider
 pub mod Kept
-pub mod Chains
-pub mod Supported
 pub mod Entries
-pub mod Finding
 pub mod Replacing
-pub mod Supporting
-pub mod Supporters
-pub mod FindingSupporters

@@ -1,14 +1,8 @@
 pub mod Mir
 pub mod Places
 pub mod Typing
-pub mod Accesses
-pub mod Points
-pub mod Regions
 pub mod Typed
 pub mod Laws
 pub mod Lines
 pub mod PlaceTypes
 pub mod Rules
-pub mod Pairs
-pub mod Supports
-pub mod Supporters

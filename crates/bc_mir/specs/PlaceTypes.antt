@@ -12,6 +12,7 @@ use Rattle.bc_syntax.specs.declared.syntax.Projection.TheVariants.{Deref, Field}
 use Rattle.bc_syntax.specs.declared.syntax.Declaration.{Declaration}
 use Rattle.bc_types.specs.Mutabilities.{is_mutable}
 use Rattle.bc_types.specs.Replaced.{declared_field, field_type}
+use Rattle.bc_mir.specs.Places.{are_mutable}
 
 -- field k of a struct
 abbrev pub field_of : List Declaration → Base → ℕ → Option Ty
@@ -46,6 +47,10 @@ references_behind types (Field k ∷ projections) (reference ∷ references) bas
 abbrev pub references_of_place : List Declaration → List Ty → Place → List Reference
 references_of_place types locals place =
     option_map_or (λ (local : Ty). references_behind types place.projections local.references local.base) (slice_get locals place.local) []
+
+-- a type from which projections dereference no shared reference
+abbrev pub leads_mutable : List Declaration → List Projection → Ty → Bool
+leads_mutable types projections ty = are_mutable (references_behind types projections ty.references ty.base)
 
 -- projections dereference no shared reference. Regions do not tell, so that a field is taken as its struct declares it
 abbrev pub mutable_behind : List Declaration → List Projection → List Reference → Base → Bool

@@ -1,7 +1,6 @@
--- Prefixes of places.
-use Rattle.std.specs.Prelude.{Bool, true, false, ◌==◌, if◌then◌else◌, Option, Some, None, is_some, List, [], ◌∷◌}
+-- Which references and projections the rules for writing, moving and dropping a place let pass.
+use Rattle.std.specs.Prelude.{Bool, true, false, List}
 use Rattle.std.specs.List.{list_all}
-use Rattle.std.specs.Option.{option_map_or}
 use Rattle.bc_syntax.specs.declared.syntax.Place.{Place}
 use Rattle.bc_syntax.specs.declared.syntax.Reference.{Reference}
 use Rattle.bc_syntax.specs.declared.syntax.Projection.{Projection}
@@ -12,40 +11,9 @@ use Rattle.bc_types.specs.Mutabilities.{is_mutable}
 abbrev pub are_mutable : List Reference → Bool
 are_mutable references = list_all (λ (reference : Reference). is_mutable reference.mutability) references
 
--- the references that the supporting prefixes of a place dereference: from the last shared one on
-abbrev pub from_last_shared : List Reference → List Reference
-from_last_shared [] = []
-from_last_shared (reference ∷ references) =
-    if are_mutable references then reference ∷ references else from_last_shared references
-
-abbrev pub same_projection : Projection → Projection → Bool
-same_projection Deref Deref = true
-same_projection Deref (Field k) = false
-same_projection (Field j) Deref = false
-same_projection (Field j) (Field k) = j == k
-
--- what follows a beginning
-abbrev pub rest_after : List Projection → List Projection → Option (List Projection)
-rest_after [] projections = Some projections
-rest_after (first ∷ beginning) [] = None
-rest_after (first ∷ beginning) (second ∷ projections) =
-    if same_projection first second then rest_after beginning projections else None
-
--- what is taken away from a place to leave a prefix of it
-abbrev pub rest_of : Place → Place → Option (List Projection)
-rest_of prefix place =
-    if prefix.local == place.local then rest_after prefix.projections place.projections else None
-
-abbrev pub is_prefix : Place → Place → Bool
-is_prefix prefix place = is_some (rest_of prefix place)
-
 abbrev pub is_field : Projection → Bool
 is_field Deref = false
 is_field (Field k) = true
 
 abbrev pub has_no_deref : Place → Bool
 has_no_deref place = list_all is_field place.projections
-
--- a prefix for which fields alone were taken away
-abbrev pub is_shallow_prefix : Place → Place → Bool
-is_shallow_prefix prefix place = option_map_or (list_all is_field) (rest_of prefix place) false

@@ -164,8 +164,10 @@ pub fn references_of_place(
     Ok(references)
 }
 
-/// Whether projections dereference mutable references alone. Regions do not tell, so a field is taken as it is declared.
-pub(crate) fn passes_only_mutable(
+/// Whether projections of a type dereference mutable references alone. Regions do not tell, so a field is taken as it is
+/// declared.
+/// (RFC 2094, "Reborrow constraints".)
+pub fn passes_only_mutable(
     types: &GoodTypes,
     projections: &[Projection],
     references: &[Reference],

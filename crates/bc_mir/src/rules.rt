@@ -21,8 +21,9 @@ fn int_type(alloc: Global) -> Ty
     }
 }
 
-/// The type of an operand that keeps the rules.
-pub(crate) fn type_of_operand(
+/// The type of an operand, or `None` where it breaks a rule. The error is want of memory alone.
+/// (Own.)
+pub fn type_of_operand(
     alloc: Global,
     types: &GoodTypes,
     locals: &[Ty],

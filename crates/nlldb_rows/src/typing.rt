@@ -1,6 +1,7 @@
 //! Units that are typed, with what is told of them, and units that break a typing rule.
 use crate::declared::{FIRST, SECOND, are_misfits, typed};
 use bc_mir::{Instruction, Point, Typed, Where};
+use bc_points::accesses;
 use std::alloc::{AllocError, Global};
 use std::process::Abort;
 use std::test::Fail;
@@ -60,7 +61,7 @@ fn access_count(
     typed: &Typed,
     instruction: &Instruction,
 ) -> Result<usize, AllocError> {
-    let accesses = typed.accesses(alloc, instruction)?;
+    let accesses = accesses(alloc, typed, instruction)?;
     Ok(accesses.len())
 }
 

@@ -1,6 +1,6 @@
 use Rattle.std.proofs.Common.{◌≡◌, ℕ, ◌<◌, length, get_or, arith, ◌∙◌}
 use Rattle.std.proofs.lemmas.List.{get_or_default}
-use Rattle.bc_mir.specs.declared.loan.Loan.{Loan}
+use Rattle.bc_points.specs.declared.loan.Loan.{Loan}
 use Rattle.bc_flow.proofs.Members.{has_within}
 use Rattle.bc_loans.specs.Overwrites.{has_prefix}
 use Rattle.bc_loans.proofs.Overwriting.{ArePrefixed-added, ArePrefixed-left, prefix_is}

@@ -1,6 +1,6 @@
 use Rattle.std.proofs.Common.{◌<◌, ◌≤◌, ℕ, take}
 use Rattle.std.specs.List.{All}
-use Rattle.bc_mir.specs.declared.loan.Loan.{Loan}
+use Rattle.bc_points.specs.declared.loan.Loan.{Loan}
 use Rattle.bc_loans.proofs.overwrites.locals_bound.Given as goal
 
 abbrev pub invariant-loop-made : goal.invariant-loop-made

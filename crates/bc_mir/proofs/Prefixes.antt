@@ -1,9 +1,0 @@
-use Rattle.std.proofs.Common.{◌≡◌, ◌<◌, None, List, [], ◌∷◌, length, refl, arith}
-use Rattle.bc_syntax.specs.declared.syntax.Projection.{Projection}
-use Rattle.bc_mir.specs.Places.{rest_after}
-
--- nothing is no longer beginning's continuation
-pub rest_after-short : (beginning xs : List Projection) → 0 < length beginning → length xs < 1 → rest_after beginning xs ≡ None
-rest_after-short [] xs some short = absurd (omega arith)
-rest_after-short (first ∷ beginning) [] some short = refl
-rest_after-short (first ∷ beginning) (second ∷ xs) some short = absurd (omega arith)

@@ -1,6 +1,0 @@
-use Rattle.std.proofs.Common.{◌≡◌, ◌++◌}
-use Rattle.bc_mir.specs.Accesses.{return_accesses}
-use Rattle.bc_mir.proofs.access.push_locals.Given as goal
-
-abbrev pub invariant-loop-local : goal.invariant-loop-local
-invariant-loop-local l = l.accesses.items ≡ l.initial.accesses.items ++ return_accesses l.local

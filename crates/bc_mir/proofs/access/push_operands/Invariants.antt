@@ -1,9 +1,0 @@
-use Rattle.std.proofs.Common.{◌≡◌, ◌++◌, drop}
-use Rattle.std.specs.List.{flat_map}
-use Rattle.bc_mir.specs.Accesses.{operand_accesses}
-use Rattle.bc_mir.proofs.access.push_operands.Given as goal
-
-abbrev pub invariant-loop-operand : goal.invariant-loop-operand
-invariant-loop-operand l =
-    l.accesses.items ++ flat_map operand_accesses (drop l.operand-index l.operands)
-    ≡ l.initial.accesses.items ++ flat_map operand_accesses l.operands

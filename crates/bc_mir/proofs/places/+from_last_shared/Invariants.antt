@@ -1,5 +1,0 @@
-use Rattle.std.proofs.Common.{length}
-use Rattle.bc_mir.proofs.places.+from_last_shared.Given as goal
-
-abbrev pub decreases-from_last_shared : goal.decreases-from_last_shared
-decreases-from_last_shared l = length l.references.now

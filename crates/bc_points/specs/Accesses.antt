@@ -1,0 +1,153 @@
+-- What each point does: its accesses in order, and the locals that it uses and defines.
+use Rattle.std.specs.Prelude.{ℕ, Bool, true, false, Option, Some, None, List, [], ◌∷◌, ◌++◌, length, map, if◌then◌else◌}
+use Rattle.std.specs.List.{flat_map, range_with_len}
+use Rattle.std.specs.Option.{option_map_or}
+use Rattle.bc_syntax.specs.declared.syntax.Mutability.{Mutability}
+use Rattle.bc_syntax.specs.declared.syntax.Mutability.TheVariants.{Shared, Mutable}
+use Rattle.bc_syntax.specs.declared.syntax.Projection.{Projection}
+use Rattle.bc_syntax.specs.declared.syntax.Ty.{Ty}
+use Rattle.bc_syntax.specs.declared.syntax.Declaration.{Declaration}
+use Rattle.bc_syntax.specs.declared.syntax.Place.{Place}
+use Rattle.bc_syntax.specs.declared.syntax.Operand.{Operand}
+use Rattle.bc_syntax.specs.declared.syntax.Operand.TheVariants.{Copy, Move, Number}
+use Rattle.bc_syntax.specs.declared.syntax.Rvalue.{Rvalue}
+use Rattle.bc_syntax.specs.declared.syntax.Rvalue.TheVariants.{Use, Borrow, Aggregate, Calc}
+use Rattle.bc_syntax.specs.declared.syntax.Statement.{Statement as Simple}
+use Rattle.bc_syntax.specs.declared.syntax.Statement.TheVariants.{Assign, Dead, Drop, Nop}
+use Rattle.bc_syntax.specs.declared.syntax.Terminator.{Terminator as Ending}
+use Rattle.bc_syntax.specs.declared.syntax.Terminator.TheVariants.{Goto, If, Call, Return, Stop}
+use Rattle.bc_mir.specs.declared.mir.Instruction.{Instruction}
+use Rattle.bc_mir.specs.declared.mir.Instruction.TheVariants.{Statement, Terminator}
+use Rattle.bc_points.specs.declared.access.Access.{Access}
+use Rattle.bc_points.specs.declared.access.Depth.{Depth}
+use Rattle.bc_points.specs.declared.access.Depth.TheVariants.{Shallow, Deep}
+use Rattle.bc_points.specs.declared.access.AccessKind.{AccessKind}
+use Rattle.bc_points.specs.declared.access.AccessKind.TheVariants.{Read, Write}
+use Rattle.bc_mir.specs.Mir.{Mir}
+use Rattle.bc_types.specs.Drops.{holds_drop}
+use Rattle.bc_mir.specs.PlaceTypes.{type_of_place}
+
+-- a local alone, as a place
+abbrev pub local_place : ℕ → Place
+local_place local = record { local = local; projections = [] }
+
+abbrev pub access_of : Depth → AccessKind → Place → Access
+access_of depth kind place = record { place = place; depth = depth; kind = kind }
+
+-- `copy` reads, `move` writes, and a number has no access
+abbrev pub operand_accesses : Operand → List Access
+operand_accesses (Copy place) = access_of Deep Read place ∷ []
+operand_accesses (Move place) = access_of Deep Write place ∷ []
+operand_accesses (Number n) = []
+
+-- a shared borrow reads, a mutable one writes
+abbrev pub borrow_access : Mutability → AccessKind
+borrow_access Shared = Read
+borrow_access Mutable = Write
+
+abbrev pub rvalue_accesses : Rvalue → List Access
+rvalue_accesses (Use operand) = operand_accesses operand
+rvalue_accesses (Borrow borrow) = access_of Deep (borrow_access borrow.reference.mutability) borrow.place ∷ []
+rvalue_accesses (Aggregate aggregate) = flat_map operand_accesses aggregate.operands
+rvalue_accesses (Calc operands) = flat_map operand_accesses operands
+
+-- the type of a place holds a drop
+abbrev pub runs_drop : List Declaration → List Ty → Place → Bool
+runs_drop types locals place = option_map_or (holds_drop types) (type_of_place types locals place) false
+
+-- where the type holds a drop, dropping the place writes what is behind it too
+abbrev pub drop_access : List Declaration → List Ty → Place → Access
+drop_access types locals place =
+    if runs_drop types locals place then access_of Deep Write place else access_of Shallow Write place
+
+-- where the type holds a drop, dropping the place uses its local
+abbrev pub drop_uses : List Declaration → List Ty → Place → List ℕ
+drop_uses types locals place = if runs_drop types locals place then place.local ∷ [] else []
+
+-- the access of a target is the last of its point
+abbrev pub statement_accesses : List Declaration → List Ty → Simple → List Access
+statement_accesses types locals (Assign assignment) =
+    rvalue_accesses assignment.value ++ access_of Shallow Write assignment.target ∷ []
+statement_accesses types locals (Dead local) = access_of Shallow Write (local_place local) ∷ []
+statement_accesses types locals (Drop place) = drop_access types locals place ∷ []
+statement_accesses types locals Nop = []
+
+-- `return` writes every local in order
+abbrev pub return_accesses : ℕ → List Access
+return_accesses locals = map (λ local. access_of Shallow Write (local_place local)) (range_with_len 0 locals)
+
+abbrev pub terminator_accesses : ℕ → Ending → List Access
+terminator_accesses locals (Goto label) = []
+terminator_accesses locals (If condition) = operand_accesses condition.operand
+terminator_accesses locals (Call call) =
+    flat_map operand_accesses call.operands ++ access_of Shallow Write call.destination ∷ []
+terminator_accesses locals Return = return_accesses locals
+terminator_accesses locals Stop = []
+
+-- the accesses of a point in order, where this happens
+abbrev pub accesses_of : Mir → Instruction → List Access
+accesses_of mir (Statement statement) = statement_accesses mir.types mir.locals statement
+accesses_of mir (Terminator terminator) = terminator_accesses (length mir.locals) terminator
+
+-- the place that a point overwrites
+abbrev pub overwritten : Instruction → Option Place
+overwritten (Statement (Assign assignment)) = Some assignment.target
+overwritten (Statement (Dead local)) = Some (local_place local)
+overwritten (Statement (Drop place)) = None
+overwritten (Statement Nop) = None
+overwritten (Terminator (Goto label)) = None
+overwritten (Terminator (If condition)) = None
+overwritten (Terminator (Call call)) = Some call.destination
+overwritten (Terminator Return) = None
+overwritten (Terminator Stop) = None
+
+-- an operand uses the local of its place
+abbrev pub operand_uses : Operand → List ℕ
+operand_uses (Copy place) = place.local ∷ []
+operand_uses (Move place) = place.local ∷ []
+operand_uses (Number n) = []
+
+abbrev pub rvalue_uses : Rvalue → List ℕ
+rvalue_uses (Use operand) = operand_uses operand
+rvalue_uses (Borrow borrow) = borrow.place.local ∷ []
+rvalue_uses (Aggregate aggregate) = flat_map operand_uses aggregate.operands
+rvalue_uses (Calc operands) = flat_map operand_uses operands
+
+-- a place without projections
+abbrev pub are_none : List Projection → Bool
+are_none [] = true
+are_none (projection ∷ projections) = false
+
+abbrev pub is_local : Place → Bool
+is_local place = are_none place.projections
+
+-- a target uses its local where it has a projection, and else defines it
+abbrev pub target_uses : Place → List ℕ
+target_uses place = if is_local place then [] else place.local ∷ []
+
+abbrev pub target_defines : Place → Option ℕ
+target_defines place = if is_local place then Some place.local else None
+
+-- the locals that a point uses
+abbrev pub uses_of : Mir → Instruction → List ℕ
+uses_of mir (Statement (Assign assignment)) = rvalue_uses assignment.value ++ target_uses assignment.target
+uses_of mir (Statement (Dead local)) = []
+uses_of mir (Statement (Drop place)) = drop_uses mir.types mir.locals place
+uses_of mir (Statement Nop) = []
+uses_of mir (Terminator (Goto label)) = []
+uses_of mir (Terminator (If condition)) = operand_uses condition.operand
+uses_of mir (Terminator (Call call)) = flat_map operand_uses call.operands ++ target_uses call.destination
+uses_of mir (Terminator Return) = 0 ∷ []
+uses_of mir (Terminator Stop) = []
+
+-- the local that a point defines
+abbrev pub defines_of : Instruction → Option ℕ
+defines_of (Statement (Assign assignment)) = target_defines assignment.target
+defines_of (Statement (Dead local)) = Some local
+defines_of (Statement (Drop place)) = None
+defines_of (Statement Nop) = None
+defines_of (Terminator (Goto label)) = None
+defines_of (Terminator (If condition)) = None
+defines_of (Terminator (Call call)) = target_defines call.destination
+defines_of (Terminator Return) = None
+defines_of (Terminator Stop) = None

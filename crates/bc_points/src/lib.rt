@@ -1,0 +1,21 @@
+//! What each point of a typed unit does: its accesses, what it uses and defines, the loan that it makes, what it demands of
+//! regions; and the prefixes of places.
+#![tactic(auto)]
+
+mod access;
+mod laws;
+mod liveness;
+mod loan;
+mod pairs;
+mod prefix;
+mod region;
+mod support;
+
+pub use access::{Access, AccessKind, Depth, accesses, push_accesses};
+pub use laws::{prefixes_chain, reborrows_list_taken_references, supporters_are_found};
+pub use liveness::{defines, uses};
+pub use loan::{Loan, loan_of};
+pub use pairs::{push_assignment_pairs, push_call_pairs};
+pub use prefix::{from_last_shared, is_prefix, is_shallow_prefix};
+pub use region::region_number;
+pub use support::supports;

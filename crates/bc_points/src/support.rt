@@ -1,0 +1,72 @@
+//! Supporting prefixes, through the fields of structs (RFC 2094, "Reborrow constraints").
+ghost use Rattle.std.specs.Prelude.{◌≡◌};
+ghost use Rattle.bc_points.specs.Supports.{goes_on_mutable as going_on, supports as support, supports_behind as support_behind, supports_from as support_from};
+
+use crate::prefix::rest_of;
+use bc_mir::passes_only_mutable;
+use bc_syntax::{Base, Place, Projection, Reference, Ty};
+use bc_types::GoodTypes;
+
+/// Whether behind projections is a type from which the rest dereference mutable references alone. Regions do not tell, so
+/// a field is taken as it is declared.
+fn supports_behind(
+    types: &GoodTypes,
+    projections: &[Projection],
+    rest: &[Projection],
+    references: &[Reference],
+    base: &Base,
+) -> bool
+    ensures { result ≡ support_behind types.now projections.now rest.now references.now base.now }
+{
+    match projections {
+        [] => passes_only_mutable(types, rest, references, base),
+        [Projection::Deref, later @ ..] => match references {
+            [] => false,
+            [_, more @ ..] => supports_behind(types, later, rest, more, base),
+        },
+        [Projection::Field(field), later @ ..] => match references {
+            [] => match base {
+                Base::Int => false,
+                Base::Struct(instance) => match types.declared_field(&instance.name, *field) {
+                    Some(ty) => {
+                        supports_behind(types, later, rest, ty.references.as_slice(), &ty.base)
+                    }
+                    None => false,
+                },
+            },
+            [_, ..] => false,
+        },
+    }
+}
+
+fn supports_from(types: &GoodTypes, locals: &[Ty], prefix: &Place, rest: &[Projection]) -> bool
+    ensures { result ≡ support_from types.now locals.now prefix.now rest.now }
+{
+    match locals.get(usize::from(prefix.local)) {
+        Some(local) => supports_behind(
+            types,
+            prefix.projections.as_slice(),
+            rest,
+            local.references.as_slice(),
+            &local.base,
+        ),
+        None => false,
+    }
+}
+
+fn goes_on_mutable(types: &GoodTypes, locals: &[Ty], prefix: &Place, rest: &[Projection]) -> bool
+    ensures { result ≡ going_on types.now locals.now prefix.now rest.now }
+{
+    supports_from(types, locals, prefix, rest)
+}
+
+/// Whether the first place is a prefix of the second for which no dereference of a shared reference was taken away.
+/// (RFC 2094, "Reborrow constraints".)
+pub fn supports(types: &GoodTypes, locals: &[Ty], prefix: &Place, place: &Place) -> bool
+    ensures { result ≡ support types.now locals.now prefix.now place.now }
+{
+    match rest_of(prefix, place) {
+        Some(rest) => goes_on_mutable(types, locals, prefix, rest),
+        None => false,
+    }
+}
