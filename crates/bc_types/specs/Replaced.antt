@@ -1,5 +1,5 @@
 -- A declaration's regions replaced by arguments.
-use Rattle.std.specs.Prelude.{ℕ, ◌-◌, ◌==◌, if◌then◌else◌, Option, option_and_then, unwrap_or, List, map, slice_get}
+use Rattle.std.specs.Prelude.{ℕ, Option, option_and_then, unwrap_or, List, ◌∷◌, map, slice_get}
 use Rattle.std.specs.Option.{option_map}
 use Rattle.bc_syntax.specs.declared.syntax.Region.{Region}
 use Rattle.bc_syntax.specs.declared.syntax.Region.TheVariants.{Universal, Variable}
@@ -13,11 +13,13 @@ use Rattle.bc_syntax.specs.declared.syntax.StructDeclaration.{StructDeclaration}
 use Rattle.bc_syntax.specs.declared.syntax.Declaration.{Declaration}
 use Rattle.bc_types.specs.Declarations.{struct_of}
 
--- `'static` stays, and the declared region k becomes the k-th argument, the first being 1
+-- `'static`, number 0, stays, and the declared region k becomes the k-th argument, the first being 1. Whatever else
+-- a declaration might name becomes `'static` too, so that no region comes in but `'static` and the arguments: a region past
+-- the last argument, where fewer were given than are declared (never in a typed unit), and a variable (no declaration
+-- names one)
 abbrev pub replaced_region : List Region → Region → Region
-replaced_region arguments (Universal number) =
-    if number == 0 then Universal number else unwrap_or (slice_get arguments (number - 1)) (Universal number)
-replaced_region arguments (Variable number) = Variable number
+replaced_region arguments (Universal number) = unwrap_or (slice_get (Universal 0 ∷ arguments) number) (Universal 0)
+replaced_region arguments (Variable number) = Universal 0
 
 abbrev pub replaced_reference : List Region → Reference → Reference
 replaced_reference arguments reference = record { region = replaced_region arguments reference.region; mutability = reference.mutability }

@@ -80,20 +80,27 @@ impl Model for GoodTypes {
     ghost invariant = { λ t. first_bad t.table ≡ None };
 }
 
-/// What tells good declarations from bad ones.
+/// What has declarations, and tells good ones from bad ones.
 /// (Own.)
 pub trait CheckTypes {
+    ghost use Rattle.std.specs.Prelude.{List};
+    ghost use Rattle.bc_syntax.specs.declared.syntax.Declaration.{Declaration};
+
+    // The declarations of a value.
+    ghost declarations: { Self → List Declaration };
+
     /// Takes declarations where none is bad. It answers `BadDecl` with the number of the first bad one, counted from 0,
     /// where there is one, and `NoMemory` only where memory was refused.
-    fn check(&self, alloc: Global) -> Result<GoodTypes, DeclFault>;
+    fn check(&self, alloc: Global) -> Result<GoodTypes, DeclFault>
+        ensures ok { IfOk result (λ good. good ≡ declarations self.now) }
+        ensures good { OnOk result (first_bad (declarations self.now) ≡ None) }
+        ensures bad { (number : ℕ) → result ≡ Err (DeclFault.BadDecl number) → first_bad (declarations self.now) ≡ Some number };
 }
 
 impl CheckTypes for Types {
-    fn check(&self, alloc: Global) -> Result<GoodTypes, DeclFault>
-        ensures ok { IfOk result (λ good. good ≡ self.now) }
-        ensures good { OnOk result (first_bad self.now ≡ None) }
-        ensures bad { (number : ℕ) → result ≡ Err (DeclFault.BadDecl number) → first_bad self.now ≡ Some number }
-    {
+    ghost declarations = { λ types. types };
+
+    fn check(&self, alloc: Global) -> Result<GoodTypes, DeclFault> {
         let table = fill(alloc, self.declarations())?;
         Ok(GoodTypes { table })
     }

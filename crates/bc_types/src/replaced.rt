@@ -1,14 +1,17 @@
 //! A declaration's regions replaced by arguments.
-ghost use Rattle.std.specs.Prelude.{◌≡◌, ◌++◌, map, IfOk, OnOk};
+ghost use Rattle.std.specs.Prelude.{◌≡◌, ◌++◌, ◌∷◌, map, IfOk, OnOk};
+ghost use Rattle.std.specs.List.{Contains};
 ghost use Rattle.bc_types.specs.Replaced.{replaced_region, replaced_reference, replaced_instance, replaced_base, replaced_ty};
 
 use bc_syntax::{Base, Instance, ItemName, Reference, Region, ShortSequence, Ty};
 use std::alloc::{AllocError, Global};
 
-/// A region of a declaration where the declared ones are replaced by arguments: `'static` stays.
+/// A region of a declaration where the declared ones are replaced by arguments, the first by the first: `'static` stays. What
+/// has no argument becomes `'static`, so that nothing comes in but `'static` and the arguments.
 /// (Own.)
 pub fn replace_region(arguments: &[Region], region: Region) -> Region
-    ensures { result ≡ replaced_region arguments.now region }
+    ensures value { result ≡ replaced_region arguments.now region }
+    ensures given { Contains (Region.Universal 0 ∷ arguments.now) result }
 {
     match region {
         Region::Universal(number) => {
@@ -17,11 +20,11 @@ pub fn replace_region(arguments: &[Region], region: Region) -> Region
             } else {
                 match arguments.get(usize::from(number) - 1) {
                     Some(argument) => *argument,
-                    None => region,
+                    None => Region::Universal(0),
                 }
             }
         }
-        Region::Variable(_) => region,
+        Region::Variable(_) => Region::Universal(0),
     }
 }
 
