@@ -497,7 +497,7 @@ types_take ts y e =
 no_declaration : (ts rest : Tokens) → Begins ts (End ∷ []) rest → read.begins_declaration ts ≡ false
 no_declaration ts rest b = rw (sees_none s.Struct ts End [] rest b refl, sees_none s.Extern ts End [] rest b refl) refl
 
-types_again : (ts : Tokens) (ds : List Declaration) (rest : Tokens) → Begins ts (spell.types ds ++ End ∷ []) rest → TypesFit ds → (last : Tokens) × (read.types ts ≡ Ok (ds, last))
+pub types_again : (ts : Tokens) (ds : List Declaration) (rest : Tokens) → Begins ts (spell.types ds ++ End ∷ []) rest → TypesFit ds → (last : Tokens) × (read.types ts ≡ Ok (ds, last))
 unfolding read.types
 types_again ts ds rest b fits =
     let a = split ts (spell.types ds) (End ∷ []) rest b in

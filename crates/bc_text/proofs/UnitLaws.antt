@@ -336,15 +336,15 @@ unfolding at_end
 end_again [] rest p = absurd p
 end_again (t ∷ ts) rest p = rw (ap is_end p.0) refl
 
-abbrev closing : List Token
+abbrev pub closing : List Token
 closing = Fixed s.CloseBrace ∷ (End ∷ [])
 
 -- ---- bodies
 
-abbrev body_tokens : Body → List Token
+abbrev pub body_tokens : Body → List Token
 body_tokens u = spell.symbol s.OpenBrace ++ (spell.lets u.header.regions (spell.first_let u.header) u.lets ++ (spell.blocks u.header.regions 0 u.blocks ++ closing))
 
-abbrev whole_tokens : Body → List Token
+abbrev pub whole_tokens : Body → List Token
 whole_tokens u = spell.header u.header ++ body_tokens u
 
 abbrev made_of : Header → List Ty → List Block → Body
@@ -437,7 +437,7 @@ unit_takes ts y e =
     let text : Begins ts (spell.header y.0.header) a.0.1 = subst (λ (h : Header). Begins ts (spell.header h) a.0.1) (sym body.0) head.0 in
     (join ts (spell.header y.0.header) a.0.1 (body_tokens y.0) (after y.1) text body.1, body.2)
 
-unit_again : (ts : Tokens) (u : Body) (rest : Tokens) → Begins ts (whole_tokens u) rest → Fits u → (last : Tokens) × (read.unit ts ≡ Ok (u, last))
+pub unit_again : (ts : Tokens) (u : Body) (rest : Tokens) → Begins ts (whole_tokens u) rest → Fits u → (last : Tokens) × (read.unit ts ≡ Ok (u, last))
 unfolding read.unit same
 unit_again ts u rest p fits =
     let a = split ts (spell.header u.header) (body_tokens u) rest p in
@@ -459,7 +459,7 @@ answer_Ok (Ok p) x e = let is : p.0 ≡ x = cc in (p.1, ap (λ z. Ok (z, p.1)) i
 answer_Ok (Err d) x e = absurd cc
 
 -- the whole spelling, and then the end
-closed : (u : Body) → whole_tokens u ≡ spell.unit u ++ End ∷ []
+pub closed : (u : Body) → whole_tokens u ≡ spell.unit u ++ End ∷ []
 closed u = simp append_assoc
 
 whole_unit : (ts : Tokens) (u : Body) (rest : Tokens) → IsText ts → Begins ts (spell.unit u ++ End ∷ []) rest → rest ≡ []
