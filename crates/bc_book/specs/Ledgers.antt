@@ -7,6 +7,7 @@ use Rattle.bc_syntax.specs.declared.syntax.Body.{Body}
 use Rattle.bc_book.specs.declared.call.Call.{Call}
 use Rattle.bc_book.specs.declared.call.Reply.{Reply}
 use Rattle.bc_book.specs.declared.call.Entry.{Entry}
+use Rattle.bc_book.specs.declared.ledger.TheConstants.{MOST_BODIES}
 use Rattle.bc_book.specs.Calls.{Bodies, after, count_of, IsReply, IsLegal}
 
 -- how many entries there may be, those that there are, and for how many more there is memory
@@ -31,7 +32,7 @@ pub record IsKept (capacity : ℕ) (h : List Entry) (counts : List ℕ) (declare
   pub counted : AreCounts counts h
   pub types : declared ≡ (after h).types
   pub holds : (name : NameParts) → bodies_of held name ≡ (after h).bodies name
-  pub few : btree_map_len held ≤ 256
+  pub few : btree_map_len held ≤ MOST_BODIES
 
 -- the one entry is added, with its session's next number: the call, and the reply that what is held gives it
 pub record Appends (session : ℕ) (call : Call) (reply : Reply) (old new : LedgerView) : Type 0 where

@@ -119,7 +119,7 @@ impl Ledger {
     }
 
     /// Enters a session's put, with the reply that the bodies held give it: `WrongKind` where the name is not one for such
-    /// a unit, else `Full` where the name is new and 256 bodies are held, else `Replaced` or `Added` (own). `AllocError`
+    /// a unit, else `Full` where the name is new and `MOST_BODIES` are held, else `Replaced` or `Added` (own). `AllocError`
     /// only where memory was refused; then nothing has changed.
     pub fn put(
         &mut self,
@@ -202,9 +202,9 @@ fn suits(kind: UnitKind, name: &Name) -> bool
 
 // The reply to a put, where so many bodies are held.
 fn put_reply(bodies: &Bodies, name: &Name, unit: &Unit) -> PutReply
-    requires { btree_map_len bodies.now ≤ 256 }
+    requires { btree_map_len bodies.now ≤ MOST_BODIES }
     ensures reply { IsPutReply (bodies_of bodies.now) name.now unit.now result }
-    ensures few { result ≡ PutReply.Added → btree_map_len bodies.now < 256 }
+    ensures few { result ≡ PutReply.Added → btree_map_len bodies.now < MOST_BODIES }
 {
     if !suits(unit.body().header.kind, name) {
         return PutReply::WrongKind;
@@ -226,11 +226,11 @@ fn store(
     unit: &Shared<Unit>,
     reply: PutReply,
 ) -> Result<(), AllocError>
-    requires few { btree_map_len bodies.old ≤ 256 }
+    requires few { btree_map_len bodies.old ≤ MOST_BODIES }
     requires reply { IsPutReply (bodies_of bodies.old) name unit.now reply }
-    requires added { reply ≡ PutReply.Added → btree_map_len bodies.old < 256 }
+    requires added { reply ≡ PutReply.Added → btree_map_len bodies.old < MOST_BODIES }
     ensures ok { OnOk result ((other : _) → bodies_of bodies.new other ≡ after_put (bodies_of bodies.old) name unit.now reply other) }
-    ensures few { btree_map_len bodies.new ≤ 256 }
+    ensures few { btree_map_len bodies.new ≤ MOST_BODIES }
     ensures err { OnErr result ((other : _) → bodies_of bodies.new other ≡ bodies_of bodies.old other) }
 {
     if !reply.stores() {

@@ -79,9 +79,9 @@ impl Session {
 
     /// Stores a unit under a name.
     ///
-    /// Replies `WrongKind` where the name is not one for such a unit, else `Full` where the name is new and 256
-    /// bodies are held, else `Replaced` or `Added` (own). Room in the session's own list is made first. Refused with
-    /// `HistoryFull` only where the history has as many entries as it may have, where no call is taken, and with
+    /// Replies `WrongKind` where the name is not one for such a unit, else `Full` where the name is new and
+    /// `MOST_BODIES` are held, else `Replaced` or `Added` (own). Room in the session's own list is made first. Refused
+    /// with `HistoryFull` only where the history has as many entries as it may have, where no call is taken, and with
     /// `NoMemory` only where memory was refused; the session and the history are then as they were.
     pub fn put(&mut self, name: Name, unit: Arc<Unit, Global>) -> Result<PutReply, Refusal>
         ensures told { IfOk result (λ reply. Tells (Call.Put name (arc_value unit)) (Reply.Put reply) self.old self.new) }
