@@ -1,5 +1,10 @@
 //! Laws of the definitions, each the contract of a function that does nothing.
-ghost use Rattle.bc_text.specs.Laws.{PrintedIsSpelled, PrintedIsRead, PrintedTypesAreSpelled, PrintedTypesAreRead};
+ghost use Rattle.bc_text.specs.Laws.{NamesAreToldApart, PrintedIsSpelled, PrintedIsRead, PrintedTypesAreSpelled, PrintedTypesAreRead};
+
+/// Two names that their order holds equal are one name. Own.
+pub fn names_are_told_apart()
+    ensures { NamesAreToldApart }
+{}
 
 /// The printed text of a unit spells that unit and is read as it, where it is no longer than a text may be. Own.
 pub fn printed_units_are_read()

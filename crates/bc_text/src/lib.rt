@@ -16,6 +16,6 @@ mod universals;
 pub use bc_print::{print_types, print_unit};
 pub use declarations::read_types;
 pub use fault::ReadFault;
-pub use laws::{printed_types_are_read, printed_units_are_read};
+pub use laws::{names_are_told_apart, printed_types_are_read, printed_units_are_read};
 pub use name::Name;
 pub use reader::{MAX_TEXT, read_unit};
