@@ -19,7 +19,7 @@ use Rattle.bc_syntax.specs.declared.syntax.Body.{Body}
 use Rattle.bc_book.specs.declared.call.Entry.{Entry}
 use Rattle.bc_book.specs.declared.call.PutReply.{PutReply}
 use Rattle.bc_book.specs.declared.ledger.TheConstants.{MOST_BODIES}
-use Rattle.bc_book.specs.Calls.{State, Bodies, HoldsCount, with_body, stores, next, after, after_put, IsNext, IsPutReply}
+use Rattle.bc_book.specs.Calls.{State, Bodies, HoldsCount, with_body, stores, next, after, after_put, MayComeNext, IsPutReply}
 use Rattle.bc_book.specs.Ledgers.{bodies_of, AreCounts, IsKept}
 use Rattle.bc_book.proofs.Histories.{legal_snoc, after-snoc}
 
@@ -62,7 +62,7 @@ same_reply s t n a b r states bodies reply = subst (λ (p : Bodies × Body). IsP
 
 -- one more entry
 pub kept_snoc : (capacity : ℕ) (h : List Entry) (counts counts' : List ℕ) (ds ds' : List Declaration) (m m' : BTreeMap NameParts Body) (e : Entry)
-    → IsKept capacity h counts ds m → length h < capacity → IsNext h e → AreCounts counts' (h ++ e ∷ [])
+    → IsKept capacity h counts ds m → length h < capacity → MayComeNext h e → AreCounts counts' (h ++ e ∷ [])
     → ds' ≡ (next (after h) e.event.call e.event.reply).types
     → ((n : NameParts) → bodies_of m' n ≡ (next (after h) e.event.call e.event.reply).bodies n) → btree_map_len m' ≤ MOST_BODIES
     → IsKept capacity (h ++ e ∷ []) counts' ds' m'

@@ -100,12 +100,12 @@ abbrev pub count_of : ℕ → List Entry → ℕ
 count_of session h = count_by (λ (e : Entry). e.session == session) h
 
 -- the entry may come next: its reply is the map's, and its number is how many its session has before it
-abbrev pub IsNext : List Entry → Entry → Type 0
-IsNext h e = IsReply (after h) e.event.call e.event.reply × (e.number ≡ count_of e.session h)
+abbrev pub MayComeNext : List Entry → Entry → Type 0
+MayComeNext h e = IsReply (after h) e.event.call e.event.reply × (e.number ≡ count_of e.session h)
 
 -- a history of one thread: wherever it is cut, the entry there may come next after those before it
 abbrev pub IsLegal : List Entry → Type 0
-IsLegal h = (before : List Entry) (e : Entry) (rest : List Entry) → h ≡ before ++ e ∷ rest → IsNext before e
+IsLegal h = (before : List Entry) (e : Entry) (rest : List Entry) → h ≡ before ++ e ∷ rest → MayComeNext before e
 
 -- the calls and replies of a session, in order
 abbrev pub calls : ℕ → List Entry → List Event
