@@ -18,7 +18,8 @@ use Rattle.bc_syntax.specs.declared.syntax.Declaration.{Declaration}
 use Rattle.bc_syntax.specs.declared.syntax.Body.{Body}
 use Rattle.bc_book.specs.declared.call.Entry.{Entry}
 use Rattle.bc_book.specs.declared.call.PutReply.{PutReply}
-use Rattle.bc_book.specs.Calls.{State, Bodies, HoldsCount, with_body, stores, next, after, after_put, IsNext, IsPutReply}
+use Rattle.bc_book.specs.declared.ledger.TheConstants.{MOST_BODIES}
+use Rattle.bc_book.specs.Calls.{State, Bodies, HoldsCount, with_body, stores, next, after, after_put, MayComeNext, IsPutReply}
 use Rattle.bc_book.specs.Ledgers.{bodies_of, AreCounts, IsKept}
 use Rattle.bc_book.proofs.Histories.{legal_snoc, after-snoc}
 
@@ -61,9 +62,9 @@ same_reply s t n a b r states bodies reply = subst (λ (p : Bodies × Body). IsP
 
 -- one more entry
 pub kept_snoc : (capacity : ℕ) (h : List Entry) (counts counts' : List ℕ) (ds ds' : List Declaration) (m m' : BTreeMap NameParts Body) (e : Entry)
-    → IsKept capacity h counts ds m → length h < capacity → IsNext h e → AreCounts counts' (h ++ e ∷ [])
+    → IsKept capacity h counts ds m → length h < capacity → MayComeNext h e → AreCounts counts' (h ++ e ∷ [])
     → ds' ≡ (next (after h) e.event.call e.event.reply).types
-    → ((n : NameParts) → bodies_of m' n ≡ (next (after h) e.event.call e.event.reply).bodies n) → btree_map_len m' ≤ 256
+    → ((n : NameParts) → bodies_of m' n ≡ (next (after h) e.event.call e.event.reply).bodies n) → btree_map_len m' ≤ MOST_BODIES
     → IsKept capacity (h ++ e ∷ []) counts' ds' m'
 kept_snoc capacity h counts counts' ds ds' m m' e kept below fits counted types holds few = record {
   legal = legal_snoc h e kept.legal fits;
@@ -77,7 +78,7 @@ kept_snoc capacity h counts counts' ds ds' m m' e kept below fits counted types 
 
 -- the same history, with other bodies that are the same map
 pub kept_same : (capacity : ℕ) (h : List Entry) (counts : List ℕ) (ds : List Declaration) (m m' : BTreeMap NameParts Body)
-    → IsKept capacity h counts ds m → ((n : NameParts) → bodies_of m' n ≡ bodies_of m n) → btree_map_len m' ≤ 256 → IsKept capacity h counts ds m'
+    → IsKept capacity h counts ds m → ((n : NameParts) → bodies_of m' n ≡ bodies_of m n) → btree_map_len m' ≤ MOST_BODIES → IsKept capacity h counts ds m'
 kept_same capacity h counts ds m m' kept same few = record {
   legal = kept.legal;
   bounded = kept.bounded;

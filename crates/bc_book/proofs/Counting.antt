@@ -5,6 +5,7 @@ use Rattle.std.proofs.lemmas.Bool.{cases_eq, eq-eqb, ne_eqb}
 use Rattle.std.proofs.lemmas.List.{get_or-set_same, get_or-set_other}
 use Rattle.std.proofs.lemmas.List.Sums.{sum_by-append}
 use Rattle.bc_book.specs.declared.call.Entry.{Entry}
+use Rattle.bc_book.specs.declared.ledger.TheConstants.{MOST_SESSIONS}
 use Rattle.bc_book.specs.Calls.{count_of}
 
 -- how many entries the last one counts for
@@ -24,8 +25,8 @@ other_same session h e other =
     let more : count_of session (h ++ e ∷ []) ≡ count_of session h + 0 = one_more session h e ∙ ap (λ b. count_of session h + cond b 1 0) other in
     omega (arith, more)
 
-pub counts_more : (counts : List ℕ) (h : List Entry) (e : Entry) (n : ℕ) → e.session < length counts → n ≡ get_or counts e.session 0 + 1 → ((s : ℕ) → s < 16 → get_or counts s 0 ≡ count_of s h) →
-    (s : ℕ) → s < 16 → get_or (set counts e.session n) s 0 ≡ count_of s (h ++ e ∷ [])
+pub counts_more : (counts : List ℕ) (h : List Entry) (e : Entry) (n : ℕ) → e.session < length counts → n ≡ get_or counts e.session 0 + 1 → ((s : ℕ) → s < MOST_SESSIONS → get_or counts s 0 ≡ count_of s h) →
+    (s : ℕ) → s < MOST_SESSIONS → get_or (set counts e.session n) s 0 ≡ count_of s (h ++ e ∷ [])
 counts_more counts h e n within next are s below = elim (cases_eq s e.session) [
   | inl same ↦
       let own : get_or (set counts e.session n) e.session 0 ≡ count_of e.session (h ++ e ∷ []) =

@@ -2,7 +2,7 @@
 use Rattle.std.proofs.Common.{◌≡◌, ◌⊎◌, List, [], ◌∷◌, ◌++◌, refl, sym, subst, inl, inr, ⊎_elim}
 use Rattle.std.proofs.lemmas.List.Sums.{fold-append}
 use Rattle.bc_book.specs.declared.call.Entry.{Entry}
-use Rattle.bc_book.specs.Calls.{State, opening, next, after, IsNext, IsLegal}
+use Rattle.bc_book.specs.Calls.{State, opening, next, after, MayComeNext, IsLegal}
 
 -- where a longer list is cut before an element, that is the last one, or the cut is in the list before
 pub snoc_split : {A : Type 0} (h : List A) (x : A) (before : List A) (e : A) (rest : List A) → h ++ x ∷ [] ≡ before ++ e ∷ rest
@@ -23,12 +23,15 @@ pub legal_none : IsLegal []
 legal_none [] e rest is = absurd (cc)
 legal_none (b ∷ bs) e rest is = absurd (cc)
 
-pub legal_snoc : (h : List Entry) (x : Entry) → IsLegal h → IsNext h x → IsLegal (h ++ x ∷ [])
+pub legal_snoc : (h : List Entry) (x : Entry) → IsLegal h → MayComeNext h x → IsLegal (h ++ x ∷ [])
 legal_snoc h x legal fits before e rest is =
     ⊎_elim
-    (λ (t : (before ≡ h) × (e ≡ x) × (rest ≡ [])). subst (λ (p : List Entry × Entry). IsNext p.0 p.1) (λ i. (sym t.0 i, sym t.1 i)) fits)
+    (λ (t : (before ≡ h) × (e ≡ x) × (rest ≡ [])). subst (λ (p : List Entry × Entry). MayComeNext p.0 p.1) (λ i. (sym t.0 i, sym t.1 i)) fits)
     (λ (t : (front : List Entry) × (rest ≡ front ++ x ∷ []) × (h ≡ before ++ e ∷ front)). legal before e t.0 t.2)
     (snoc_split h x before e rest is)
+
+pub legal_more : (h l : List Entry) (x : Entry) → IsLegal h → MayComeNext h x → l ≡ h ++ x ∷ [] → IsLegal l
+legal_more h l x legal fits is = subst IsLegal (sym is) (legal_snoc h x legal fits)
 
 pub after-snoc : (h : List Entry) (e : Entry) → after (h ++ e ∷ []) ≡ next (after h) e.event.call e.event.reply
 after-snoc h e = fold-append (λ (s : State) (x : Entry). next s x.event.call x.event.reply) opening h (e ∷ [])

@@ -16,6 +16,7 @@ use Rattle.bc_book.specs.declared.call.Reply.{Reply}
 use Rattle.bc_book.specs.declared.call.Reply.TheVariants as replies
 use Rattle.bc_book.specs.declared.call.Event.{Event}
 use Rattle.bc_book.specs.declared.call.Entry.{Entry}
+use Rattle.bc_book.specs.declared.ledger.TheConstants.{MOST_BODIES}
 
 -- the body at each name, if there is one
 abbrev pub Bodies : Type 0
@@ -51,9 +52,9 @@ Suits Function name = name.segments ≡ []
 -- the reply to a put of a body at a name
 abbrev pub IsPutReply : Bodies → NameParts → Body → PutReply → Type 0
 IsPutReply bodies name body WrongKind = ¬ Suits body.header.kind name
-IsPutReply bodies name body Full = Suits body.header.kind name × (bodies name ≡ None) × HoldsCount bodies 256
+IsPutReply bodies name body Full = Suits body.header.kind name × (bodies name ≡ None) × HoldsCount bodies MOST_BODIES
 IsPutReply bodies name body Replaced = Suits body.header.kind name × IsSome (bodies name)
-IsPutReply bodies name body Added = Suits body.header.kind name × (bodies name ≡ None) × ((count : ℕ) × (count < 256) × HoldsCount bodies count)
+IsPutReply bodies name body Added = Suits body.header.kind name × (bodies name ≡ None) × ((count : ℕ) × (count < MOST_BODIES) × HoldsCount bodies count)
 
 -- the outcome of a name: of what it holds, under the declarations that are held
 abbrev pub IsOutcomeIn : State → NameParts → Outcome → Type 0
@@ -99,12 +100,12 @@ abbrev pub count_of : ℕ → List Entry → ℕ
 count_of session h = count_by (λ (e : Entry). e.session == session) h
 
 -- the entry may come next: its reply is the map's, and its number is how many its session has before it
-abbrev pub IsNext : List Entry → Entry → Type 0
-IsNext h e = IsReply (after h) e.event.call e.event.reply × (e.number ≡ count_of e.session h)
+abbrev pub MayComeNext : List Entry → Entry → Type 0
+MayComeNext h e = IsReply (after h) e.event.call e.event.reply × (e.number ≡ count_of e.session h)
 
 -- a history of one thread: wherever it is cut, the entry there may come next after those before it
 abbrev pub IsLegal : List Entry → Type 0
-IsLegal h = (before : List Entry) (e : Entry) (rest : List Entry) → h ≡ before ++ e ∷ rest → IsNext before e
+IsLegal h = (before : List Entry) (e : Entry) (rest : List Entry) → h ≡ before ++ e ∷ rest → MayComeNext before e
 
 -- the calls and replies of a session, in order
 abbrev pub calls : ℕ → List Entry → List Event

@@ -7,6 +7,7 @@ use Rattle.bc_syntax.specs.declared.syntax.Body.{Body}
 use Rattle.bc_book.specs.declared.call.Call.{Call}
 use Rattle.bc_book.specs.declared.call.Reply.{Reply}
 use Rattle.bc_book.specs.declared.call.Entry.{Entry}
+use Rattle.bc_book.specs.declared.ledger.TheConstants.{MOST_BODIES, MOST_SESSIONS}
 use Rattle.bc_book.specs.Calls.{Bodies, after, count_of, IsReply, IsLegal}
 
 -- how many entries there may be, those that there are, and for how many more there is memory
@@ -19,9 +20,9 @@ pub record LedgerView : Type 0 where
 abbrev pub bodies_of : BTreeMap NameParts Body → Bodies
 bodies_of held = λ name. get name_order held name
 
--- how many entries each of 16 sessions has
+-- how many entries each session has
 abbrev pub AreCounts : List ℕ → List Entry → Type 0
-AreCounts counts h = (session : ℕ) → session < 16 → slice_index counts session ≡ count_of session h
+AreCounts counts h = (session : ℕ) → session < MOST_SESSIONS → slice_index counts session ≡ count_of session h
 
 -- the history is legal and not too long, and the counts, the declarations and the bodies are those that it leaves
 pub record IsKept (capacity : ℕ) (h : List Entry) (counts : List ℕ) (declared : List Declaration) (held : BTreeMap NameParts Body) : Type 0 where
@@ -31,10 +32,12 @@ pub record IsKept (capacity : ℕ) (h : List Entry) (counts : List ℕ) (declare
   pub counted : AreCounts counts h
   pub types : declared ≡ (after h).types
   pub holds : (name : NameParts) → bodies_of held name ≡ (after h).bodies name
-  pub few : btree_map_len held ≤ 256
+  pub few : btree_map_len held ≤ MOST_BODIES
 
--- the one entry is added, with its session's next number: the call, and the reply that what is held gives it
-pub record Appends (session : ℕ) (call : Call) (reply : Reply) (old new : LedgerView) : Type 0 where
+-- the one entry is added, with its session's next number: the call, and the reply that what is held gives it; the history
+-- is legal with it
+pub record Enters (session : ℕ) (call : Call) (reply : Reply) (old new : LedgerView) : Type 0 where
   pub right : IsReply (after old.entries) call reply
   pub capacity : new.capacity ≡ old.capacity
   pub entries : new.entries ≡ old.entries ++ record { session = session; number = count_of session old.entries; event = record { call = call; reply = reply } } ∷ []
+  pub legal : IsLegal new.entries

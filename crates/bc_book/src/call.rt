@@ -16,7 +16,7 @@ pub enum Call {
     Ask(Name),
 }
 
-/// The reply to a put: the body is new, or in place of another; or the name is new and 256 bodies are held; or
+/// The reply to a put: the body is new, or in place of another; or the name is new and `MOST_BODIES` are held; or
 /// the name is not one for such a unit. The last two store nothing. (Own.)
 #[derive(Clone, Copy, Debug, PartialEq, Eq)]
 pub enum PutReply {

@@ -4,7 +4,7 @@ ghost use Rattle.std.specs.Option.{option_copied};
 ghost use Rattle.std.specs.BTreeMap.{btree_map_len, get};
 ghost use Rattle.bc_text.specs.Names.{name_order};
 ghost use Rattle.bc_book.specs.Calls.{IsLegal, IsOutcomeIn, IsPutReply, Suits, after, after_put, count_of};
-ghost use Rattle.bc_book.specs.Ledgers.{Appends, AreCounts, bodies_of};
+ghost use Rattle.bc_book.specs.Ledgers.{Enters, AreCounts, bodies_of};
 
 use crate::call::{Call, Entry, Event, PutReply, Reply};
 use crate::shared::Shared;
@@ -102,10 +102,10 @@ impl Ledger {
     /// Enters a session's declarations, which are held from now on in place of those before. `AllocError` only where
     /// memory was refused; then nothing has changed.
     pub fn put_types(&mut self, session: u8, types: Shared<Types>) -> Result<(), AllocError>
-        requires session { session < 16 }
+        requires session { session < MOST_SESSIONS }
         requires room { 0 < self.old.room }
         requires below { length self.old.entries < self.old.capacity }
-        ensures ok { OnOk result (Appends session (Call.Types types) Reply.Stored self.old self.new) }
+        ensures ok { OnOk result (Enters session (Call.Types types) Reply.Stored self.old self.new) }
         ensures err { OnErr result ((self.new.capacity ≡ self.old.capacity) × (self.new.entries ≡ self.old.entries)) }
     {
         let held = types.clone()?;
@@ -119,7 +119,7 @@ impl Ledger {
     }
 
     /// Enters a session's put, with the reply that the bodies held give it: `WrongKind` where the name is not one for such
-    /// a unit, else `Full` where the name is new and 256 bodies are held, else `Replaced` or `Added` (own). `AllocError`
+    /// a unit, else `Full` where the name is new and `MOST_BODIES` are held, else `Replaced` or `Added` (own). `AllocError`
     /// only where memory was refused; then nothing has changed.
     pub fn put(
         &mut self,
@@ -127,10 +127,10 @@ impl Ledger {
         name: Name,
         unit: Shared<Unit>,
     ) -> Result<PutReply, AllocError>
-        requires session { session < 16 }
+        requires session { session < MOST_SESSIONS }
         requires room { 0 < self.old.room }
         requires below { length self.old.entries < self.old.capacity }
-        ensures ok { IfOk result (λ r. Appends session (Call.Put name unit) (Reply.Put r) self.old self.new) }
+        ensures ok { IfOk result (λ r. Enters session (Call.Put name unit) (Reply.Put r) self.old self.new) }
         ensures err { OnErr result ((self.new.capacity ≡ self.old.capacity) × (self.new.entries ≡ self.old.entries)) }
     {
         let reply = put_reply(&self.bodies, &name, unit.get());
@@ -158,11 +158,11 @@ impl Ledger {
 
     /// Enters a session's Ask, with its outcome. It takes no memory.
     pub fn ask(&mut self, session: u8, name: Name, outcome: Shared<Outcome>)
-        requires session { session < 16 }
+        requires session { session < MOST_SESSIONS }
         requires room { 0 < self.old.room }
         requires below { length self.old.entries < self.old.capacity }
         requires outcome { IsOutcomeIn (after self.old.entries) name outcome }
-        ensures { Appends session (Call.Ask name) (Reply.Outcome outcome) self.old self.new }
+        ensures { Enters session (Call.Ask name) (Reply.Outcome outcome) self.old self.new }
     {
         let event = Event {
             call: Call::Ask(name),
@@ -202,9 +202,9 @@ fn suits(kind: UnitKind, name: &Name) -> bool
 
 // The reply to a put, where so many bodies are held.
 fn put_reply(bodies: &Bodies, name: &Name, unit: &Unit) -> PutReply
-    requires { btree_map_len bodies.now ≤ 256 }
+    requires { btree_map_len bodies.now ≤ MOST_BODIES }
     ensures reply { IsPutReply (bodies_of bodies.now) name.now unit.now result }
-    ensures few { result ≡ PutReply.Added → btree_map_len bodies.now < 256 }
+    ensures few { result ≡ PutReply.Added → btree_map_len bodies.now < MOST_BODIES }
 {
     if !suits(unit.body().header.kind, name) {
         return PutReply::WrongKind;
@@ -226,11 +226,11 @@ fn store(
     unit: &Shared<Unit>,
     reply: PutReply,
 ) -> Result<(), AllocError>
-    requires few { btree_map_len bodies.old ≤ 256 }
+    requires few { btree_map_len bodies.old ≤ MOST_BODIES }
     requires reply { IsPutReply (bodies_of bodies.old) name unit.now reply }
-    requires added { reply ≡ PutReply.Added → btree_map_len bodies.old < 256 }
+    requires added { reply ≡ PutReply.Added → btree_map_len bodies.old < MOST_BODIES }
     ensures ok { OnOk result ((other : _) → bodies_of bodies.new other ≡ after_put (bodies_of bodies.old) name unit.now reply other) }
-    ensures few { btree_map_len bodies.new ≤ 256 }
+    ensures few { btree_map_len bodies.new ≤ MOST_BODIES }
     ensures err { OnErr result ((other : _) → bodies_of bodies.new other ≡ bodies_of bodies.old other) }
 {
     if !reply.stores() {
@@ -255,7 +255,7 @@ fn held_unit<'a>(bodies: &'a Bodies, name: &Name) -> Option<&'a Unit>
 
 // Adds a session's event to a history that has room for it.
 fn enter(history: &mut Vec<Entry>, counts: &mut [u32; MOST_SESSIONS], session: u8, event: Event)
-    requires session { session < 16 }
+    requires session { session < MOST_SESSIONS }
     requires room { vec_len history.old < vec_capacity history.old }
     requires short { length history.old.items + 1 < 2 ^ 32 }
     requires counts { AreCounts counts.old history.old.items }

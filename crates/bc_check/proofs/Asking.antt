@@ -8,11 +8,11 @@ use Rattle.std.proofs.lemmas.List.{map-append, take_more, take_all}
 use Rattle.std.proofs.lemmas.List.Elements.{All-contains, All-contains_itself, Contains-append_left, Contains-append_right, Contains-append_cases}
 use Rattle.std.proofs.lemmas.Map.Lookups.{CmpEqualImpliesEq}
 use Rattle.std.proofs.lemmas.Map.Views.{All-insert_key}
-use Rattle.bc_flow.proofs.Membership.{Contains-one, Contains-head, Contains-later}
 use Rattle.bc_text.specs.Names.{NameParts, name_order}
-use Rattle.bc_text.proofs.Equality.{exact_names}
+use Rattle.bc_text.specs.Laws.{NamesAreToldApart}
 use Rattle.bc_book.specs.declared.call.Call.{Call}
 use Rattle.bc_check.specs.Asked.{root_put, AreAsked}
+use Rattle.bc_check.proofs.Members.{Contains-one, Contains-head, Contains-later}
 
 -- an ordering with what is known of it
 chosen : {X : Type 0} (P : List X → Type 0) (o : Ordering) (a b c : List X) → P a → (o ≡ Equal → P b) → P c → P (match_ordering o a b c)
@@ -49,8 +49,8 @@ asked_none calls names none sorted = record {
 }
 
 -- one root name more
-added : (calls : List Call) (call : Call) (name : NameParts) (names new : List NameParts) → AreAsked calls names → root_put call ≡ Some name → new ≡ insert_key name_order names name → IsStrictlySortedBy name_order new → AreAsked (calls ++ call ∷ []) new
-added calls call name names new h root is sorted =
+added : NamesAreToldApart → (calls : List Call) (call : Call) (name : NameParts) (names new : List NameParts) → AreAsked calls names → root_put call ≡ Some name → new ≡ insert_key name_order names name → IsStrictlySortedBy name_order new → AreAsked (calls ++ call ∷ []) new
+added apart calls call name names new h root is sorted =
     let roots = map root_put calls in
     let more : map root_put (calls ++ call ∷ []) ≡ roots ++ Some name ∷ [] = roots-snoc calls call (Some name) root in
     let P : NameParts → Type 0 = λ q. Contains (roots ++ Some name ∷ []) (Some q) in
@@ -62,7 +62,7 @@ added calls call name names new h root is sorted =
         λ there. subst (λ (l : List (Option NameParts)). Contains l (Some q)) (sym more) (All-contains P new q all there),
         λ there. subst (λ (l : List NameParts). Contains l q) (sym is) (elim (Contains-append_cases roots (Some name ∷ []) (Some q) (subst (λ (l : List (Option NameParts)). Contains l (Some q)) more there)) [
           | inl before ↦ stays_in name_order name q names ((h.exact q).1 before)
-          | inr one ↦ subst (λ (n : NameParts). Contains (insert_key name_order names name) n) (same_some name q (Contains-one (Some name) (Some q) one)) (put_in name_order exact_names name names)
+          | inr one ↦ subst (λ (n : NameParts). Contains (insert_key name_order names name) n) (same_some name q (Contains-one (Some name) (Some q) one)) (put_in name_order apart name names)
         ]),
       );
     }
@@ -86,9 +86,9 @@ left_out calls call names h none =
 one_more : (calls : List Call) (i : ℕ) (call : Call) → i < length calls → ((d : Call) → get_or calls i d ≡ call) → take (i + 1) calls ≡ take i calls ++ call ∷ []
 one_more calls i call below at = take_more calls i call below ∙ ap (λ (c : Call). take i calls ++ c ∷ []) (at call)
 
-pub asked_more : (calls : List Call) (i : ℕ) (call : Call) (name : NameParts) (names new : List NameParts) → AreAsked (take i calls) names → i < length calls → ((d : Call) → get_or calls i d ≡ call) → root_put call ≡ Some name → new ≡ insert_key name_order names name → IsStrictlySortedBy name_order new → AreAsked (take (i + 1) calls) new
-asked_more calls i call name names new h below at root is sorted =
-    subst (λ (l : List Call). AreAsked l new) (sym (one_more calls i call below at)) (added (take i calls) call name names new h root is sorted)
+pub asked_more : NamesAreToldApart → (calls : List Call) (i : ℕ) (call : Call) (name : NameParts) (names new : List NameParts) → AreAsked (take i calls) names → i < length calls → ((d : Call) → get_or calls i d ≡ call) → root_put call ≡ Some name → new ≡ insert_key name_order names name → IsStrictlySortedBy name_order new → AreAsked (take (i + 1) calls) new
+asked_more apart calls i call name names new h below at root is sorted =
+    subst (λ (l : List Call). AreAsked l new) (sym (one_more calls i call below at)) (added apart (take i calls) call name names new h root is sorted)
 
 pub asked_same : (calls : List Call) (i : ℕ) (call : Call) (names : List NameParts) → AreAsked (take i calls) names → i < length calls → ((d : Call) → get_or calls i d ≡ call) → root_put call ≡ None → AreAsked (take (i + 1) calls) names
 asked_same calls i call names h below at none =

@@ -1,5 +1,5 @@
 -- How the command ends.
-use Rattle.std.proofs.Common.{◌≡◌, ℕ, ◌≤◌, ◌<◌, ◌+◌, max, List, [], ◌∷◌, ◌++◌, Option, Some, None, Result, Err, inr, length, map, refl, sym, ap, ◌∙◌, subst, append_assoc, append-nil, arith}
+use Rattle.std.proofs.Common.{◌≡◌, ℕ, ◌≤◌, ◌<◌, ◌+◌, max, List, [], ◌∷◌, ◌++◌, Option, Some, None, Result, Err, inr, get_or, length, map, refl, sym, ap, ◌∙◌, subst, append_assoc, append-nil, arith}
 use Rattle.std.specs.Prelude.{IfSome}
 use Rattle.std.specs.List.{flat_map}
 use Rattle.std.specs.Io.KnownBytes.{Appends, Keeps}
@@ -11,11 +11,9 @@ use Rattle.bc_book.specs.declared.call.Call.TheVariants.{Ask}
 use Rattle.bc_book.specs.declared.call.Reply.{Reply}
 use Rattle.bc_book.specs.declared.call.Event.{Event}
 use Rattle.bc_book.specs.declared.call.Entry.{Entry}
-use Rattle.bc_book.specs.Calls.{calls}
-use Rattle.bc_book.proofs.Histories.{legal_none}
+use Rattle.bc_book.specs.Calls.{IsLegal, calls}
 use Rattle.bc_share.specs.Sessions.{SessionView, new_session}
 use Rattle.bc_share.specs.Closings.{IsOneHistory}
-use Rattle.bc_share.proofs.Closings.{one_agrees}
 use Rattle.bc_check.specs.declared.fault.FileFault.{FileFault}
 use Rattle.bc_check.specs.declared.stop.Stop.{Stop}
 use Rattle.bc_check.specs.declared.stop.Stop.TheVariants.{WrongUse, CannotRead, CannotWrite, CannotTell, NoMemory, File, TooManyCalls, HistoryFull, Foreign, Audit}
@@ -29,6 +27,7 @@ use Rattle.bc_check.specs.Changes.{seen, IsFirstFault}
 use Rattle.bc_check.specs.Run.{calls_of, told_of, shown_of, told, shown, greatest, AreLegal}
 use Rattle.bc_check.specs.Served.{IsSound, Served, ServedPart, Runs, Begins}
 use Rattle.bc_check.specs.Ends.{IsEnd}
+use Rattle.bc_check.proofs.Members.{Contains-one}
 use Rattle.bc_check.proofs.Serving.{nothing_added, kept_adds, added_then}
 
 -- nothing is told of an Ask
@@ -61,11 +60,11 @@ greatest-append (e ∷ a) b = let more = greatest-append a b in omega (arith, mo
 -- a session that a database closed with made a legal history
 legal_of : (s : SessionView) (h : List Entry) (events : List Event) → IsOneHistory (s ∷ []) h → s.number ≡ 0 → s.own ≡ events → AreLegal events
 legal_of s h events one zero_is own =
-    let agrees = one_agrees (s ∷ []) s h refl one.1 in record {
+    let agrees = one.1 in record {
       history = h;
       legal = one.0;
-      one_session = λ k d below. agrees.1 k d below ∙ zero_is;
-      own = ap (λ (n : ℕ). calls n h) (sym zero_is) ∙ sym agrees.0 ∙ own;
+      one_session = λ k d below. sym (Contains-one s.number (get_or h k d).session (agrees.others k d below)) ∙ zero_is;
+      own = ap (λ (n : ℕ). calls n h) (sym zero_is) ∙ sym (agrees.own 0 s (omega arith)) ∙ own;
     }
 
 -- all changes and all Asks
@@ -88,6 +87,11 @@ runs_of list names m n capacity s0 s1 s2 o0 o1 e0 e1 h p a is few one =
 
 legal_from_sound : (s : SessionView) (events : List Event) → IsSound s → s.own ≡ events → AreLegal events
 legal_from_sound s events h own = record { history = s.entries; legal = h.legal; one_session = h.alone; own = h.own ∙ own }
+
+-- nothing stands anywhere in an empty history
+legal_none : IsLegal []
+legal_none [] e rest is = absurd cc
+legal_none (b ∷ bs) e rest is = absurd cc
 
 sound_new : (s : SessionView) (capacity : ℕ) → s ≡ new_session 0 0 capacity → IsSound s
 sound_new s capacity is = subst IsSound (sym is) (record { number = refl; legal = legal_none; alone = λ k d below. absurd (omega (arith, below)); own = refl })

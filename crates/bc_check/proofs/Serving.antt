@@ -7,17 +7,15 @@ use Rattle.std.proofs.lemmas.List.{map-append}
 use Rattle.std.proofs.lemmas.Grind.{flat_map-append}
 use Rattle.bc_book.specs.declared.call.Call.{Call}
 use Rattle.bc_book.specs.declared.call.Event.{Event}
-use Rattle.bc_share.specs.Sessions.{SessionView}
+use Rattle.bc_share.specs.Sessions.{SessionView, IsAnswered}
 use Rattle.bc_check.specs.declared.stop.Stop.{Stop}
 use Rattle.bc_check.specs.Run.{reply_status, greatest}
 use Rattle.bc_book.specs.declared.call.Reply.{Reply}
 use Rattle.bc_book.specs.declared.call.Entry.{Entry}
-use Rattle.bc_book.specs.Calls.{IsLegal, calls, count_of}
-use Rattle.bc_book.proofs.Histories.{legal_snoc}
-use Rattle.bc_share.proofs.Audits.{calls-append}
-use Rattle.bc_share.specs.Sessions.{Tells}
+use Rattle.bc_book.specs.Calls.{calls, count_of}
+use Rattle.std.specs.Prelude.{◌==◌, filter}
 use Rattle.std.specs.List.{All}
-use Rattle.std.proofs.lemmas.List.Elements.{All-push}
+use Rattle.std.proofs.lemmas.List.Elements.{All-push, filter-append}
 use Rattle.bc_check.specs.Served.{event_of, IsSound, Serves, Served, ServedPart}
 
 pub nothing_added : (u : Option (List ℕ)) → Appends u u []
@@ -42,8 +40,13 @@ greatest-snoc (e ∷ events) event = let more = greatest-snoc events event in om
 one_text : (text : Event → List ℕ) (event : Event) → flat_map text (event ∷ []) ≡ text event
 one_text text event = append-nil (text event)
 
+calls-append : (session : ℕ) (g h : List Entry) → calls session (g ++ h) ≡ calls session g ++ calls session h
+calls-append session g h =
+    let own = λ (e : Entry). e.session == session in
+    ap (map (λ (e : Entry). e.event)) (filter-append own g h) ∙ map-append (λ (e : Entry). e.event) (filter own g) (filter own h)
+
 -- a call that is answered keeps the history legal, and the session's own
-sound_more : (call : Call) (reply : Reply) (old new : SessionView) → Tells call reply old new → IsSound old → IsSound new
+sound_more : (call : Call) (reply : Reply) (old new : SessionView) → IsAnswered call reply old new → IsSound old → IsSound new
 sound_more call reply old new t h =
     let number : ℕ = count_of old.number old.entries in
     let event : Event = event_of call reply in
@@ -51,7 +54,7 @@ sound_more call reply old new t h =
     let named : ℕ → List Event = λ (n : ℕ). calls 0 (record { session = n; number = number; event = event } ∷ []) in
     record {
       number = t.session.1 ∙ h.number;
-      legal = subst (λ (es : List Entry). IsLegal es) (sym t.entries) (legal_snoc old.entries more h.legal (t.right, refl));
+      legal = t.legal;
       alone = subst (λ (es : List Entry). All (λ (e : Entry). e.session ≡ 0) es) (sym t.entries) (All-push (λ (e : Entry). e.session ≡ 0) old.entries more h.alone h.number);
       own = ap (λ (es : List Entry). calls 0 es) t.entries
           ∙ calls-append 0 old.entries (more ∷ [])
@@ -80,10 +83,10 @@ served_more list call text m n old mid new u v w h k =
     record {
       events = h.events ++ event ∷ [];
       made = map-append (λ (e : Event). e.call) h.events (event ∷ []) ∙ ap (λ (cs : List Call). cs ++ call ∷ []) h.made;
-      tag = k.tells.session.0 ∙ h.tag;
-      number = k.tells.session.1 ∙ h.number;
-      own = k.tells.own ∙ ap (λ (es : List Event). es ++ event ∷ []) h.own ∙ append_assoc old.own h.events (event ∷ []);
-      sound = λ sound. sound_more call k.reply mid new k.tells (h.sound sound);
+      tag = k.answered.session.0 ∙ h.tag;
+      number = k.answered.session.1 ∙ h.number;
+      own = k.answered.own ∙ ap (λ (es : List Event). es ++ event ∷ []) h.own ∙ append_assoc old.own h.events (event ∷ []);
+      sound = λ sound. sound_more call k.reply mid new k.answered (h.sound sound);
       printed = subst (λ (t : List ℕ). Appends u w t) printed (added_then u v w _ _ h.printed k.printed);
       status = let more = greatest-snoc h.events event in omega (arith, more, h.status, k.status);
     }

@@ -8,7 +8,7 @@ use Rattle.bc_book.specs.declared.call.Event.{Event}
 use Rattle.bc_book.specs.declared.call.Entry.{Entry}
 use Rattle.bc_book.specs.Calls.{IsLegal, calls}
 use Rattle.bc_text.specs.Names.{NameParts}
-use Rattle.bc_share.specs.Sessions.{SessionView, Tells}
+use Rattle.bc_share.specs.Sessions.{SessionView, IsAnswered}
 use Rattle.bc_check.specs.Run.{reply_status, greatest, calls_of, shown, told, AreLegal}
 
 abbrev pub event_of : Call → Reply → Event
@@ -17,7 +17,7 @@ event_of call reply = record { call = call; reply = reply }
 -- one call was answered and printed; its status
 pub record Serves (call : Call) (text : Event → List ℕ) (exit : ℕ) (old new : SessionView) (before after : Option (List ℕ)) : Type 0 where
   pub reply : Reply
-  pub tells : Tells call reply old new
+  pub answered : IsAnswered call reply old new
   pub printed : Appends before after (text (event_of call reply))
   pub status : exit ≡ reply_status reply
 

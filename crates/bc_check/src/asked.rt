@@ -5,7 +5,7 @@ ghost use Rattle.bc_check.specs.Asked.{AreAsked, root_put as root};
 
 use crate::file::Change;
 use crate::stop::Stop;
-use bc_text::Name;
+use bc_text::{Name, names_are_told_apart};
 use std::alloc::Global;
 use std::collections::BTreeSet;
 
@@ -25,6 +25,7 @@ pub fn find_asked(alloc: Global, changes: &[Change]) -> Result<BTreeSet<Name>, S
     ensures asked { IfOk result (λ names. AreAsked (map seen changes.now) names.keys) }
     ensures stop { IfErr result (λ stop. stop ≡ Stop.NoMemory) }
 {
+    names_are_told_apart();
     let mut names = BTreeSet::new(alloc);
     for change in changes {
         if let Some(name) = root_put(change) {

@@ -4,7 +4,7 @@ use Rattle.bc_book.specs.declared.call.Call.{Call}
 use Rattle.bc_book.specs.declared.call.Reply.{Reply}
 use Rattle.bc_book.specs.declared.call.Event.{Event}
 use Rattle.bc_book.specs.declared.call.Entry.{Entry}
-use Rattle.bc_book.specs.Calls.{IsReply, after, count_of}
+use Rattle.bc_book.specs.Calls.{IsReply, IsLegal, after, count_of}
 
 -- the tag of its database, its number, its own calls with their replies, how many entries the history may have,
 -- and those that it has
@@ -19,10 +19,11 @@ pub record SessionView : Type 0 where
 abbrev pub new_session : ℕ → ℕ → ℕ → SessionView
 new_session tag number capacity = record { tag = tag; number = number; own = []; capacity = capacity; entries = [] }
 
--- The call was made, with this reply, which is the one that what is held gives it: the session's own list is
--- longer by the call with its reply, and the history by that one entry, with its session's next number.
-pub record Tells (call : Call) (reply : Reply) (old new : SessionView) : Type 0 where
+-- The call was answered with this reply, which is the one that what is held gives it: the session's own list is
+-- longer by the call with its reply, and the history by that one entry, with its session's next number, and is legal.
+pub record IsAnswered (call : Call) (reply : Reply) (old new : SessionView) : Type 0 where
   pub right : IsReply (after old.entries) call reply
   pub session : (new.tag ≡ old.tag) × (new.number ≡ old.number) × (new.capacity ≡ old.capacity)
   pub own : new.own ≡ old.own ++ record { call = call; reply = reply } ∷ []
   pub entries : new.entries ≡ old.entries ++ record { session = old.number; number = count_of old.number old.entries; event = record { call = call; reply = reply } } ∷ []
+  pub legal : IsLegal new.entries

@@ -1,8 +1,9 @@
 //! What one session does, and its own list of that.
 ghost use Rattle.std.specs.Prelude.{◌≡◌, ◌↔◌, ◌<◌, [], length, IfOk, IfErr, OnOk, OnErr, vec_capacity, vec_len};
 ghost use Rattle.std.specs.Arc.{arc_value};
+ghost use Rattle.bc_book.specs.declared.ledger.TheConstants.{MOST_SESSIONS};
 ghost use Rattle.bc_book.specs.Calls.{IsLegal};
-ghost use Rattle.bc_share.specs.Sessions.{Tells, new_session};
+ghost use Rattle.bc_share.specs.Sessions.{IsAnswered, new_session};
 
 use bc_book::{Call, Entry, Event, Ledger, PutReply, Refusal, Reply, Shared};
 use bc_prov::Outcome;
@@ -24,13 +25,14 @@ pub struct Session {
 
 impl Model for Session {
     ghost use Rattle.std.specs.Prelude.{◌<◌};
+    ghost use Rattle.bc_book.specs.declared.ledger.TheConstants.{MOST_SESSIONS};
     ghost use Rattle.bc_share.specs.Sessions.{SessionView};
 
     ghost Value = { SessionView };
 
     ghost view = { λ s. record { tag = s.tag; number = s.number; own = s.own.items; capacity = s.ledger.capacity; entries = s.ledger.entries } };
 
-    ghost invariant = { λ s. s.number < 16 };
+    ghost invariant = { λ s. s.number < MOST_SESSIONS };
 }
 
 impl Session {
@@ -41,7 +43,7 @@ impl Session {
         number: u8,
         capacity: u32,
     ) -> Result<Session, AllocError>
-        requires { number < 16 }
+        requires { number < MOST_SESSIONS }
         ensures { IfOk result (λ session. session ≡ new_session tag number capacity) }
     {
         let ledger = Ledger::new(alloc, capacity)?;
@@ -61,7 +63,7 @@ impl Session {
     /// entries as it may have, where no call is taken, and with `NoMemory` only where memory was refused; the session
     /// and the history are then as they were.
     pub fn put_types(&mut self, types: Arc<Types, Global>) -> Result<(), Refusal>
-        ensures told { OnOk result (Tells (Call.Types (arc_value types)) Reply.Stored self.old self.new) }
+        ensures told { OnOk result (IsAnswered (Call.Types (arc_value types)) Reply.Stored self.old self.new) }
         ensures refused { OnErr result (self.new ≡ self.old) }
         ensures below { OnOk result (length self.old.entries < self.old.capacity) }
         ensures full { IfErr result (λ r. r ≡ Refusal.HistoryFull → length self.old.entries ≡ self.old.capacity) }
@@ -79,12 +81,12 @@ impl Session {
 
     /// Stores a unit under a name.
     ///
-    /// Replies `WrongKind` where the name is not one for such a unit, else `Full` where the name is new and 256
-    /// bodies are held, else `Replaced` or `Added` (own). Room in the session's own list is made first. Refused with
-    /// `HistoryFull` only where the history has as many entries as it may have, where no call is taken, and with
+    /// Replies `WrongKind` where the name is not one for such a unit, else `Full` where the name is new and
+    /// `MOST_BODIES` are held, else `Replaced` or `Added` (own). Room in the session's own list is made first. Refused
+    /// with `HistoryFull` only where the history has as many entries as it may have, where no call is taken, and with
     /// `NoMemory` only where memory was refused; the session and the history are then as they were.
     pub fn put(&mut self, name: Name, unit: Arc<Unit, Global>) -> Result<PutReply, Refusal>
-        ensures told { IfOk result (λ reply. Tells (Call.Put name (arc_value unit)) (Reply.Put reply) self.old self.new) }
+        ensures told { IfOk result (λ reply. IsAnswered (Call.Put name (arc_value unit)) (Reply.Put reply) self.old self.new) }
         ensures refused { OnErr result (self.new ≡ self.old) }
         ensures below { OnOk result (length self.old.entries < self.old.capacity) }
         ensures full { IfErr result (λ r. r ≡ Refusal.HistoryFull → length self.old.entries ≡ self.old.capacity) }
@@ -107,7 +109,7 @@ impl Session {
     /// entries as it may have, where no call is taken, and with `NoMemory` only where memory was refused; the session
     /// and the history are then as they were.
     pub fn ask(&mut self, name: &Name) -> Result<Arc<Outcome, Global>, Refusal>
-        ensures told { IfOk result (λ outcome. Tells (Call.Ask name.now) (Reply.Outcome (arc_value outcome)) self.old self.new) }
+        ensures told { IfOk result (λ outcome. IsAnswered (Call.Ask name.now) (Reply.Outcome (arc_value outcome)) self.old self.new) }
         ensures refused { OnErr result (self.new ≡ self.old) }
         ensures below { OnOk result (length self.old.entries < self.old.capacity) }
         ensures full { IfErr result (λ r. r ≡ Refusal.HistoryFull → length self.old.entries ≡ self.old.capacity) }

@@ -1,6 +1,7 @@
--- What printing and reading are to each other, and where faults stand.
+-- What printing and reading are to each other, where faults stand, and what the order of names tells.
 use Rattle.std.specs.Prelude.{◌≡◌, ◌≢◌, ℕ, ◌+◌, ◌≤◌, List, [], ◌∷◌, ◌++◌, length, map, take, drop, Option, Some, None, Result, Ok, Err}
 use Rattle.std.specs.List.{All}
+use Rattle.std.specs.declared.cmp.Ordering.TheVariants.{Equal}
 use Rattle.bc_syntax.specs.declared.syntax.Body.{Body}
 use Rattle.bc_syntax.specs.declared.syntax.Declaration.{Declaration}
 use Rattle.bc_syntax.specs.Fits.{Fits, TypesFit}
@@ -10,8 +11,13 @@ use Rattle.bc_print.specs.Spelling.{unit, types}
 use Rattle.bc_tokens.specs.Token.{Placed, Tokens, lexeme, tokens}
 use Rattle.bc_text.specs.declared.fault.ReadFault.{ReadFault}
 use Rattle.bc_text.specs.declared.fault.ReadFault.TheVariants as faults
+use Rattle.bc_text.specs.Names.{NameParts, name_order}
 use Rattle.bc_text.specs.Spells.{Spells, SpellsTypes}
 use Rattle.bc_text.specs.Reading.{read, read_types}
+
+-- two names that their order holds equal are one name
+abbrev pub NamesAreToldApart : Type 0
+NamesAreToldApart = (a b : NameParts) → name_order a b ≡ Equal → a ≡ b
 
 -- what is printed of a unit spells it, where it is no longer than texts are
 abbrev pub PrintedIsSpelled : Type 0

@@ -1,6 +1,11 @@
 //! Laws of the definitions, each the contract of a function that does nothing.
 ghost use Rattle.bc_text.specs.Reading.{read, read_types};
-ghost use Rattle.bc_text.specs.Laws.{PrintedIsSpelled, PrintedIsRead, PrintedTypesAreSpelled, PrintedTypesAreRead, RefusedHaveABadToken, NoUnitBegins, NoTypesBegin, FaultsAreLocal};
+ghost use Rattle.bc_text.specs.Laws.{NamesAreToldApart, PrintedIsSpelled, PrintedIsRead, PrintedTypesAreSpelled, PrintedTypesAreRead, RefusedHaveABadToken, NoUnitBegins, NoTypesBegin, FaultsAreLocal};
+
+/// Two names that their order holds equal are one name. Own.
+pub fn names_are_told_apart()
+    ensures { NamesAreToldApart }
+{}
 
 /// The printed text of a unit spells that unit and is read as it, where it is no longer than a text may be. Own.
 pub fn printed_units_are_read()

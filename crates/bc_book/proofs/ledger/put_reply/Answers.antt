@@ -1,6 +1,7 @@
 use Rattle.std.proofs.Common.{◌≡◌, sym, ◌∙◌, subst, arith}
 use Rattle.std.specs.BTreeMap.{btree_map_len}
 use Rattle.bc_syntax.specs.declared.syntax.Body.{Body}
+use Rattle.bc_book.specs.declared.ledger.TheConstants.{MOST_BODIES}
 use Rattle.bc_book.specs.Calls.{Suits, HoldsCount}
 use Rattle.bc_book.specs.Ledgers.{bodies_of}
 use Rattle.bc_book.proofs.Bodies.{counted, absent}
@@ -22,7 +23,7 @@ returns-else-count-lt-MOST_BODIES-clause-reply c =
     let many = c.if-count-lt-MOST_BODIES.false in
     let len = c.len-count.ensures.len in
     let few = c.requires in
-    let all : btree_map_len c.args.bodies.now ≡ 256 = omega (arith, many, len, few) in (
+    let all : btree_map_len c.args.bodies.now ≡ MOST_BODIES = omega (arith, many, len, few) in (
       subst (λ (b : Body). Suits b.header.kind c.args.name.now) c.body.ensures.value (c.suits.ensures.0 c.if-not-suits.false),
       absent _ (sym c.contains_key.ensures ∙ c.if-contains_key.false),
       subst (HoldsCount (bodies_of c.args.bodies.now)) all (counted c.args.bodies.now c.len-count.ensures.ordered),

@@ -14,7 +14,7 @@ loop-change-preserved c =
     let below : i < length (map seen changes) = omega (arith, length-map changes seen, c.loop-change-test.true) in
     let at = λ (d : Call). get_or-map seen changes i change d c.loop-change-test.true ∙ ap seen (sym c.change-item.is) in
     elim c.match-root_put.branch [
-      | in-Some+in_ok-insert w ↦ rw w.names-is (asked_more _ _ (seen change) _ _ _ c.loop-change.invariant below at (sym c.root_put.ensures ∙ w.in-Some.is) w.in_ok-insert.ensures.keys w.in_ok-insert.ensures.ordered)
+      | in-Some+in_ok-insert w ↦ rw w.names-is (asked_more c.names_are_told_apart.ensures _ _ (seen change) _ _ _ c.loop-change.invariant below at (sym c.root_put.ensures ∙ w.in-Some.is) w.in_ok-insert.ensures.keys w.in_ok-insert.ensures.ordered)
       | in_default w ↦ rw w.names-is (asked_same _ _ (seen change) _ c.loop-change.invariant below at (sym c.root_put.ensures ∙ w.in_default.is))
     ]
 

@@ -5,6 +5,7 @@ use Rattle.bc_book.specs.declared.call.Call.TheVariants.{Put}
 use Rattle.bc_book.specs.declared.call.Reply.TheVariants as replies
 use Rattle.bc_book.specs.Calls.{Bodies, after, after_put, count_of}
 use Rattle.bc_book.specs.Ledgers.{LedgerView, IsKept, AreCounts, bodies_of}
+use Rattle.bc_book.proofs.Histories.{legal_more}
 use Rattle.bc_book.proofs.Bodies.{kept_snoc, kept_same, same_bodies, same_reply}
 use Rattle.bc_book.proofs.ledger.Ledger.put.Goals as goal
 
@@ -31,4 +32,4 @@ returns-clause-ok c =
     let i = c.self.inside in
     let h = i.history.items in
     let right = same_reply _ (after h).bodies c.args.name _ c.args.unit c.put_reply-reply.result (same_bodies i.bodies (after h).bodies c.self.invariant.holds) c.get.ensures c.put_reply-reply.ensures.reply in
-    rw (← c.self.view_is) (record { right = right; capacity = refl; entries = c.enter.ensures.entries })
+    rw (← c.self.view_is) (record { right = right; capacity = refl; entries = c.enter.ensures.entries; legal = legal_more h _ _ c.self.invariant.legal (right, refl) c.enter.ensures.entries })
