@@ -10,6 +10,7 @@ ghost use Rattle.bc_cons.specs.Below.{IsRegionCount};
 use crate::bounds::{pairs_bound, types_bound};
 use crate::facts::{Constraint, Facts};
 use crate::pairs::push_pairs_at;
+use crate::requirements::Requirements;
 use crate::starts::start_rows;
 use bc_live::LiveSets;
 use bc_mir::{Constraint as RegionConstraint, GoodTypes, Step, Typed};
@@ -72,12 +73,18 @@ fn by_number(
         .collect(alloc)
 }
 
-/// What the values of a body's regions are made from, over the liveness that is handed in: the outlives
-/// constraints of its points, pairs of a region with itself left out, and the elements that each region starts
-/// with. Answers `AllocError` only where memory was refused. (RFC 2094, "Liveness constraints", "Subtyping
-/// constraints" and "Reborrow constraints"; that constraints hold at every point, and that `'static` starts with
-/// all ends, is own.)
-pub fn constraints(alloc: Global, typed: &Typed, live: &LiveSets) -> Result<Facts, AllocError>
+/// What the values of a body's regions are made from, over the liveness that is handed in and the requirements of the
+/// body's children, by their numbers, of which there are none until closures are read: the outlives constraints of its
+/// points, pairs of a region with itself left out, and the elements that each region starts with. Answers `AllocError` only
+/// where memory was refused. (RFC 2094, "Liveness constraints", "Subtyping constraints" and "Reborrow constraints"; that
+/// constraints hold at every point, and that `'static` starts with all ends, is own.)
+pub fn constraints(
+    alloc: Global,
+    typed: &Typed,
+    live: &LiveSets,
+    _kids: &[(u8, Requirements)],
+) -> Result<Facts, AllocError>
+    requires kids { length _kids.now ≡ 0 }
     ensures elements { IfOk result (λ facts. facts.elements ≡ length typed.now.steps + typed.now.universals) }
     ensures universals { IfOk result (λ facts. typed.now.universals ≤ length facts.starts) }
     ensures regions { IfOk result (λ facts. IsRegionCount typed.now (length facts.starts)) }

@@ -5,7 +5,9 @@ mod body;
 mod bounds;
 mod facts;
 mod pairs;
+mod requirements;
 mod starts;
 
 pub use body::constraints;
 pub use facts::{Constraint, Facts};
+pub use requirements::Requirements;

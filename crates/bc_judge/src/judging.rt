@@ -24,7 +24,7 @@ pub fn judge(
     ensures errors { IfOk result (λ verdict. AreErrors typed.now (holds scopes.now) (holds values.now) verdict.errors) }
     // An error stands in the list exactly where it is a conflict or a failure.
     ensures law { IfOk result (λ verdict. (e : AnError) → Contains verdict.errors e ↔ IsError typed.now (holds scopes.now) (holds values.now) e) }
-    ensures requirements { IfOk result (λ verdict. verdict.requirements ≡ []) }
+    ensures requirements { IfOk result (λ verdict. verdict.requirements.pairs ≡ []) }
 {
     let verdict = errors(alloc, typed, values, scopes.rows())?;
     Ok(verdict)

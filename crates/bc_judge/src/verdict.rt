@@ -10,10 +10,11 @@ use crate::conflicts::conflicts;
 use crate::error::BorrowError;
 use crate::known::{KnownRelations, known_relations};
 use crate::lifetimes::push_lifetimes;
+use bc_cons::Requirements;
 use bc_flow::BitSet;
 use bc_mir::Typed;
 use bc_solve::Values;
-use bc_syntax::{Outlives, Sequence};
+use bc_syntax::Sequence;
 use std::alloc::{AllocError, Global};
 
 /// What is found of a body: its errors in order, and the relations between its external regions that its creator
@@ -22,7 +23,7 @@ use std::alloc::{AllocError, Global};
 #[derive(Drop)]
 pub struct Verdict {
     pub errors: Sequence<BorrowError>,
-    pub requirements: Sequence<Outlives>,
+    pub requirements: Requirements,
 }
 
 /// The errors of a body in order, where it is known what outlives what.
@@ -53,12 +54,14 @@ pub fn errors(
 ) -> Result<Verdict, AllocError>
     ensures errors { IfOk result (λ verdict. AreErrors typed.now (holds scopes.now) (holds values.now) verdict.errors) }
     ensures law { IfOk result (λ verdict. (e : AnError) → Contains verdict.errors e ↔ IsError typed.now (holds scopes.now) (holds values.now) e) }
-    ensures requirements { IfOk result (λ verdict. verdict.requirements ≡ []) }
+    ensures requirements { IfOk result (λ verdict. verdict.requirements.pairs ≡ []) }
 {
     let known = known_relations(alloc, typed)?;
     let errors = errors_where(alloc, typed, values, scopes, &known)?;
     Ok(Verdict {
         errors: Sequence::from(errors),
-        requirements: Sequence::new(alloc),
+        requirements: Requirements {
+            pairs: Sequence::new(alloc),
+        },
     })
 }

@@ -48,18 +48,6 @@ fn inside_rows(
     Ok(rows)
 }
 
-/// The numbers below the size that are no members.
-fn complement(alloc: Global, set: &BitSet) -> Result<BitSet, AllocError>
-    ensures size { IfOk result (λ others. length others ≡ length set.now) }
-    ensures members { IfOk result (λ others. (i : ℕ) → i < length set.now → has others i ≡ not (has set.now i)) }
-{
-    let mut full = BitSet::new(alloc, set.size())?;
-    full.insert_below(set.size());
-    let mut others = BitSet::new(alloc, set.size())?;
-    let _grown = others.union_without(&full, set);
-    Ok(others)
-}
-
 fn complements(alloc: Global, size: usize, rows: &[BitSet]) -> Result<Vec<BitSet>, AllocError>
     requires { HaveSize size rows.now }
     ensures rows { IfOk result (λ others. length others.items ≡ length rows.now) }
@@ -68,7 +56,7 @@ fn complements(alloc: Global, size: usize, rows: &[BitSet]) -> Result<Vec<BitSet
 {
     let mut others = Vec::with_capacity(alloc, rows.len())?;
     for row in rows {
-        others.push(complement(alloc, row)?)?;
+        others.push(row.complement(alloc)?)?;
     }
     Ok(others)
 }

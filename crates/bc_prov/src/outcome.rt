@@ -42,7 +42,7 @@ pub fn errors_of(alloc: Global, typed: &Typed) -> Result<Sequence<BorrowError>, 
     ensures { IfOk result (AreErrorsOf typed.now) }
 {
     let live = live(alloc, typed)?;
-    let facts = constraints(alloc, typed, &live)?;
+    let facts = constraints(alloc, typed, &live, &[])?;
     let values = solve_components(alloc, &facts)?;
     let scopes = in_scope(alloc, typed, &values)?;
     let verdict = judge(alloc, typed, &values, &scopes)?;

@@ -73,9 +73,9 @@ fn measure_live<O: Write, E: Write>(
     out: &mut O,
     err: &mut E,
 ) -> anyhow::Result<()> {
-    let demanding = best_time(rt, || Ok(constraints(rt.alloc(), typed, live)?))?;
+    let demanding = best_time(rt, || Ok(constraints(rt.alloc(), typed, live, &[])?))?;
     write!(err, "constraints {demanding}, ")?;
-    let facts = constraints(rt.alloc(), typed, live)?;
+    let facts = constraints(rt.alloc(), typed, live, &[])?;
     measure_facts(rt, typed, &facts, out, err)
 }
 

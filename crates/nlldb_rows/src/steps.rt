@@ -26,7 +26,7 @@ const SECOND_OUTLIVES_THE_FIRST: &[u8] = b"fn <'a,'b> where 'b: 'a () -> int { b
 /// What is demanded of the regions of a unit.
 pub fn facts_of(alloc: Global, typed: &Typed) -> Result<Facts, AllocError> {
     let live = live(alloc, typed)?;
-    constraints(alloc, typed, &live)
+    constraints(alloc, typed, &live, &[])
 }
 
 /// The values of the regions of a unit.
