@@ -112,7 +112,7 @@ zip_push (x ∷ vs) [] v r e = absurd (omega arith)
 zip_push (x ∷ vs) (y ∷ rs) v r e = ap (λ (l : Marks). (x, y) ∷ l) (zip_push vs rs v r (omega arith))
 
 -- marks are their variances beside their regions
-zipped : (marks : Marks) → zip (variances_of marks) (regions_of marks) ≡ marks
+pub zipped : (marks : Marks) → zip (variances_of marks) (regions_of marks) ≡ marks
 zipped [] = refl
 zipped (m ∷ marks) = ap (λ (l : Marks). m ∷ l) (zipped marks)
 

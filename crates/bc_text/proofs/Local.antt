@@ -1,8 +1,14 @@
--- Parsers that answer by the tokens up to the next one, whatever comes behind it, and whose faults stand at that one.
-use Rattle.std.proofs.Common.{◌≡◌, ℕ, zero, suc, Bool, true, false, cond, List, [], ◌∷◌, ◌++◌, Option, Some, None, Result, Ok, Err, refl, sym, ap, ◌∙◌, subst, inl, inr, append_assoc}
-use Rattle.std.specs.Prelude.{◌⊎◌, ◌||◌, ◌&&◌, is_some, nat_le, length}
-use Rattle.std.specs.List.{All}
-use Rattle.std.proofs.lemmas.Bool.{cases_Bool}
+-- Parsers that answer by the tokens up to the next one, whatever comes behind it, whose faults stand at that one, and that take no
+-- tokens but those that begin a spelling.
+use Rattle.std.proofs.Common.{◌≡◌, ℕ, zero, suc, Bool, true, false, cond, List, [], ◌∷◌, ◌++◌, Option, Some, None, Result, Ok, Err, refl, sym, ap, ◌∙◌, subst, inl, inr, append_assoc, arith}
+use Rattle.std.specs.Prelude.{◌⊎◌, ◌||◌, ◌&&◌, ◌≤◌, is_some, nat_le, length, map}
+use Rattle.std.specs.List.{All, flat_map}
+use Rattle.std.proofs.lemmas.List.{append-nil, map-append}
+use Rattle.std.proofs.lemmas.Grind.{flat_map-append}
+use Rattle.std.proofs.lemmas.List.Concat.{flat_map-cons}
+use Rattle.bc_print.specs.Spelling.{commas, behind_commas, angled}
+use Rattle.bc_text.proofs.Begins.{sees_takes, numbered_takes}
+use Rattle.std.proofs.lemmas.Bool.{cases_Bool, le-leb}
 use Rattle.std.proofs.lemmas.List.Elements.{All-nil, All-cons, All-append}
 use Rattle.bc_syntax.specs.declared.symbol.Symbol.{Symbol}
 use Rattle.bc_syntax.specs.declared.symbol.Symbol.TheVariants.{Comma, Less, Greater}
@@ -11,7 +17,7 @@ use Rattle.bc_print.specs.Token.{Token, Fixed, Numbered, Word, Region, NotAscii,
 use Rattle.bc_tokens.specs.declared.refusal.Refusal.{Refusal}
 use Rattle.bc_tokens.specs.declared.refusal.Refusal.TheVariants as faults
 use Rattle.bc_tokens.specs.Token.{Placed, placed, Tokens}
-use Rattle.bc_tokens.specs.Parser.{Outcome, Parser, and_then, pure, refuse, past_limit, fail, first, after, position, fault_at, fault, is_fixed, sees, number_in, numbered_to, numbered, region_in, word_in, name_to, region_name, word, sees_numbered, sees_word, sees_region, after_symbol, eat, expect, is_end, at_end, declared_from, declared_turn, declared_until, declared_list, closed_list, opened_list, alike}
+use Rattle.bc_tokens.specs.Parser.{Outcome, Parser, and_then, ◌>>=◌, ◌<$>◌, pure, refuse, past_limit, fail, first, after, position, fault_at, fault, is_fixed, sees, number_in, numbered_to, numbered, region_in, word_in, name_to, region_name, word, sees_numbered, sees_word, sees_region, after_symbol, eat, expect, is_end, at_end, declared_from, declared_turn, declared_until, declared_list, closed_list, opened_list, alike}
 
 -- ---- steps
 
@@ -41,8 +47,22 @@ abbrev pub Stands : {A : Type 0} → Result A Refusal → Placed → Type 0
 Stands (Ok x) t = Unit {0}
 Stands (Err e) t = IsFaultOf e t
 
+-- the tokens without their places
+abbrev pub kinds : Tokens → List Token
+kinds ts = map (λ (t : Placed). t.token) ts
+
+-- These tokens begin the spelling of a value.
+abbrev pub Filled : {A : Type 0} → (A → Type 0) → (A → List Token) → List Token → Type 0
+Filled {A} P spell found = (x : A) × P x × (more : List Token) × (spell x ≡ found ++ more)
+
+-- What was taken spells the answer; before a fault, it begins to spell one.
+abbrev pub Begun : {A : Type 0} → (A → Type 0) → (A → List Token) → List Token → Result A Refusal → Type 0
+Begun P spell found (Ok x) = P x × (spell x ≡ found)
+Begun P spell found (Err e) = Filled P spell found
+
 -- The parser takes some of these tokens, and its answer is the same whatever comes behind the next; a fault stands at the next.
-pub record Steps {A : Type 0} (p : Parser A) (ts : Tokens) : Type 0 where
+-- Behind what was read before, what it takes spells a value or begins to.
+pub record Steps {A : Type 0} (P : A → Type 0) (p : Parser A) (before : List Token) (spell : A → List Token) (ts : Tokens) : Type 0 where
   pub taken : Tokens
   pub rest : Tokens
   pub is : ts ≡ taken ++ rest
@@ -50,19 +70,50 @@ pub record Steps {A : Type 0} (p : Parser A) (ts : Tokens) : Type 0 where
   pub answer : Result A Refusal
   pub same : (other : Tokens) → first other ≡ first rest → p (taken ++ other) ≡ with_rest answer other
   pub stands : Stands answer (first rest)
+  pub begun : Begun P spell (before ++ kinds taken) answer
 
-pub record IsLocal {A : Type 0} (p : Parser A) : Type 0 where
-  pub steps : (ts : Tokens) → Steps p ts
+pub record Parses {A : Type 0} (P : A → Type 0) (p : Parser A) (before : List Token) (spell : A → List Token) : Type 0 where
+  pub steps : (ts : Tokens) → Steps P p before spell ts
+
+abbrev pub Any : {A : Type 0} → A → Type 0
+Any x = Unit {0}
 
 at_front : (a b c : Tokens) → first b ≡ first c → first (a ++ b) ≡ first (a ++ c)
 at_front [] b c e = e
 at_front (t ∷ a) b c e = refl
 
-bound : {A B : Type 0} (p : Parser A) (f : A → Parser B) (ts taken rest : Tokens) → ts ≡ taken ++ rest → All IsTaken taken → (answer : Result A Refusal)
-    → ((other : Tokens) → first other ≡ first rest → p (taken ++ other) ≡ with_rest answer other) → Stands answer (first rest) → ((x : A) → IsLocal (f x)) → Steps (λ l. and_then (p l) f) ts
-bound p f ts taken rest is good (Err e) same stands next = record { taken = taken; rest = rest; is = is; good = good; answer = Err e; same = λ other h. ap (λ o. and_then o f) (same other h); stands = stands }
-bound p f ts taken rest is good (Ok x) same stands next =
-    let s = (next x).steps rest in
+filled_at : {A : Type 0} {P : A → Type 0} {spell : A → List Token} (before taken : List Token) (answer : Result A Refusal) → Begun P spell (before ++ taken) answer → Filled P spell before
+filled_at before taken (Ok x) b = (x, b.0, taken, b.1)
+filled_at before taken (Err e) b = (b.0, b.1, taken ++ b.2, b.3 ∙ append_assoc before taken b.2)
+
+-- a parser has a value
+pub filled : {A : Type 0} {P : A → Type 0} {p : Parser A} {before : List Token} {spell : A → List Token} → Parses P p before spell → Filled P spell before
+filled {before = before} l = let s = l.steps [] in filled_at before (kinds s.taken) s.answer s.begun
+
+here_begun : {A : Type 0} (P : A → Type 0) (spell : A → List Token) (before : List Token) (answer : Result A Refusal) → Begun P spell before answer → Begun P spell (before ++ kinds []) answer
+here_begun P spell before answer b = subst (λ (l : List Token). Begun P spell l answer) (sym (append-nil before)) b
+
+assoc4 : (a b c d : List Token) → (a ++ (b ++ c)) ++ d ≡ (a ++ b) ++ (c ++ d)
+assoc4 a b c d = ap (λ (l : List Token). l ++ d) (sym (append_assoc a b c)) ∙ append_assoc (a ++ b) c d
+
+bound : {A B : Type 0} {P : A → Type 0} {Q : B → Type 0} (p : Parser A) (f : A → Parser B) (before : List Token) (S : A → List Token) (U : B → List Token) (ts taken rest : Tokens) → ts ≡ taken ++ rest → All IsTaken taken → (answer : Result A Refusal)
+    → ((other : Tokens) → first other ≡ first rest → p (taken ++ other) ≡ with_rest answer other) → Stands answer (first rest) → Begun P S (kinds taken) answer → ((x : A) → P x → Parses Q (f x) (before ++ S x) U) → Steps Q (λ l. and_then (p l) f) before U ts
+bound p f before S U ts taken rest is good (Err e) same stands begun next =
+    let more = filled (next begun.0 begun.1) in
+    record {
+      taken = taken;
+      rest = rest;
+      is = is;
+      good = good;
+      answer = Err e;
+      same = λ other h. ap (λ o. and_then o f) (same other h);
+      stands = stands;
+      begun = (more.0, more.1, begun.2 ++ more.2, more.3 ∙ ap (λ (l : List Token). (before ++ l) ++ more.2) begun.3 ∙ assoc4 before (kinds taken) begun.2 more.2);
+    }
+bound {Q = Q} p f before S U ts taken rest is good (Ok x) same stands begun next =
+    let s = (next x begun.0).steps rest in
+    let whole : (before ++ S x) ++ kinds s.taken ≡ before ++ kinds (taken ++ s.taken) =
+    append_assoc before (S x) (kinds s.taken) ∙ ap (λ (l : List Token). before ++ (l ++ kinds s.taken)) begun.1 ∙ ap (λ (l : List Token). before ++ l) (sym (map-append (λ (t : Placed). t.token) taken s.taken)) in
     record {
       taken = taken ++ s.taken;
       rest = s.rest;
@@ -74,28 +125,44 @@ bound p f ts taken rest is good (Ok x) same stands next =
           ∙ ap (λ o. and_then o f) (same (s.taken ++ other) (at_front s.taken other s.rest h ∙ ap first (sym s.is)))
           ∙ s.same other h;
       stands = s.stands;
+      begun = subst (λ (l : List Token). Begun Q U l s.answer) whole s.begun;
     }
 
-pub then_steps : {A B : Type 0} {p : Parser A} {f : A → Parser B} {ts : Tokens} → Steps p ts → ((x : A) → IsLocal (f x)) → Steps (λ l. and_then (p l) f) ts
-then_steps {p = p} {f = f} {ts = ts} s next = bound p f ts s.taken s.rest s.is s.good s.answer s.same s.stands next
+pub then_steps : {A B : Type 0} {P : A → Type 0} {Q : B → Type 0} {p : Parser A} {f : A → Parser B} {before : List Token} {S : A → List Token} {U : B → List Token} {ts : Tokens}
+    → Steps P p [] S ts → ((x : A) → P x → Parses Q (f x) (before ++ S x) U) → Steps Q (λ l. and_then (p l) f) before U ts
+then_steps {p = p} {f = f} {before = before} {S = S} {U = U} {ts = ts} s next = bound p f before S U ts s.taken s.rest s.is s.good s.answer s.same s.stands s.begun next
 
 -- one parser after the other
-pub then : {A B : Type 0} {p : Parser A} {f : A → Parser B} → IsLocal p → ((x : A) → IsLocal (f x)) → IsLocal (λ ts. and_then (p ts) f)
+pub then : {A B : Type 0} {P : A → Type 0} {Q : B → Type 0} {p : Parser A} {f : A → Parser B} {before : List Token} {S : A → List Token} {U : B → List Token}
+    → Parses P p [] S → ((x : A) → P x → Parses Q (f x) (before ++ S x) U) → Parses Q (λ ts. and_then (p ts) f) before U
 then one next = record { steps = λ ts. then_steps (one.steps ts) next }
 
-pub pure_is_local : {A : Type 0} (x : A) → IsLocal (pure x)
-pure_is_local x = record { steps = λ ts. record { taken = []; rest = ts; is = refl; good = All-nil IsTaken; answer = Ok x; same = λ other h. refl; stands = tt } }
+pub gives : {A : Type 0} {P : A → Type 0} {before : List Token} {spell : A → List Token} (x : A) → P x → spell x ≡ before → Parses P (pure x) before spell
+gives {P = P} {before = before} {spell = spell} x h e = record { steps = λ ts. record { taken = []; rest = ts; is = refl; good = All-nil IsTaken; answer = Ok x; same = λ other k. refl; stands = tt; begun = (h, e ∙ sym (append-nil before)) } }
 
-pub refuse_is_local : {A : Type 0} → IsLocal (refuse {A = A})
+pub refuses : {A : Type 0} {P : A → Type 0} {before : List Token} {spell : A → List Token} → Filled P spell before → Parses P (refuse {A = A}) before spell
 unfolding fault
-refuse_is_local = record { steps = λ ts. record { taken = []; rest = ts; is = refl; good = All-nil IsTaken; answer = Err (fault ts); same = λ other h. ap (λ (t : Placed). Err (fault_at t.token t.at)) h; stands = inl refl } }
+refuses {P = P} {before = before} {spell = spell} some = record { steps = λ ts. record { taken = []; rest = ts; is = refl; good = All-nil IsTaken; answer = Err (fault ts); same = λ other h. ap (λ (t : Placed). Err (fault_at t.token t.at)) h; stands = inl refl; begun = here_begun P spell before (Err (fault ts)) some } }
 
--- a choice that is made already
-pub either : {A : Type 0} {p q : Parser A} (b : Bool) → IsLocal p → IsLocal q → IsLocal (cond b p q)
-either true l k = l
-either false l k = k
+-- the same behind other tokens
+pub moved : {A : Type 0} {P : A → Type 0} {p : Parser A} {before : List Token} {spell : A → List Token} {after : List Token} → before ≡ after → Parses P p before spell → Parses P p after spell
+moved {P = P} {p = p} {spell = spell} e l = subst (λ (b : List Token). Parses P p b spell) e l
 
-pub either_steps : {A : Type 0} {p q : Parser A} {ts : Tokens} (b : Bool) → Steps p ts → Steps q ts → Steps (λ l. cond b (p l) (q l)) ts
+behind_begun : {A : Type 0} {P : A → Type 0} (S : A → List Token) {U : A → List Token} (before taken : List Token) (answer : Result A Refusal) → ((x : A) → P x → U x ≡ before ++ S x) → Begun P S taken answer → Begun Any U (before ++ taken) answer
+behind_begun S before taken (Ok x) is b = (tt, is x b.0 ∙ ap (λ (l : List Token). before ++ l) b.1)
+behind_begun S before taken (Err e) is b = (b.0, tt, b.2, is b.0 b.1 ∙ ap (λ (l : List Token). before ++ l) b.3 ∙ sym (append_assoc before taken b.2))
+
+-- behind some tokens a value is spelled in another way
+pub behind : {A : Type 0} {P : A → Type 0} {p : Parser A} {before : List Token} {S U : A → List Token} → Parses P p [] S → ((x : A) → P x → U x ≡ before ++ S x) → Parses Any p before U
+behind {before = before} {S = S} l is = record {
+  steps = λ ts. let s = l.steps ts in record { taken = s.taken; rest = s.rest; is = s.is; good = s.good; answer = s.answer; same = s.same; stands = s.stands; begun = behind_begun S before (kinds s.taken) s.answer is s.begun };
+}
+
+-- what is read, and what is made of it
+pub made : {A B : Type 0} {P : A → Type 0} {p : Parser A} {before : List Token} {S : A → List Token} {U : B → List Token} (f : A → B) → Parses P p [] S → ((x : A) → P x → U (f x) ≡ before ++ S x) → Parses Any (f <$> p) before U
+made f one is = then one (λ x h. gives (f x) tt (is x h))
+
+pub either_steps : {A : Type 0} {P : A → Type 0} {p q : Parser A} {before : List Token} {spell : A → List Token} {ts : Tokens} (b : Bool) → Steps P p before spell ts → Steps P q before spell ts → Steps P (λ l. cond b (p l) (q l)) before spell ts
 either_steps true s r = s
 either_steps false s r = r
 
@@ -123,10 +190,10 @@ chosen_false : {A : Type 0} (b : Bool) (x y : A) → b ≡ false → cond b x y 
 chosen_false true x y e = absurd cc
 chosen_false false x y e = refl
 
-seen_again : {A : Type 0} {p : Parser A} {b : Tokens → Bool} (looks : Looks b) (ts : Tokens) (s : Steps p ts) (other : Tokens) → first other ≡ first s.rest → b (s.taken ++ other) ≡ b ts
+seen_again : {A : Type 0} {P : A → Type 0} {p : Parser A} {before : List Token} {spell : A → List Token} {b : Tokens → Bool} (looks : Looks b) (ts : Tokens) (s : Steps P p before spell ts) (other : Tokens) → first other ≡ first s.rest → b (s.taken ++ other) ≡ b ts
 seen_again looks ts s other h = looks.same ts (s.taken ++ other) (at_front s.taken other s.rest h ∙ ap first (sym s.is))
 
-pub seen_steps : {A : Type 0} {p q : Parser A} {b : Tokens → Bool} → Looks b → (ts : Tokens) → (b ts ≡ true → Steps p ts) → Steps q ts → Steps (λ l. cond (b l) (p l) (q l)) ts
+pub seen_steps : {A : Type 0} {P : A → Type 0} {p q : Parser A} {before : List Token} {spell : A → List Token} {b : Tokens → Bool} → Looks b → (ts : Tokens) → (b ts ≡ true → Steps P p before spell ts) → Steps P q before spell ts → Steps P (λ l. cond (b l) (p l) (q l)) before spell ts
 seen_steps {p = p} {q = q} {b = b} looks ts one two =
     elim (cases_Bool (b ts)) [
       | inl found ↦ let s = one found in record {
@@ -137,6 +204,7 @@ seen_steps {p = p} {q = q} {b = b} looks ts one two =
         answer = s.answer;
         same = λ other h. chosen_true (b (s.taken ++ other)) _ _ (seen_again looks ts s other h ∙ found) ∙ s.same other h;
         stands = s.stands;
+        begun = s.begun;
       }
       | inr unseen ↦ let s = two in record {
         taken = s.taken;
@@ -146,18 +214,19 @@ seen_steps {p = p} {q = q} {b = b} looks ts one two =
         answer = s.answer;
         same = λ other h. chosen_false (b (s.taken ++ other)) _ _ (seen_again looks ts s other h ∙ unseen) ∙ s.same other h;
         stands = s.stands;
+        begun = s.begun;
       }
     ]
 
 -- a choice by the next token, where the first parser is called on no other
-pub seen : {A : Type 0} {p q : Parser A} {b : Tokens → Bool} → Looks b → ((ts : Tokens) → b ts ≡ true → Steps p ts) → IsLocal q → IsLocal (λ ts. cond (b ts) (p ts) (q ts))
+pub seen : {A : Type 0} {P : A → Type 0} {p q : Parser A} {before : List Token} {spell : A → List Token} {b : Tokens → Bool} → Looks b → ((ts : Tokens) → b ts ≡ true → Steps P p before spell ts) → Parses P q before spell → Parses P (λ ts. cond (b ts) (p ts) (q ts)) before spell
 seen looks one two = record { steps = λ ts. seen_steps looks ts (one ts) (two.steps ts) }
 
-pub if_seen : {A : Type 0} {p q : Parser A} {b : Tokens → Bool} → Looks b → IsLocal p → IsLocal q → IsLocal (λ ts. cond (b ts) (p ts) (q ts))
+pub if_seen : {A : Type 0} {P : A → Type 0} {p q : Parser A} {before : List Token} {spell : A → List Token} {b : Tokens → Bool} → Looks b → Parses P p before spell → Parses P q before spell → Parses P (λ ts. cond (b ts) (p ts) (q ts)) before spell
 if_seen looks one two = seen looks (λ ts found. one.steps ts) two
 
-pub past : {A : Type 0} (ts : Tokens) → is_taken (first ts).token ≡ true → Steps (past_limit {A = A}) ts
-past ts h = record {
+pub past : {A : Type 0} {P : A → Type 0} {before : List Token} {spell : A → List Token} (ts : Tokens) → is_taken (first ts).token ≡ true → Filled P spell before → Steps P (past_limit {A = A}) before spell ts
+past {P = P} {before = before} {spell = spell} ts h some = record {
   taken = [];
   rest = ts;
   is = refl;
@@ -165,11 +234,12 @@ past ts h = record {
   answer = Err (faults.Limit (position ts));
   same = λ other h. ap (λ (t : Placed). Err (faults.Limit t.at)) h;
   stands = inr (refl, grammar_at (first ts).token (first ts).at h);
+  begun = here_begun P spell before (Err (faults.Limit (position ts))) some;
 }
 
 -- no room is left
-pub if_past : {A : Type 0} {q : Parser A} {b : Tokens → Bool} → Looks b → IsLocal q → IsLocal (λ ts. cond (b ts) (past_limit ts) (q ts))
-if_past looks two = seen looks (λ ts found. past ts (looks.passes ts found)) two
+pub if_past : {A : Type 0} {P : A → Type 0} {q : Parser A} {before : List Token} {spell : A → List Token} {b : Tokens → Bool} → Looks b → Filled P spell before → Parses P q before spell → Parses P (λ ts. cond (b ts) (past_limit ts) (q ts)) before spell
+if_past looks some two = seen looks (λ ts found. past ts (looks.passes ts found) some) two
 
 is_fixed_taken : (symbol : Symbol) (token : Token) → is_fixed symbol token ≡ true → is_taken token ≡ true
 is_fixed_taken symbol (Fixed found) e = refl
@@ -246,34 +316,55 @@ where_looks {c = c} b two = record { same = λ ts other h. ap (λ y. b && y) (tw
 -- ---- parsers that take one token
 
 -- The parser takes the next token, or its fault stands there.
-pub record TakesOne {A : Type 0} (p : Parser A) : Type 0 where
+pub record TakesOne {A : Type 0} (p : Parser A) (spell : A → List Token) : Type 0 where
   pub read : Placed → Result A Refusal
   pub is : (ts : Tokens) → p ts ≡ with_rest (read (first ts)) (after ts)
   pub stands : (t : Placed) → Stands (read t) t
   pub takes : (t : Placed) (x : A) → read t ≡ Ok x → is_taken t.token ≡ true
+  pub spells : (t : Placed) (x : A) → read t ≡ Ok x → spell x ≡ t.token ∷ []
+  pub some : A
 
-nothing_read : {A : Type 0} {p : Parser A} (one : TakesOne p) (x : A) → one.read (placed Stray 0) ≡ Ok x → ⊥
+nothing_read : {A : Type 0} {p : Parser A} {spell : A → List Token} (one : TakesOne p spell) (x : A) → one.read (placed Stray 0) ≡ Ok x → ⊥
 nothing_read one x e = let bad : false ≡ true = one.takes (placed Stray 0) x e in absurd cc
 
 -- what it read of a token, it reads of that token again
-read_again : {A : Type 0} {p : Parser A} (one : TakesOne p) (ts : Tokens) (r : Result A Refusal) → one.read (first ts) ≡ r → (other : Tokens) → first other ≡ first ts → p other ≡ with_rest r (after other)
+read_again : {A : Type 0} {p : Parser A} {spell : A → List Token} (one : TakesOne p spell) (ts : Tokens) (r : Result A Refusal) → one.read (first ts) ≡ r → (other : Tokens) → first other ≡ first ts → p other ≡ with_rest r (after other)
 read_again one ts r e other h = one.is other ∙ ap (λ o. with_rest o (after other)) (ap one.read h ∙ e)
 
-one_steps : {A : Type 0} {p : Parser A} (one : TakesOne p) (ts : Tokens) (r : Result A Refusal) → one.read (first ts) ≡ r → Steps p ts
-one_steps one ts (Err e) is = record { taken = []; rest = ts; is = refl; good = All-nil IsTaken; answer = Err e; same = read_again one ts (Err e) is; stands = subst (λ o. Stands o (first ts)) is (one.stands (first ts)) }
+one_steps : {A : Type 0} {p : Parser A} {spell : A → List Token} (one : TakesOne p spell) (ts : Tokens) (r : Result A Refusal) → one.read (first ts) ≡ r → Steps Any p [] spell ts
+one_steps {spell = spell} one ts (Err e) is = record {
+  taken = [];
+  rest = ts;
+  is = refl;
+  good = All-nil IsTaken;
+  answer = Err e;
+  same = read_again one ts (Err e) is;
+  stands = subst (λ o. Stands o (first ts)) is (one.stands (first ts));
+  begun = (one.some, tt, spell one.some, refl);
+}
 one_steps one [] (Ok x) is = absurd (nothing_read one x is)
-one_steps one (t ∷ ts) (Ok x) is = record { taken = t ∷ []; rest = ts; is = refl; good = All-cons IsTaken t [] (one.takes t x is) (All-nil IsTaken); answer = Ok x; same = λ other h. read_again one (t ∷ ts) (Ok x) is (t ∷ other) refl; stands = tt }
+one_steps one (t ∷ ts) (Ok x) is = record {
+  taken = t ∷ [];
+  rest = ts;
+  is = refl;
+  good = All-cons IsTaken t [] (one.takes t x is) (All-nil IsTaken);
+  answer = Ok x;
+  same = λ other h. read_again one (t ∷ ts) (Ok x) is (t ∷ other) refl;
+  stands = tt;
+  begun = (tt, one.spells t x is);
+}
 
-pub one_is_local : {A : Type 0} {p : Parser A} → TakesOne p → IsLocal p
-one_is_local one = record { steps = λ ts. one_steps one ts (one.read (first ts)) refl }
+pub one_parses : {A : Type 0} {p : Parser A} {spell : A → List Token} → TakesOne p spell → Parses Any p [] spell
+one_parses one = record { steps = λ ts. one_steps one ts (one.read (first ts)) refl }
 
--- Behind a token that began at this place the parser is local, or it fails there.
-pub data Checked {A : Type 0} (p : Parser A) (at : ℕ) : Type 0 where
-  goes_on : IsLocal p → Checked p at
-  fails : ((ts : Tokens) → p ts ≡ Err (faults.Grammar at)) → Checked p at
+-- Behind a token that began at this place the parser goes on, or it fails there.
+pub data Checked {A : Type 0} (p : Parser A) (at : ℕ) (before : List Token) (spell : A → List Token) : Type 0 where
+  goes_on : Parses Any p before spell → Checked p at before spell
+  fails : ((ts : Tokens) → p ts ≡ Err (faults.Grammar at)) → Checked p at before spell
 
-checked_steps : {A B : Type 0} {p : Parser A} (q : ℕ → A → Parser B) (one : TakesOne p) (ts : Tokens) (r : Result A Refusal) → one.read (first ts) ≡ r → ((at : ℕ) (x : A) → Checked (q at x) at) → Steps (λ l. and_then (p l) (q (position l))) ts
-checked_steps q one ts (Err e) is next = record {
+checked_steps : {A B : Type 0} {p : Parser A} {S : A → List Token} {U : B → List Token} (some : B) (q : ℕ → A → Parser B) (one : TakesOne p S) (ts : Tokens) (r : Result A Refusal) → one.read (first ts) ≡ r → ((at : ℕ) (x : A) → Checked (q at x) at (S x) U)
+    → Steps Any (λ l. and_then (p l) (q (position l))) [] U ts
+checked_steps {U = U} some q one ts (Err e) is next = record {
   taken = [];
   rest = ts;
   is = refl;
@@ -281,9 +372,10 @@ checked_steps q one ts (Err e) is next = record {
   answer = Err e;
   same = λ other h. ap (λ o. and_then o (q (position other))) (read_again one ts (Err e) is other h);
   stands = subst (λ o. Stands o (first ts)) is (one.stands (first ts));
+  begun = (some, tt, U some, refl);
 }
-checked_steps q one [] (Ok x) is next = absurd (nothing_read one x is)
-checked_steps q one (t ∷ ts) (Ok x) is next =
+checked_steps some q one [] (Ok x) is next = absurd (nothing_read one x is)
+checked_steps {U = U} some q one (t ∷ ts) (Ok x) is next =
     elim (next t.at x) [
       | goes_on good ↦ let s = good.steps ts in record {
         taken = t ∷ s.taken;
@@ -293,6 +385,7 @@ checked_steps q one (t ∷ ts) (Ok x) is next =
         answer = s.answer;
         same = λ other h. ap (λ o. and_then o (q t.at)) (read_again one (t ∷ ts) (Ok x) is (t ∷ (s.taken ++ other)) refl) ∙ s.same other h;
         stands = s.stands;
+        begun = subst (λ (l : List Token). Begun Any U (l ++ kinds s.taken) s.answer) (one.spells t x is) s.begun;
       }
       | fails bad ↦ record {
         taken = [];
@@ -305,16 +398,17 @@ checked_steps q one (t ∷ ts) (Ok x) is next =
             ∙ ap (λ (u : Placed). q u.at x (after other)) h
             ∙ bad (after other);
         stands = inl (sym (grammar_at t.token t.at (one.takes t x is)));
+        begun = (some, tt, U some, refl);
       }
     ]
 
 -- what is read of one token is tried, and the parser goes on or fails at that token
-pub checked : {A B : Type 0} {p : Parser A} {q : ℕ → A → Parser B} → TakesOne p → ((at : ℕ) (x : A) → Checked (q at x) at) → IsLocal (λ ts. and_then (p ts) (q (position ts)))
-checked {q = q} one next = record { steps = λ ts. checked_steps q one ts (one.read (first ts)) refl next }
+pub checked : {A B : Type 0} {p : Parser A} {q : ℕ → A → Parser B} {S : A → List Token} {U : B → List Token} (some : B) → TakesOne p S → ((at : ℕ) (x : A) → Checked (q at x) at (S x) U) → Parses Any (λ ts. and_then (p ts) (q (position ts))) [] U
+checked {q = q} some one next = record { steps = λ ts. checked_steps some q one ts (one.read (first ts)) refl next }
 
 -- a side condition
-pub tried : {A : Type 0} {p : Parser A} (at : ℕ) (b : Bool) → IsLocal p → Checked (cond b p (fail at)) at
-tried at true l = goes_on l
+pub tried : {A : Type 0} {p : Parser A} {before : List Token} {spell : A → List Token} (at : ℕ) (b : Bool) → (b ≡ true → Parses Any p before spell) → Checked (cond b p (fail at)) at before spell
+tried at true l = goes_on (l refl)
 tried at false l = fails (λ ts. refl)
 
 -- ---- the primitives
@@ -334,17 +428,19 @@ expect_takes : (b : Bool) (e : Refusal) (x : Unit {0}) → cond b done (Err e) �
 expect_takes true e x h = refl
 expect_takes false e x h = absurd cc
 
-expect_one : (symbol : Symbol) → TakesOne (expect symbol)
+expect_one : (symbol : Symbol) → TakesOne (expect symbol) (λ _. Fixed symbol ∷ [])
 unfolding expect sees fault
 expect_one symbol = record {
   read = λ t. cond (is_fixed symbol t.token) done (Err (fault_at t.token t.at));
   is = λ ts. expected (sees symbol ts) tt (fault ts) (after ts);
   stands = λ t. expect_stands (is_fixed symbol t.token) t;
   takes = λ t x h. is_fixed_taken symbol t.token (expect_takes (is_fixed symbol t.token) (fault_at t.token t.at) x h);
+  spells = λ t x h. let b = sees_takes symbol (t ∷ []) (expect_takes (is_fixed symbol t.token) (fault_at t.token t.at) x h) in ap (λ k. k ∷ []) (sym b.0);
+  some = tt;
 }
 
-pub expect_is_local : (symbol : Symbol) → IsLocal (expect symbol)
-expect_is_local symbol = one_is_local (expect_one symbol)
+pub expects : (symbol : Symbol) → Parses Any (expect symbol) [] (λ _. Fixed symbol ∷ [])
+expects symbol = one_parses (expect_one symbol)
 
 -- what is found in a token, where it is within its limit
 abbrev within : {A : Type 0} → (A → Bool) → Option A → Placed → Result A Refusal
@@ -359,17 +455,23 @@ within_stands passes (Some x) t h = limit_stands (passes x) x t (h refl)
     limit_stands true x t h = tt
     limit_stands false x t h = inr (refl, grammar_at t.token t.at h)
 
-within_takes : {A : Type 0} (passes : A → Bool) (found : Option A) (t : Placed) (x : A) → within passes found t ≡ Ok x → is_some found ≡ true
+within_takes : {A : Type 0} (passes : A → Bool) (found : Option A) (t : Placed) (x : A) → within passes found t ≡ Ok x → found ≡ Some x
 within_takes passes None t x e = absurd cc
-within_takes passes (Some y) t x e = refl
+within_takes passes (Some y) t x e = passed (passes y) y x t e
+  where
+    passed : {A : Type 0} (b : Bool) (y x : A) (t : Placed) → cond b (Ok y) (Err (faults.Limit t.at)) ≡ Ok x → Some y ≡ Some x
+    passed true y x t e = let is : y ≡ x = cc in ap Some is
+    passed false y x t e = absurd cc
 
-found_one : {A : Type 0} {p : Parser A} (passes : A → Bool) (find : Token → Option A) → ((token : Token) → is_some (find token) ≡ true → is_taken token ≡ true)
-    → ((ts : Tokens) → p ts ≡ with_rest (within passes (find (first ts).token) (first ts)) (after ts)) → TakesOne p
-found_one passes find taken is = record {
+found_one : {A : Type 0} {p : Parser A} {spell : A → List Token} (some : A) (passes : A → Bool) (find : Token → Option A) → ((token : Token) → is_some (find token) ≡ true → is_taken token ≡ true)
+    → ((token : Token) (x : A) → find token ≡ Some x → spell x ≡ token ∷ []) → ((ts : Tokens) → p ts ≡ with_rest (within passes (find (first ts).token) (first ts)) (after ts)) → TakesOne p spell
+found_one some passes find taken spells is = record {
   read = λ t. within passes (find t.token) t;
   is = is;
   stands = λ t. within_stands passes (find t.token) t (taken t.token);
-  takes = λ t x e. taken t.token (within_takes passes (find t.token) t x e);
+  takes = λ t x e. taken t.token (ap is_some (within_takes passes (find t.token) t x e));
+  spells = λ t x e. spells t.token x (within_takes passes (find t.token) t x e);
+  some = some;
 }
 
 numbered_is : (limit : ℕ) (found : Option ℕ) (ts : Tokens) → numbered_to limit found ts ≡ with_rest (within (λ n. nat_le n limit) found (first ts)) (after ts)
@@ -382,22 +484,50 @@ unfolding fault
 name_is limit None ts = refl
 name_is limit (Some n) ts = expected (nat_le (length n) limit) n (faults.Limit (position ts)) (after ts)
 
-pub numbered_one : (k : Numbering) (limit : ℕ) → TakesOne (numbered k limit)
+number_spells : (k : Numbering) (token : Token) (n : ℕ) → number_in k token ≡ Some n → Numbered k n ∷ [] ≡ token ∷ []
 unfolding numbered
-numbered_one k limit = found_one (λ n. nat_le n limit) (number_in k) (number_taken k) (λ ts. numbered_is limit (number_in k (first ts).token) ts)
+number_spells k token n e =
+    let le : n ≤ n = omega arith in
+    let reads : numbered k n (placed token 0 ∷ []) ≡ Ok (n, []) = ap (λ o. numbered_to n o (placed token 0 ∷ [])) e ∙ rw (le-leb n n le) refl in
+    ap (λ u. u ∷ []) (sym (numbered_takes k n (placed token 0 ∷ []) (n, []) reads).0.0)
 
-pub region_name_one : TakesOne region_name
+region_spells : (token : Token) (name : List ℕ) → region_in token ≡ Some name → Region name ∷ [] ≡ token ∷ []
+region_spells (Region found) name e = let is : found ≡ name = cc in ap (λ (l : List ℕ). Region l ∷ []) (sym is)
+region_spells (Fixed symbol) name e = absurd cc
+region_spells (Numbered k n) name e = absurd cc
+region_spells (Word found) name e = absurd cc
+region_spells NotAscii name e = absurd cc
+region_spells Stray name e = absurd cc
+region_spells End name e = absurd cc
+
+word_spells : (token : Token) (name : List ℕ) → word_in token ≡ Some name → Word name ∷ [] ≡ token ∷ []
+word_spells (Word found) name e = let is : found ≡ name = cc in ap (λ (l : List ℕ). Word l ∷ []) (sym is)
+word_spells (Fixed symbol) name e = absurd cc
+word_spells (Numbered k n) name e = absurd cc
+word_spells (Region found) name e = absurd cc
+word_spells NotAscii name e = absurd cc
+word_spells Stray name e = absurd cc
+word_spells End name e = absurd cc
+
+pub numbered_one : (k : Numbering) (limit : ℕ) → TakesOne (numbered k limit) (λ m. Numbered k m ∷ [])
+unfolding numbered
+numbered_one k limit = found_one 0 (λ n. nat_le n limit) (number_in k) (number_taken k) (number_spells k) (λ ts. numbered_is limit (number_in k (first ts).token) ts)
+
+pub region_name_one : TakesOne region_name (λ (l : List ℕ). Region l ∷ [])
 unfolding region_name
-region_name_one = found_one (λ (n : List ℕ). nat_le (length n) 16) region_in region_taken (λ ts. name_is 16 (region_in (first ts).token) ts)
+region_name_one = found_one [] (λ (n : List ℕ). nat_le (length n) 16) region_in region_taken region_spells (λ ts. name_is 16 (region_in (first ts).token) ts)
 
-pub word_one : TakesOne word
+pub word_one : TakesOne word (λ (l : List ℕ). Word l ∷ [])
 unfolding word
-word_one = found_one (λ (n : List ℕ). nat_le (length n) 32) word_in word_taken (λ ts. name_is 32 (word_in (first ts).token) ts)
+word_one = found_one [] (λ (n : List ℕ). nat_le (length n) 32) word_in word_taken word_spells (λ ts. name_is 32 (word_in (first ts).token) ts)
 
-pub numbered_is_local : (k : Numbering) (limit : ℕ) → IsLocal (numbered k limit)
-numbered_is_local k limit = one_is_local (numbered_one k limit)
+pub numbers : (k : Numbering) (limit : ℕ) → Parses Any (numbered k limit) [] (λ m. Numbered k m ∷ [])
+numbers k limit = one_parses (numbered_one k limit)
 
-eat_steps : (symbol : Symbol) (ts : Tokens) (b : Bool) → sees symbol ts ≡ b → Steps (eat symbol) ts
+abbrev pub eaten : Symbol → Bool → List Token
+eaten symbol b = cond b (Fixed symbol ∷ []) []
+
+eat_steps : (symbol : Symbol) (ts : Tokens) (b : Bool) → sees symbol ts ≡ b → Steps Any (eat symbol) [] (eaten symbol) ts
 unfolding sees after_symbol
 eat_steps symbol ts false e = record {
   taken = [];
@@ -407,14 +537,32 @@ eat_steps symbol ts false e = record {
   answer = Ok false;
   same = λ other h. let unseen : sees symbol other ≡ false = ap (λ (t : Placed). is_fixed symbol t.token) h ∙ e in rw unseen refl;
   stands = tt;
+  begun = (tt, refl);
 }
 eat_steps symbol [] true e = absurd cc
-eat_steps symbol (t ∷ ts) true e = record { taken = t ∷ []; rest = ts; is = refl; good = All-cons IsTaken t [] (is_fixed_taken symbol t.token e) (All-nil IsTaken); answer = Ok true; same = λ other h. rw e refl; stands = tt }
+eat_steps symbol (t ∷ ts) true e = record {
+  taken = t ∷ [];
+  rest = ts;
+  is = refl;
+  good = All-cons IsTaken t [] (is_fixed_taken symbol t.token e) (All-nil IsTaken);
+  answer = Ok true;
+  same = λ other h. rw e refl;
+  stands = tt;
+  begun = (tt, ap (λ k. k ∷ []) (sym (sees_takes symbol (t ∷ ts) e).0));
+}
 
-pub eat_is_local : (symbol : Symbol) → IsLocal (eat symbol)
-eat_is_local symbol = record { steps = λ ts. eat_steps symbol ts (sees symbol ts) refl }
+pub eats : (symbol : Symbol) → Parses Any (eat symbol) [] (eaten symbol)
+eats symbol = record { steps = λ ts. eat_steps symbol ts (sees symbol ts) refl }
 
-end_steps : (ts : Tokens) (b : Bool) → is_end (first ts).token ≡ b → Steps at_end ts
+either : {A : Type 0} {P : A → Type 0} {p q : Parser A} {before : List Token} {spell : A → List Token} (symbol : Symbol) (b : Bool) → Parses P p (before ++ Fixed symbol ∷ []) spell → Parses P q before spell → Parses P (cond b p q) (before ++ eaten symbol b) spell
+either symbol true one two = one
+either {before = before} symbol false one two = moved (sym (append-nil before)) two
+
+-- a choice by an optional symbol
+pub optional : {A : Type 0} {P : A → Type 0} {p q : Parser A} {before : List Token} {spell : A → List Token} (symbol : Symbol) → Parses P p (before ++ Fixed symbol ∷ []) spell → Parses P q before spell → Parses P (eat symbol >>= λ found. cond found p q) before spell
+optional symbol one two = then (eats symbol) (λ found _. either symbol found one two)
+
+end_steps : (ts : Tokens) (b : Bool) → is_end (first ts).token ≡ b → Steps Any at_end [] (λ _. []) ts
 unfolding at_end fault
 end_steps ts true e = record {
   taken = [];
@@ -424,6 +572,7 @@ end_steps ts true e = record {
   answer = Ok tt;
   same = λ other h. chosen_true (is_end (first other).token) _ _ (ap (λ (t : Placed). is_end t.token) h ∙ e);
   stands = tt;
+  begun = (tt, refl);
 }
 end_steps ts false e = record {
   taken = [];
@@ -433,39 +582,74 @@ end_steps ts false e = record {
   answer = Err (fault ts);
   same = λ other h. chosen_false (is_end (first other).token) _ _ (ap (λ (t : Placed). is_end t.token) h ∙ e) ∙ ap (λ (t : Placed). Err (fault_at t.token t.at)) h;
   stands = inl refl;
+  begun = (tt, tt, [], refl);
 }
 
-pub end_is_local : IsLocal at_end
-end_is_local = record { steps = λ ts. end_steps ts (is_end (first ts).token) refl }
+pub ends : Parses Any at_end [] (λ _. [])
+ends = record { steps = λ ts. end_steps ts (is_end (first ts).token) refl }
 
 -- ---- lists
 
-module _ {A : Type 0} {begins : Tokens → Bool} (looks : Looks begins) where
-  module _ {item : List A → Parser A} (items : (found : List A) → IsLocal (item found)) where
-    pub declared_from_is_local : (room : ℕ) (found : List A) → IsLocal (declared_from begins item room found)
+abbrev lead : {A : Type 0} → (A → List Token) → List A → List Token
+lead spell [] = []
+lead spell (x ∷ xs) = commas spell (x ∷ xs) ++ Fixed Comma ∷ []
+
+pub one_more : {A : Type 0} (spell : A → List Token) (xs : List A) (x : A) → flat_map spell (xs ++ x ∷ []) ≡ flat_map spell xs ++ spell x
+one_more spell xs x = flat_map-append spell xs (x ∷ []) ∙ ap (λ (l : List Token). flat_map spell xs ++ l) (flat_map-cons spell x [] ∙ append-nil (spell x))
+
+commas_more : {A : Type 0} (spell : A → List Token) (xs : List A) (x : A) → commas spell (xs ++ x ∷ []) ≡ lead spell xs ++ spell x
+commas_more spell [] x = append-nil (spell x)
+commas_more spell (y ∷ xs) x =
+    ap (λ (l : List Token). spell y ++ l) (one_more (λ z. Fixed Comma ∷ spell z) xs x)
+    ∙ sym (append_assoc (spell y) (behind_commas spell xs) (Fixed Comma ∷ spell x))
+    ∙ sym (append_assoc (commas spell (y ∷ xs)) (Fixed Comma ∷ []) (spell x))
+
+lead_more : {A : Type 0} (spell : A → List Token) (xs : List A) (x : A) → lead spell (xs ++ x ∷ []) ≡ (lead spell xs ++ spell x) ++ Fixed Comma ∷ []
+lead_more spell [] x = ap (λ (l : List Token). l ++ Fixed Comma ∷ []) (commas_more spell [] x)
+lead_more spell (y ∷ xs) x = ap (λ (l : List Token). l ++ Fixed Comma ∷ []) (commas_more spell (y ∷ xs) x)
+
+-- a list with an item
+abbrev pub HasItem : {A : Type 0} → List A → Type 0
+HasItem {A} xs = (x : A) × (rest : List A) × (xs ≡ x ∷ rest)
+
+has_item : {A : Type 0} (xs : List A) (x : A) → HasItem (xs ++ x ∷ [])
+has_item [] x = (x, [], refl)
+has_item (y ∷ xs) x = (y, xs ++ x ∷ [], refl)
+
+module _ {A : Type 0} {begins : Tokens → Bool} (looks : Looks begins) {spell : A → List Token} where
+  module _ {item : List A → Parser A} (items : (found : List A) → Parses Any (item found) [] spell) where
+    pub separated : (room : ℕ) (found : List A) → Parses HasItem (declared_from begins item room found) (lead spell found) (commas spell)
     unfolding declared_from declared_turn
-    declared_from_is_local zero found = if_past looks refuse_is_local
-    declared_from_is_local (suc room) found = then (items found) (λ x. then (eat_is_local Comma) (λ more. either more (declared_from_is_local room (found ++ x ∷ [])) (pure_is_local (found ++ x ∷ []))))
+    separated zero found =
+        let x = (filled (items found)).0 in
+        let some : Filled HasItem (commas spell) (lead spell found) = (found ++ x ∷ [], has_item found x, spell x, commas_more spell found x) in
+        if_past looks some (refuses some)
+    separated (suc room) found =
+        then (items found) (λ x _. optional Comma (moved (lead_more spell found x) (separated room (found ++ x ∷ []))) (gives (found ++ x ∷ []) (has_item found x) (commas_more spell found x)))
 
-    pub declared_until_is_local : (limit : ℕ) (close : Symbol) → IsLocal (declared_until begins item limit close)
-    declared_until_is_local limit close = then (declared_from_is_local limit []) (λ xs. then (expect_is_local close) (λ _. pure_is_local xs))
+    pub closed : (limit : ℕ) (close : Symbol) → Parses HasItem (declared_until begins item limit close) [] (λ xs. commas spell xs ++ Fixed close ∷ [])
+    closed limit close = then (separated limit []) (λ xs h. then (expects close) (λ _ _. gives xs h refl))
 
-    pub declared_list_is_local : (limit : ℕ) → IsLocal (declared_list begins item limit)
+    angled_is : (xs : List A) → HasItem xs → angled spell xs ≡ Fixed Less ∷ (commas spell xs ++ Fixed Greater ∷ [])
+    angled_is [] h = let none = h.2 in absurd cc
+    angled_is (x ∷ xs) h = refl
+
+    pub in_angles : (limit : ℕ) → Parses Any (declared_list begins item limit) [] (angled spell)
     unfolding declared_list
-    declared_list_is_local limit = then (eat_is_local Less) (λ some. either some (declared_until_is_local limit Greater) (pure_is_local []))
+    in_angles limit = optional Less (behind (closed limit Greater) angled_is) (gives [] tt refl)
 
-  module _ {item : Parser A} (law : IsLocal item) where
-    items_alike : (found : List A) → IsLocal (alike item found)
+  module _ {item : Parser A} (law : Parses Any item [] spell) where
+    items_alike : (found : List A) → Parses Any (alike item found) [] spell
     unfolding alike
     items_alike found = law
 
-    pub angled_list_is_local : (limit : ℕ) → IsLocal (declared_list begins (alike item) limit)
-    angled_list_is_local limit = declared_list_is_local items_alike limit
+    pub alike_in_angles : (limit : ℕ) → Parses Any (declared_list begins (alike item) limit) [] (angled spell)
+    alike_in_angles limit = in_angles items_alike limit
 
-    pub closed_list_is_local : (limit : ℕ) (close : Symbol) → IsLocal (closed_list begins item limit close)
+    pub alike_closed : (limit : ℕ) (close : Symbol) → Parses Any (closed_list begins item limit close) [] (λ xs. commas spell xs ++ Fixed close ∷ [])
     unfolding closed_list
-    closed_list_is_local limit close = then (eat_is_local close) (λ empty. either empty (pure_is_local []) (declared_until_is_local items_alike limit close))
+    alike_closed limit close = optional close (gives [] tt refl) (behind (closed items_alike limit close) (λ xs h. refl))
 
-    pub opened_list_is_local : (limit : ℕ) (opening : Symbol) → IsLocal (opened_list begins item limit opening)
+    pub alike_opened : (limit : ℕ) (opening : Symbol) (U : List A → List Token) → U [] ≡ [] → ((x : A) (xs : List A) → U (x ∷ xs) ≡ Fixed opening ∷ commas spell (x ∷ xs)) → Parses Any (opened_list begins item limit opening) [] U
     unfolding opened_list
-    opened_list_is_local limit opening = then (eat_is_local opening) (λ some. either some (declared_from_is_local items_alike limit []) (pure_is_local []))
+    alike_opened limit opening U none some = optional opening (behind (separated items_alike limit []) (λ xs h. ap U h.2 ∙ some h.0 h.1 ∙ ap (λ (l : List A). Fixed opening ∷ commas spell l) (sym h.2))) (gives [] tt none)

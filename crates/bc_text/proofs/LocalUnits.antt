@@ -1,7 +1,13 @@
--- The productions of a unit answer by the tokens up to the next one, and fail there.
-use Rattle.std.proofs.Common.{ℕ, zero, suc, ◌+◌, Bool, true, false, cond, List, [], ◌∷◌, ◌++◌, length, Option, Some, None, refl}
+-- The productions of a unit answer by the tokens up to the next one and fail there, behind tokens that begin a spelling.
+use Rattle.std.proofs.Common.{◌≡◌, ℕ, zero, suc, ◌+◌, Bool, true, false, List, [], ◌∷◌, ◌++◌, length, Option, Some, None, refl, sym, ap, ◌∙◌, append_assoc, arith}
 use Rattle.std.specs.Prelude.{nat_lt, ◌==◌}
-use Rattle.bc_syntax.specs.declared.symbol.Symbol.{Symbol}
+use Rattle.std.specs.List.{flat_map}
+use Rattle.std.proofs.lemmas.Bool.{eqb-true}
+use Rattle.std.proofs.lemmas.List.{append-nil}
+use Rattle.bc_print.specs.Token.{Token, Fixed, Numbered}
+use Rattle.bc_print.specs.Token.{Region as Named}
+use Rattle.bc_syntax.specs.declared.syntax.ItemName.{ItemName}
+use Rattle.bc_syntax.specs.declared.syntax.Call.{Call}
 use Rattle.bc_syntax.specs.declared.symbol.Symbol.TheVariants as s
 use Rattle.bc_print.specs.declared.numbering.Numbering.TheVariants as n
 use Rattle.bc_syntax.specs.declared.syntax.RegionName.{RegionName}
@@ -20,181 +26,214 @@ use Rattle.bc_syntax.specs.declared.syntax.Header.{Header}
 use Rattle.bc_syntax.specs.declared.syntax.Ty.{Ty}
 use Rattle.bc_syntax.specs.Fits.{is_new}
 use Rattle.bc_syntax.specs.Words.{is_word}
-use Rattle.bc_tokens.specs.Parser.{Parser, ◌>>=◌, ◌<$>◌, eat}
+use Rattle.bc_tokens.specs.Parser.{Parser}
 use Rattle.bc_text.specs.declared.points.Point.{Point}
 use Rattle.bc_text.specs.declared.points.Point.TheVariants as point_kinds
 use Rattle.bc_text.specs.Universals.{number_of}
 use Rattle.bc_text.specs.Reading as read
-use Rattle.bc_text.proofs.Local.{IsLocal, Looks, Checked, then, pure_is_local, refuse_is_local, either, if_seen, if_past, symbol_looks, numbered_looks, word_looks, region_looks, either_looks, where_looks, checked, tried, goes_on, fails, expect_is_local, eat_is_local, end_is_local, numbered_is_local, numbered_one, region_name_one, word_one, declared_list_is_local, angled_list_is_local, closed_list_is_local, opened_list_is_local}
-
--- a choice by an optional symbol
-pub optional : {A : Type 0} {p q : Parser A} (symbol : Symbol) → IsLocal p → IsLocal q → IsLocal (eat symbol >>= λ found. cond found p q)
-optional symbol one two = then (eat_is_local symbol) (λ found. either found one two)
-
--- what is read, and what is made of it
-pub made : {A B : Type 0} {p : Parser A} (f : A → B) → IsLocal p → IsLocal (f <$> p)
-made f one = then one (λ x. pure_is_local (f x))
+use Rattle.bc_print.specs.Spelling as spell
+use Rattle.bc_text.proofs.NumberLaws.{number_found}
+use Rattle.bc_text.proofs.Local.{Parses, Any, Filled, Looks, Checked, then, gives, refuses, moved, behind, made, optional, if_seen, if_past, symbol_looks, numbered_looks, word_looks, region_looks, either_looks, where_looks, checked, tried, goes_on, fails, expects, ends, numbers, numbered_one, region_name_one, word_one, one_more, in_angles, alike_in_angles, alike_closed, alike_opened}
 
 -- ---- regions and names
 
-declared_as_checked : (at : ℕ) (found : Option ℕ) → Checked (read.declared_as at found) at
-declared_as_checked at (Some number) = goes_on (pure_is_local number)
-declared_as_checked at None = fails (λ ts. refl)
+declared_as_checked : (regions : List RegionName) (at : ℕ) (name : List ℕ) (found : Option ℕ) → number_of regions name ≡ found → Checked (read.declared_as at found) at (Named name ∷ []) (spell.universal regions)
+declared_as_checked regions at name (Some number) e = goes_on (gives number tt (ap (λ (l : List ℕ). Named l ∷ []) (number_found regions name number e).0))
+declared_as_checked regions at name None e = fails (λ ts. refl)
+
+no_name : RegionName
+no_name = record { bytes = [] }
+
+pub no_item : ItemName
+no_item = record { bytes = [] }
 
 module _ (variables : Bool) (regions : List RegionName) where
-  pub universal : IsLocal (read.universal regions)
+  pub universal : Parses Any (read.universal regions) [] (spell.universal regions)
   unfolding read.universal
-  universal = checked region_name_one (λ at name. declared_as_checked at (number_of regions name))
+  universal = checked 0 region_name_one (λ at name. declared_as_checked regions at name (number_of regions name) refl)
 
-  region : IsLocal (read.region variables regions)
+  region : Parses Any (read.region variables regions) [] (spell.region regions)
   unfolding read.region
-  region = if_seen (where_looks variables (numbered_looks n.Variable)) (made _ (numbered_is_local n.Variable 1023)) (made _ universal)
+  region = if_seen (where_looks variables (numbered_looks n.Variable)) (made _ (numbers n.Variable 1023) (λ x _. refl)) (made _ universal (λ x _. refl))
 
   begins_region : Looks (read.begins_region variables)
   begins_region = either_looks region_looks (where_looks variables (numbered_looks n.Variable))
 
-  pub new_region : IsLocal (read.new_region regions)
+  pub new_region : Parses Any (read.new_region regions) [] spell.region_name
   unfolding read.new_region
-  new_region = checked region_name_one (λ at name. tried at (is_new regions (record { bytes = name })) (pure_is_local (record { bytes = name })))
+  new_region = checked no_name region_name_one (λ at name. tried at (is_new regions (record { bytes = name })) (λ _. gives (record { bytes = name }) tt refl))
 
-  pub item_name : IsLocal read.item_name
+  pub item_name : Parses Any read.item_name [] spell.item_name
   unfolding read.item_name
-  item_name = checked word_one (λ at name. tried at (is_word name) (pure_is_local (record { bytes = name })))
+  item_name = checked no_item word_one (λ at name. tried at (is_word name) (λ _. gives (record { bytes = name }) tt refl))
 
-  instance : IsLocal (read.instance variables regions)
+  instance : Parses Any (read.instance variables regions) [] (spell.instance regions)
   unfolding read.instance
-  instance = then item_name (λ name. then (angled_list_is_local begins_region region 15) (λ found. pure_is_local (record { name = name; regions = found })))
+  instance = then item_name (λ name _. then (alike_in_angles begins_region region 15) (λ found _. gives (record { name = name; regions = found }) tt refl))
 
   -- ---- types
 
-  mutability : IsLocal read.mutability
+  mutability : Parses Any read.mutability [] spell.mutability
   unfolding read.mutability
-  mutability = optional s.Mut (pure_is_local Mutable) (pure_is_local Shared)
+  mutability = optional s.Mut (gives Mutable tt refl) (gives Shared tt refl)
 
-  reference : IsLocal (read.reference variables regions)
+  reference : Parses Any (read.reference variables regions) [] (spell.reference regions)
   unfolding read.reference
-  reference = then region (λ r. then mutability (λ m. pure_is_local (record { region = r; mutability = m })))
+  reference = then region (λ r _. then mutability (λ m _. gives (record { region = r; mutability = m }) tt refl))
 
   pub begins_ty : Looks read.begins_ty
   begins_ty = either_looks (either_looks (symbol_looks s.Ampersand) (symbol_looks s.Int)) word_looks
 
-  base : IsLocal (read.base variables regions)
+  base : Parses Any (read.base variables regions) [] (spell.base regions)
   unfolding read.base
-  base = optional s.Int (pure_is_local bases.Int) (made _ instance)
+  base = optional s.Int (gives bases.Int tt refl) (made _ instance (λ x _. refl))
 
-  ty_from : (room : ℕ) (found : List Reference) → IsLocal (read.ty_from variables regions room found)
+  reference_more : (found : List Reference) (r : Reference) → flat_map (spell.behind regions) (found ++ r ∷ []) ≡ (flat_map (spell.behind regions) found ++ spell.symbol s.Ampersand) ++ spell.reference regions r
+  reference_more found r = one_more (spell.behind regions) found r ∙ sym (append_assoc (flat_map (spell.behind regions) found) (spell.symbol s.Ampersand) (spell.reference regions r))
+
+  ty_from : (room : ℕ) (found : List Reference) → Parses Any (read.ty_from variables regions room found) (flat_map (spell.behind regions) found) (spell.ty regions)
   unfolding read.ty_from read.ty_turn
-  ty_from zero found = if_past begins_ty refuse_is_local
-  ty_from (suc room) found = optional s.Ampersand (then reference (λ r. ty_from room (found ++ r ∷ []))) (made _ base)
+  ty_from zero found =
+      let some : Filled Any (spell.ty regions) (flat_map (spell.behind regions) found) = (record { references = found; base = bases.Int }, tt, spell.symbol s.Int, refl) in
+      if_past begins_ty some (refuses some)
+  ty_from (suc room) found = optional s.Ampersand (then reference (λ r _. moved (reference_more found r) (ty_from room (found ++ r ∷ [])))) (made _ base (λ x _. refl))
 
-  pub ty : IsLocal (read.ty variables regions)
+  pub ty : Parses Any (read.ty variables regions) [] (spell.ty regions)
   unfolding read.ty
   ty = ty_from 8 []
 
 -- ---- places and operands
 
+abbrev pub no_ty : Ty
+no_ty = record { references = []; base = bases.Int }
+
+abbrev pub no_block : Block
+no_block = record { statements = []; terminator = terminator_kinds.Return }
+
+step_more : (found : List Projection) (p : Projection) → flat_map spell.step (found ++ p ∷ []) ≡ (flat_map spell.step found ++ spell.symbol s.Dot) ++ spell.projection p
+step_more found p = one_more spell.step found p ∙ sym (append_assoc (flat_map spell.step found) (spell.symbol s.Dot) (spell.projection p))
+
+-- how a statement or a terminator is spelled
+abbrev point_text : List RegionName → Point → List Token
+point_text regions (point_kinds.Statement st) = spell.statement regions st
+point_text regions (point_kinds.Terminator t) = spell.terminator regions t
+
+blocks_more : (regions : List RegionName) (k m : ℕ) (found : List Block) (b : Block) → m ≡ k + length found → spell.blocks regions k (found ++ b ∷ []) ≡ spell.blocks regions k found ++ spell.block regions m b
+blocks_more regions k m [] b e = let is : m ≡ k = omega arith in append-nil (spell.block regions k b) ∙ ap (λ j. spell.block regions j b) (sym is)
+blocks_more regions k m (c ∷ found) b e =
+    let is : m ≡ (k + 1) + length found = omega arith in
+    ap (λ (l : List Token). spell.block regions k c ++ l) (blocks_more regions (k + 1) m found b is) ∙ sym (append_assoc (spell.block regions k c) (spell.blocks regions (k + 1) found) (spell.block regions m b))
+
 module _ (regions : List RegionName) (locals : ℕ) where
-  local : IsLocal (read.local locals)
+  local : Parses Any (read.local locals) [] (λ l. Numbered n.Local l ∷ [])
   unfolding read.local
-  local = checked (numbered_one n.Local 255) (λ at l. tried at (nat_lt l locals) (pure_is_local l))
+  local = checked 0 (numbered_one n.Local 255) (λ at l. tried at (nat_lt l locals) (λ _. gives l tt refl))
 
-  projection : IsLocal read.projection
+  projection : Parses Any read.projection [] spell.projection
   unfolding read.projection
-  projection = optional s.Star (pure_is_local Deref) (made _ (numbered_is_local n.Number 15))
+  projection = optional s.Star (gives Deref tt refl) (made _ (numbers n.Number 15) (λ x _. refl))
 
-  projections_from : (room : ℕ) (found : List Projection) → IsLocal (read.projections_from room found)
+  projections_from : (room : ℕ) (found : List Projection) → Parses Any (read.projections_from room found) (flat_map spell.step found) (flat_map spell.step)
   unfolding read.projections_from read.projections_turn
-  projections_from zero found = if_past (symbol_looks s.Dot) (pure_is_local found)
-  projections_from (suc room) found = optional s.Dot (then projection (λ p. projections_from room (found ++ p ∷ []))) (pure_is_local found)
+  projections_from zero found = if_past (symbol_looks s.Dot) (found, tt, [], sym (append-nil (flat_map spell.step found))) (gives found tt refl)
+  projections_from (suc room) found = optional s.Dot (then projection (λ p _. moved (step_more found p) (projections_from room (found ++ p ∷ [])))) (gives found tt refl)
 
-  place : IsLocal (read.place locals)
+  place : Parses Any (read.place locals) [] spell.place
   unfolding read.place
-  place = then local (λ l. then (projections_from 8 []) (λ ps. pure_is_local (record { local = l; projections = ps })))
+  place = then local (λ l _. then (projections_from 8 []) (λ ps _. gives (record { local = l; projections = ps }) tt refl))
 
-  moved : IsLocal (read.moved locals)
+  moved_operand : Parses Any (read.moved locals) [] spell.operand
   unfolding read.moved
-  moved = optional s.Move (made _ place) (made _ (numbered_is_local n.Number 4294967295))
+  moved_operand = optional s.Move (made _ place (λ x _. refl)) (made _ (numbers n.Number 4294967295) (λ x _. refl))
 
-  operand : IsLocal (read.operand locals)
+  operand : Parses Any (read.operand locals) [] spell.operand
   unfolding read.operand
-  operand = optional s.Copy (made _ place) moved
+  operand = optional s.Copy (made _ place (λ x _. refl)) moved_operand
 
   begins_operand : Looks read.begins_operand
   begins_operand = either_looks (either_looks (symbol_looks s.Copy) (symbol_looks s.Move)) (numbered_looks n.Number)
 
-  operands : IsLocal (read.operands locals)
+  operands : Parses Any (read.operands locals) [] spell.operands
   unfolding read.operands
-  operands = then (expect_is_local s.OpenParen) (λ _. closed_list_is_local begins_operand operand 16 s.CloseParen)
+  operands = then (expects s.OpenParen) (λ _ _. behind (alike_closed begins_operand operand 16 s.CloseParen) (λ x _. refl))
 
   -- ---- statements
 
-  borrow : IsLocal (read.borrow regions locals)
+  borrow : Parses Any (read.borrow regions locals) [] (spell.borrow regions)
   unfolding read.borrow
-  borrow = then (reference true regions) (λ r. then place (λ p. pure_is_local (record { reference = r; place = p })))
+  borrow = then (reference true regions) (λ r _. then place (λ p _. gives (record { reference = r; place = p }) tt refl))
 
-  aggregate : IsLocal (read.aggregate regions locals)
+  aggregate : Parses Any (read.aggregate regions locals) [] (spell.aggregate regions)
   unfolding read.aggregate
-  aggregate = then (instance true regions) (λ i. then operands (λ os. pure_is_local (record { instance = i; operands = os })))
+  aggregate = then (instance true regions) (λ i _. then operands (λ os _. gives (record { instance = i; operands = os }) tt refl))
 
-  created : IsLocal (read.created regions locals)
+  created : Parses Any (read.created regions locals) [] (spell.rvalue regions)
   unfolding read.created
-  created = if_seen word_looks (made _ aggregate) (made _ operand)
+  created = if_seen word_looks (made _ aggregate (λ x _. refl)) (made _ operand (λ x _. refl))
 
-  computed : IsLocal (read.computed regions locals)
+  computed : Parses Any (read.computed regions locals) [] (spell.rvalue regions)
   unfolding read.computed
-  computed = optional s.Calc (made _ operands) created
+  computed = optional s.Calc (made _ operands (λ x _. refl)) created
 
-  rvalue : IsLocal (read.rvalue regions locals)
+  rvalue : Parses Any (read.rvalue regions locals) [] (spell.rvalue regions)
   unfolding read.rvalue
-  rvalue = optional s.Ampersand (made _ borrow) computed
+  rvalue = optional s.Ampersand (made _ borrow (λ x _. refl)) computed
 
-  label : IsLocal read.label
+  label : Parses Any read.label [] spell.label
   unfolding read.label
-  label = numbered_is_local n.Label 255
+  label = numbers n.Label 255
 
-  called : (destination : Place) → IsLocal (read.called regions locals destination)
+  called : (destination : Place) → Parses (λ (c : Call). c.destination ≡ destination) (read.called regions locals destination) [] (spell.called regions)
   unfolding read.called
-  called destination = then (instance true regions) (λ i. then operands (λ os. then label (λ l. pure_is_local (record { destination = destination; function = i; operands = os; target = l }))))
+  called destination = then (instance true regions) (λ i _. then operands (λ os _. then label (λ l _.
+      gives (record { destination = destination; function = i; operands = os; target = l }) refl (sym (append_assoc (spell.instance regions i) (spell.operands os) (spell.label l))))))
 
-  value_of : (p : Place) → IsLocal (read.value_of regions locals p)
+  call_is : (p : Place) (c : Call) → c.destination ≡ p → spell.call regions c ≡ ((spell.place p ++ spell.symbol s.Equals) ++ spell.symbol s.Call) ++ spell.called regions c
+  call_is p c e =
+      ap (λ (q : Place). spell.place q ++ (spell.symbol s.Equals ++ (spell.symbol s.Call ++ spell.called regions c))) e
+      ∙ sym (append_assoc (spell.place p) (spell.symbol s.Equals) (spell.symbol s.Call ++ spell.called regions c))
+      ∙ sym (append_assoc (spell.place p ++ spell.symbol s.Equals) (spell.symbol s.Call) (spell.called regions c))
+
+  value_of : (p : Place) → Parses Any (read.value_of regions locals p) (spell.place p ++ spell.symbol s.Equals) (point_text regions)
   unfolding read.value_of
-  value_of p = optional s.Call (made _ (called p)) (made _ rvalue)
+  value_of p = optional s.Call (made _ (called p) (λ c h. call_is p c h)) (made _ rvalue (λ v _. sym (append_assoc (spell.place p) (spell.symbol s.Equals) (spell.rvalue regions v))))
 
-  assignment : IsLocal (read.assignment regions locals)
+  assignment : Parses Any (read.assignment regions locals) [] (point_text regions)
   unfolding read.assignment
-  assignment = then place (λ p. then (expect_is_local s.Equals) (λ _. value_of p))
+  assignment = then place (λ p _. then (expects s.Equals) (λ _ _. value_of p))
 
-  active : IsLocal (read.active regions locals)
+  active : Parses Any (read.active regions locals) [] (point_text regions)
   unfolding read.active
-  active = optional s.Nop (pure_is_local (point_kinds.Statement statement_kinds.Nop)) assignment
+  active = optional s.Nop (gives (point_kinds.Statement statement_kinds.Nop) tt refl) assignment
 
-  dropping : IsLocal (read.dropping regions locals)
+  dropping : Parses Any (read.dropping regions locals) [] (point_text regions)
   unfolding read.dropping
-  dropping = optional s.Drop (made _ place) active
+  dropping = optional s.Drop (made _ place (λ x _. refl)) active
 
-  dying : IsLocal (read.dying regions locals)
+  dying : Parses Any (read.dying regions locals) [] (point_text regions)
   unfolding read.dying
-  dying = optional s.Dead (made _ local) dropping
+  dying = optional s.Dead (made _ local (λ x _. refl)) dropping
 
-  condition : IsLocal (read.condition locals)
+  condition : Parses Any (read.condition locals) [] spell.condition
   unfolding read.condition
-  condition = then operand (λ o. then label (λ yes_label. then label (λ no_label. pure_is_local (record { operand = o; then = yes_label; otherwise = no_label }))))
+  condition = then operand (λ o _. then label (λ yes_label _. then label (λ no_label _.
+      gives (record { operand = o; then = yes_label; otherwise = no_label }) tt (sym (append_assoc (spell.operand o) (spell.label yes_label) (spell.label no_label))))))
 
-  branching : IsLocal (read.branching regions locals)
+  branching : Parses Any (read.branching regions locals) [] (point_text regions)
   unfolding read.branching
-  branching = optional s.If (made _ condition) dying
+  branching = optional s.If (made _ condition (λ x _. refl)) dying
 
-  going : IsLocal (read.going regions locals)
+  going : Parses Any (read.going regions locals) [] (point_text regions)
   unfolding read.going
-  going = optional s.Goto (made _ label) branching
+  going = optional s.Goto (made _ label (λ x _. refl)) branching
 
-  stopping : IsLocal (read.stopping regions locals)
+  stopping : Parses Any (read.stopping regions locals) [] (point_text regions)
   unfolding read.stopping
-  stopping = optional s.Stop (pure_is_local (read.ending terminator_kinds.Stop)) going
+  stopping = optional s.Stop (gives (read.ending terminator_kinds.Stop) tt refl) going
 
-  point : IsLocal (read.point regions locals)
+  point : Parses Any (read.point regions locals) [] (point_text regions)
   unfolding read.point
-  point = optional s.Return (pure_is_local (read.ending terminator_kinds.Return)) stopping
+  point = optional s.Return (gives (read.ending terminator_kinds.Return) tt refl) stopping
 
   begins_point : Looks read.begins_point
   begins_point =
@@ -203,88 +242,114 @@ module _ (regions : List RegionName) (locals : ℕ) where
 
   -- ---- blocks
 
-  goes_on_behind : (found : List Statement) (again : List Statement → Parser Block) → ((more : List Statement) → IsLocal (again more)) → (p : Point) → IsLocal (read.goes_on found again p)
-  goes_on_behind found again next (point_kinds.Terminator t) = pure_is_local (record { statements = found; terminator = t })
-  goes_on_behind found again next (point_kinds.Statement st) = then (expect_is_local s.Semicolon) (λ _. next (found ++ st ∷ []))
+  abbrev lines : List Statement → List Token
+  lines found = flat_map (spell.line regions) found
 
-  block_from : (room : ℕ) (found : List Statement) → IsLocal (read.block_from regions locals room found)
+  line_more : (found : List Statement) (st : Statement) → lines (found ++ st ∷ []) ≡ (lines found ++ spell.statement regions st) ++ spell.symbol s.Semicolon
+  line_more found st = one_more (spell.line regions) found st ∙ sym (append_assoc (lines found) (spell.statement regions st) (spell.symbol s.Semicolon))
+
+  goes_on_behind : (found : List Statement) (again : List Statement → Parser Block) → ((more : List Statement) → Parses Any (again more) (lines more) (spell.points regions)) → (p : Point) → Parses Any (read.goes_on found again p) (lines found ++ point_text regions p) (spell.points regions)
+  goes_on_behind found again next (point_kinds.Terminator t) = gives (record { statements = found; terminator = t }) tt refl
+  goes_on_behind found again next (point_kinds.Statement st) = then (expects s.Semicolon) (λ _ _. moved (line_more found st) (next (found ++ st ∷ [])))
+
+  block_from : (room : ℕ) (found : List Statement) → Parses Any (read.block_from regions locals room found) (lines found) (spell.points regions)
   unfolding read.block_from read.block_turn
-  block_from zero found = if_past begins_point refuse_is_local
-  block_from (suc room) found = then point (λ p. goes_on_behind found (read.block_from regions locals room) (block_from room) p)
+  block_from zero found =
+      let some : Filled Any (spell.points regions) (lines found) = (record { statements = found; terminator = terminator_kinds.Return }, tt, spell.symbol s.Return, refl) in
+      if_past begins_point some (refuses some)
+  block_from (suc room) found = then point (λ p _. goes_on_behind found (read.block_from regions locals room) (block_from room) p)
 
-  braced : (left : ℕ) → IsLocal (read.braced regions locals left)
+  braced : (left : ℕ) → Parses Any (read.braced regions locals left) [] (spell.braced regions)
   unfolding read.braced
-  braced left = then (expect_is_local s.OpenBrace) (λ _. then (block_from left []) (λ b. then (expect_is_local s.Semicolon) (λ _. then (expect_is_local s.CloseBrace) (λ _. pure_is_local b))))
+  braced left = then (expects s.OpenBrace) (λ _ _. then (block_from left []) (λ b _. then (expects s.Semicolon) (λ _ _. then (expects s.CloseBrace) (λ _ _.
+      gives b tt (ap (λ (l : List Token). Fixed s.OpenBrace ∷ l) (sym (append_assoc (spell.points regions b) (spell.symbol s.Semicolon) (spell.symbol s.CloseBrace))))))))
 
-  block : (number left : ℕ) → IsLocal (read.block regions locals number left)
+  block : (number left : ℕ) → Parses Any (read.block regions locals number left) [] (spell.block regions number)
   unfolding read.block read.label
-  block number left = checked (numbered_one n.Label 255) (λ at l. tried at (l == number) (braced left))
+  block number left = checked no_block (numbered_one n.Label 255) (λ at l. tried at (l == number) (λ e. behind (braced left) (λ b _. ap (λ k. Numbered n.Label k ∷ spell.braced regions b) (sym (eqb-true l number e)))))
 
-  blocks_turn : (again : ℕ → List Block → Parser (List Block)) → ((left : ℕ) (found : List Block) → IsLocal (again left found)) → (left : ℕ) (found : List Block) → IsLocal (read.blocks_turn regions locals again left found)
+  blocks_turn : (again : ℕ → List Block → Parser (List Block)) → ((left : ℕ) (found : List Block) → Parses Any (again left found) (spell.blocks regions 0 found) (spell.blocks regions 0)) → (left : ℕ) (found : List Block)
+      → Parses Any (read.blocks_turn regions locals again left found) (spell.blocks regions 0 found) (spell.blocks regions 0)
   unfolding read.blocks_turn
-  blocks_turn again next left found = then (block (length found) left) (λ b. next (read.left_behind left b) (found ++ b ∷ []))
+  blocks_turn again next left found = then (block (length found) left) (λ b _. moved (blocks_more regions 0 (length found) found b (omega arith)) (next (read.left_behind left b) (found ++ b ∷ [])))
 
-  blocks_from : (room left : ℕ) (found : List Block) → IsLocal (read.blocks_from regions locals room left found)
+  blocks_from : (room left : ℕ) (found : List Block) → Parses Any (read.blocks_from regions locals room left found) (spell.blocks regions 0 found) (spell.blocks regions 0)
   unfolding read.blocks_from
-  blocks_from zero left found = refuse_is_local
-  blocks_from (suc room) left found = if_seen (numbered_looks n.Label) (blocks_turn (read.blocks_from regions locals room) (blocks_from room) left found) (pure_is_local found)
+  blocks_from zero left found = refuses (found, tt, [], sym (append-nil (spell.blocks regions 0 found)))
+  blocks_from (suc room) left found = if_seen (numbered_looks n.Label) (blocks_turn (read.blocks_from regions locals room) (blocks_from room) left found) (gives found tt refl)
 
-  blocks : IsLocal (read.blocks regions locals)
+  blocks : Parses Any (read.blocks regions locals) [] (spell.blocks regions 0)
   unfolding read.blocks
   blocks = blocks_turn (read.blocks_from regions locals 256) (blocks_from 256) 4096 []
 
 -- ---- headers
 
 module _ (regions : List RegionName) where
-  clause : IsLocal (read.clause regions)
+  clause : Parses Any (read.clause regions) [] (spell.clause regions)
   unfolding read.clause
-  clause = then (universal false regions) (λ longer. then (expect_is_local s.Colon) (λ _. then (universal false regions) (λ shorter. pure_is_local (record { longer = longer; shorter = shorter }))))
+  clause = then (universal false regions) (λ longer _. then (expects s.Colon) (λ _ _. then (universal false regions) (λ shorter _. gives (record { longer = longer; shorter = shorter }) tt refl)))
 
-  clauses : IsLocal (read.clauses regions)
+  clauses : Parses Any (read.clauses regions) [] (spell.clauses regions)
   unfolding read.clauses
-  clauses = opened_list_is_local region_looks clause 32 s.Where
+  clauses = alike_opened region_looks clause 32 s.Where (spell.clauses regions) refl (λ c cs. refl)
 
-  parameters : IsLocal (read.parameters regions)
+  parameters : Parses Any (read.parameters regions) [] (spell.parameters regions)
   unfolding read.parameters
-  parameters = then (expect_is_local s.OpenParen) (λ _. closed_list_is_local (begins_ty false regions) (ty false regions) 16 s.CloseParen)
+  parameters = then (expects s.OpenParen) (λ _ _. behind (alike_closed (begins_ty false regions) (ty false regions) 16 s.CloseParen) (λ x _. refl))
 
-  signature : IsLocal (read.signature regions)
+  signature_is : (a b c d e : List Token) → a ++ (b ++ (c ++ (d ++ e))) ≡ (((a ++ b) ++ c) ++ d) ++ e
+  signature_is a b c d e = sym (append_assoc a b (c ++ (d ++ e))) ∙ sym (append_assoc (a ++ b) c (d ++ e)) ∙ sym (append_assoc ((a ++ b) ++ c) d e)
+
+  signature : Parses Any (read.signature regions) (spell.angled spell.region_name regions) spell.signature
   unfolding read.signature
-  signature = then clauses (λ cs. then parameters (λ ps. then (expect_is_local s.Arrow) (λ _. then (ty false regions) (λ r. pure_is_local (record { kind = Function; regions = regions; clauses = cs; parameters = ps; result = r })))))
+  signature = then clauses (λ cs _. then parameters (λ ps _. then (expects s.Arrow) (λ _ _. then (ty false regions) (λ r _.
+      gives (record { kind = Function; regions = regions; clauses = cs; parameters = ps; result = r }) tt
+      (signature_is (spell.angled spell.region_name regions) (spell.clauses regions cs) (spell.parameters regions ps) (spell.symbol s.Arrow) (spell.ty regions r))))))
 
-pub header_of : (limit : ℕ) → IsLocal (read.header_of limit)
+pub header_of : (limit : ℕ) → Parses Any (read.header_of limit) [] spell.signature
 unfolding read.header_of
-header_of limit = then (declared_list_is_local region_looks (new_region false) limit) signature
+header_of limit = then (in_angles region_looks (new_region false) limit) (λ rs _. signature rs)
 
-header : IsLocal read.header
+header : Parses Any read.header [] spell.header
 unfolding read.header
-header = then (expect_is_local s.Fn) (λ _. header_of 15)
+header = then (expects s.Fn) (λ _ _. behind (header_of 15) (λ h _. refl))
 
 -- ---- units
 
 module _ (regions : List RegionName) where
-  declared_ty : IsLocal (read.declared_ty regions)
+  declared_ty : (before : List Token) → Parses Any (read.declared_ty regions) before (λ (t : Ty). before ++ (spell.symbol s.Colon ++ (spell.ty regions t ++ spell.symbol s.Semicolon)))
   unfolding read.declared_ty
-  declared_ty = then (expect_is_local s.Colon) (λ _. then (ty true regions) (λ t. then (expect_is_local s.Semicolon) (λ _. pure_is_local t)))
+  declared_ty before = then (expects s.Colon) (λ _ _. then (ty true regions) (λ t _. then (expects s.Semicolon) (λ _ _.
+      gives t tt (sym (append_assoc before (spell.symbol s.Colon) (spell.ty regions t ++ spell.symbol s.Semicolon)) ∙ sym (append_assoc (before ++ spell.symbol s.Colon) (spell.ty regions t) (spell.symbol s.Semicolon))))))
 
-  let_ty : (number : ℕ) → IsLocal (read.let_ty regions number)
+  let_ty : (number : ℕ) → Parses Any (read.let_ty regions number) [] (λ (t : Ty). Numbered n.Local number ∷ (spell.symbol s.Colon ++ (spell.ty regions t ++ spell.symbol s.Semicolon)))
   unfolding read.let_ty
-  let_ty number = checked (numbered_one n.Local 255) (λ at l. tried at (l == number) declared_ty)
+  let_ty number = checked no_ty (numbered_one n.Local 255) (λ at l. tried at (l == number) (λ e. moved (ap (λ k. Numbered n.Local k ∷ []) (sym (eqb-true l number e))) (declared_ty (Numbered n.Local number ∷ []))))
 
-  lets_from : (number room : ℕ) (found : List Ty) → IsLocal (read.lets_from regions number room found)
+  lets_more : (k m : ℕ) (found : List Ty) (t : Ty) → m ≡ k + length found → spell.lets regions k (found ++ t ∷ []) ≡ spell.lets regions k found ++ spell.declared regions m t
+  lets_more k m [] t e = let is : m ≡ k = omega arith in append-nil (spell.declared regions k t) ∙ ap (λ j. spell.declared regions j t) (sym is)
+  lets_more k m (c ∷ found) t e =
+      let is : m ≡ (k + 1) + length found = omega arith in
+      ap (λ (l : List Token). spell.declared regions k c ++ l) (lets_more (k + 1) m found t is) ∙ sym (append_assoc (spell.declared regions k c) (spell.lets regions (k + 1) found) (spell.declared regions m t))
+
+  lets_from : (number room : ℕ) (found : List Ty) → Parses Any (read.lets_from regions number room found) (spell.lets regions number found) (spell.lets regions number)
   unfolding read.lets_from read.lets_turn
-  lets_from number zero found = refuse_is_local
-  lets_from number (suc room) found = optional s.Let (then (let_ty (number + length found)) (λ t. lets_from number room (found ++ t ∷ []))) (pure_is_local found)
+  lets_from number zero found = refuses (found, tt, [], sym (append-nil (spell.lets regions number found)))
+  lets_from number (suc room) found = optional s.Let (then (let_ty (number + length found)) (λ t _.
+      moved (lets_more number (number + length found) found t refl ∙ sym (append_assoc (spell.lets regions number found) (spell.symbol s.Let) (Numbered n.Local (number + length found) ∷ (spell.symbol s.Colon ++ (spell.ty regions t ++ spell.symbol s.Semicolon))))) (lets_from number room (found ++ t ∷ [])))) (gives found tt refl)
 
-body_of : (h : Header) → IsLocal (read.body_of h)
+body_is : (a b c d e : List Token) → a ++ (b ++ (c ++ (d ++ e))) ≡ ((((a ++ b) ++ c) ++ d) ++ e) ++ []
+body_is a b c d e = sym (append_assoc a b (c ++ (d ++ e))) ∙ sym (append_assoc (a ++ b) c (d ++ e)) ∙ sym (append_assoc ((a ++ b) ++ c) d e) ∙ sym (append-nil ((((a ++ b) ++ c) ++ d) ++ e))
+
+body_of : (h : Header) → Parses Any (read.body_of h) (spell.header h) spell.unit
 unfolding read.body_of
 body_of h =
-    then (expect_is_local s.OpenBrace) (λ _.
-    then (lets_from h.regions (1 + length h.parameters) 256 []) (λ ls.
-    then (blocks h.regions (1 + length h.parameters + length ls)) (λ bs.
-    then (expect_is_local s.CloseBrace) (λ _.
-    then end_is_local (λ _. pure_is_local (record { header = h; lets = ls; blocks = bs }))))))
+    then (expects s.OpenBrace) (λ _ _.
+    then (lets_from h.regions (1 + length h.parameters) 256 []) (λ ls _.
+    then (blocks h.regions (1 + length h.parameters + length ls)) (λ bs _.
+    then (expects s.CloseBrace) (λ _ _.
+    then ends (λ _ _. gives (record { header = h; lets = ls; blocks = bs }) tt (body_is (spell.header h) (spell.symbol s.OpenBrace) (spell.lets h.regions (spell.first_let h) ls) (spell.blocks h.regions 0 bs) (spell.symbol s.CloseBrace)))))))
 
-pub unit : IsLocal read.unit
+pub unit : Parses Any read.unit [] spell.unit
 unfolding read.unit
-unit = then header body_of
+unit = then header (λ h _. body_of h)

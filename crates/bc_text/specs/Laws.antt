@@ -1,6 +1,5 @@
 -- What printing and reading are to each other, where faults stand, and what the order of names tells.
 use Rattle.std.specs.Prelude.{◌≡◌, ◌≢◌, ℕ, ◌+◌, ◌≤◌, List, [], ◌∷◌, ◌++◌, length, map, take, drop, Option, Some, None, Result, Ok, Err}
-use Rattle.std.specs.List.{All}
 use Rattle.std.specs.declared.cmp.Ordering.TheVariants.{Equal}
 use Rattle.bc_syntax.specs.declared.syntax.Body.{Body}
 use Rattle.bc_syntax.specs.declared.syntax.Declaration.{Declaration}
@@ -42,30 +41,39 @@ abbrev pub IsProper : Token → Type 0
 IsProper token = (token ≢ NotAscii) × (token ≢ Stray)
 
 -- The fault tells this token: its place, and whether it is a byte that is not ASCII, no token, or one that may not stand there.
-abbrev pub Tells : ReadFault → Placed → Type 0
-Tells (faults.NotAscii at) bad = (bad.at ≡ at) × (bad.token ≡ NotAscii)
-Tells (faults.Token at) bad = (bad.at ≡ at) × (bad.token ≡ Stray)
-Tells (faults.Grammar at) bad = (bad.at ≡ at) × IsProper bad.token
-Tells (faults.Limit at) bad = (bad.at ≡ at) × IsProper bad.token
-Tells faults.TooLong bad = ⊥
-Tells faults.NoMemory bad = ⊥
+abbrev pub TellsToken : ReadFault → Placed → Type 0
+TellsToken (faults.NotAscii at) bad = (bad.at ≡ at) × (bad.token ≡ NotAscii)
+TellsToken (faults.Token at) bad = (bad.at ≡ at) × (bad.token ≡ Stray)
+TellsToken (faults.Grammar at) bad = (bad.at ≡ at) × IsProper bad.token
+TellsToken (faults.Limit at) bad = (bad.at ≡ at) × IsProper bad.token
+TellsToken faults.TooLong bad = ⊥
+TellsToken faults.NoMemory bad = ⊥
 
--- no unit's tokens begin with these
+-- The tokens of some unit begin with these, limits and side conditions aside.
+abbrev pub SomeUnitBegins : List Token → Type 0
+SomeUnitBegins found = (u : Body) × (later : List Token) × (unit u ≡ found ++ later)
+
+-- the tokens of no unit that fits begin with these
 abbrev pub NoUnitBegins : List Token → Type 0
 NoUnitBegins found = (u : Body) → Fits u → (later : List Token) → unit u ++ End ∷ [] ≢ found ++ later
 
--- no declarations' tokens begin with these
+-- The tokens of some declarations begin with these, limits and side conditions aside.
+abbrev pub SomeTypesBegin : List Token → Type 0
+SomeTypesBegin found = (ds : List Declaration) × (later : List Token) × (types ds ≡ found ++ later)
+
+-- the tokens of no declarations that fit begin with these
 abbrev pub NoTypesBegin : List Token → Type 0
 NoTypesBegin found = (ds : List Declaration) → TypesFit ds → (later : List Token) → types ds ++ End ∷ [] ≢ found ++ later
 
--- The fault tells a token of the text: those before it are all proper, and nothing begins with the tokens up to it, with it.
-abbrev pub HasBadToken : (List Token → Type 0) → List ℕ → ReadFault → Type 0
-HasBadToken NothingBegins bytes fault = (before : Tokens) × (bad : Placed) × (later : Tokens)
-    × (tokens 0 0 bytes ≡ before ++ bad ∷ later) × Tells fault bad × All (λ (t : Placed). IsProper t.token) before × NothingBegins (map (λ (t : Placed). t.token) (before ++ bad ∷ []))
+-- The fault tells a token of the text: something begins with the tokens before it, and nothing with those up to it, with it.
+abbrev pub HasBadToken : (SomethingBegins NothingBegins : List Token → Type 0) → List ℕ → ReadFault → Type 0
+HasBadToken SomethingBegins NothingBegins bytes fault = (before : Tokens) × (bad : Placed) × (later : Tokens)
+    × (tokens 0 0 bytes ≡ before ++ bad ∷ later) × TellsToken fault bad
+    × SomethingBegins (map (λ (t : Placed). t.token) before) × NothingBegins (map (λ (t : Placed). t.token) (before ++ bad ∷ []))
 
 -- each text that is refused and is not too long has such a token
-abbrev pub RefusedHaveABadToken : {A : Type 0} → (List ℕ → Result A ReadFault) → (List Token → Type 0) → Type 0
-RefusedHaveABadToken reads NothingBegins = (bytes : List ℕ) (fault : ReadFault) → reads bytes ≡ Err fault → fault ≢ faults.TooLong → HasBadToken NothingBegins bytes fault
+abbrev pub RefusedHaveABadToken : {A : Type 0} → (List ℕ → Result A ReadFault) → (SomethingBegins NothingBegins : List Token → Type 0) → Type 0
+RefusedHaveABadToken reads SomethingBegins NothingBegins = (bytes : List ℕ) (fault : ReadFault) → reads bytes ≡ Err fault → fault ≢ faults.TooLong → HasBadToken SomethingBegins NothingBegins bytes fault
 
 -- the place that a fault tells
 abbrev pub place_of : ReadFault → Option ℕ

@@ -1,6 +1,6 @@
 //! Laws of the definitions, each the contract of a function that does nothing.
 ghost use Rattle.bc_text.specs.Reading.{read, read_types};
-ghost use Rattle.bc_text.specs.Laws.{NamesAreToldApart, PrintedIsSpelled, PrintedIsRead, PrintedTypesAreSpelled, PrintedTypesAreRead, RefusedHaveABadToken, NoUnitBegins, NoTypesBegin, FaultsAreLocal};
+ghost use Rattle.bc_text.specs.Laws.{NamesAreToldApart, PrintedIsSpelled, PrintedIsRead, PrintedTypesAreSpelled, PrintedTypesAreRead, RefusedHaveABadToken, SomeUnitBegins, NoUnitBegins, SomeTypesBegin, NoTypesBegin, FaultsAreLocal};
 
 /// Two names that their order holds equal are one name. Own.
 pub fn names_are_told_apart()
@@ -19,15 +19,16 @@ pub fn printed_types_are_read()
     ensures read { PrintedTypesAreRead }
 {}
 
-/// The fault of a refused text tells one of its tokens, and no unit's tokens begin with those up to it; and the fault is that
-/// of each text with the same bytes up to the one behind that token, with it, since a name ends where the next byte says. Own.
+/// The fault of a refused text tells one of its tokens: some unit's tokens begin with those before it, limits and side
+/// conditions aside, and no unit's tokens with those up to it, with it. And the fault is that of each text with the same bytes
+/// up to the one behind that token, with it, since a name ends where the next byte says. Own.
 pub fn refused_units_have_a_bad_token()
-    ensures bad { RefusedHaveABadToken read NoUnitBegins }
+    ensures bad { RefusedHaveABadToken read SomeUnitBegins NoUnitBegins }
     ensures local { FaultsAreLocal read }
 {}
 
 /// The same of declarations. Own.
 pub fn refused_types_have_a_bad_token()
-    ensures bad { RefusedHaveABadToken read_types NoTypesBegin }
+    ensures bad { RefusedHaveABadToken read_types SomeTypesBegin NoTypesBegin }
     ensures local { FaultsAreLocal read_types }
 {}

@@ -5,19 +5,19 @@ use Rattle.bc_text.specs.Reading as read
 use Rattle.bc_text.proofs.Ends.{begins_whole}
 use Rattle.bc_text.proofs.DeclarationLaws.{types_again}
 use Rattle.bc_text.proofs.LocalDeclarations.{types}
-use Rattle.bc_text.proofs.Faults.{stopped, tells_bad, good_before, going_on, go_on, still_refused, faults_are_local}
+use Rattle.bc_text.proofs.Faults.{stopped, tells_bad, going_on, go_on, still_refused, faults_are_local}
 use Rattle.bc_text.proofs.laws.refused_types_have_a_bad_token.Goals as goal
 
 pub returns-clause-bad : goal.returns-clause-bad
 unfolding read.read_types
 returns-clause-bad c = λ bytes fault e short.
-    let s = stopped read.types types bytes fault e short in (
+    let s = stopped read.types spell.types types bytes fault e short in (
       s.before,
       s.bad,
       s.later,
       s.is,
       tells_bad s,
-      good_before s,
+      (s.begun.0, s.begun.2, s.begun.3),
       λ ds fits later h.
           let text = begins_whole (going_on s.before s.bad later) (spell.types ds ++ End ∷ []) (go_on s.before s.bad later ∙ sym h) in
           let reads = types_again (going_on s.before s.bad later) ds [] text fits in
@@ -26,4 +26,4 @@ returns-clause-bad c = λ bytes fault e short.
 
 pub returns-clause-local : goal.returns-clause-local
 unfolding read.read_types
-returns-clause-local c = faults_are_local read.types types
+returns-clause-local c = faults_are_local read.types spell.types types
