@@ -5,7 +5,7 @@ use bc_syntax::{
     Projection, Reference, Region, RegionName, Rvalue, Sequence, ShortSequence, Statement,
     StructDeclaration, Terminator, Ty, Types, Unit, UnitKind, Variance,
 };
-use bc_text::{ReadFault, read_types, read_unit};
+use bc_text::{MAX_TEXT, ReadFault, read_types, read_unit};
 use std::alloc::{AllocError, Global};
 use std::test::Fail;
 
@@ -387,4 +387,9 @@ fn a_body_without_blocks_is_no_unit(rt: HostRuntime) -> Result<(), Fail> {
     };
     assert!(rt; Unit::new(body).is_none());
     Ok(())
+}
+
+#[test]
+fn a_text_has_at_most_1048576_bytes(rt: HostRuntime) {
+    assert_eq!(rt; MAX_TEXT, 1_048_576);
 }
