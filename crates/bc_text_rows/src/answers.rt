@@ -1,5 +1,6 @@
-//! A row is a line: a word for what is asked, a blank, and a text. `unit`, `types` and `name` ask how the text is read,
-//! `print-unit` and `print-types` how that is printed which is read of it. Lines that begin with `#`, and empty ones, are no rows.
+//! A row is a line: a word for what is asked, a blank, and a text (behind the word alone, the empty one). `unit`, `types` and
+//! `name` ask how the text is read, `print-unit` and `print-types` how that is printed which is read of it. Lines that begin
+//! with `#`, and empty ones, are no rows.
 use crate::spelled::text_of;
 use anyhow::bail;
 use bc_text::{Name, ReadFault, print_types, print_unit, read_types, read_unit};
