@@ -1,56 +1,6 @@
-//! Names and their texts.
+//! The order of names, and their children.
 use bc_text::Name;
 use std::cmp::Ordering;
-use std::test::Fail;
-
-#[test]
-fn a_name_is_a_root_and_up_to_seven_segments(rt: HostRuntime) -> Result<(), Fail> {
-    let names: [(&[u8], &str, usize); 6] = [
-        (b"f".as_slice(), "f", 0),
-        (b"f/0".as_slice(), "f/0", 1),
-        (b"f/63".as_slice(), "f/63", 1),
-        (b"f/0/1/2/3/4/5/6".as_slice(), "f/0/1/2/3/4/5/6", 7),
-        (b"_x9/10".as_slice(), "_x9/10", 1),
-        (
-            b"abcdefghijklmnopqrstuvwxyz_ABCDE/7".as_slice(),
-            "abcdefghijklmnopqrstuvwxyz_ABCDE/7",
-            1,
-        ),
-    ];
-    for (bytes, text, depth) in names {
-        let Some(name) = Name::read(bytes) else {
-            assert!(rt; false, "{text} is a name");
-            return Ok(());
-        };
-        assert_eq!(rt; name.depth(), depth, "{text}");
-        let printed = format!(in rt.alloc(); "{name}")?;
-        assert_eq!(rt; printed.as_str(), text);
-    }
-    Ok(())
-}
-
-#[test]
-fn other_bytes_are_no_name(rt: HostRuntime) {
-    let others: [&[u8]; 14] = [
-        b"".as_slice(),
-        b"f/64".as_slice(),
-        b"f/01".as_slice(),
-        b"f/00".as_slice(),
-        b"f/".as_slice(),
-        b"f//0".as_slice(),
-        b"f/0/".as_slice(),
-        b"f/100".as_slice(),
-        b"9".as_slice(),
-        b"/0".as_slice(),
-        b"f 0".as_slice(),
-        b"f\xc3".as_slice(),
-        b"f/0/1/2/3/4/5/6/7".as_slice(),
-        b"abcdefghijklmnopqrstuvwxyz_ABCDEF".as_slice(),
-    ];
-    for bytes in others {
-        assert!(rt; Name::read(bytes).is_none());
-    }
-}
 
 #[test]
 fn a_beginning_comes_before_what_goes_on(rt: HostRuntime) {

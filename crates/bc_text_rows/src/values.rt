@@ -5,7 +5,7 @@ use bc_syntax::{
     Projection, Reference, Region, RegionName, Rvalue, Sequence, ShortSequence, Statement,
     StructDeclaration, Terminator, Ty, Types, Unit, UnitKind, Variance,
 };
-use bc_text::{ReadFault, read_types, read_unit};
+use bc_text::{MAX_TEXT, ReadFault, read_types, read_unit};
 use std::alloc::{AllocError, Global};
 use std::test::Fail;
 
@@ -309,20 +309,20 @@ fn types(alloc: Global) -> Result<Option<Types>, AllocError> {
     Ok(Types::new(declarations))
 }
 
-/// The unit of the text, read again where memory was refused at the first time.
+/// The unit of the text, read again where it was refused at the first time, as where there was no memory.
 fn unit_read(alloc: Global) -> Result<Unit, ReadFault> {
-    match read_unit(alloc, UNIT) {
-        Err(ReadFault::NoMemory) => read_unit(alloc, UNIT),
-        answer => answer,
-    }
+    let Ok(unit) = read_unit(alloc, UNIT) else {
+        return read_unit(alloc, UNIT);
+    };
+    Ok(unit)
 }
 
-/// The declarations of the text, read again where memory was refused at the first time.
+/// The declarations of the text, read again where they were refused at the first time, as where there was no memory.
 fn types_read(alloc: Global) -> Result<Types, ReadFault> {
-    match read_types(alloc, TYPES) {
-        Err(ReadFault::NoMemory) => read_types(alloc, TYPES),
-        answer => answer,
-    }
+    let Ok(types) = read_types(alloc, TYPES) else {
+        return read_types(alloc, TYPES);
+    };
+    Ok(types)
 }
 
 /// The unit that the text spells, made again where memory was refused at the first time.
@@ -371,14 +371,6 @@ fn no_bytes_are_read_as_no_declarations(rt: HostRuntime) -> Result<(), Fail> {
 }
 
 #[test]
-fn a_body_within_the_limits_is_a_unit(rt: HostRuntime) -> Result<(), Fail> {
-    let found = read_unit(rt.alloc(), b"fn()->int{let _1:&'?1 int;bb0{return;}}")?;
-    let body = found.body().clone()?;
-    assert!(rt; Unit::new(body).is_some());
-    Ok(())
-}
-
-#[test]
 fn a_body_without_blocks_is_no_unit(rt: HostRuntime) -> Result<(), Fail> {
     let body = Body {
         header: header(rt.alloc())?,
@@ -387,4 +379,9 @@ fn a_body_without_blocks_is_no_unit(rt: HostRuntime) -> Result<(), Fail> {
     };
     assert!(rt; Unit::new(body).is_none());
     Ok(())
+}
+
+#[test]
+fn a_text_has_at_most_1048576_bytes(rt: HostRuntime) {
+    assert_eq!(rt; MAX_TEXT, 1_048_576);
 }

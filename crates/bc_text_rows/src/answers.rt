@@ -1,0 +1,75 @@
+//! A row is a line: a word for what is asked, a blank, and a text (behind the word alone, the empty one). `unit`, `types` and
+//! `name` ask how the text is read, `print-unit` and `print-types` how that is printed which is read of it. Lines that begin
+//! with `#`, and empty ones, are no rows.
+use crate::spelled::text_of;
+use anyhow::bail;
+use bc_text::{Name, ReadFault, print_types, print_unit, read_types, read_unit};
+use std::alloc::Global;
+use std::io::{self, Write};
+
+/// Writes why a text is not read, in the words of a report.
+fn write_fault<W: Write>(fault: &ReadFault, out: &mut W) -> io::Result<()> {
+    match fault {
+        ReadFault::TooLong => writeln!(out, "too long"),
+        ReadFault::NotAscii { at } => writeln!(out, "not ascii at {at}"),
+        ReadFault::Token { at } => writeln!(out, "token at {at}"),
+        ReadFault::Grammar { at } => writeln!(out, "grammar at {at}"),
+        ReadFault::Limit { at } => writeln!(out, "limit at {at}"),
+        ReadFault::NoMemory => writeln!(out, "no memory"),
+    }
+}
+
+fn write_name<W: Write>(text: &[u8], out: &mut W) -> io::Result<()> {
+    match Name::read(text) {
+        Some(name) => writeln!(out, "{name} at depth {}", name.depth()),
+        None => writeln!(out, "none"),
+    }
+}
+
+fn write_unit<W: Write>(alloc: Global, text: &[u8], out: &mut W) -> io::Result<()> {
+    match read_unit(alloc, text) {
+        Ok(_) => writeln!(out, "read"),
+        Err(fault) => write_fault(&fault, out),
+    }
+}
+
+fn write_types<W: Write>(alloc: Global, text: &[u8], out: &mut W) -> io::Result<()> {
+    match read_types(alloc, text) {
+        Ok(_) => writeln!(out, "read"),
+        Err(fault) => write_fault(&fault, out),
+    }
+}
+
+fn write_printed_unit<W: Write>(alloc: Global, text: &[u8], out: &mut W) -> io::Result<()> {
+    match read_unit(alloc, text) {
+        Ok(unit) => print_unit(&unit, out),
+        Err(fault) => write_fault(&fault, out),
+    }
+}
+
+fn write_printed_types<W: Write>(alloc: Global, text: &[u8], out: &mut W) -> io::Result<()> {
+    match read_types(alloc, text) {
+        Ok(types) => print_types(&types, out),
+        Err(fault) => write_fault(&fault, out),
+    }
+}
+
+/// Writes a line, and below a row its answer.
+pub fn show_line<W: Write>(alloc: Global, line: &str, out: &mut W) -> anyhow::Result<()> {
+    writeln!(out, "{line}")?;
+    if line.is_empty() || line.starts_with('#') {
+        return Ok(());
+    }
+    let (question, spelled) = line.split_once(' ').unwrap_or((line, ""));
+    let text = text_of(alloc, spelled)?;
+    write!(out, "  ")?;
+    match question {
+        "unit" => write_unit(alloc, &text, out)?,
+        "types" => write_types(alloc, &text, out)?,
+        "name" => write_name(&text, out)?,
+        "print-unit" => write_printed_unit(alloc, &text, out)?,
+        "print-types" => write_printed_types(alloc, &text, out)?,
+        _ => bail!("nothing is called {question}"),
+    }
+    Ok(())
+}

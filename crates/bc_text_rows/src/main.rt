@@ -1,0 +1,24 @@
+//! Prints each line of the files that are named, and behind each row what the reader or the printer answers to it: rows of
+//! texts, whose answers the expected output has.
+#![tactic(auto)]
+
+mod answers;
+#[cfg(test)]
+mod names;
+mod spelled;
+#[cfg(test)]
+mod values;
+
+use crate::answers::show_line;
+use std::{env, fs};
+
+fn main(rt: HostRuntime) -> anyhow::Result<()> {
+    let mut out = rt.stdout();
+    for name in env::args(&rt)?.skip(1) {
+        let rows = fs::read_to_string(&rt, &name)?;
+        for line in rows.lines() {
+            show_line(rt.alloc(), line, &mut out)?;
+        }
+    }
+    Ok(())
+}
