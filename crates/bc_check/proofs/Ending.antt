@@ -1,8 +1,8 @@
 -- How the command ends.
-use Rattle.std.proofs.Common.{◌≡◌, ℕ, ◌≤◌, ◌<◌, ◌+◌, max, List, [], ◌∷◌, ◌++◌, Option, Some, None, Result, Err, inr, get_or, length, map, refl, sym, ap, ◌∙◌, subst, append_assoc, append-nil, arith}
+use Rattle.std.proofs.Common.{◌≡◌, ℕ, ◌≤◌, ◌<◌, ◌+◌, max, List, [], ◌∷◌, ◌++◌, Option, Some, None, inr, get_or, length, map, refl, sym, ap, ◌∙◌, subst, append_assoc, append-nil, arith}
 use Rattle.std.specs.Prelude.{IfSome}
 use Rattle.std.specs.List.{flat_map}
-use Rattle.std.specs.Io.KnownBytes.{Appends, Keeps}
+use Rattle.std.specs.Io.KnownBytes.{Appends}
 use Rattle.std.proofs.lemmas.List.{map-append}
 use Rattle.std.proofs.lemmas.Grind.{flat_map-append}
 use Rattle.bc_text.specs.Names.{NameParts}
@@ -14,21 +14,13 @@ use Rattle.bc_book.specs.declared.call.Entry.{Entry}
 use Rattle.bc_book.specs.Calls.{IsLegal, calls}
 use Rattle.bc_share.specs.Sessions.{SessionView, new_session}
 use Rattle.bc_share.specs.Closings.{IsOneHistory}
-use Rattle.bc_check.specs.declared.fault.FileFault.{FileFault}
-use Rattle.bc_check.specs.declared.stop.Stop.{Stop}
-use Rattle.bc_check.specs.declared.stop.Stop.TheVariants.{WrongUse, CannotRead, CannotWrite, CannotTell, NoMemory, File, TooManyCalls, HistoryFull, Foreign, Audit}
-use Rattle.bc_check.specs.Text.{line}
-use Rattle.bc_check.specs.Parts.{sections_of}
-use Rattle.bc_check.specs.Faults.{message}
-use Rattle.bc_check.specs.Stops.{last_line, stop_status}
 use Rattle.bc_check.specs.declared.file.Change.{Change}
 use Rattle.bc_check.specs.declared.file.Change.TheVariants as changes
-use Rattle.bc_check.specs.Changes.{seen, IsFirstFault}
+use Rattle.bc_check.specs.Changes.{seen}
 use Rattle.bc_check.specs.Run.{calls_of, told_of, shown_of, told, shown, greatest, AreLegal}
 use Rattle.bc_check.specs.Served.{IsSound, Served, ServedPart, Runs, Begins}
-use Rattle.bc_check.specs.Ends.{IsEnd}
 use Rattle.bc_check.proofs.Members.{Contains-one}
-use Rattle.bc_check.proofs.Serving.{nothing_added, kept_adds, added_then}
+use Rattle.bc_check.proofs.Serving.{nothing_added}
 
 -- nothing is told of an Ask
 told_asks : (names : List NameParts) (events : List Event) (ahead : List Call) → map (λ (e : Event). e.call) events ++ ahead ≡ map Ask names → flat_map told events ≡ []
@@ -151,35 +143,3 @@ the_last x y (z ∷ w ∷ rest) h = absurd cc
 pub known_is : (known : Option (List ℕ)) (file : List ℕ) (P : List ℕ → Type 0) → IfSome known (λ bytes. file ≡ bytes) → P file → IfSome known P
 known_is None file P e p = tt
 known_is (Some bytes) file P e p = subst P e p
-
-abbrev pub Fault : Option (List ℕ) → Option (List ℕ) → Option (List ℕ) → Option (List ℕ) → FileFault → List ℕ → Type 0
-Fault o0 o1 e0 e1 fault file = (length file ≤ 16777216) × IsFirstFault (sections_of file) fault × Keeps o0 o1 × Keeps e0 e1
-
-abbrev pub End : ℕ → Option (List ℕ) → Option (List ℕ) → Option (List ℕ) → Option (List ℕ) → List ℕ → Type 0
-End exit o0 o1 e0 e1 bytes = (length bytes ≤ 16777216) × IsEnd bytes exit o0 o1 e0 e1
-
-ended_by_fault : (known o0 o1 e0 e1 e2 : Option (List ℕ)) (fault : FileFault) → IfSome known (Fault o0 o1 e0 e1 fault) → Appends e1 e2 (line (message fault)) → IfSome known (End 2 o0 o1 e0 e2)
-ended_by_fault None o0 o1 e0 e1 e2 fault h said = tt
-ended_by_fault (Some file) o0 o1 e0 e1 e2 fault h said = (
-  h.0,
-  inr (record {
-    fault = fault;
-    first = h.1;
-    output = kept_adds o0 o1 h.2;
-    errors = added_then e0 e1 e2 [] (line (message fault)) (kept_adds e0 e1 h.3) said;
-    status = refl;
-  }),
-)
-
--- a command that stops below 3 found a fault of the file
-pub ended : (stop : Stop) (r : Result ℕ Stop) (known o0 o1 e0 e1 e2 : Option (List ℕ)) (name : List ℕ) → r ≡ Err stop → ((fault : FileFault) → r ≡ Err (File fault) → IfSome known (Fault o0 o1 e0 e1 fault)) → Appends e1 e2 (last_line name stop) → stop_status stop < 3 → IfSome known (End (stop_status stop) o0 o1 e0 e2)
-ended WrongUse r known o0 o1 e0 e1 e2 name e faults said low = absurd (omega (arith, low))
-ended CannotRead r known o0 o1 e0 e1 e2 name e faults said low = absurd (omega (arith, low))
-ended CannotWrite r known o0 o1 e0 e1 e2 name e faults said low = absurd (omega (arith, low))
-ended CannotTell r known o0 o1 e0 e1 e2 name e faults said low = absurd (omega (arith, low))
-ended NoMemory r known o0 o1 e0 e1 e2 name e faults said low = absurd (omega (arith, low))
-ended (File fault) r known o0 o1 e0 e1 e2 name e faults said low = ended_by_fault known o0 o1 e0 e1 e2 fault (faults fault e) said
-ended TooManyCalls r known o0 o1 e0 e1 e2 name e faults said low = absurd (omega (arith, low))
-ended HistoryFull r known o0 o1 e0 e1 e2 name e faults said low = absurd (omega (arith, low))
-ended Foreign r known o0 o1 e0 e1 e2 name e faults said low = absurd (omega (arith, low))
-ended Audit r known o0 o1 e0 e1 e2 name e faults said low = absurd (omega (arith, low))

@@ -1,14 +1,15 @@
--- How the command ends below status 3.
-use Rattle.std.specs.Prelude.{◌≡◌, ◌⊎◌, ℕ, ◌+◌, ◌<◌, Option, List, [], length}
-use Rattle.std.specs.Io.KnownBytes.{Appends}
+-- How the command ends, and what it leaves where it stops.
+use Rattle.std.specs.Prelude.{◌≡◌, ◌⊎◌, ℕ, ◌+◌, ◌<◌, ◌≤◌, Option, List, IfSome, length}
+use Rattle.std.specs.Io.KnownBytes.{Appends, Keeps}
 use Rattle.bc_text.specs.Names.{NameParts}
 use Rattle.bc_book.specs.declared.call.Call.{Call}
-use Rattle.bc_check.specs.declared.fault.FileFault.{FileFault}
-use Rattle.bc_check.specs.Text.{line}
+use Rattle.bc_check.specs.declared.input.TheConstants.{LIMIT}
+use Rattle.bc_check.specs.declared.stop.Stop.{Stop}
+use Rattle.bc_check.specs.declared.stop.Stop.TheVariants.{WrongUse, CannotRead, CannotWrite, CannotTell, NoMemory, File, TooManyCalls, HistoryFull, Foreign, Audit}
 use Rattle.bc_check.specs.Parts.{sections_of}
 use Rattle.bc_check.specs.Changes.{MakeAll, IsFirstFault}
 use Rattle.bc_check.specs.Asked.{AreAsked}
-use Rattle.bc_check.specs.Faults.{message}
+use Rattle.bc_check.specs.Stops.{last_line, stop_status}
 use Rattle.bc_check.specs.Served.{Runs, Begins}
 
 -- each section made its call, each root name under which one put a body was asked, and what belongs to these calls was
@@ -19,17 +20,6 @@ pub record Checked (file : List ℕ) (exit : ℕ) (out out' err err' : Option (L
   pub good : MakeAll (sections_of file) made
   pub asked : AreAsked made names
   pub runs : Runs made names exit out out' err err'
-
--- the file has a fault: its first one is told, and nothing else is printed
-pub record Faulted (file : List ℕ) (exit : ℕ) (out out' err err' : Option (List ℕ)) : Type 0 where
-  pub fault : FileFault
-  pub first : IsFirstFault (sections_of file) fault
-  pub output : Appends out out' []
-  pub errors : Appends err err' (line (message fault))
-  pub status : exit ≡ 2
-
-abbrev pub IsEnd : List ℕ → ℕ → Option (List ℕ) → Option (List ℕ) → Option (List ℕ) → Option (List ℕ) → Type 0
-IsEnd file exit out out' err err' = Checked file exit out out' err err' ⊎ Faulted file exit out out' err err'
 
 -- a file without a fault that makes more than 1,000,000 calls
 pub record HasTooManyCalls (file : List ℕ) : Type 0 where
@@ -46,3 +36,44 @@ pub record HasBegun (file : List ℕ) (out out' err err' : Option (List ℕ)) : 
   pub good : MakeAll (sections_of file) made
   pub asked : AreAsked made names
   pub begins : Begins made names out out' err err'
+
+-- a file without a fault
+pub record IsWell (file : List ℕ) : Type 0 where
+  pub made : List Call
+  pub names : List NameParts
+  pub good : MakeAll (sections_of file) made
+  pub asked : AreAsked made names
+
+-- the file was read whole, where it is known, and this holds of it
+abbrev pub OfFile : Option (List ℕ) → (List ℕ → Type 0) → Type 0
+OfFile known P = IfSome known (λ file. (length file ≤ LIMIT) × P file)
+
+-- nothing is printed
+abbrev pub IsSilent : Option (List ℕ) → Option (List ℕ) → Option (List ℕ) → Option (List ℕ) → Type 0
+IsSilent out out' err err' = Keeps out out' × Keeps err err'
+
+-- What the command finds and leaves where it stops, but for the line that says so. What a writer that failed took is
+-- not known.
+abbrev pub Leaves : Stop → Option (List ℕ) → Option (List ℕ) → Option (List ℕ) → Option (List ℕ) → Option (List ℕ) → Type 0
+Leaves WrongUse known out out' err err' = ⊥
+Leaves CannotRead known out out' err err' = IsSilent out out' err err'
+Leaves CannotWrite known out out' err err' = OfFile known IsWell
+Leaves CannotTell known out out' err err' = OfFile known IsWell
+Leaves NoMemory known out out' err err' = IsSilent out out' err err' ⊎ OfFile known (λ file. HasBegun file out out' err err')
+Leaves (File fault) known out out' err err' = OfFile known (λ file. IsFirstFault (sections_of file) fault) × IsSilent out out' err err'
+Leaves TooManyCalls known out out' err err' = OfFile known HasTooManyCalls × IsSilent out out' err err'
+Leaves HistoryFull known out out' err err' = OfFile known IsWell
+Leaves Foreign known out out' err err' = OfFile known IsWell
+Leaves Audit known out out' err err' = OfFile known IsWell
+
+-- the command stopped with this status: its line is written behind all else
+pub record Stopped (name : List ℕ) (known : Option (List ℕ)) (exit : ℕ) (out out' err err' : Option (List ℕ)) : Type 0 where
+  pub stop : Stop
+  pub told : Option (List ℕ)
+  pub left : Leaves stop known out out' err told
+  pub said : Appends told err' (last_line name stop)
+  pub status : exit ≡ stop_status stop
+
+-- the command on the file of this name ended with this status: at its end, or where it stopped
+abbrev pub IsEnd : List ℕ → Option (List ℕ) → ℕ → Option (List ℕ) → Option (List ℕ) → Option (List ℕ) → Option (List ℕ) → Type 0
+IsEnd name known exit out out' err err' = OfFile known (λ file. Checked file exit out out' err err') ⊎ Stopped name known exit out out' err err'

@@ -1,31 +1,27 @@
 //! The calls of a file, and what is printed of them.
-ghost use Rattle.std.specs.Prelude.{◌≡◌, ◌≤◌, ◌<◌, ◌+◌, ◌⊎◌, true, Err, OnOk, IfSome, IfOk, IfErr, IsErrOf, length, map, max};
+ghost use Rattle.std.specs.Prelude.{◌≡◌, ◌≤◌, ◌<◌, ◌+◌, ◌⊎◌, [], true, Err, OnOk, IfOk, IfErr, IsErrOf, length, map, max};
+ghost use Rattle.std.specs.Io.Buffered.{writer_buffer, writer_contents};
 ghost use Rattle.std.specs.Io.KnownBytes.{Appends, Keeps};
 ghost use Rattle.bc_book.specs.declared.call.Call.TheVariants as calls;
-ghost use Rattle.bc_check.specs.declared.fault.FileFault.{FileFault};
-ghost use Rattle.bc_check.specs.Parts.{sections_of};
-ghost use Rattle.bc_check.specs.Changes.{seen, IsFirstFault};
+ghost use Rattle.bc_check.specs.Changes.{seen};
 ghost use Rattle.bc_check.specs.Stops.{is_of_calls};
-ghost use Rattle.bc_check.specs.Ends.{Checked, HasBegun, HasTooManyCalls, IsEnd};
+ghost use Rattle.bc_check.specs.Ends.{Checked, IsEnd, Leaves, OfFile};
 ghost use Rattle.bc_check.specs.Run.{refused_line, answer_lines, told, shown, put_status, are_clean, outcome_status};
 ghost use Rattle.bc_check.specs.Served.{Serves, Served, ServedPart, Runs, Begins};
 
 use crate::asked::find_asked;
 use crate::file::{Change, read_changes};
-use crate::input::{LIMIT, read_whole};
+use crate::input::read_whole;
 use crate::print::write_report;
 use crate::stop::{Stop, stop_with};
 use bc_book::PutReply;
 use bc_prov::{BodyErrors, Outcome};
-use bc_share::{Db, Session};
+use bc_share::{Db, MOST_ENTRIES, Session};
 use bc_text::Name;
 use std::alloc::Global;
 use std::collections::BTreeSet;
 use std::io;
-use std::io::{Read, Write};
-
-/// How many calls there may be: one for each section, and an Ask for each name.
-const MOST_CALLS: usize = 1_000_000;
+use std::io::{BufWriter, Read, Write};
 
 /// The status of a put with this reply.
 fn put_status(reply: PutReply) -> u8
@@ -129,7 +125,7 @@ fn make_changes<E: Write>(
     Ok(status)
 }
 
-/// Asks the names in order, and hands on what the writer has kept back. The greatest status of the outcomes.
+/// Asks the names in order, and prints their reports. The greatest status of the outcomes.
 fn make_asks<O: Write>(
     session: &mut Session,
     names: &BTreeSet<Name>,
@@ -144,38 +140,81 @@ fn make_asks<O: Write>(
     for name in names {
         status = status.max(make_ask(session, name, out)?);
     }
-    match out.flush() {
-        Ok(()) => Ok(status),
-        Err(_) => Err(Stop::CannotWrite),
+    Ok(status)
+}
+
+/// Hands on what the buffer holds of the reports, but where the writer behind it failed already. What the Asks came to,
+/// and `CannotWrite` where the writer fails here.
+fn hand_on<O: Write + Drop>(asked: Result<u8, Stop>, out: &mut BufWriter<O>) -> Result<u8, Stop>
+    ensures asked { (result ≡ asked) ⊎ (result ≡ Err Stop.CannotWrite) }
+    ensures kept { Keeps (writer_contents O.contents out.old) (writer_contents O.contents out.new) }
+    ensures handed_on { (result ≡ Err Stop.CannotWrite) ⊎ (writer_buffer out.new ≡ []) }
+{
+    match asked {
+        Err(Stop::CannotWrite) => asked,
+        Ok(_)
+        | Err(
+            Stop::WrongUse
+            | Stop::CannotRead
+            | Stop::CannotTell
+            | Stop::NoMemory
+            | Stop::File(_)
+            | Stop::TooManyCalls
+            | Stop::HistoryFull
+            | Stop::Foreign
+            | Stop::Audit,
+        ) => match out.flush() {
+            Ok(()) => asked,
+            Err(_) => Err(Stop::CannotWrite),
+        },
     }
+}
+
+/// Asks the names in order, and hands on what is printed of them, also where this stops before its end. The greatest
+/// status of the outcomes.
+fn answer_all<O: Write + Drop>(
+    session: &mut Session,
+    names: &BTreeSet<Name>,
+    out: &mut BufWriter<O>,
+) -> Result<u8, Stop>
+    ensures served { IfOk result (λ status. Served (map calls.Ask names.now.keys) shown status session.old session.new (writer_contents O.contents out.old) (writer_contents O.contents out.new)) }
+    ensures no_memory { IsErrOf result Stop.NoMemory → ServedPart (map calls.Ask names.now.keys) shown session.old session.new (writer_contents O.contents out.old) (writer_contents O.contents out.new) }
+    ensures range { IfOk result (λ status. status ≤ 2) }
+    ensures stop { IfErr result (λ stop. (stop ≡ Stop.CannotWrite) ⊎ (stop ≡ Stop.NoMemory) ⊎ (stop ≡ Stop.HistoryFull)) }
+    ensures handed_on { (result ≡ Err Stop.CannotWrite) ⊎ (writer_buffer out.new ≡ []) }
+{
+    let asked = make_asks(session, names, out);
+    hand_on(asked, out)
 }
 
 /// How many entries the history may have: one for each change and each Ask, and one at least. `TooManyCalls` exactly
 /// where there are more than 1,000,000 of them.
-fn find_capacity(changes: usize, names: usize) -> Result<u32, Stop>
+pub(crate) fn find_capacity(changes: usize, names: usize) -> Result<u32, Stop>
     ensures fits { IfOk result (λ capacity. (capacity ≡ max 1 (changes + names)) × (changes + names ≤ 1000000)) }
     ensures stop { IfErr result (λ stop. (stop ≡ Stop.TooManyCalls) × (1000000 < changes + names)) }
 {
-    if changes > MOST_CALLS || names > MOST_CALLS - changes {
+    let most = MOST_ENTRIES as usize;
+    if changes > most || names > most - changes {
         return Err(Stop::TooManyCalls);
     }
     Ok((changes + names).max(1) as u32)
 }
 
 /// Opens a database, makes the changes in order, asks the names in order and closes. The greatest status of the
-/// calls. `TooManyCalls` exactly where there are more than 1,000,000 of them.
-fn serve<O: Write, E: Write>(
+/// calls, whose reports the writer behind `out` then has. `TooManyCalls` exactly where there are more than 1,000,000 of them.
+fn serve<O: Write + Drop, E: Write>(
     alloc: Global,
     changes: Vec<Change>,
     names: &BTreeSet<Name>,
-    out: &mut O,
+    out: &mut BufWriter<O>,
     err: &mut E,
 ) -> Result<u8, Stop>
-    ensures done { IfOk result (λ status. Runs (map seen changes.items) names.now.keys status (O.contents out.old) (O.contents out.new) (E.contents err.old) (E.contents err.new)) }
+    ensures done { IfOk result (λ status. Runs (map seen changes.items) names.now.keys status (writer_contents O.contents out.old) (writer_contents O.contents out.new) (E.contents err.old) (E.contents err.new)) }
     ensures range { IfOk result (λ status. status ≤ 2) }
-    ensures too_many { IsErrOf result Stop.TooManyCalls → (1000000 < length changes.items + length names.now.keys) × Keeps (O.contents out.old) (O.contents out.new) × Keeps (E.contents err.old) (E.contents err.new) }
-    ensures no_memory { IsErrOf result Stop.NoMemory → Begins (map seen changes.items) names.now.keys (O.contents out.old) (O.contents out.new) (E.contents err.old) (E.contents err.new) }
+    ensures too_many { IsErrOf result Stop.TooManyCalls → (1000000 < length changes.items + length names.now.keys) × Keeps (writer_contents O.contents out.old) (writer_contents O.contents out.new) × Keeps (E.contents err.old) (E.contents err.new) }
+    ensures no_memory { IsErrOf result Stop.NoMemory → Begins (map seen changes.items) names.now.keys (writer_contents O.contents out.old) (writer_contents O.contents out.new) (E.contents err.old) (E.contents err.new) }
     ensures other { IfErr result (λ stop. is_of_calls stop ≡ true) }
+    ensures handed_on { writer_buffer out.old ≡ [] → (result ≡ Err Stop.CannotWrite) ⊎ (writer_buffer out.new ≡ []) }
 {
     let capacity = find_capacity(changes.len(), names.len())?;
     let (db, mut sessions) = Db::open(alloc, 0, capacity, 1)?;
@@ -183,34 +222,28 @@ fn serve<O: Write, E: Write>(
         return Err(Stop::Foreign);
     };
     let changed = make_changes(&mut session, changes, err)?;
-    let asked = make_asks(&mut session, names, out)?;
+    let asked = answer_all(&mut session, names, out)?;
     sessions.push(session)?;
     db.close(sessions)?;
     Ok(changed.max(asked))
 }
 
 /// Reads the whole input, makes its changes and asks its names, and prints what belongs to each call. The greatest
-/// status of the calls.
+/// status of the calls. A buffer that held nothing holds nothing then, but where the writer behind it failed. (Own.)
 ///
 /// Stops with `CannotRead` where the input cannot be read or is over 16 MiB; with `File` at its first fault; with
 /// `TooManyCalls` where it makes more than 1,000,000 calls; with `CannotWrite` or `CannotTell` where a writer
 /// fails; with `NoMemory` where there is no room.
-fn check<I: Read, O: Write, E: Write>(
+pub fn check<I: Read, O: Write + Drop, E: Write>(
     alloc: Global,
     input: &mut I,
-    out: &mut O,
+    out: &mut BufWriter<O>,
     err: &mut E,
 ) -> Result<u8, Stop>
-    ensures done { IfOk result (λ status. IfSome (I.remaining input.old) (λ file. (length file ≤ LIMIT)
-        × Checked file status (O.contents out.old) (O.contents out.new) (E.contents err.old) (E.contents err.new))) }
+    ensures done { IfOk result (λ status. OfFile (I.remaining input.old) (λ file. Checked file status (writer_contents O.contents out.old) (writer_contents O.contents out.new) (E.contents err.old) (E.contents err.new))) }
     ensures range { IfOk result (λ status. status ≤ 2) }
-    ensures fault { (fault : FileFault) → result ≡ Err (Stop.File fault) → IfSome (I.remaining input.old) (λ file. (length file ≤ LIMIT)
-        × IsFirstFault (sections_of file) fault × Keeps (O.contents out.old) (O.contents out.new) × Keeps (E.contents err.old) (E.contents err.new)) }
-    ensures cannot_read { IsErrOf result Stop.CannotRead → Keeps (O.contents out.old) (O.contents out.new) × Keeps (E.contents err.old) (E.contents err.new) }
-    ensures too_many { IsErrOf result Stop.TooManyCalls → IfSome (I.remaining input.old) (λ file. (length file ≤ LIMIT)
-        × HasTooManyCalls file × Keeps (O.contents out.old) (O.contents out.new) × Keeps (E.contents err.old) (E.contents err.new)) }
-    ensures no_memory { IsErrOf result Stop.NoMemory → (Keeps (O.contents out.old) (O.contents out.new) × Keeps (E.contents err.old) (E.contents err.new))
-        ⊎ IfSome (I.remaining input.old) (λ file. (length file ≤ LIMIT) × HasBegun file (O.contents out.old) (O.contents out.new) (E.contents err.old) (E.contents err.new)) }
+    ensures stopped { IfErr result (λ stop. Leaves stop (I.remaining input.old) (writer_contents O.contents out.old) (writer_contents O.contents out.new) (E.contents err.old) (E.contents err.new)) }
+    ensures handed_on { writer_buffer out.old ≡ [] → (result ≡ Err Stop.CannotWrite) ⊎ (writer_buffer out.new ≡ []) }
 {
     let file = read_whole(alloc, input)?;
     let changes = read_changes(alloc, &file)?;
@@ -219,23 +252,43 @@ fn check<I: Read, O: Write, E: Write>(
 }
 
 /// The whole command `check` on the input named `file`: writes reports on `out` and faults on `err`, and gives the
-/// exit status, the greatest that applies (own).
+/// exit status, the greatest that applies (own). Before a line on `err` says why the command stops, `out` has handed on
+/// what was printed; after `cannot write` it still holds what the writer behind it did not take.
 ///
 /// 0 where no report has an error; 1 where one has; 2 where the file has a fault, a put stores nothing or an
-/// outcome is no report; 3 where the command stops for another reason, which is the last line on `err`.
-pub fn check_over<I: Read, O: Write, E: Write>(
+/// outcome is no report; 3 where the command stops for another reason, which is the last line on `err`. The fault of
+/// `err` where that line cannot be written: then nothing more can be said.
+pub fn check_and_tell<I: Read, O: Write + Drop, E: Write>(
     alloc: Global,
     file: &str,
     input: &mut I,
-    out: &mut O,
+    out: &mut BufWriter<O>,
+    err: &mut E,
+) -> io::Result<u8>
+    ensures range { IfOk result (λ status. status ≤ 3) }
+    ensures ended { IfOk result (λ status. IsEnd file.now (I.remaining input.old) status (writer_contents O.contents out.old) (writer_contents O.contents out.new) (E.contents err.old) (E.contents err.new)) }
+    ensures handed_on { writer_buffer out.old ≡ [] → IfOk result (λ status. status < 3 → writer_buffer out.new ≡ []) }
+{
+    match check(alloc, input, out, err) {
+        Ok(status) => Ok(status),
+        Err(stop) => stop_with(file, &stop, err),
+    }
+}
+
+/// `check_and_tell` with status 3 where standard error fails (own).
+pub fn check_over<I: Read, O: Write + Drop, E: Write>(
+    alloc: Global,
+    file: &str,
+    input: &mut I,
+    out: &mut BufWriter<O>,
     err: &mut E,
 ) -> u8
     ensures range { result ≤ 3 }
-    ensures done { result < 3 → IfSome (I.remaining input.old) (λ bytes. (length bytes ≤ LIMIT)
-        × IsEnd bytes result (O.contents out.old) (O.contents out.new) (E.contents err.old) (E.contents err.new)) }
+    ensures ended { result < 3 → IsEnd file.now (I.remaining input.old) result (writer_contents O.contents out.old) (writer_contents O.contents out.new) (E.contents err.old) (E.contents err.new) }
+    ensures handed_on { writer_buffer out.old ≡ [] → result < 3 → writer_buffer out.new ≡ [] }
 {
-    match check(alloc, input, out, err) {
+    match check_and_tell(alloc, file, input, out, err) {
         Ok(status) => status,
-        Err(stop) => stop_with(file, &stop, err),
+        Err(_) => 3,
     }
 }

@@ -16,7 +16,7 @@ pub fn read_whole<I: Read>(alloc: Global, input: &mut I) -> Result<Vec<u8>, Stop
     ensures stop { IfErr result (λ stop. (stop ≡ Stop.CannotRead) ⊎ (stop ≡ Stop.NoMemory)) }
 {
     let mut file = Vec::new(alloc);
-    let mut limited = Read::take(input, 16_777_217);
+    let mut limited = Read::take(input, LIMIT as u64 + 1);
     if let Err(fault) = limited.read_to_end(&mut file) {
         return Err(match fault.kind() {
             ErrorKind::OutOfMemory => Stop::NoMemory,

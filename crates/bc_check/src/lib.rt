@@ -16,7 +16,7 @@ mod stop;
 #[cfg(test)]
 mod tests;
 
-pub use command::check_over;
+pub use command::{check, check_and_tell, check_over};
 pub use fault::{FaultKind, FileFault};
 pub use file::Change;
 pub use print::write_report;

@@ -1,5 +1,5 @@
 //! Files with what the command prints of them, to the byte, and its status.
-use crate::tests::{leaves_in, leaves_of};
+use crate::tests::leaves_of;
 use crate::{FaultKind, FileFault, Stop, stop_with};
 use bc_text::MAX_TEXT;
 use std::test::Fail;
@@ -147,33 +147,11 @@ fn a_text_has_1_048_576_bytes_and_no_more(rt: HostRuntime) -> Result<(), Fail> {
     Ok(())
 }
 
-/// A file of so many bodies, each put under a name of its own of five letters and digits: at most 786,432.
-fn bodies(rt: &HostRuntime, count: u32) -> Result<String, Fail> {
-    let mut file = String::new(rt.alloc());
-    for number in 0..count {
-        if number < 393_216 {
-            write!(file, "@put {:x}\n", 655_360 + u64::from(number))?;
-        } else {
-            write!(file, "@put {:X}\n", 262_144 + u64::from(number))?;
-        }
-        file.push_str("fn()->int{bb0{stop;}}\n")?;
-    }
-    Ok(file)
-}
-
-#[test]
-fn a_file_of_over_a_million_calls_is_too_much(rt: HostRuntime) -> Result<(), Fail> {
-    let file = bodies(&rt, 500_001)?;
-    let many = b"too many calls\n".as_slice();
-    assert!(rt; leaves_in(&rt, file.as_bytes(), 1 << 20, 3, b"", many));
-    Ok(())
-}
-
 /// Whether a stop has this line on standard error, and this status.
 fn is_told(rt: &HostRuntime, stop: &Stop, line: &[u8], status: u8) -> bool {
     let mut err = Vec::new(rt.alloc());
     let found = stop_with("demo", stop, &mut err);
-    found == status && err.as_slice() == line
+    found.is_ok_and(|found| found == status) && err.as_slice() == line
 }
 
 #[test]
@@ -196,25 +174,4 @@ fn each_stop_has_its_line_and_its_status(rt: HostRuntime) {
     ] {
         assert!(rt; is_told(&rt, &stop, line, status));
     }
-}
-
-/// A put, and so many sections of declarations.
-fn sections(rt: &HostRuntime, count: u32) -> Result<Vec<u8>, Fail> {
-    let mut file = b"@put f\nfn()->int{bb0{stop;}}\n"
-        .as_slice()
-        .to_vec(rt.alloc())?;
-    for _section in 0..count {
-        file.extend_from_slice(b"@types\n")?;
-    }
-    Ok(file)
-}
-
-#[test]
-fn sections_of_declarations_are_calls(rt: HostRuntime) -> Result<(), Fail> {
-    let mut file = sections(&rt, 999_998)?;
-    assert!(rt; leaves_in(&rt, &file, 1 << 20, 0, b"ask f\nf 0\n", b""));
-    file.extend_from_slice(b"@types\n")?;
-    let many = b"too many calls\n".as_slice();
-    assert!(rt; leaves_in(&rt, &file, 1 << 20, 3, b"", many));
-    Ok(())
 }

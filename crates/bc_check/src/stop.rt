@@ -1,5 +1,5 @@
 //! Why the command stops before its end.
-ghost use Rattle.std.specs.Prelude.{◌≡◌, ◌≤◌, ◌<◌, OnOk};
+ghost use Rattle.std.specs.Prelude.{◌≡◌, ◌≤◌, IfOk, OnOk};
 ghost use Rattle.std.specs.Io.KnownBytes.{Appends};
 ghost use Rattle.bc_check.specs.Stops.{last_line, stop_status, refusal_stop, open_stop, close_stop};
 
@@ -126,13 +126,12 @@ fn write_last_line<E: Write>(file: &str, stop: &Stop, err: &mut E) -> io::Result
 }
 
 /// Writes why a command on the file of this name stops, and gives its exit status: 2 where the file has a fault, 3
-/// for all else, also where this cannot be written. (Own.)
-pub fn stop_with<E: Write>(file: &str, stop: &Stop, err: &mut E) -> u8
-    ensures range { result ≤ 3 }
-    ensures said { result < 3 → (result ≡ stop_status stop.now) × Appends (E.contents err.old) (E.contents err.new) (last_line file.now stop.now) }
+/// for all else. The writer's fault where this cannot be written. (Own.)
+pub fn stop_with<E: Write>(file: &str, stop: &Stop, err: &mut E) -> io::Result<u8>
+    ensures range { IfOk result (λ status. status ≤ 3) }
+    ensures status { IfOk result (λ status. status ≡ stop_status stop.now) }
+    ensures said { OnOk result (Appends (E.contents err.old) (E.contents err.new) (last_line file.now stop.now)) }
 {
-    match write_last_line(file, stop, err) {
-        Ok(()) => exit_status(stop),
-        Err(_) => 3,
-    }
+    write_last_line(file, stop, err)?;
+    Ok(exit_status(stop))
 }

@@ -1,7 +1,7 @@
 //! The command over readers and writers in memory, also such as fail at one call.
 use crate::check_over;
 use std::io;
-use std::io::{ErrorKind, Read, Write};
+use std::io::{BufWriter, ErrorKind, Read, Write};
 use std::test::Fail;
 
 /// A device that fails at the call of this number, and at no other.
@@ -45,11 +45,22 @@ impl Read for Input<'_> {
     }
 }
 
-/// A writer that takes a few bytes at a time.
+/// A writer that takes a few bytes at a time, and knows whether it was flushed since.
 #[derive(Drop)]
 struct Output {
     taken: Vec<u8>,
+    is_flushed: bool,
     fuse: Fuse,
+}
+
+impl Output {
+    fn new(rt: &HostRuntime, fails_at: u32) -> Self {
+        Output {
+            taken: Vec::new(rt.alloc()),
+            is_flushed: false,
+            fuse: Fuse::new(fails_at),
+        }
+    }
 }
 
 impl Write for Output {
@@ -57,16 +68,39 @@ impl Write for Output {
         self.fuse.burn()?;
         let count = buf.len().min(5);
         self.taken.extend_from_slice(&buf[..count])?;
+        self.is_flushed = false;
         Ok(count)
     }
 
     fn flush(&mut self) -> io::Result<()> {
-        self.fuse.burn()
+        self.fuse.burn()?;
+        self.is_flushed = true;
+        Ok(())
     }
 }
 
 /// The number of no call.
-pub const NEVER: u32 = u32::MAX;
+const NEVER: u32 = u32::MAX;
+
+/// How the devices of a run behave: how many bytes are read at a time, how many the buffer of the reports holds, and at
+/// which call each device fails.
+#[derive(Clone, Copy)]
+struct Devices {
+    chunk: usize,
+    room: usize,
+    read: u32,
+    write: u32,
+    tell: u32,
+}
+
+/// Devices that never fail.
+const SOUND: Devices = Devices {
+    chunk: 7,
+    room: 8192,
+    read: NEVER,
+    write: NEVER,
+    tell: NEVER,
+};
 
 /// A borrow that ends before its local is written again, put under three names of which one is no root, and behind a
 /// declaration.
@@ -77,54 +111,41 @@ const REPORTS: &[u8] = b"ask f\nf 0\nask g\ng 0\n";
 
 const REFUSED: &[u8] = b"put f/0 wrongkind\n";
 
-/// What the command left, and how many calls of each device it made.
+/// What the command left, whether standard output was flushed last, and how many calls of each device it made.
 #[derive(Drop)]
-pub struct Ending {
-    pub status: u8,
-    pub out: Vec<u8>,
-    pub err: Vec<u8>,
+struct Ending {
+    status: u8,
+    is_flushed: bool,
+    out: Vec<u8>,
+    err: Vec<u8>,
     reads: u32,
     writes: u32,
     tells: u32,
 }
 
-/// The command on this file, which is read so many bytes at a time, with the calls of these numbers failing.
-pub fn run(
-    rt: &HostRuntime,
-    file: &[u8],
-    chunk: usize,
-    read: u32,
-    write: u32,
-    tell: u32,
-) -> Ending {
+/// The command on this file over these devices, as the program runs it: its reports behind a buffer, of which what is not
+/// written is let go, and with status 3 where standard error fails.
+fn run(rt: &HostRuntime, file: &[u8], devices: Devices) -> io::Result<Ending> {
     let mut input = Input {
         rest: file,
-        chunk,
-        fuse: Fuse::new(read),
+        chunk: devices.chunk,
+        fuse: Fuse::new(devices.read),
     };
-    let mut out = Output {
-        taken: Vec::new(rt.alloc()),
-        fuse: Fuse::new(write),
-    };
-    let mut err = Output {
-        taken: Vec::new(rt.alloc()),
-        fuse: Fuse::new(tell),
-    };
+    let out = Output::new(rt, devices.write);
+    let mut out = BufWriter::with_capacity(rt.alloc(), devices.room, out)?;
+    let mut err = Output::new(rt, devices.tell);
     let status = check_over(rt.alloc(), "demo", &mut input, &mut out, &mut err);
+    let (out, _unwritten) = out.into_parts();
     let (reads, writes, tells) = (input.fuse.calls, out.fuse.calls, err.fuse.calls);
-    Ending {
+    Ok(Ending {
         status,
+        is_flushed: out.is_flushed,
         out: out.taken,
         err: err.taken,
         reads,
         writes,
         tells,
-    }
-}
-
-/// The command on this file, with devices that never fail.
-pub fn run_whole(rt: &HostRuntime, file: &[u8]) -> Ending {
-    run(rt, file, 7, NEVER, NEVER, NEVER)
+    })
 }
 
 /// Whether the command ended with this status, and left this on its two writers.
@@ -133,7 +154,7 @@ fn has_left(ending: &Ending, status: u8, out: &[u8], err: &[u8]) -> bool {
 }
 
 /// Whether the command ends so on a file that is read so many bytes at a time, with devices that never fail.
-pub fn leaves_in(
+fn leaves_in(
     rt: &HostRuntime,
     file: &[u8],
     chunk: usize,
@@ -141,8 +162,10 @@ pub fn leaves_in(
     out: &[u8],
     err: &[u8],
 ) -> bool {
-    let ending = run(rt, file, chunk, NEVER, NEVER, NEVER);
-    has_left(&ending, status, out, err)
+    match run(rt, file, Devices { chunk, ..SOUND }) {
+        Ok(ending) => has_left(&ending, status, out, err),
+        Err(_) => false,
+    }
 }
 
 /// Whether the command ends so on a file, with devices that never fail.
@@ -241,8 +264,7 @@ fn numbered(rt: &HostRuntime, count: u32) -> Result<String, Fail> {
 }
 
 /// Whether the command stores 256 bodies of a file and refuses one more, asks for all, and ends with 2.
-fn is_full_behind_256(rt: &HostRuntime, file: &[u8]) -> bool {
-    let many = run(rt, file, 4096, NEVER, NEVER, NEVER);
+fn is_full_behind_256(many: &Ending) -> bool {
     many.err.as_slice() == b"put n256 full\n".as_slice()
         && many.status == 2
         && many
@@ -254,59 +276,84 @@ fn is_full_behind_256(rt: &HostRuntime, file: &[u8]) -> bool {
 #[test]
 fn holds_256_bodies(rt: HostRuntime) -> Result<(), Fail> {
     let file = numbered(&rt, 257)?;
-    assert!(rt; is_full_behind_256(&rt, file.as_bytes()));
+    let chunk = 4096;
+    let many = run(&rt, file.as_bytes(), Devices { chunk, ..SOUND })?;
+    assert!(rt; is_full_behind_256(&many));
     Ok(())
 }
 
-/// How many reads, writes and lines on standard error the command makes of a file where none fails.
-fn calls_of(rt: &HostRuntime, file: &[u8]) -> (u32, u32, u32) {
-    let whole = run_whole(rt, file);
-    (whole.reads, whole.writes, whole.tells)
+/// Whether the command says that it cannot read a file of which this read fails.
+fn stops_at_read(rt: &HostRuntime, read: u32) -> io::Result<bool> {
+    let cut = run(rt, FILE, Devices { read, ..SOUND })?;
+    Ok(has_left(&cut, 3, b"", b"cannot read demo\n"))
 }
 
-fn stops_at_read(rt: &HostRuntime, read: u32) -> bool {
-    let cut = run(rt, FILE, 7, read, NEVER, NEVER);
-    has_left(&cut, 3, b"", b"cannot read demo\n")
-}
-
-fn stops_at_write(rt: &HostRuntime, write: u32) -> bool {
-    let cut = run(rt, FILE, 7, NEVER, write, NEVER);
-    cut.status == 3
-        && cut.err.as_slice() == b"put f/0 wrongkind\ncannot write\n".as_slice()
-        && REPORTS.starts_with(cut.out.as_slice())
+/// Whether the command says that it cannot write, and makes no further call, once this write or flush fails behind a
+/// buffer of this size.
+fn stops_at_write(rt: &HostRuntime, room: usize, write: u32) -> io::Result<bool> {
+    let cut = run(
+        rt,
+        FILE,
+        Devices {
+            room,
+            write,
+            ..SOUND
+        },
+    )?;
+    Ok(
+        cut.status == 3
+            && cut.err.as_slice() == b"put f/0 wrongkind\ncannot write\n".as_slice()
+            && REPORTS.starts_with(cut.out.as_slice())
+            && cut.writes == write.saturating_add(1),
+    )
 }
 
 /// Whether the command, which tells this of a file, makes no further call once a line on standard error fails.
-fn stops_at_tell(rt: &HostRuntime, file: &[u8], told: &[u8], tell: u32) -> bool {
-    let cut = run(rt, file, 7, NEVER, NEVER, tell);
-    cut.status == 3
-        && cut.out.is_empty()
-        && told.starts_with(cut.err.as_slice())
-        && cut.tells == tell.saturating_add(1)
+fn stops_at_tell(rt: &HostRuntime, file: &[u8], told: &[u8], tell: u32) -> io::Result<bool> {
+    let cut = run(rt, file, Devices { tell, ..SOUND })?;
+    Ok(
+        cut.status == 3
+            && cut.out.is_empty()
+            && told.starts_with(cut.err.as_slice())
+            && cut.tells == tell.saturating_add(1),
+    )
 }
 
-/// Each read, each write and each line on standard error fails in turn.
 #[test]
-fn each_call_fails_in_turn(rt: HostRuntime) {
-    let (reads, writes, tells) = calls_of(&rt, FILE);
-    for read in 0..reads {
-        assert!(rt; stops_at_read(&rt, read));
+fn each_read_fails_in_turn(rt: HostRuntime) -> Result<(), Fail> {
+    let whole = run(&rt, FILE, SOUND)?;
+    for read in 0..whole.reads {
+        assert!(rt; stops_at_read(&rt, read)?);
     }
-    for write in 0..writes {
-        assert!(rt; stops_at_write(&rt, write));
-    }
-    for tell in 0..tells {
-        assert!(rt; stops_at_tell(&rt, FILE, REFUSED, tell));
-    }
+    Ok(())
 }
 
-/// Each line on standard error of a faulty file fails in turn.
+/// Each write and each flush fails in turn: of a device that sees each write at once, of one behind a buffer that is
+/// emptied on the way, and of one behind a buffer that is emptied once.
 #[test]
-fn each_word_of_a_fault_fails_in_turn(rt: HostRuntime) {
-    let told = b"line 1: bad header\n".as_slice();
-    assert!(rt; leaves_of(&rt, b"x", 2, b"", told));
-    let (_reads, _writes, tells) = calls_of(&rt, b"x");
-    for tell in 0..tells {
-        assert!(rt; stops_at_tell(&rt, b"x", told, tell));
+fn each_write_fails_in_turn(rt: HostRuntime) -> Result<(), Fail> {
+    for room in [0, 8, 8192] {
+        let whole = run(&rt, FILE, Devices { room, ..SOUND })?;
+        assert!(rt; has_left(&whole, 2, REPORTS, REFUSED) && whole.is_flushed);
+        for write in 0..whole.writes {
+            assert!(rt; stops_at_write(&rt, room, write)?);
+        }
     }
+    Ok(())
+}
+
+/// Each write on standard error fails in turn: of the line of a put, and of the line of a fault.
+#[test]
+fn each_line_fails_in_turn(rt: HostRuntime) -> Result<(), Fail> {
+    for (file, told) in [
+        (FILE, REFUSED),
+        (b"x".as_slice(), b"line 1: bad header\n".as_slice()),
+    ] {
+        let whole = run(&rt, file, SOUND)?;
+        assert!(rt; whole.status == 2 && whole.err.as_slice() == told);
+        for tell in 0..whole.tells {
+            assert!(rt; stops_at_tell(&rt, file, told, tell)?);
+        }
+    }
+    Ok(())
 }

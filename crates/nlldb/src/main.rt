@@ -1,9 +1,9 @@
 //! The program: `nlldb check FILE`.
 #![tactic(auto)]
 
-use bc_check::{Stop, check_over, stop_with};
+use bc_check::{Stop, check_and_tell, stop_with};
 use std::fs::File;
-use std::io::{BufWriter, ErrorKind, Stderr, Write};
+use std::io::{BufWriter, ErrorKind, Stderr};
 use std::process::ExitCode;
 use std::{env, io};
 
@@ -16,22 +16,23 @@ fn read_words(rt: &HostRuntime) -> io::Result<Vec<String>> {
     Ok(words)
 }
 
-/// Checks the file of this name. What it prints stands in a buffer, which `check_over` empties below status 3.
-fn check_file(rt: &HostRuntime, file: &str, err: &mut Stderr) -> u8 {
+/// Checks the file of this name. What it prints stands in a buffer, which `check_and_tell` empties. Where the output fails,
+/// what the buffer still holds is let go unwritten.
+fn check_file(rt: &HostRuntime, file: &str, err: &mut Stderr) -> io::Result<u8> {
     let Ok(mut input) = File::open(rt, file) else {
         return stop_with(file, &Stop::CannotRead, err);
     };
     let Ok(mut out) = BufWriter::new(rt.alloc(), rt.stdout()) else {
         return stop_with(file, &Stop::NoMemory, err);
     };
-    let status = check_over(rt.alloc(), file, &mut input, &mut out, err);
-    let _ = out.flush();
-    status
+    let ended = check_and_tell(rt.alloc(), file, &mut input, &mut out, err);
+    let (_stdout, _unwritten) = out.into_parts();
+    ended
 }
 
 fn main(rt: HostRuntime) -> ExitCode {
     let mut err = rt.stderr();
-    let status = match read_words(&rt) {
+    let ended = match read_words(&rt) {
         Ok(words) => match words.as_slice() {
             [command, file] if command.as_str() == "check" => check_file(&rt, file, &mut err),
             _ => stop_with("", &Stop::WrongUse, &mut err),
@@ -40,6 +41,11 @@ fn main(rt: HostRuntime) -> ExitCode {
             stop_with("", &Stop::NoMemory, &mut err)
         }
         Err(_) => stop_with("", &Stop::WrongUse, &mut err),
+    };
+    // Where standard error fails, nothing more can be said.
+    let status = match ended {
+        Ok(status) => status,
+        Err(_) => 3,
     };
     ExitCode::from(status)
 }

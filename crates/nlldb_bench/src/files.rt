@@ -4,7 +4,7 @@ use crate::timing::best_time;
 use bc_check::check_over;
 use std::alloc::Global;
 use std::io;
-use std::io::Write;
+use std::io::{BufWriter, Write};
 
 /// How many bodies the file puts.
 const BODIES: u32 = 8806;
@@ -26,17 +26,18 @@ pub fn many_bodies(alloc: Global) -> io::Result<Vec<u8>> {
 }
 
 /// What `check` leaves of a file: its status, and the reports.
-fn checked(rt: &HostRuntime, file: &[u8]) -> (u8, Vec<u8>) {
+fn checked(rt: &HostRuntime, file: &[u8]) -> io::Result<(u8, Vec<u8>)> {
     let mut input = file;
-    let mut reports = Vec::new(rt.alloc());
+    let mut out = BufWriter::new(rt.alloc(), Vec::new(rt.alloc()))?;
     let status = check_over(
         rt.alloc(),
         "file",
         &mut input,
-        &mut reports,
+        &mut out,
         &mut io::sink(),
     );
-    (status, reports)
+    let (reports, _unwritten) = out.into_parts();
+    Ok((status, reports))
 }
 
 /// Checks a file, and writes what `check` leaves of it to `out` and the shortest time to `err`.
@@ -47,14 +48,14 @@ pub fn measure_file<O: Write, E: Write>(
     out: &mut O,
     err: &mut E,
 ) -> anyhow::Result<()> {
-    let (status, reports) = checked(rt, file);
+    let (status, reports) = checked(rt, file)?;
     let bytes = file.len();
     let sum = checksum(&reports);
     writeln!(
         out,
         "{name}: {bytes} bytes, status {status}, checksum {sum}"
     )?;
-    let best = best_time(rt, || Ok(checked(rt, file)))?;
+    let best = best_time(rt, || Ok(checked(rt, file)?))?;
     writeln!(err, "{name}: microseconds: {best}")?;
     Ok(())
 }

@@ -4,15 +4,15 @@
 
 use bc_check::check_over;
 use std::fs::File;
-use std::io::{Read, Write};
+use std::io::{BufWriter, Read, Write};
 use std::{env, io};
 
 /// Checks an input, and prints what the command leaves of it.
-fn show<I: Read, O: Write>(
+fn show<I: Read, O: Write + Drop>(
     rt: &HostRuntime,
     name: &str,
     input: &mut I,
-    out: &mut O,
+    out: &mut BufWriter<O>,
 ) -> io::Result<()> {
     let mut told = Vec::new(rt.alloc());
     writeln!(out, "{name}")?;
@@ -22,10 +22,10 @@ fn show<I: Read, O: Write>(
 }
 
 fn main(rt: HostRuntime) -> io::Result<()> {
-    let mut out = rt.stdout();
+    let mut out = BufWriter::new(rt.alloc(), rt.stdout())?;
     for name in env::args(&rt)?.skip(1) {
         let mut input = File::open(&rt, &name)?;
         show(&rt, &name, &mut input, &mut out)?;
     }
-    Ok(())
+    out.flush()
 }

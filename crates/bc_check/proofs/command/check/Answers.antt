@@ -1,26 +1,19 @@
-use Rattle.std.proofs.Common.{arith, ◌≤◌, length, map, List, ℕ}
+use Rattle.std.proofs.Common.{arith, map}
 use Rattle.std.proofs.lemmas.List.{length-map}
-use Rattle.std.specs.Io.KnownBytes.{Keeps}
 use Rattle.bc_check.specs.Changes.{seen}
-use Rattle.bc_check.specs.Ends.{HasTooManyCalls}
-use Rattle.bc_check.proofs.Ending.{known_is}
+use Rattle.bc_check.proofs.Stopping.{broken}
 use Rattle.bc_check.proofs.command.check.Goals as goal
 
-pub returns-clause-too_many : goal.returns-clause-too_many
-returns-clause-too_many g c e =
-    let h = c.serve.ensures.too_many e in
+pub returns-clause-stopped : goal.returns-clause-stopped
+returns-clause-stopped g c =
     let good = rw c.deref.ensures.value at c.in_ok-changes.ensures in
     let asked = rw c.deref-2.ensures.value at c.in_ok-names.ensures.asked in
-    let Many : List ℕ → Type 0 = λ file. (length file ≤ 16777216) × HasTooManyCalls file × Keeps (g.O.Write.contents c.args.out.now) (g.O.Write.contents c.serve.new.out) × Keeps (g.E.Write.contents c.args.err.now) (g.E.Write.contents c.serve.new.err) in
-    known_is (g.I.Read.remaining c.args.input.now) c.in_ok-file.file.items Many c.in_ok-file.ensures.whole (
-      c.in_ok-file.ensures.short,
-      record {
-        made = map seen c.in_ok-changes.changes.items;
-        names = c.in_ok-names.names.keys;
-        good = good;
-        asked = asked;
-        many = omega (arith, length-map c.in_ok-changes.changes.items seen, h.0);
-      },
-      h.1,
-      h.2,
-    )
+    broken c.serve.result _ _ _ _ _ c.in_ok-file.file.items (map seen c.in_ok-changes.changes.items) c.in_ok-names.names.keys c.in_ok-file.ensures.whole (record {
+      short = c.in_ok-file.ensures.short;
+      good = good;
+      asked = asked;
+      other = c.serve.ensures.other;
+      many = λ e. (let h = c.serve.ensures.too_many e in omega (arith, length-map c.in_ok-changes.changes.items seen, h.0));
+      quiet = λ e. (let h = c.serve.ensures.too_many e in (h.1, h.2));
+      no_memory = c.serve.ensures.no_memory;
+    })

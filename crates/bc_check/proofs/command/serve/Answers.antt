@@ -13,10 +13,10 @@ returns-clause-done g c =
     let opened : c.in_ok-db.sessions.items ≡ new_session 0 0 c.in_ok-capacity.capacity ∷ [] = c.in_ok-db.ensures.opened.1 in
     let popped : c.in_ok-db.sessions.items ≡ c.pop.new.self.items ++ c.in-Some.session ∷ [] = c.in-Some.ensures.items in
     let last : (c.pop.new.self.items ≡ []) × (c.in-Some.session ≡ new_session 0 0 c.in_ok-capacity.capacity) = the_last _ _ _ (sym opened ∙ popped) in
-    let all : c.push.new.self.items ≡ c.make_asks.new.session ∷ [] = c.in_ok-push.ensures.items ∙ ap (λ (ss : List SessionView). ss ++ c.make_asks.new.session ∷ []) last.0 in
+    let all : c.push.new.self.items ≡ c.answer_all.new.session ∷ [] = c.in_ok-push.ensures.items ∙ ap (λ (ss : List SessionView). ss ++ c.answer_all.new.session ∷ []) last.0 in
     let one = subst (λ (ss : List SessionView). IsOneHistory ss c.in_ok-close.field-0) all c.in_ok-close.ensures.one_history in
     let few : length (map seen c.args.changes.items) + length c.args.names.now.keys ≤ 1000000 = omega (arith, length-map c.args.changes.items seen, c.in_ok-capacity.ensures.fits, c.len.ensures, c.len-2.ensures.len, c.args.changes.ok.0) in
-    rw c.max.ensures (runs_of c.args.changes.items c.args.names.now.keys c.in_ok-changed.changed c.in_ok-asked.asked c.in_ok-capacity.capacity c.in-Some.session c.make_changes.new.session c.make_asks.new.session _ _ _ _ c.in_ok-close.field-0 c.in_ok-changed.ensures.served c.in_ok-asked.ensures.served last.1 few one)
+    rw c.max.ensures (runs_of c.args.changes.items c.args.names.now.keys c.in_ok-changed.changed c.in_ok-asked.asked c.in_ok-capacity.capacity c.in-Some.session c.make_changes.new.session c.answer_all.new.session _ _ _ _ c.in_ok-close.field-0 c.in_ok-changed.ensures.served c.in_ok-asked.ensures.served last.1 few one)
 
 pub returns-in_err-db-clause-no_memory : goal.returns-in_err-db-clause-no_memory
 returns-in_err-db-clause-no_memory g c e = begins_none (map seen c.args.changes.items) c.args.names.now.keys _ _
@@ -33,4 +33,4 @@ returns-in_err-asked-clause-no_memory g c e =
     let opened : c.in_ok-db.sessions.items ≡ new_session 0 0 c.in_ok-capacity.capacity ∷ [] = c.in_ok-db.ensures.opened.1 in
     let popped : c.in_ok-db.sessions.items ≡ c.pop.new.self.items ++ c.in-Some.session ∷ [] = c.in-Some.ensures.items in
     let last : (c.pop.new.self.items ≡ []) × (c.in-Some.session ≡ new_session 0 0 c.in_ok-capacity.capacity) = the_last _ _ _ (sym opened ∙ popped) in
-    begins_asks c.args.changes.items c.args.names.now.keys c.in_ok-changed.changed c.in_ok-capacity.capacity c.in-Some.session c.make_changes.new.session c.make_asks.new.session _ _ _ _ c.in_ok-changed.ensures.served (c.in_err-asked.ensures.no_memory (same_stop c.from_residual-in_err-asked.result c.in_err-asked.field-0.0 NoMemory c.from_residual-in_err-asked.ensures.1 e)) last.1
+    begins_asks c.args.changes.items c.args.names.now.keys c.in_ok-changed.changed c.in_ok-capacity.capacity c.in-Some.session c.make_changes.new.session c.answer_all.new.session _ _ _ _ c.in_ok-changed.ensures.served (c.in_err-asked.ensures.no_memory (same_stop c.from_residual-in_err-asked.result c.in_err-asked.field-0.0 NoMemory c.from_residual-in_err-asked.ensures.1 e)) last.1
