@@ -2,8 +2,6 @@
 #![tactic(auto)]
 
 mod asked;
-#[cfg(test)]
-mod bodies;
 mod command;
 mod fault;
 mod file;

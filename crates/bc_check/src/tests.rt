@@ -182,68 +182,6 @@ fn prints_reports_in_the_order_of_names(rt: HostRuntime) {
 }
 
 #[test]
-fn tells_the_first_fault(rt: HostRuntime) {
-    for (file, want) in [
-        (b"@put 9\n" as &[u8], b"line 1: bad header\n" as &[u8]),
-        (b"x\n", b"line 1: bad header\n"),
-        (b"\n", b"line 1: bad header\n"),
-        (b" @put f\nfn()->int{bb0{return;}}", b"line 1: bad header\n"),
-        (
-            b"@put f\r\nfn()->int{bb0{return;}}",
-            b"line 1: bad header\n",
-        ),
-        (b"@put  f\nfn()->int{bb0{return;}}", b"line 1: bad header\n"),
-        (b"@put f \nfn()->int{bb0{return;}}", b"line 1: bad header\n"),
-        (b"@types \n", b"line 1: bad header\n"),
-        (b"@types\r\n", b"line 1: bad header\n"),
-        (b"@Types\n", b"line 1: bad header\n"),
-        (b"@types f\n", b"line 1: bad header\n"),
-        (b"@type\n", b"line 1: bad header\n"),
-        (
-            b"@types\nstruct S {}\n@types\nstruct S { int }",
-            b"line 3: grammar at 15\n",
-        ),
-        (
-            b"@types\nfn()->int{bb0{return;}}",
-            b"line 1: grammar at 0\n",
-        ),
-        (b"@put f\nstruct S { int; }", b"line 1: grammar at 0\n"),
-        (b"@types\nextern f\t() -> int;", b"line 1: token at 8\n"),
-        (b"@types\n\xC3", b"line 1: not ascii at 0\n"),
-        (
-            b"@types\nstruct aaaaaaaaaaaaaaaaaaaaaaaaaaaaaaaaa { int; }",
-            b"line 1: limit at 7\n",
-        ),
-        (
-            b"@types\nstruct H<+'a> { &'static mut &'a int; }\n@put f\nfn",
-            b"line 3: grammar at 2\n",
-        ),
-        (b"@0 ask f\n", b"line 1: bad header\n"),
-        (b"@put f", b"line 1: grammar at 0\n"),
-        (
-            b"@put f\nfn()->int{bb0{return;}",
-            b"line 1: grammar at 22\n",
-        ),
-        (b"@put f\nfn\t()", b"line 1: token at 2\n"),
-        (b"@put f\nfn\xC3", b"line 1: not ascii at 2\n"),
-        (
-            b"@put f\nfn()->int{let _1:int;bb0{_1=99999999999;return;}}",
-            b"line 1: limit at 28\n",
-        ),
-        (
-            b"@put f\nfn()->int{bb0{return;}}\n\n@put g\nfn\n@x\n",
-            b"line 4: grammar at 3\n",
-        ),
-        (
-            b"@x\n@put f\nfn()->int{bb0{goto bb0;}}",
-            b"line 1: bad header\n",
-        ),
-    ] {
-        assert!(rt; leaves_of(&rt, file, 2, b"", want));
-    }
-}
-
-#[test]
 fn reads_16_mebibytes_and_no_more(rt: HostRuntime) -> Result<(), Fail> {
     let mut file = vec![in rt.alloc(); b' '; 16_777_216]?;
     let header = b"line 1: bad header\n".as_slice();

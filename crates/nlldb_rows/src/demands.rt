@@ -1,9 +1,8 @@
 //! What a call demands of regions, and the values that follow from it.
-use crate::declared::typed;
+use crate::fixture::{expect, typed};
 use crate::steps::{facts_of, values_of};
 use bc_cons::Constraint;
 use bc_solve::Values;
-use std::process::Abort;
 use std::test::Fail;
 
 const TYPES: &[u8] = b"extern k<'a,'b> (&'a mut &'b int) -> int;";
@@ -24,25 +23,26 @@ fn are_demanded(found: &[Constraint], pairs: &[(usize, usize)]) -> bool {
 fn behind_a_mutable_reference_a_call_demands_both_ways(rt: HostRuntime) -> Result<(), Fail> {
     let typed = typed(rt.alloc(), TYPES, CALLS)?;
     let facts = facts_of(rt.alloc(), &typed)?;
-    assert!(rt; are_demanded(facts.pairs(), &[(1, 3), (2, 4), (4, 2)]));
+    let pairs = [(1, 3), (2, 4), (4, 2)];
+    expect(&rt, are_demanded(facts.pairs(), &pairs), "three demands");
     Ok(())
 }
 
-/// These regions, and no others of them, have the first element; none has one of the next two.
-fn have_the_first(rt: &impl Abort, values: &Values, rows: &[(usize, bool)]) {
-    for (region, has) in rows {
-        assert_eq!(rt; values.contains(*region, 0), *has, "{region}");
-        assert!(rt;
-            !values.contains(*region, 1) && !values.contains(*region, 2),
-            "{region}"
-        );
-    }
+/// Whether a region has of the first three elements the first or none, as told.
+fn has_the_first(values: &Values, region: usize, has: bool) -> bool {
+    values.contains(region, 0) == has && !values.contains(region, 1) && !values.contains(region, 2)
 }
 
 #[test]
 fn what_is_equal_behind_it_has_one_value(rt: HostRuntime) -> Result<(), Fail> {
     let typed = typed(rt.alloc(), TYPES, CALLS)?;
     let values = values_of(rt.alloc(), &typed)?;
-    have_the_first(&rt, &values, &[(1, true), (2, true), (3, false), (4, true)]);
+    for (region, has) in [(1, true), (2, true), (3, false), (4, true)] {
+        expect(
+            &rt,
+            has_the_first(&values, region, has),
+            "the first point, where it is live",
+        );
+    }
     Ok(())
 }

@@ -1,18 +1,16 @@
 //! What each step of the analysis finds.
-use crate::declared::typed;
-use crate::fixture::{
-    WRITES_LAST, WRITES_WHILE_BORROWED, Wanted, conflict, point, text_has_outcome,
-};
+use crate::fixture::{WRITES_LAST, WRITES_WHILE_BORROWED, expect, name, reports, typed};
 use bc_cons::{Facts, constraints};
-use bc_judge::{judge, known_relations};
+use bc_judge::{BorrowError, judge, known_relations};
 use bc_live::{LiveSets, live};
 use bc_loans::{Scopes, in_scope, loans};
-use bc_mir::{Step, Typed};
+use bc_mir::{Point, Typed};
 use bc_points::Loan;
+use bc_prov::outcome_of;
 use bc_solve::{Values, solve_plain};
-use bc_syntax::{Mutability, Region};
+use bc_syntax::{Mutability, Region, Types};
+use bc_text::read_types;
 use std::alloc::{AllocError, Global};
-use std::process::Abort;
 use std::test::Fail;
 
 const READS_BEFORE_IT_WRITES: &[u8] =
@@ -35,28 +33,27 @@ pub fn values_of(alloc: Global, typed: &Typed) -> Result<Values, AllocError> {
     solve_plain(alloc, &facts)
 }
 
-/// The local is live before the first step of each block, and before no other.
-fn is_live_before(rt: &impl Abort, live: &LiveSets, local: usize, steps: &[Step]) {
-    for (point, step) in steps.iter().enumerate() {
-        let begins = point == 0 || point == 2 || point == 4;
-        assert_eq!(rt; live.live(local, point), begins, "{}", step.point);
+/// Whether a local is live before the points of these numbers, and no others.
+fn is_live_before(live: &LiveSets, local: usize, count: usize, points: &[usize]) -> bool {
+    let mut agree = true;
+    for point in 0..count {
+        agree = agree && live.live(local, point) == points.contains(&point);
     }
-}
-
-fn last_is_live_before(rt: &impl Abort, alloc: Global, typed: &Typed) -> Result<(), Fail> {
-    let live = live(alloc, typed)?;
-    assert_eq!(rt; live.rows().len(), 3);
-    is_live_before(rt, &live, 2, typed.steps());
-    Ok(())
+    agree
 }
 
 #[test]
 fn a_local_is_live_up_to_its_uses(rt: HostRuntime) -> Result<(), Fail> {
     let typed = typed(rt.alloc(), b"", READS_BEFORE_IT_WRITES)?;
-    assert_eq!(rt; typed.steps().len(), 6);
-    last_is_live_before(&rt, rt.alloc(), &typed)
+    expect(&rt, typed.steps().len() == 6, "six points");
+    let live = live(rt.alloc(), &typed)?;
+    expect(&rt, live.rows().len() == 3, "three locals");
+    let begins = is_live_before(&live, 2, 6, &[0, 2, 4]);
+    expect(&rt, begins, "live where a block begins");
+    Ok(())
 }
 
+/// Whether there are five elements, and one demand: of region 2 and region 5.
 fn has_one_demand(facts: &Facts) -> bool {
     facts.elements() == 5
         && matches!(facts.pairs(), [pair] if pair.longer == 2 && pair.shorter == 5)
@@ -68,26 +65,24 @@ fn a_reborrow_is_outlived_by_the_reference_that_it_goes_through(
 ) -> Result<(), Fail> {
     let typed = typed(rt.alloc(), b"", REBORROWS_THROUGH_A_SHARED_REFERENCE)?;
     let facts = facts_of(rt.alloc(), &typed)?;
-    assert!(rt; has_one_demand(&facts));
+    expect(&rt, has_one_demand(&facts), "one demand");
     Ok(())
 }
 
-/// Of the first six elements a region has this one alone.
-fn has_alone(rt: &impl Abort, values: &Values, region: usize, has: usize) {
+/// Whether of the first six elements a region has this one alone.
+fn has_alone(values: &Values, region: usize, has: usize) -> bool {
+    let mut agree = true;
     for element in 0..6usize {
-        assert_eq!(rt;
-            values.contains(region, element),
-            element == has,
-            "{element}"
-        );
+        agree = agree && values.contains(region, element) == (element == has);
     }
+    agree
 }
 
 #[test]
 fn a_region_has_the_points_where_its_reference_is_live(rt: HostRuntime) -> Result<(), Fail> {
     let typed = typed(rt.alloc(), b"", WRITES_LAST)?;
     let values = values_of(rt.alloc(), &typed)?;
-    has_alone(&rt, &values, 2, 2);
+    expect(&rt, has_alone(&values, 2, 2), "the third point alone");
     Ok(())
 }
 
@@ -102,11 +97,13 @@ fn makes_one_loan(alloc: Global, typed: &Typed) -> Result<bool, AllocError> {
     Ok(is_the_borrow(&made))
 }
 
-/// Of the five points the first loan is in scope at this one alone.
-fn is_in_scope_at(rt: &impl Abort, scopes: &Scopes, at: usize) {
+/// Whether of the five points the first loan is in scope at this one alone.
+fn is_in_scope_at(scopes: &Scopes, at: usize) -> bool {
+    let mut agree = true;
     for point in 0..5usize {
-        assert_eq!(rt; scopes.on_entry(point, 0), point == at, "{point}");
+        agree = agree && scopes.on_entry(point, 0) == (point == at);
     }
+    agree
 }
 
 /// Whether a unit has one error: the access of its third point conflicts with the loan of its second.
@@ -116,45 +113,48 @@ fn has_one_conflict(
     values: &Values,
     scopes: &Scopes,
 ) -> Result<bool, AllocError> {
+    let conflict = BorrowError::Conflict {
+        at: Point { block: 0, index: 2 },
+        access: 0,
+        loan: Point { block: 0, index: 1 },
+    };
     let verdict = judge(alloc, typed, values, scopes)?;
-    Ok(verdict.errors.as_slice() == [conflict(point(0, 2), point(0, 1))].as_slice())
+    Ok(verdict.errors.as_slice() == [conflict].as_slice())
 }
 
-fn conflicts_in_scope(
-    rt: &impl Abort,
-    alloc: Global,
-    typed: &Typed,
-    values: &Values,
-) -> Result<(), Fail> {
+/// Whether the first loan is in scope at the third point alone, where it makes one conflict.
+fn conflicts(alloc: Global, typed: &Typed, values: &Values) -> Result<bool, AllocError> {
     let scopes = in_scope(alloc, typed, values)?;
-    is_in_scope_at(rt, &scopes, 2);
-    assert!(rt; has_one_conflict(alloc, typed, values, &scopes)?);
-    Ok(())
-}
-
-fn conflicts(rt: &impl Abort, alloc: Global, typed: &Typed) -> Result<(), Fail> {
-    let values = values_of(alloc, typed)?;
-    conflicts_in_scope(rt, alloc, typed, &values)
+    Ok(is_in_scope_at(&scopes, 2) && has_one_conflict(alloc, typed, values, &scopes)?)
 }
 
 #[test]
 fn a_loan_is_in_scope_while_its_region_has_the_point(rt: HostRuntime) -> Result<(), Fail> {
     let typed = typed(rt.alloc(), b"", WRITES_WHILE_BORROWED)?;
-    assert!(rt; makes_one_loan(rt.alloc(), &typed)?);
-    conflicts(&rt, rt.alloc(), &typed)
+    expect(&rt, makes_one_loan(rt.alloc(), &typed)?, "one loan");
+    let values = values_of(rt.alloc(), &typed)?;
+    expect(
+        &rt,
+        conflicts(rt.alloc(), &typed, &values)?,
+        "one conflict in scope",
+    );
+    Ok(())
+}
+
+/// Whether `f` has this report where it holds no unit under these declarations.
+fn reports_none(alloc: Global, types: &Types, report: &[u8]) -> Result<bool, Fail> {
+    let found = outcome_of(alloc, &name(b"f")?, types, None)?;
+    reports(alloc, &found, report)
 }
 
 #[test]
-fn the_outcome_of_a_name_is_of_what_it_holds(rt: HostRuntime) -> Result<(), Fail> {
-    let bad = b"struct A { int; } struct B { C; }".as_slice();
-    let rows: [(&[u8], Option<&[u8]>, Wanted); 4] = [
-        (b"", None, Wanted::NoBody),
-        (b"", Some(WRITES_LAST), Wanted::Errors(&[])),
-        (bad, None, Wanted::BadTypes(1)),
-        (bad, Some(WRITES_LAST), Wanted::BadTypes(1)),
-    ];
-    for (types, unit, wanted) in rows {
-        assert!(rt; text_has_outcome(rt.alloc(), types, unit, &wanted)?);
+fn a_name_that_holds_nothing_has_no_body_or_bad_declarations(rt: HostRuntime) -> Result<(), Fail> {
+    for (types, report) in [
+        (b"".as_slice(), b"no body\n".as_slice()),
+        (b"struct A { int; } struct B { C; }", b"bad declaration 1\n"),
+    ] {
+        let types = read_types(rt.alloc(), types)?;
+        expect(&rt, reports_none(rt.alloc(), &types, report)?, "its report");
     }
     Ok(())
 }
@@ -171,6 +171,10 @@ fn what_is_known_of_universal_regions_follows_from_the_clauses(
     rt: HostRuntime,
 ) -> Result<(), Fail> {
     let typed = typed(rt.alloc(), b"", SECOND_OUTLIVES_THE_FIRST)?;
-    assert!(rt; knows_the_clause(rt.alloc(), &typed)?);
+    expect(
+        &rt,
+        knows_the_clause(rt.alloc(), &typed)?,
+        "the clause alone",
+    );
     Ok(())
 }

@@ -1,34 +1,33 @@
-//! Units that are typed, with what is told of them, and units that break a typing rule.
-use crate::declared::{FIRST, SECOND, are_misfits, typed};
-use bc_mir::{Instruction, Point, Typed, Where};
+//! What a typed unit tells of its parts.
+use crate::fixture::{expect, typed};
+use bc_mir::{Instruction, Typed};
 use bc_points::accesses;
 use std::alloc::{AllocError, Global};
-use std::process::Abort;
 use std::test::Fail;
 
 const READS_AND_ENDS: &[u8] = b"fn(int)->int{bb0{_0=copy _1;dead _1;return;}}";
 
-/// A unit breaks a rule at the third step of its first block.
-const THIRD: Option<Where> = Some(Where::At(Point { block: 0, index: 2 }));
+const TYPES: &[u8] =
+    b"struct A<+'a> { &'a int; int; } struct G<+'a> drop { &'a int; } struct P { int; A<'static>; } \
+      struct M<='a> { &'static mut &'a int; } extern k<'a,'b> (&'a mut &'b int) -> int; \
+      extern g<'a> where 'a: 'a (A<'a>, int) -> &'a int;";
+
+const EACH_FORM: &[u8] = b"fn <'a> where 'a: 'static (A<'a>, &'a mut &'a int, int) -> int { \
+      let _4: &'?0 int; let _5: A<'?1>; let _6: G<'?2>; let _7: &'?3 mut int; let _8: int; \
+      bb0 { nop; _8 = copy _3; _4 = copy _1.0; _5 = A<'?1>(copy _4, 3); _5.1 = calc(copy _8, 2); _6 = G<'?2>(copy _1.0); \
+      _7 = &'?3 mut _8; _7.* = 5; _4 = move _6.0; drop _6; drop _5; dead _7; if copy _8 bb1 bb2; } \
+      bb1 { _0 = call k<'?4,'?5>(move _2) bb2; } \
+      bb2 { _4 = call g<'?6>(move _5, 1) bb3; } \
+      bb3 { _0 = copy _4.*; return; } \
+      bb4 { goto bb4; } \
+      bb5 { stop; } }";
 
 #[test]
-fn the_first_misfit_of_a_block_is_told(rt: HostRuntime) -> Result<(), Fail> {
-    let rows: [(&[u8], Option<Where>); 7] = [
-        (b"fn(int)->int{bb0{_0=copy _1;dead _1;return;}}", None),
-        (
-            b"fn(int)->&'static int{bb0{nop;_0=copy _1;return;}}",
-            SECOND,
-        ),
-        (b"fn()->int{bb0{_0.15=1;return;}}", FIRST),
-        (b"fn()->int{bb0{nop;nop;goto bb1;}}", THIRD),
-        (b"fn()->int{bb0{nop;if 1 bb0 bb1;}}", SECOND),
-        (b"fn(&'static int)->int{bb0{_1.*=1;return;}}", FIRST),
-        (
-            b"fn(&'static int)->int{bb0{_0=calc(copy _1);return;}}",
-            FIRST,
-        ),
-    ];
-    are_misfits(&rt, rt.alloc(), b"", &rows)
+fn each_form_is_typed(rt: HostRuntime) -> Result<(), Fail> {
+    let typed = typed(rt.alloc(), TYPES, EACH_FORM)?;
+    let counts = (typed.steps().len(), typed.locals().len());
+    expect(&rt, counts == (19, 9), "19 points and 9 locals");
+    Ok(())
 }
 
 /// Whether each edge goes from the point of its own number to the next.
@@ -41,18 +40,22 @@ fn goes_in_line(alloc: Global, typed: &Typed) -> Result<bool, AllocError> {
     Ok(agree)
 }
 
-fn has_counts(rt: &impl Abort, typed: &Typed) {
-    assert_eq!(rt; typed.universals(), 1);
-    assert_eq!(rt; typed.clauses().len(), 0);
-    assert_eq!(rt; typed.locals().len(), 2);
-    assert_eq!(rt; typed.steps().len(), 3);
+fn has_counts(typed: &Typed) -> bool {
+    typed.universals() == 1
+        && typed.clauses().len() == 0
+        && typed.locals().len() == 2
+        && typed.steps().len() == 3
 }
 
 #[test]
 fn a_typed_unit_tells_its_parts(rt: HostRuntime) -> Result<(), Fail> {
     let typed = typed(rt.alloc(), b"", READS_AND_ENDS)?;
-    has_counts(&rt, &typed);
-    assert!(rt; goes_in_line(rt.alloc(), &typed)?);
+    expect(&rt, has_counts(&typed), "counts");
+    expect(
+        &rt,
+        goes_in_line(rt.alloc(), &typed)?,
+        "edges from each point to the next",
+    );
     Ok(())
 }
 
@@ -65,22 +68,14 @@ fn access_count(
     Ok(accesses.len())
 }
 
-fn have_accesses(
-    rt: &impl Abort,
-    alloc: Global,
-    typed: &Typed,
-    counts: [usize; 3],
-) -> Result<(), Fail> {
-    for (step, count) in typed.steps().iter().zip(counts) {
-        assert_eq!(rt; access_count(alloc, typed, &step.instruction)?, count);
-    }
-    Ok(())
-}
-
 #[test]
 fn a_point_makes_its_accesses(rt: HostRuntime) -> Result<(), Fail> {
     let typed = typed(rt.alloc(), b"", READS_AND_ENDS)?;
-    have_accesses(&rt, rt.alloc(), &typed, [2, 1, 2])
+    for (step, wanted) in typed.steps().iter().zip([2, 1, 2]) {
+        let count = access_count(rt.alloc(), &typed, &step.instruction)?;
+        expect(&rt, count == wanted, "accesses of a point");
+    }
+    Ok(())
 }
 
 /// How many constraints it takes that the second local is a subtype of the third; none where there are not three.
@@ -96,6 +91,10 @@ fn subtype_count(alloc: Global, typed: &Typed) -> Result<usize, AllocError> {
 fn behind_a_mutable_reference_both_ways_are_demanded(rt: HostRuntime) -> Result<(), Fail> {
     let text = b"fn<'a,'b>(&'a mut &'b int,&'b mut &'a int)->int{bb0{stop;}}";
     let typed = typed(rt.alloc(), b"", text)?;
-    assert_eq!(rt; subtype_count(rt.alloc(), &typed)?, 3);
+    expect(
+        &rt,
+        subtype_count(rt.alloc(), &typed)? == 3,
+        "three constraints",
+    );
     Ok(())
 }
