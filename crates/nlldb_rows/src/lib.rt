@@ -11,6 +11,7 @@ mod declared;
 mod demands;
 #[cfg(test)]
 mod fixture;
+pub mod limits;
 #[cfg(test)]
 mod steps;
 #[cfg(test)]
