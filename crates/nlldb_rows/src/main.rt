@@ -11,6 +11,7 @@ mod calls;
 mod demands;
 #[cfg(test)]
 mod fixture;
+mod limits;
 #[cfg(test)]
 mod steps;
 #[cfg(test)]
@@ -18,6 +19,7 @@ mod types;
 #[cfg(test)]
 mod typing;
 
+use crate::limits::show_limits;
 use bc_check::check_over;
 use std::alloc::Global;
 use std::io::{BufWriter, ErrorKind, Read, Write};
@@ -99,5 +101,6 @@ fn main(rt: HostRuntime) -> io::Result<()> {
         let text = fs::read_to_string(&rt, &name)?;
         show_rows(rt.alloc(), &text, &mut out)?;
     }
+    show_limits(&rt, &mut out)?;
     out.flush()
 }
