@@ -14,6 +14,7 @@ use Rattle.bc_book.specs.declared.call.Entry.{Entry}
 use Rattle.bc_book.specs.Calls.{IsLegal, calls}
 use Rattle.bc_share.specs.Sessions.{SessionView, new_session}
 use Rattle.bc_share.specs.Closings.{IsOneHistory}
+use Rattle.bc_share.specs.declared.db.TheConstants.{MOST_ENTRIES}
 use Rattle.bc_check.specs.declared.file.Change.{Change}
 use Rattle.bc_check.specs.declared.file.Change.TheVariants as changes
 use Rattle.bc_check.specs.Changes.{seen}
@@ -60,7 +61,7 @@ legal_of s h events one zero_is own =
     }
 
 -- all changes and all Asks
-pub runs_of : (list : List Change) (names : List NameParts) (m n capacity : ℕ) (s0 s1 s2 : SessionView) (o0 o1 e0 e1 : Option (List ℕ)) (h : List Entry) → Served (map seen list) told m s0 s1 e0 e1 → Served (map Ask names) shown n s1 s2 o0 o1 → s0 ≡ new_session 0 0 capacity → length (map seen list) + length names ≤ 1000000 → IsOneHistory (s2 ∷ []) h → Runs (map seen list) names (max m n) o0 o1 e0 e1
+pub runs_of : (list : List Change) (names : List NameParts) (m n capacity : ℕ) (s0 s1 s2 : SessionView) (o0 o1 e0 e1 : Option (List ℕ)) (h : List Entry) → Served (map seen list) told m s0 s1 e0 e1 → Served (map Ask names) shown n s1 s2 o0 o1 → s0 ≡ new_session 0 0 capacity → length (map seen list) + length names ≤ MOST_ENTRIES → IsOneHistory (s2 ∷ []) h → Runs (map seen list) names (max m n) o0 o1 e0 e1
 runs_of list names m n capacity s0 s1 s2 o0 o1 e0 e1 h p a is few one =
     let silent : flat_map told p.events ≡ flat_map told (p.events ++ a.events) =
     sym (flat_map-append told p.events a.events ∙ ap (λ (t : List ℕ). flat_map told p.events ++ t) (told_asks names a.events [] (append-nil _ ∙ a.made)) ∙ append-nil _) in

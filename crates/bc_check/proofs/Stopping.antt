@@ -1,55 +1,20 @@
 -- What is found and left where the command stops.
-use Rattle.std.proofs.Common.{◌≡◌, ◌≤◌, ◌<◌, ◌+◌, ℕ, List, length, Option, None, Some, refl, sym, ap, subst, arith, inl, inr}
-use Rattle.std.specs.Prelude.{◌⊎◌, Result, Ok, Err, IfOk, OnOk, IfErr, IsErrAnd, IsErrOf, IfSome, true}
-use Rattle.std.specs.Io.KnownBytes.{Appends, Keeps}
+use Rattle.std.proofs.Common.{◌≡◌, ◌≤◌, ◌<◌, ◌+◌, ℕ, List, length, Option, refl, ap, arith, inl, inr}
+use Rattle.std.specs.Prelude.{◌⊎◌, Result, Ok, Err, IfOk, OnOk, IfErr, IsErrOf, IfSome, true}
+use Rattle.std.specs.Io.KnownBytes.{Appends}
 use Rattle.bc_text.specs.Names.{NameParts}
 use Rattle.bc_book.specs.declared.call.Call.{Call}
+use Rattle.bc_share.specs.declared.db.TheConstants.{MOST_ENTRIES}
 use Rattle.bc_check.specs.declared.input.TheConstants.{LIMIT}
 use Rattle.bc_check.specs.declared.stop.Stop.{Stop}
 use Rattle.bc_check.specs.declared.stop.Stop.TheVariants.{WrongUse, CannotRead, CannotWrite, CannotTell, NoMemory, File, TooManyCalls, HistoryFull, Foreign, Audit}
 use Rattle.bc_check.specs.Parts.{sections_of}
-use Rattle.bc_check.specs.Changes.{MakeAll, GivesCalls, IsFirstFault}
+use Rattle.bc_check.specs.Changes.{MakeAll}
 use Rattle.bc_check.specs.Asked.{AreAsked}
 use Rattle.bc_check.specs.Stops.{is_of_calls, last_line, stop_status}
 use Rattle.bc_check.specs.Served.{Begins}
 use Rattle.bc_check.specs.Ends.{HasBegun, HasTooManyCalls, IsEnd, IsSilent, IsWell, Leaves, OfFile}
 use Rattle.bc_check.proofs.Ending.{known_is}
-
-same_kept : (u : Option (List ℕ)) → Keeps u u
-same_kept None = tt
-same_kept (Some xs) = refl
-
-silent : (o e : Option (List ℕ)) → IsSilent o o e e
-silent o e = (same_kept o, same_kept e)
-
--- what holds of a stop holds of the answer that passes it on
-pub passed_on : {A : Type 0} (P : Stop → Type 0) (r : Result A Stop) (x : Stop) → IsErrAnd r (λ y. y ≡ x) → P x → IfErr r P
-passed_on P (Ok a) x h p = absurd h
-passed_on P (Err y) x h p = subst P (sym h) p
-
--- the input cannot be read
-pub unread : (stop : Stop) (known o e : Option (List ℕ)) → (stop ≡ CannotRead) ⊎ (stop ≡ NoMemory) → Leaves stop known o o e e
-unread stop known o e either = elim either [
-  | inl is ↦ subst (λ (s : Stop). Leaves s known o o e e) (sym is) (silent o e)
-  | inr is ↦ subst (λ (s : Stop). Leaves s known o o e e) (sym is) (inl (silent o e))
-]
-
--- there is no room
-pub without_room : (stop : Stop) (known o e : Option (List ℕ)) → stop ≡ NoMemory → Leaves stop known o o e e
-without_room stop known o e is = unread stop known o e (inr is)
-
--- what was read makes no calls
-pub refused : (stop : Stop) (known o e : Option (List ℕ)) (file : List ℕ) → IfSome known (λ bytes. file ≡ bytes) → length file ≤ LIMIT → GivesCalls (sections_of file) (Err stop) → Leaves stop known o o e e
-refused WrongUse known o e file whole short h = absurd h
-refused CannotRead known o e file whole short h = absurd h
-refused CannotWrite known o e file whole short h = absurd h
-refused CannotTell known o e file whole short h = absurd h
-refused NoMemory known o e file whole short h = inl (silent o e)
-refused (File fault) known o e file whole short h = (known_is known file (λ (f : List ℕ). (length f ≤ LIMIT) × IsFirstFault (sections_of f) fault) whole (short, h), silent o e)
-refused TooManyCalls known o e file whole short h = absurd h
-refused HistoryFull known o e file whole short h = absurd h
-refused Foreign known o e file whole short h = absurd h
-refused Audit known o e file whole short h = absurd h
 
 -- the calls of a file, that is one without a fault, were not all made
 pub record Broken (r : Result ℕ Stop) (file : List ℕ) (made : List Call) (names : List NameParts) (o o' e e' : Option (List ℕ)) : Type 0 where
@@ -57,7 +22,7 @@ pub record Broken (r : Result ℕ Stop) (file : List ℕ) (made : List Call) (na
   pub good : MakeAll (sections_of file) made
   pub asked : AreAsked made names
   pub other : IfErr r (λ stop. is_of_calls stop ≡ true)
-  pub many : IsErrOf r TooManyCalls → 1000000 < length made + length names
+  pub many : IsErrOf r TooManyCalls → MOST_ENTRIES < length made + length names
   pub quiet : IsErrOf r TooManyCalls → IsSilent o o' e e'
   pub no_memory : IsErrOf r NoMemory → Begins made names o o' e e'
 

@@ -3,6 +3,7 @@ use Rattle.std.specs.Prelude.{◌≡◌, ◌⊎◌, ℕ, ◌+◌, ◌<◌, ◌�
 use Rattle.std.specs.Io.KnownBytes.{Appends, Keeps}
 use Rattle.bc_text.specs.Names.{NameParts}
 use Rattle.bc_book.specs.declared.call.Call.{Call}
+use Rattle.bc_share.specs.declared.db.TheConstants.{MOST_ENTRIES}
 use Rattle.bc_check.specs.declared.input.TheConstants.{LIMIT}
 use Rattle.bc_check.specs.declared.stop.Stop.{Stop}
 use Rattle.bc_check.specs.declared.stop.Stop.TheVariants.{WrongUse, CannotRead, CannotWrite, CannotTell, NoMemory, File, TooManyCalls, HistoryFull, Foreign, Audit}
@@ -21,13 +22,13 @@ pub record Checked (file : List ℕ) (exit : ℕ) (out out' err err' : Option (L
   pub asked : AreAsked made names
   pub runs : Runs made names exit out out' err err'
 
--- a file without a fault that makes more than 1,000,000 calls
+-- a file without a fault that makes more calls than a history may have
 pub record HasTooManyCalls (file : List ℕ) : Type 0 where
   pub made : List Call
   pub names : List NameParts
   pub good : MakeAll (sections_of file) made
   pub asked : AreAsked made names
-  pub many : 1000000 < length made + length names
+  pub many : MOST_ENTRIES < length made + length names
 
 -- a file without a fault of whose calls a beginning was made, and what belongs to these was printed
 pub record HasBegun (file : List ℕ) (out out' err err' : Option (List ℕ)) : Type 0 where

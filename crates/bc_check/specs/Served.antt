@@ -9,6 +9,7 @@ use Rattle.bc_book.specs.declared.call.Entry.{Entry}
 use Rattle.bc_book.specs.Calls.{IsLegal, calls}
 use Rattle.bc_text.specs.Names.{NameParts}
 use Rattle.bc_share.specs.Sessions.{SessionView, IsAnswered}
+use Rattle.bc_share.specs.declared.db.TheConstants.{MOST_ENTRIES}
 use Rattle.bc_check.specs.Run.{reply_status, greatest, calls_of, shown, told, AreLegal}
 
 abbrev pub event_of : Call → Reply → Event
@@ -47,12 +48,12 @@ pub record ServedPart (list : List Call) (text : Event → List ℕ) (old new : 
   pub exit : ℕ
   pub served : Served front text exit old new before after
 
--- The calls of the sections were made and the names asked, at most 1,000,000 calls, as one session's legal history; of
+-- The calls of the sections were made and the names asked, at most as many as a history may have, as one session's legal history; of
 -- each call was printed what belongs to it, and the status is the greatest of theirs.
 pub record Runs (first : List Call) (names : List NameParts) (exit : ℕ) (out out' err err' : Option (List ℕ)) : Type 0 where
   pub events : List Event
   pub made : map (λ (e : Event). e.call) events ≡ calls_of first names
-  pub few : length first + length names ≤ 1000000
+  pub few : length first + length names ≤ MOST_ENTRIES
   pub legal : AreLegal events
   pub output : Appends out out' (flat_map shown events)
   pub errors : Appends err err' (flat_map told events)

@@ -188,10 +188,10 @@ fn answer_all<O: Write + Drop>(
 }
 
 /// How many entries the history may have: one for each change and each Ask, and one at least. `TooManyCalls` exactly
-/// where there are more than 1,000,000 of them.
+/// where there are more than `MOST_ENTRIES` of them.
 pub(crate) fn find_capacity(changes: usize, names: usize) -> Result<u32, Stop>
-    ensures fits { IfOk result (λ capacity. (capacity ≡ max 1 (changes + names)) × (changes + names ≤ 1000000)) }
-    ensures stop { IfErr result (λ stop. (stop ≡ Stop.TooManyCalls) × (1000000 < changes + names)) }
+    ensures fits { IfOk result (λ capacity. (capacity ≡ max 1 (changes + names)) × (changes + names ≤ MOST_ENTRIES)) }
+    ensures stop { IfErr result (λ stop. (stop ≡ Stop.TooManyCalls) × (MOST_ENTRIES < changes + names)) }
 {
     let most = MOST_ENTRIES as usize;
     if changes > most || names > most - changes {
@@ -201,7 +201,8 @@ pub(crate) fn find_capacity(changes: usize, names: usize) -> Result<u32, Stop>
 }
 
 /// Opens a database, makes the changes in order, asks the names in order and closes. The greatest status of the
-/// calls, whose reports the writer behind `out` then has. `TooManyCalls` exactly where there are more than 1,000,000 of them.
+/// calls, whose reports the writer behind `out` then has. `TooManyCalls` exactly where there are more than
+/// `MOST_ENTRIES` of them.
 fn serve<O: Write + Drop, E: Write>(
     alloc: Global,
     changes: Vec<Change>,
@@ -211,7 +212,7 @@ fn serve<O: Write + Drop, E: Write>(
 ) -> Result<u8, Stop>
     ensures done { IfOk result (λ status. Runs (map seen changes.items) names.now.keys status (writer_contents O.contents out.old) (writer_contents O.contents out.new) (E.contents err.old) (E.contents err.new)) }
     ensures range { IfOk result (λ status. status ≤ 2) }
-    ensures too_many { IsErrOf result Stop.TooManyCalls → (1000000 < length changes.items + length names.now.keys) × Keeps (writer_contents O.contents out.old) (writer_contents O.contents out.new) × Keeps (E.contents err.old) (E.contents err.new) }
+    ensures too_many { IsErrOf result Stop.TooManyCalls → (MOST_ENTRIES < length changes.items + length names.now.keys) × Keeps (writer_contents O.contents out.old) (writer_contents O.contents out.new) × Keeps (E.contents err.old) (E.contents err.new) }
     ensures no_memory { IsErrOf result Stop.NoMemory → Begins (map seen changes.items) names.now.keys (writer_contents O.contents out.old) (writer_contents O.contents out.new) (E.contents err.old) (E.contents err.new) }
     ensures other { IfErr result (λ stop. is_of_calls stop ≡ true) }
     ensures handed_on { writer_buffer out.old ≡ [] → (result ≡ Err Stop.CannotWrite) ⊎ (writer_buffer out.new ≡ []) }

@@ -2,6 +2,7 @@ use Rattle.std.proofs.Common.{arith, ◌≡◌, ◌+◌, ◌≤◌, List, [], �
 use Rattle.std.proofs.lemmas.List.{length-map}
 use Rattle.bc_share.specs.Sessions.{SessionView, new_session}
 use Rattle.bc_share.specs.Closings.{IsOneHistory}
+use Rattle.bc_share.specs.declared.db.TheConstants.{MOST_ENTRIES}
 use Rattle.bc_check.specs.Changes.{seen}
 use Rattle.bc_check.specs.declared.stop.Stop.TheVariants.{NoMemory}
 use Rattle.bc_check.proofs.Serving.{same_stop}
@@ -15,7 +16,7 @@ returns-clause-done g c =
     let last : (c.pop.new.self.items ≡ []) × (c.in-Some.session ≡ new_session 0 0 c.in_ok-capacity.capacity) = the_last _ _ _ (sym opened ∙ popped) in
     let all : c.push.new.self.items ≡ c.answer_all.new.session ∷ [] = c.in_ok-push.ensures.items ∙ ap (λ (ss : List SessionView). ss ++ c.answer_all.new.session ∷ []) last.0 in
     let one = subst (λ (ss : List SessionView). IsOneHistory ss c.in_ok-close.field-0) all c.in_ok-close.ensures.one_history in
-    let few : length (map seen c.args.changes.items) + length c.args.names.now.keys ≤ 1000000 = omega (arith, length-map c.args.changes.items seen, c.in_ok-capacity.ensures.fits, c.len.ensures, c.len-2.ensures.len, c.args.changes.ok.0) in
+    let few : length (map seen c.args.changes.items) + length c.args.names.now.keys ≤ MOST_ENTRIES = omega (arith, length-map c.args.changes.items seen, c.in_ok-capacity.ensures.fits, c.len.ensures, c.len-2.ensures.len, c.args.changes.ok.0) in
     rw c.max.ensures (runs_of c.args.changes.items c.args.names.now.keys c.in_ok-changed.changed c.in_ok-asked.asked c.in_ok-capacity.capacity c.in-Some.session c.make_changes.new.session c.answer_all.new.session _ _ _ _ c.in_ok-close.field-0 c.in_ok-changed.ensures.served c.in_ok-asked.ensures.served last.1 few one)
 
 pub returns-in_err-db-clause-no_memory : goal.returns-in_err-db-clause-no_memory
