@@ -1,9 +1,9 @@
 //! What the analysis finds of a body, and how long each of its steps takes at best, in microseconds.
-use crate::timing::best_time;
+use crate::timing::timed;
 use bc_cons::{Facts, constraints};
 use bc_judge::judge;
 use bc_live::{LiveSets, live};
-use bc_loans::{Scopes, in_scope};
+use bc_loans::in_scope;
 use bc_mir::{CheckTypes, GoodTypes, Typed, type_unit};
 use bc_solve::{Values, solve_plain};
 use bc_syntax::Unit;
@@ -21,22 +21,6 @@ fn no_types(alloc: Global) -> anyhow::Result<Arc<GoodTypes, Global>> {
     }
 }
 
-fn measure_scopes<O: Write, E: Write>(
-    rt: &HostRuntime,
-    typed: &Typed,
-    values: &Values,
-    scopes: &Scopes,
-    out: &mut O,
-    err: &mut E,
-) -> anyhow::Result<()> {
-    let judging = best_time(rt, || Ok(judge(rt.alloc(), typed, values, scopes)?))?;
-    writeln!(err, "judging {judging}")?;
-    let verdict = judge(rt.alloc(), typed, values, scopes)?;
-    let errors = verdict.errors.len();
-    writeln!(out, "{errors} errors")?;
-    Ok(())
-}
-
 fn measure_values<O: Write, E: Write>(
     rt: &HostRuntime,
     typed: &Typed,
@@ -44,10 +28,21 @@ fn measure_values<O: Write, E: Write>(
     out: &mut O,
     err: &mut E,
 ) -> anyhow::Result<()> {
-    let scoping = best_time(rt, || Ok(in_scope(rt.alloc(), typed, values)?))?;
-    write!(err, "scopes {scoping}, ")?;
-    let scopes = in_scope(rt.alloc(), typed, values)?;
-    measure_scopes(rt, typed, values, &scopes, out, err)
+    let scopes = timed(
+        rt,
+        "scopes",
+        || Ok(in_scope(rt.alloc(), typed, values)?),
+        err,
+    )?;
+    let verdict = timed(
+        rt,
+        "judging",
+        || Ok(judge(rt.alloc(), typed, values, &scopes)?),
+        err,
+    )?;
+    let errors = verdict.errors.len();
+    writeln!(out, "{errors} errors")?;
+    Ok(())
 }
 
 fn measure_facts<O: Write, E: Write>(
@@ -60,9 +55,7 @@ fn measure_facts<O: Write, E: Write>(
     let regions = facts.regions();
     let pairs = facts.pairs().len();
     write!(out, "{regions} regions, {pairs} constraints, ")?;
-    let solving = best_time(rt, || Ok(solve_plain(rt.alloc(), facts)?))?;
-    write!(err, "solving {solving}, ")?;
-    let values = solve_plain(rt.alloc(), facts)?;
+    let values = timed(rt, "solving", || Ok(solve_plain(rt.alloc(), facts)?), err)?;
     measure_values(rt, typed, &values, out, err)
 }
 
@@ -73,9 +66,12 @@ fn measure_live<O: Write, E: Write>(
     out: &mut O,
     err: &mut E,
 ) -> anyhow::Result<()> {
-    let demanding = best_time(rt, || Ok(constraints(rt.alloc(), typed, live, &[])?))?;
-    write!(err, "constraints {demanding}, ")?;
-    let facts = constraints(rt.alloc(), typed, live, &[])?;
+    let facts = timed(
+        rt,
+        "constraints",
+        || Ok(constraints(rt.alloc(), typed, live, &[])?),
+        err,
+    )?;
     measure_facts(rt, typed, &facts, out, err)
 }
 
@@ -87,9 +83,7 @@ fn measure_typed<O: Write, E: Write>(
 ) -> anyhow::Result<()> {
     let points = typed.steps().len();
     write!(out, "{points} points, ")?;
-    let liveness = best_time(rt, || Ok(live(rt.alloc(), typed)?))?;
-    write!(err, "liveness {liveness}, ")?;
-    let live = live(rt.alloc(), typed)?;
+    let live = timed(rt, "liveness", || Ok(live(rt.alloc(), typed)?), err)?;
     measure_live(rt, typed, &live, out, err)
 }
 
@@ -100,9 +94,12 @@ fn measure_over<O: Write, E: Write>(
     out: &mut O,
     err: &mut E,
 ) -> anyhow::Result<()> {
-    let typing = best_time(rt, || Ok(type_unit(rt.alloc(), types, unit, &[])?))?;
-    write!(err, "microseconds: typing {typing}, ")?;
-    let typed = type_unit(rt.alloc(), types, unit, &[])?;
+    let typed = timed(
+        rt,
+        "typing",
+        || Ok(type_unit(rt.alloc(), types, unit, &[])?),
+        err,
+    )?;
     measure_typed(rt, &typed, out, err)
 }
 
@@ -125,7 +122,9 @@ pub fn measure_body<O: Write, E: Write>(
     err: &mut E,
 ) -> anyhow::Result<()> {
     write!(out, "{name}: ")?;
-    write!(err, "{name}: ")?;
+    write!(err, "{name}: microseconds:")?;
     let unit = read_unit(rt.alloc(), text)?;
-    measure_unit(rt, &unit, out, err)
+    measure_unit(rt, &unit, out, err)?;
+    writeln!(err)?;
+    Ok(())
 }

@@ -8,34 +8,34 @@ const REGIONS: u32 = 1000;
 
 const BLOCKS: u32 = 250;
 
-const LOCALS: &str = "let _1:int;let _2:&'?1000 int;";
+const HEAD: &str = "fn()->int{let _1:int;let _2:&'?1000 int;";
 
+/// Writes a borrow, and a read through it.
 fn write_borrow<W: Write>(loan: u32, out: &mut W) -> io::Result<()> {
     let region = loan % REGIONS;
     write!(out, "_2=&'?{region} _1;_0=copy _2.*;")
 }
 
-/// 3,799 points in a line with 1,899 loans: a borrow, and then a read through it.
-pub fn borrows_and_reads(alloc: Global) -> io::Result<Vec<u8>> {
+/// Points in a line: so many loans, each with a read through it and what stands behind that.
+fn in_line(alloc: Global, loans: u32, behind: &str) -> io::Result<Vec<u8>> {
     let mut out = Vec::new(alloc);
-    write!(out, "fn()->int{{{LOCALS}bb0{{")?;
-    for loan in 0..1899u32 {
+    write!(out, "{HEAD}bb0{{")?;
+    for loan in 0..loans {
         write_borrow(loan, &mut out)?;
+        out.write_all(behind.as_bytes())?;
     }
     write!(out, "return;}}}}")?;
     Ok(out)
 }
 
+/// 3,799 points in a line with 1,899 loans: a borrow, and then a read through it.
+pub fn borrows_and_reads(alloc: Global) -> io::Result<Vec<u8>> {
+    in_line(alloc, 1899, "")
+}
+
 /// 3,796 points in a line with 1,265 loans: a borrow, a read through it, and a write of what was borrowed.
 pub fn borrows_and_writes(alloc: Global) -> io::Result<Vec<u8>> {
-    let mut out = Vec::new(alloc);
-    write!(out, "fn()->int{{{LOCALS}bb0{{")?;
-    for loan in 0..1265u32 {
-        write_borrow(loan, &mut out)?;
-        write!(out, "_1={loan};")?;
-    }
-    write!(out, "return;}}}}")?;
-    Ok(out)
+    in_line(alloc, 1265, "_1=7;")
 }
 
 fn write_block<W: Write>(block: u32, out: &mut W) -> io::Result<()> {
@@ -51,7 +51,7 @@ fn write_block<W: Write>(block: u32, out: &mut W) -> io::Result<()> {
 /// 250 blocks of 16 points with branches forward and back, and 1,750 loans.
 pub fn branches(alloc: Global) -> io::Result<Vec<u8>> {
     let mut out = Vec::new(alloc);
-    write!(out, "fn()->int{{{LOCALS}")?;
+    out.write_all(HEAD.as_bytes())?;
     for block in 0..BLOCKS {
         write_block(block, &mut out)?;
     }

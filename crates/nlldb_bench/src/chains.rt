@@ -3,11 +3,12 @@ ghost use Rattle.std.specs.Prelude.{IfOk, ◌<◌};
 ghost use Rattle.bc_flow.specs.Flow.{AreEntriesWithin};
 ghost use Rattle.bc_cons.specs.Facts.{ArePairsWithin};
 
-use crate::random::Random;
-use crate::timing::best_time;
+use crate::random::{below, generator};
+use crate::timing::timed;
 use bc_cons::{Constraint, Facts};
 use bc_flow::{Entry, table};
 use bc_solve::{Values, solve_plain};
+use rand_pcg::Pcg32;
 use std::alloc::{AllocError, Global};
 use std::io::Write;
 
@@ -36,7 +37,7 @@ fn pair_count(shape: Shape) -> u32 {
     }
 }
 
-fn pair_of(shape: Shape, turn: u32, random: &mut Random) -> Constraint
+fn pair_of(shape: Shape, turn: u32, random: &mut Pcg32) -> Constraint
     ensures longer { result.longer < 1040 }
     ensures shorter { result.shorter < 1040 }
 {
@@ -52,8 +53,8 @@ fn pair_of(shape: Shape, turn: u32, random: &mut Random) -> Constraint
             shorter: next as usize,
         },
         Shape::RandomPairs => Constraint {
-            longer: random.below(REGIONS) as usize,
-            shorter: random.below(REGIONS) as usize,
+            longer: below(random, REGIONS) as usize,
+            shorter: below(random, REGIONS) as usize,
         },
     }
 }
@@ -61,7 +62,7 @@ fn pair_of(shape: Shape, turn: u32, random: &mut Random) -> Constraint
 fn pairs_of(alloc: Global, shape: Shape) -> Result<Vec<Constraint>, AllocError>
     ensures { IfOk result (λ pairs. ArePairsWithin 1040 pairs.items) }
 {
-    let mut random = Random::new();
+    let mut random = generator();
     let mut pairs = Vec::new(alloc);
     for turn in 0..pair_count(shape) {
         pairs.push(pair_of(shape, turn, &mut random))?;
@@ -69,13 +70,13 @@ fn pairs_of(alloc: Global, shape: Shape) -> Result<Vec<Constraint>, AllocError>
     Ok(pairs)
 }
 
-fn start_of(turn: u32, random: &mut Random) -> Entry
+fn start_of(turn: u32, random: &mut Pcg32) -> Entry
     ensures node { result.node < 1040 }
     ensures fact { result.fact < 4112 }
 {
     Entry {
         node: (turn % REGIONS) as usize,
-        fact: random.below(ELEMENTS) as usize,
+        fact: below(random, ELEMENTS) as usize,
     }
 }
 
@@ -83,7 +84,7 @@ fn start_of(turn: u32, random: &mut Random) -> Entry
 fn starts(alloc: Global) -> Result<Vec<Entry>, AllocError>
     ensures { IfOk result (λ entries. AreEntriesWithin entries.items 1040 4112) }
 {
-    let mut random = Random::new();
+    let mut random = generator();
     let mut entries = Vec::new(alloc);
     for turn in 0..3120u32 {
         entries.push(start_of(turn, &mut random))?;
@@ -114,16 +115,14 @@ fn count(values: &Values) -> u64 {
 
 fn measure_facts<O: Write, E: Write>(
     rt: &HostRuntime,
-    name: &str,
     facts: &Facts,
     out: &mut O,
     err: &mut E,
 ) -> anyhow::Result<()> {
-    let best = best_time(rt, || Ok(solve_plain(rt.alloc(), facts)?))?;
-    writeln!(err, "{name}: microseconds: solving {best}")?;
-    let values = solve_plain(rt.alloc(), facts)?;
+    let values = timed(rt, "solving", || Ok(solve_plain(rt.alloc(), facts)?), err)?;
     let members = count(&values);
-    writeln!(out, "{name}: {members} elements in values")?;
+    writeln!(out, "{members} elements in values")?;
+    writeln!(err)?;
     Ok(())
 }
 
@@ -136,6 +135,8 @@ pub fn measure_constraints<O: Write, E: Write>(
     out: &mut O,
     err: &mut E,
 ) -> anyhow::Result<()> {
+    write!(out, "{name}: ")?;
+    write!(err, "{name}: microseconds:")?;
     let facts = facts_of(rt.alloc(), shape)?;
-    measure_facts(rt, name, &facts, out, err)
+    measure_facts(rt, &facts, out, err)
 }

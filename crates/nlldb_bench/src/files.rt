@@ -1,6 +1,6 @@
 //! A file of many bodies, checked as the command does.
 use crate::readings::checksum;
-use crate::timing::best_time;
+use crate::timing::timed;
 use bc_check::check_over;
 use std::alloc::Global;
 use std::io;
@@ -29,13 +29,7 @@ pub fn many_bodies(alloc: Global) -> io::Result<Vec<u8>> {
 fn checked(rt: &HostRuntime, file: &[u8]) -> io::Result<(u8, Vec<u8>)> {
     let mut input = file;
     let mut out = BufWriter::new(rt.alloc(), Vec::new(rt.alloc()))?;
-    let status = check_over(
-        rt.alloc(),
-        "file",
-        &mut input,
-        &mut out,
-        &mut io::sink(),
-    );
+    let status = check_over(rt.alloc(), "file", &mut input, &mut out, &mut io::sink());
     let (reports, _unwritten) = out.into_parts();
     Ok((status, reports))
 }
@@ -48,14 +42,14 @@ pub fn measure_file<O: Write, E: Write>(
     out: &mut O,
     err: &mut E,
 ) -> anyhow::Result<()> {
-    let (status, reports) = checked(rt, file)?;
+    write!(err, "{name}: microseconds:")?;
+    let (status, reports) = timed(rt, "checking", || Ok(checked(rt, file)?), err)?;
     let bytes = file.len();
     let sum = checksum(&reports);
     writeln!(
         out,
         "{name}: {bytes} bytes, status {status}, checksum {sum}"
     )?;
-    let best = best_time(rt, || Ok(checked(rt, file)?))?;
-    writeln!(err, "{name}: microseconds: {best}")?;
+    writeln!(err)?;
     Ok(())
 }
