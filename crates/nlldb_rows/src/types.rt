@@ -70,12 +70,7 @@ fn has_no_field(
     Ok(good.field_type(alloc, instance, field)?.is_none())
 }
 
-/// Whether a name is that of a declared struct, and not of an extern function.
-fn is_struct(good: &GoodTypes, instance: &Instance) -> bool {
-    good.struct_of(&instance.name).is_some() && good.extern_of(&instance.name).is_none()
-}
-
-/// Whether a base is a declared struct of two fields, the second with references in these regions.
+/// Whether a base is a struct of two fields, the second with references in these regions.
 fn base_is_in(
     alloc: Global,
     good: &GoodTypes,
@@ -84,8 +79,7 @@ fn base_is_in(
 ) -> Result<bool, AllocError> {
     match base {
         Base::Struct(instance) => Ok(
-            is_struct(good, instance)
-                && has_no_field(alloc, good, instance, 2)?
+            has_no_field(alloc, good, instance, 2)?
                 && field_is_in(alloc, good, instance, 1, regions)?,
         ),
         Base::Int => Ok(false),
