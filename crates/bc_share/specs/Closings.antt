@@ -5,6 +5,7 @@ use Rattle.bc_book.specs.declared.call.Entry.{Entry}
 use Rattle.bc_book.specs.Calls.{IsLegal, calls}
 use Rattle.bc_share.specs.Sessions.{SessionView}
 use Rattle.bc_share.specs.declared.db.CloseFault.{CloseFault}
+use Rattle.bc_share.specs.declared.db.TheConstants.{MOST_ENTRIES}
 use Rattle.bc_share.specs.declared.db.CloseFault.TheVariants.{Foreign, Audit}
 
 -- the numbers of sessions
@@ -39,4 +40,4 @@ IsCloseFault tag count sessions (Audit h) = AreSessionsOf tag count sessions × 
 
 -- how many entries and how many sessions a database may have
 abbrev pub IsInRange : ℕ → ℕ → Type 0
-IsInRange capacity sessions = (1 ≤ capacity) × (capacity ≤ 1000000) × (sessions ≡ 1)
+IsInRange capacity sessions = (1 ≤ capacity) × (capacity ≤ MOST_ENTRIES) × (sessions ≡ 1)

@@ -4,6 +4,8 @@
 mod audit;
 mod db;
 mod session;
+#[cfg(test)]
+mod tests;
 
 pub use db::{CloseFault, Db, History, MOST_ENTRIES, OpenFault};
 pub use session::Session;

@@ -14,7 +14,8 @@
 //!
 //! Nothing else has an error: each other borrow is one of `_17.*` that is put into `_17`, which ends its loan at once, and nothing
 //! else is demanded of a declared region.
-use bc_check::{Section, Sections, check_over};
+use crate::show_check;
+use bc_check::{Section, Sections};
 use bc_syntax::{Types, Unit};
 use bc_text::{print_types, print_unit, read_types, read_unit};
 use std::alloc::Global;
@@ -80,19 +81,6 @@ fn show_section<O: Write>(alloc: Global, section: &Section<'_>, out: &mut O) -> 
     }
 }
 
-/// Shows what `check` leaves of a file.
-fn show_check<O: Write + Drop>(
-    alloc: Global,
-    file: &[u8],
-    out: &mut BufWriter<O>,
-) -> io::Result<()> {
-    let mut input = file;
-    let mut told = Vec::new(alloc);
-    let status = check_over(alloc, "limits.nll", &mut input, out, &mut told);
-    writeln!(out, "status {status}")?;
-    out.write_all(&told)
-}
-
 /// Shows whether the declarations and the body of the file at all limits are printed and read back as they were, and what `check`
 /// leaves of it. It fails where the file cannot be read or `out` cannot be written, and for want of memory. (Own.)
 pub fn show_limits<O: Write + Drop>(rt: &HostRuntime, out: &mut BufWriter<O>) -> io::Result<()> {
@@ -100,5 +88,5 @@ pub fn show_limits<O: Write + Drop>(rt: &HostRuntime, out: &mut BufWriter<O>) ->
     for section in Sections::of(&file) {
         show_section(rt.alloc(), &section, out)?;
     }
-    show_check(rt.alloc(), &file, out)
+    show_check(rt.alloc(), "limits.nll", &file, out)
 }

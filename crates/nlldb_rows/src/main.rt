@@ -1,71 +1,31 @@
 //! What the command `check` leaves of each row of the files that are named, and what each step of the analysis finds.
 //!
 //! `#` begins a row: its name, to the end of the line, and then its file, up to the next `#`. What stands before the first
-//! row stands at the head of each. `\` and two hexadecimal digits spell one byte, and `\` at the end of a line leaves its
-//! line feed out. (Own.)
+//! row stands at the head of each. (Own.)
 #![tactic(auto)]
 
-#[cfg(test)]
-mod calls;
-#[cfg(test)]
-mod demands;
-#[cfg(test)]
-mod fixture;
 mod limits;
-#[cfg(test)]
+mod spelled;
 mod steps;
-#[cfg(test)]
-mod types;
-#[cfg(test)]
-mod typing;
 
 use crate::limits::show_limits;
+use crate::spelled::spell_row;
+use crate::steps::show_steps;
 use bc_check::check_over;
 use std::alloc::Global;
-use std::io::{BufWriter, ErrorKind, Read, Write};
+use std::io::{BufWriter, Write};
 use std::{env, fs, io};
 
-/// Appends the bytes that a text spells; `InvalidData` where `\` stands without two hexadecimal digits behind it.
-fn spell(text: &str, file: &mut Vec<u8>) -> io::Result<()> {
-    let mut pieces = text.split('\\');
-    if let Some(front) = pieces.next() {
-        file.extend_from_slice(front.as_bytes())?;
-    }
-    for piece in pieces {
-        let Some((digits, rest)) = piece.split_at_checked(2) else {
-            return Err(ErrorKind::InvalidData.into());
-        };
-        let Ok(byte) = u8::from_str_radix(digits, 16) else {
-            return Err(ErrorKind::InvalidData.into());
-        };
-        file.push(byte)?;
-        file.extend_from_slice(rest.as_bytes())?;
-    }
-    Ok(())
-}
-
-/// Appends the lines that a text spells; `InvalidData` as `spell`.
-fn spell_lines(text: &str, file: &mut Vec<u8>) -> io::Result<()> {
-    for line in text.lines() {
-        match line.strip_suffix('\\') {
-            Some(front) => spell(front, file)?,
-            None => {
-                spell(line, file)?;
-                file.push(b'\n')?;
-            }
-        }
-    }
-    Ok(())
-}
-
-/// Prints what the command leaves of an input: its reports, its status, and what it tells of faults.
-fn show<I: Read, O: Write + Drop>(
+/// Prints what the command leaves of a file: its reports, its status, and what it tells of faults.
+pub(crate) fn show_check<O: Write + Drop>(
     alloc: Global,
-    input: &mut I,
+    name: &str,
+    file: &[u8],
     out: &mut BufWriter<O>,
 ) -> io::Result<()> {
+    let mut input = file;
     let mut told = Vec::new(alloc);
-    let status = check_over(alloc, "row", input, out, &mut told);
+    let status = check_over(alloc, name, &mut input, out, &mut told);
     writeln!(out, "status {status}")?;
     out.write_all(&told)
 }
@@ -77,12 +37,10 @@ fn show_row<O: Write + Drop>(
     row: &str,
     out: &mut BufWriter<O>,
 ) -> io::Result<()> {
-    let (name, lines) = row.split_once('\n').unwrap_or((row, ""));
-    writeln!(out, "#{name}")?;
     let mut file = Vec::new(alloc);
-    spell_lines(head, &mut file)?;
-    spell_lines(lines, &mut file)?;
-    show(alloc, &mut file.as_slice(), out)
+    let name = spell_row(head, row, &mut file)?;
+    writeln!(out, "#{name}")?;
+    show_check(alloc, "row", &file, out)
 }
 
 /// Prints what the command leaves of each row of a text.
@@ -101,6 +59,7 @@ fn main(rt: HostRuntime) -> io::Result<()> {
         let text = fs::read_to_string(&rt, &name)?;
         show_rows(rt.alloc(), &text, &mut out)?;
     }
+    show_steps(&rt, &mut out)?;
     show_limits(&rt, &mut out)?;
     out.flush()
 }

@@ -1,180 +1,263 @@
-//! What each step of the analysis finds.
-use crate::fixture::{WRITES_LAST, WRITES_WHILE_BORROWED, expect, name, reports, typed};
+//! What each step of the analysis finds in bodies: `steps.txt`, rows as `main` has them, each of declarations and a body.
+//!
+//! Below a row stand the points with their accesses, the edges between points, and then by number: the points before which a local
+//! is live, the demands between regions (the longer, then the shorter), the elements of a region's value, the loans with the point
+//! that makes each and its region, the loans in scope before a point, the regions that a universal one is known to outlive, and
+//! the errors. (Own.)
+use crate::spelled::spell_row;
+use bc_check::Sections;
 use bc_cons::{Facts, constraints};
-use bc_judge::{BorrowError, judge, known_relations};
+use bc_judge::{judge, known_relations};
 use bc_live::{LiveSets, live};
 use bc_loans::{Scopes, in_scope, loans};
-use bc_mir::{Point, Typed};
-use bc_points::Loan;
-use bc_prov::outcome_of;
+use bc_mir::{CheckTypes, GoodTypes, Step, Typed, type_unit};
+use bc_points::{Access, AccessKind, Depth, Loan, accesses, region_number};
 use bc_solve::{Values, solve_plain};
-use bc_syntax::{Mutability, Region, Types};
-use bc_text::read_types;
+use bc_syntax::Unit;
+use bc_text::{read_types, read_unit};
 use std::alloc::{AllocError, Global};
-use std::test::Fail;
+use std::io::{ErrorKind, Write};
+use std::sync::Arc;
+use std::{fs, io};
 
-const READS_BEFORE_IT_WRITES: &[u8] =
-    b"fn (int) -> int { let _2: int; bb0 { if copy _1 bb1 bb2; } bb1 { _2 = 1; _0 = copy _2; return; } bb2 { _0 = copy _2; return; } }";
-
-const REBORROWS_THROUGH_A_SHARED_REFERENCE: &[u8] =
-    b"fn <'a,'b> (&'a &'b int) -> int { let _2: &'?2 int; bb0 { _2 = &'?2 _1.*.*; stop; } }";
-
-const SECOND_OUTLIVES_THE_FIRST: &[u8] = b"fn <'a,'b> where 'b: 'a () -> int { bb0 { stop; } }";
-
-/// What is demanded of the regions of a unit.
-pub fn facts_of(alloc: Global, typed: &Typed) -> Result<Facts, AllocError> {
-    let live = live(alloc, typed)?;
-    constraints(alloc, typed, &live, &[])
-}
-
-/// The values of the regions of a unit.
-pub fn values_of(alloc: Global, typed: &Typed) -> Result<Values, AllocError> {
-    let facts = facts_of(alloc, typed)?;
-    solve_plain(alloc, &facts)
-}
-
-/// Whether a local is live before the points of these numbers, and no others.
-fn is_live_before(live: &LiveSets, local: usize, count: usize, points: &[usize]) -> bool {
-    let mut agree = true;
-    for point in 0..count {
-        agree = agree && live.live(local, point) == points.contains(&point);
+/// Writes those of the first numbers that something has: `live 2: 0 4`.
+fn show_numbers<W: Write, F: Fn(usize) -> bool>(
+    out: &mut W,
+    what: &str,
+    of: usize,
+    count: usize,
+    has: F,
+) -> io::Result<()>
+    requires { F.IsAlwaysCallable has }
+{
+    write!(out, "{what} {of}:")?;
+    for number in 0..count {
+        if has(number) {
+            write!(out, " {number}")?;
+        }
     }
-    agree
+    writeln!(out)
 }
 
-#[test]
-fn a_local_is_live_up_to_its_uses(rt: HostRuntime) -> Result<(), Fail> {
-    let typed = typed(rt.alloc(), b"", READS_BEFORE_IT_WRITES)?;
-    expect(&rt, typed.steps().len() == 6, "six points");
-    let live = live(rt.alloc(), &typed)?;
-    expect(&rt, live.rows().len() == 3, "three locals");
-    let begins = is_live_before(&live, 2, 6, &[0, 2, 4]);
-    expect(&rt, begins, "live where a block begins");
-    Ok(())
+fn show_access<W: Write>(access: &Access, out: &mut W) -> io::Result<()> {
+    let depth = match access.depth {
+        Depth::Shallow => "shallow",
+        Depth::Deep => "deep",
+    };
+    let kind = match access.kind {
+        AccessKind::Read => "read",
+        AccessKind::Write => "write",
+    };
+    write!(out, ", {depth} {kind} of _{}", access.place.local)
 }
 
-/// Whether there are five elements, and one demand: of region 2 and region 5.
-fn has_one_demand(facts: &Facts) -> bool {
-    facts.elements() == 5
-        && matches!(facts.pairs(), [pair] if pair.longer == 2 && pair.shorter == 5)
-}
-
-#[test]
-fn a_reborrow_is_outlived_by_the_reference_that_it_goes_through(
-    rt: HostRuntime,
-) -> Result<(), Fail> {
-    let typed = typed(rt.alloc(), b"", REBORROWS_THROUGH_A_SHARED_REFERENCE)?;
-    let facts = facts_of(rt.alloc(), &typed)?;
-    expect(&rt, has_one_demand(&facts), "one demand");
-    Ok(())
-}
-
-/// Whether of the first six elements a region has this one alone.
-fn has_alone(values: &Values, region: usize, has: usize) -> bool {
-    let mut agree = true;
-    for element in 0..6usize {
-        agree = agree && values.contains(region, element) == (element == has);
+fn show_point<W: Write>(
+    alloc: Global,
+    typed: &Typed,
+    number: usize,
+    step: &Step,
+    out: &mut W,
+) -> io::Result<()> {
+    write!(out, "point {number} {}", step.point)?;
+    for access in &accesses(alloc, typed, &step.instruction)? {
+        show_access(access, out)?;
     }
-    agree
+    writeln!(out)
 }
 
-#[test]
-fn a_region_has_the_points_where_its_reference_is_live(rt: HostRuntime) -> Result<(), Fail> {
-    let typed = typed(rt.alloc(), b"", WRITES_LAST)?;
-    let values = values_of(rt.alloc(), &typed)?;
-    expect(&rt, has_alone(&values, 2, 2), "the third point alone");
+fn show_points<W: Write>(alloc: Global, typed: &Typed, out: &mut W) -> io::Result<()> {
+    for (number, step) in typed.steps().iter().enumerate() {
+        show_point(alloc, typed, number, step, out)?;
+    }
+    write!(out, "edges:")?;
+    for edge in &typed.edges(alloc)? {
+        write!(out, " {}-{}", edge.from, edge.to)?;
+    }
+    writeln!(out)
+}
+
+fn show_live<W: Write>(typed: &Typed, live: &LiveSets, out: &mut W) -> io::Result<()> {
+    let points = typed.steps().len();
+    for local in 0..typed.locals().len() {
+        show_numbers(out, "live", local, points, |point| live.live(local, point))?;
+    }
     Ok(())
 }
 
-fn is_the_borrow(made: &[(usize, Loan)]) -> bool {
-    matches!(made, [(at, loan)]
-        if *at == 1 && loan.region == Region::Variable(1) && loan.mutability == Mutability::Shared && loan.path.local == 1)
+fn show_demands<W: Write>(facts: &Facts, out: &mut W) -> io::Result<()> {
+    write!(out, "demands:")?;
+    for pair in facts.pairs() {
+        write!(out, " {}:{}", pair.longer, pair.shorter)?;
+    }
+    writeln!(out)
 }
 
-/// Whether a unit makes the one loan of its one borrow.
-fn makes_one_loan(alloc: Global, typed: &Typed) -> Result<bool, AllocError> {
+fn show_values<W: Write>(values: &Values, elements: usize, out: &mut W) -> io::Result<()> {
+    for region in 0..values.regions() {
+        show_numbers(out, "region", region, elements, |element| {
+            values.contains(region, element)
+        })?;
+    }
+    Ok(())
+}
+
+fn show_loan<W: Write>(
+    typed: &Typed,
+    number: usize,
+    maker: usize,
+    loan: &Loan,
+    out: &mut W,
+) -> io::Result<()> {
+    let region = region_number(typed.universals(), loan.region);
+    let local = loan.path.local;
+    writeln!(
+        out,
+        "loan {number}: of _{local} at {maker} in region {region}"
+    )
+}
+
+/// Shows the loans, and answers how many there are.
+fn show_loans<W: Write>(alloc: Global, typed: &Typed, out: &mut W) -> io::Result<usize> {
     let made = loans(alloc, typed)?;
-    Ok(is_the_borrow(&made))
-}
-
-/// Whether of the five points the first loan is in scope at this one alone.
-fn is_in_scope_at(scopes: &Scopes, at: usize) -> bool {
-    let mut agree = true;
-    for point in 0..5usize {
-        agree = agree && scopes.on_entry(point, 0) == (point == at);
+    for (number, (maker, loan)) in made.iter().enumerate() {
+        show_loan(typed, number, *maker, loan, out)?;
     }
-    agree
+    Ok(made.len())
 }
 
-/// Whether a unit has one error: the access of its third point conflicts with the loan of its second.
-fn has_one_conflict(
+fn show_scopes<W: Write>(
+    typed: &Typed,
+    scopes: &Scopes,
+    loans: usize,
+    out: &mut W,
+) -> io::Result<()> {
+    for point in 0..typed.steps().len() {
+        show_numbers(
+            out,
+            "scope",
+            point,
+            loans,
+            |loan| scopes.on_entry(point, loan),
+        )?;
+    }
+    Ok(())
+}
+
+fn show_known<W: Write>(alloc: Global, typed: &Typed, out: &mut W) -> io::Result<()> {
+    let universals = usize::from(typed.universals());
+    let known = known_relations(alloc, typed)?;
+    for longer in 0..universals {
+        show_numbers(out, "known", longer, universals, |shorter| {
+            known.contains(longer, shorter)
+        })?;
+    }
+    Ok(())
+}
+
+fn show_errors<W: Write>(
     alloc: Global,
     typed: &Typed,
     values: &Values,
     scopes: &Scopes,
-) -> Result<bool, AllocError> {
-    let conflict = BorrowError::Conflict {
-        at: Point { block: 0, index: 2 },
-        access: 0,
-        loan: Point { block: 0, index: 1 },
-    };
+    out: &mut W,
+) -> io::Result<()> {
     let verdict = judge(alloc, typed, values, scopes)?;
-    Ok(verdict.errors.as_slice() == [conflict].as_slice())
-}
-
-/// Whether the first loan is in scope at the third point alone, where it makes one conflict.
-fn conflicts(alloc: Global, typed: &Typed, values: &Values) -> Result<bool, AllocError> {
-    let scopes = in_scope(alloc, typed, values)?;
-    Ok(is_in_scope_at(&scopes, 2) && has_one_conflict(alloc, typed, values, &scopes)?)
-}
-
-#[test]
-fn a_loan_is_in_scope_while_its_region_has_the_point(rt: HostRuntime) -> Result<(), Fail> {
-    let typed = typed(rt.alloc(), b"", WRITES_WHILE_BORROWED)?;
-    expect(&rt, makes_one_loan(rt.alloc(), &typed)?, "one loan");
-    let values = values_of(rt.alloc(), &typed)?;
-    expect(
-        &rt,
-        conflicts(rt.alloc(), &typed, &values)?,
-        "one conflict in scope",
-    );
-    Ok(())
-}
-
-/// Whether `f` has this report where it holds no unit under these declarations.
-fn reports_none(alloc: Global, types: &Types, report: &[u8]) -> Result<bool, Fail> {
-    let found = outcome_of(alloc, &name(b"f")?, types, None)?;
-    reports(alloc, &found, report)
-}
-
-#[test]
-fn a_name_that_holds_nothing_has_no_body_or_bad_declarations(rt: HostRuntime) -> Result<(), Fail> {
-    for (types, report) in [
-        (b"".as_slice(), b"no body\n".as_slice()),
-        (b"struct A { int; } struct B { C; }", b"bad declaration 1\n"),
-    ] {
-        let types = read_types(rt.alloc(), types)?;
-        expect(&rt, reports_none(rt.alloc(), &types, report)?, "its report");
+    for error in verdict.errors.as_slice() {
+        writeln!(out, "{error}")?;
     }
     Ok(())
 }
 
-/// Whether the second universal region is known to outlive the first, and each itself and below `'static`, and no more.
-fn knows_the_clause(alloc: Global, typed: &Typed) -> Result<bool, AllocError> {
-    let known = known_relations(alloc, typed)?;
-    let holds = known.contains(0, 2) && known.contains(1, 1) && known.contains(2, 1);
-    Ok(holds && !known.contains(1, 2) && !known.contains(1, 0))
+fn show_from_values<W: Write>(
+    alloc: Global,
+    typed: &Typed,
+    values: &Values,
+    out: &mut W,
+) -> io::Result<()> {
+    let loans = show_loans(alloc, typed, out)?;
+    let scopes = in_scope(alloc, typed, values)?;
+    show_scopes(typed, &scopes, loans, out)?;
+    show_known(alloc, typed, out)?;
+    show_errors(alloc, typed, values, &scopes, out)
 }
 
-#[test]
-fn what_is_known_of_universal_regions_follows_from_the_clauses(
-    rt: HostRuntime,
-) -> Result<(), Fail> {
-    let typed = typed(rt.alloc(), b"", SECOND_OUTLIVES_THE_FIRST)?;
-    expect(
-        &rt,
-        knows_the_clause(rt.alloc(), &typed)?,
-        "the clause alone",
-    );
+fn show_from_facts<W: Write>(
+    alloc: Global,
+    typed: &Typed,
+    facts: &Facts,
+    out: &mut W,
+) -> io::Result<()> {
+    show_demands(facts, out)?;
+    let values = solve_plain(alloc, facts)?;
+    show_values(&values, facts.elements(), out)?;
+    show_from_values(alloc, typed, &values, out)
+}
+
+fn facts_of(alloc: Global, typed: &Typed, live: &LiveSets) -> Result<Facts, AllocError> {
+    constraints(alloc, typed, live, &[])
+}
+
+fn show_body<W: Write>(alloc: Global, typed: &Typed, out: &mut W) -> io::Result<()> {
+    show_points(alloc, typed, out)?;
+    let live = live(alloc, typed)?;
+    show_live(typed, &live, out)?;
+    let facts = facts_of(alloc, typed, &live)?;
+    show_from_facts(alloc, typed, &facts, out)
+}
+
+/// The text of the first section with this header; none where no section has it.
+fn text_under<'a>(file: &'a [u8], header: &[u8]) -> &'a [u8] {
+    for section in Sections::of(file) {
+        if section.header == header {
+            return section.text;
+        }
+    }
+    &[]
+}
+
+/// The declarations of a file; `InvalidData` where they are not read or one is bad.
+fn declared(alloc: Global, file: &[u8]) -> io::Result<GoodTypes> {
+    let Ok(types) = read_types(alloc, text_under(file, b"@types")) else {
+        return Err(ErrorKind::InvalidData.into());
+    };
+    match types.check(alloc) {
+        Ok(good) => Ok(good),
+        Err(_) => Err(ErrorKind::InvalidData.into()),
+    }
+}
+
+/// The body of a file; `InvalidData` where it is not read.
+fn body_of(alloc: Global, file: &[u8]) -> io::Result<Unit> {
+    match read_unit(alloc, text_under(file, b"@put f")) {
+        Ok(unit) => Ok(unit),
+        Err(_) => Err(ErrorKind::InvalidData.into()),
+    }
+}
+
+/// The body of a file over its declarations; `InvalidData` where it breaks a typing rule, and as `declared` and `body_of`.
+fn typed(alloc: Global, file: &[u8]) -> io::Result<Typed> {
+    let good = Arc::new(alloc, declared(alloc, file)?)?;
+    let unit = body_of(alloc, file)?;
+    match type_unit(alloc, &good, &unit, &[]) {
+        Ok(typed) => Ok(typed),
+        Err(_) => Err(ErrorKind::InvalidData.into()),
+    }
+}
+
+fn show_row<W: Write>(alloc: Global, row: &str, out: &mut W) -> io::Result<()> {
+    let mut file = Vec::new(alloc);
+    let name = spell_row("", row, &mut file)?;
+    writeln!(out, "#{name}")?;
+    let typed = typed(alloc, &file)?;
+    show_body(alloc, &typed, out)
+}
+
+/// Shows what each step of the analysis finds in the body of each row of `steps.txt`. It fails where that cannot be read or `out`
+/// cannot be written, where a row's body does not keep the typing rules, and for want of memory. (Own.)
+pub fn show_steps<W: Write>(rt: &HostRuntime, out: &mut W) -> io::Result<()> {
+    let text = fs::read_to_string(rt, "steps.txt")?;
+    for row in text.split('#').skip(1) {
+        show_row(rt.alloc(), row, out)?;
+    }
     Ok(())
 }

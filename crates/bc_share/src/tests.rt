@@ -1,0 +1,249 @@
+//! Databases: their ranges, their sessions, their histories.
+use crate::{CloseFault, Db, History, OpenFault, Session};
+use bc_book::{Call, Entry, Event, PutReply, Refusal, Reply};
+use bc_prov::Outcome;
+use bc_syntax::{Types, Unit};
+use bc_text::{Name, read_types, read_unit};
+use std::alloc::{AllocError, Global};
+use std::process::Abort;
+use std::sync::Arc;
+use std::test::Fail;
+
+/// Writes the local once the borrow of it is used no more: no error.
+const WRITES_LAST: &[u8] =
+    b"fn () -> int { let _1: int; let _2: &'?0 int; bb0 { _1 = 1; _2 = &'?1 _1; _0 = copy _2.*; _1 = 2; return; } }";
+
+/// Writes the local while the borrow of it is still used: one conflict.
+const WRITES_WHILE_BORROWED: &[u8] =
+    b"fn () -> int { let _1: int; let _2: &'?0 int; bb0 { _1 = 1; _2 = &'?1 _1; _1 = 2; _0 = copy _2.*; return; } }";
+
+const INVARIANT_BUT_MARKED_COVARIANT: &[u8] = b"struct H<+'a> { &'static mut &'a int; }";
+
+const MARKED_INVARIANT: &[u8] = b"struct H<='a> { &'static mut &'a int; }";
+
+/// What an Ask finds: no body, the first bad declaration, one body with so many errors, or something else.
+#[derive(Clone, Copy, PartialEq)]
+enum Found {
+    NoBody,
+    BadTypes(usize),
+    Errors(usize),
+    Other,
+}
+
+/// A call with the reply that it is to have, or the refusal; or puts of new bodies under 256 names.
+#[derive(Clone, Copy)]
+enum Turn<'a> {
+    Put(&'a [u8], &'a [u8], Result<PutReply, Refusal>),
+    Types(&'a [u8], Result<(), Refusal>),
+    Ask(&'a [u8], Result<Found, Refusal>),
+    Fill,
+}
+
+const FULL: Refusal = Refusal::HistoryFull;
+
+/// The name that a text spells; fails where it spells none.
+fn name(text: &[u8]) -> Result<Name, Fail> {
+    let Some(name) = Name::read(text) else {
+        return Err("a name")?;
+    };
+    Ok(name)
+}
+
+/// The unit that a text spells, behind an `Arc`, as a put takes it; fails where it spells none, or for want of memory.
+fn shared(alloc: Global, text: &[u8]) -> Result<Arc<Unit, Global>, Fail> {
+    match Arc::new(alloc, read_unit(alloc, text)?) {
+        Ok(unit) => Ok(unit),
+        Err(_) => Err(AllocError)?,
+    }
+}
+
+/// The declarations that a text spells, behind an `Arc`; fails where it spells none, or for want of memory.
+fn declared(alloc: Global, text: &[u8]) -> Result<Arc<Types, Global>, Fail> {
+    match Arc::new(alloc, read_types(alloc, text)?) {
+        Ok(types) => Ok(types),
+        Err(_) => Err(AllocError)?,
+    }
+}
+
+fn found_by(outcome: &Outcome) -> Found {
+    match outcome {
+        Outcome::NoBody => Found::NoBody,
+        Outcome::BadTypes(index) => Found::BadTypes(*index),
+        Outcome::Ill(_, _) => Found::Other,
+        Outcome::Report(bodies) => match bodies.as_slice() {
+            [body] => Found::Errors(body.errors.len()),
+            _ => Found::Other,
+        },
+    }
+}
+
+/// Asks for a name, and answers whether that finds this or has its refusal.
+fn finds(
+    session: &mut Session,
+    asked: &[u8],
+    wanted: Result<Found, Refusal>,
+) -> Result<bool, Fail> {
+    match (session.ask(&name(asked)?), wanted) {
+        (Ok(outcome), Ok(wanted)) => Ok(found_by(&outcome) == wanted),
+        (Err(refused), Err(refusal)) => Ok(refused == refusal),
+        (Ok(_), Err(_)) | (Err(_), Ok(_)) => Ok(false),
+    }
+}
+
+/// Whether a unit is new under each of 256 names.
+fn fills(session: &mut Session, unit: &Arc<Unit, Global>) -> Result<bool, Fail> {
+    for high in b'a'..b'q' {
+        for low in b'a'..b'q' {
+            let root = [high, low];
+            if session.put(name(&root)?, Arc::try_clone(unit)?)? != PutReply::Added {
+                return Ok(false);
+            }
+        }
+    }
+    Ok(true)
+}
+
+/// Makes a call, and answers whether it has its reply.
+fn goes(alloc: Global, session: &mut Session, turn: &Turn) -> Result<bool, Fail> {
+    match *turn {
+        Turn::Put(put, unit, wanted) => {
+            let unit = shared(alloc, unit)?;
+            Ok(session.put(name(put)?, unit) == wanted)
+        }
+        Turn::Types(types, wanted) => Ok(session.put_types(declared(alloc, types)?) == wanted),
+        Turn::Ask(asked, wanted) => finds(session, asked, wanted),
+        Turn::Fill => fills(session, &shared(alloc, WRITES_LAST)?),
+    }
+}
+
+fn all_go(
+    rt: &impl Abort,
+    alloc: Global,
+    session: &mut Session,
+    turns: &[Turn],
+) -> Result<(), Fail> {
+    for (number, turn) in turns.iter().enumerate() {
+        assert!(rt; goes(alloc, session, turn)?, "call {number}");
+    }
+    Ok(())
+}
+
+/// The history of a new database with so many entries at most, whose session makes these calls.
+fn history_of(
+    rt: &impl Abort,
+    alloc: Global,
+    capacity: u32,
+    turns: &[Turn],
+) -> Result<History, Fail> {
+    let (db, mut sessions) = Db::open(alloc, 0, capacity, 1)?;
+    for session in sessions.iter_mut() {
+        all_go(rt, alloc, session, turns)?;
+    }
+    Ok(db.close(sessions)?)
+}
+
+/// Whether the entry of a call is the session's and has its number, and whether it has the call and its reply.
+fn is_of(entry: &Entry, number: usize, turn: &Turn) -> bool {
+    entry.session == 0 && entry.number as usize == number && is_event_of(&entry.event, turn)
+}
+
+fn is_event_of(event: &Event, turn: &Turn) -> bool {
+    match (turn, &event.call, &event.reply) {
+        (Turn::Put(_, _, Ok(wanted)), Call::Put(_, _), Reply::Put(reply)) => reply == wanted,
+        (Turn::Types(_, Ok(())), Call::Types(_), Reply::Stored) => true,
+        (Turn::Ask(_, Ok(wanted)), Call::Ask(_), Reply::Outcome(outcome)) => {
+            found_by(outcome.get()) == *wanted
+        }
+        _ => false,
+    }
+}
+
+/// Whether a history has an entry for each of the turns that are no refusal, in their order.
+fn are_of(entries: &[Entry], turns: &[Turn]) -> bool {
+    let mut agree = entries.len() == turns.len();
+    for (number, (entry, turn)) in entries.iter().zip(turns.iter()).enumerate() {
+        agree = agree && is_of(entry, number, turn);
+    }
+    agree
+}
+
+/// Whether the close of a database with these sessions is refused.
+fn is_foreign(db: Db, sessions: Vec<Session>) -> bool {
+    matches!(db.close(sessions), Err(CloseFault::Foreign))
+}
+
+/// Whether no database is opened with so many entries and sessions.
+fn is_out_of_range(alloc: Global, capacity: u32, sessions: u8) -> bool {
+    let opened = Db::open(alloc, 0, capacity, sessions);
+    matches!(opened, Err(OpenFault::Range))
+}
+
+#[test]
+fn a_history_has_a_capacity_and_a_database_its_sessions(rt: HostRuntime) -> Result<(), Fail> {
+    for (capacity, sessions) in [(0, 1), (1_000_001, 1), (1, 0), (1, 2), (1, 17)] {
+        assert!(rt;
+            is_out_of_range(rt.alloc(), capacity, sessions),
+            "out of range"
+        );
+    }
+    let (db, _sessions) = Db::open(rt.alloc(), 0, 1_000_000, 1)?;
+    assert!(rt;
+        is_foreign(db, Vec::new(rt.alloc())),
+        "closed without its session"
+    );
+    Ok(())
+}
+
+#[test]
+fn the_session_of_another_database_is_foreign(rt: HostRuntime) -> Result<(), Fail> {
+    let (_first, strangers) = Db::open(rt.alloc(), 1, 1, 1)?;
+    let (second, _own) = Db::open(rt.alloc(), 2, 1, 1)?;
+    assert!(rt; is_foreign(second, strangers), "closed with a stranger");
+    Ok(())
+}
+
+/// Catches the wrong body `history_full_at_once`, with the call that is taken before the history is full.
+#[test]
+fn a_full_history_takes_no_call(rt: HostRuntime) -> Result<(), Fail> {
+    let turns = [
+        Turn::Put(b"f", WRITES_LAST, Ok(PutReply::Added)),
+        Turn::Ask(b"f", Err(FULL)),
+        Turn::Put(b"f", WRITES_LAST, Err(FULL)),
+        Turn::Types(MARKED_INVARIANT, Err(FULL)),
+    ];
+    let history = history_of(&rt, rt.alloc(), 1, &turns)?;
+    assert!(rt; history.entries().len() == 1, "one entry");
+    Ok(())
+}
+
+/// Catches the wrong body `always_no_memory`: no contract says that a call succeeds with ample memory.
+#[test]
+fn the_history_has_each_call_with_its_reply(rt: HostRuntime) -> Result<(), Fail> {
+    let turns = [
+        Turn::Put(b"f/0", WRITES_LAST, Ok(PutReply::WrongKind)),
+        Turn::Put(b"f", WRITES_LAST, Ok(PutReply::Added)),
+        Turn::Ask(b"f", Ok(Found::Errors(0))),
+        Turn::Put(b"f", WRITES_WHILE_BORROWED, Ok(PutReply::Replaced)),
+        Turn::Ask(b"f", Ok(Found::Errors(1))),
+        Turn::Types(INVARIANT_BUT_MARKED_COVARIANT, Ok(())),
+        Turn::Ask(b"g", Ok(Found::BadTypes(0))),
+        Turn::Types(MARKED_INVARIANT, Ok(())),
+        Turn::Ask(b"g", Ok(Found::NoBody)),
+    ];
+    let history = history_of(&rt, rt.alloc(), 9, &turns)?;
+    assert!(rt; are_of(history.entries(), &turns), "nine entries");
+    Ok(())
+}
+
+#[test]
+fn a_new_name_is_full_behind_256_bodies(rt: HostRuntime) -> Result<(), Fail> {
+    let turns = [
+        Turn::Fill,
+        Turn::Put(b"f", WRITES_LAST, Ok(PutReply::Full)),
+        Turn::Ask(b"f", Ok(Found::NoBody)),
+        Turn::Put(b"aa", WRITES_LAST, Ok(PutReply::Replaced)),
+    ];
+    let history = history_of(&rt, rt.alloc(), 300, &turns)?;
+    assert!(rt; history.entries().len() == 259, "259 entries");
+    Ok(())
+}
