@@ -4,3 +4,4 @@ pub mod Wider
 pub mod Kept
 pub mod Entries
 pub mod Replacing
+pub mod Blanking

@@ -4,18 +4,21 @@
 mod edges;
 mod laws;
 mod mir;
+mod place_shapes;
 mod place_types;
 mod places;
 mod print;
 mod rules;
+mod shape;
 mod subtype;
 mod typed;
 mod typing;
+mod value_types;
 
 pub use bc_types::{CheckTypes, Constraint, DeclFault, GoodTypes, is_mutable};
 pub use laws::{edges_join_points, entries_begin_blocks};
 pub use mir::{Instruction, Point, Step};
 pub use place_types::{passes_only_mutable, references_of_place, type_of_place};
 pub use places::are_fields;
-pub use rules::{type_of_operand, type_of_rvalue};
 pub use typed::{IllFault, KidHeader, Typed, Where, type_unit};
+pub use value_types::{type_of_operand, type_of_rvalue};

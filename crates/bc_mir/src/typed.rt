@@ -47,26 +47,25 @@ impl From<AllocError> for IllFault {
     }
 }
 
-fn first_unfit(alloc: Global, draft: &Draft) -> Result<Option<Point>, AllocError>
-    ensures { IfOk result (λ point. point ≡ first_misfit draft.now draft.now.steps) }
+fn first_unfit(draft: &Draft) -> Option<Point>
+    ensures { result ≡ first_misfit draft.now draft.now.steps }
 {
     for step in draft.steps.as_slice() {
-        if !fits_at(alloc, draft, &step.instruction)? {
-            return Ok(Some(step.point));
+        if !fits_at(draft, &step.instruction) {
+            return Some(step.point);
         }
     }
-    Ok(None)
+    None
 }
 
 /// Where a unit breaks a typing rule, if it does.
-fn misfit(alloc: Global, draft: &Draft) -> Result<Option<Where>, AllocError>
-    ensures { IfOk result (λ place. place ≡ misfit_of draft.now) }
+fn misfit(draft: &Draft) -> Option<Where>
+    ensures { result ≡ misfit_of draft.now }
 {
     if !fits_header(draft) {
-        return Ok(Some(Where::Header));
+        return Some(Where::Header);
     }
-    let point = first_unfit(alloc, draft)?;
-    Ok(point.map(Where::At))
+    first_unfit(draft).map(Where::At)
 }
 
 /// A unit that keeps every typing rule, with its points in one list. It borrows nothing.
@@ -182,7 +181,7 @@ pub fn type_unit(
 {
     let shared = share(types)?;
     let draft = Draft::of(alloc, shared, unit.body())?;
-    match misfit(alloc, &draft)? {
+    match misfit(&draft) {
         None => Ok(Typed { draft }),
         Some(place) => Err(IllFault::Ill(place)),
     }

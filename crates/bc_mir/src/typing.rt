@@ -1,10 +1,9 @@
 //! The typing rules at the header and at each point.
-ghost use Rattle.std.specs.Prelude.{◌≡◌, IfOk};
+ghost use Rattle.std.specs.Prelude.{◌≡◌};
 ghost use Rattle.bc_mir.specs.Typing.{fits_at as step_fits, header_fits};
 
 use crate::mir::{Draft, Instruction};
 use crate::rules::{header_keeps_rules, statement_keeps_rules, terminator_keeps_rules};
-use std::alloc::{AllocError, Global};
 
 /// Whether no header rule fails: each struct in the type of a local is declared with its number of regions.
 pub(crate) fn fits_header(draft: &Draft) -> bool
@@ -14,21 +13,15 @@ pub(crate) fn fits_header(draft: &Draft) -> bool
 }
 
 /// Whether no rule fails at a point.
-pub(crate) fn fits_at(
-    alloc: Global,
-    draft: &Draft,
-    instruction: &Instruction,
-) -> Result<bool, AllocError>
-    ensures { IfOk result (λ fits. fits ≡ step_fits draft.now instruction.now) }
+pub(crate) fn fits_at(draft: &Draft, instruction: &Instruction) -> bool
+    ensures { result ≡ step_fits draft.now instruction.now }
 {
     let types = &*draft.types;
     let locals = draft.locals.as_slice();
     match instruction {
-        Instruction::Statement(statement) => {
-            statement_keeps_rules(alloc, types, locals, statement)
-        }
+        Instruction::Statement(statement) => statement_keeps_rules(types, locals, statement),
         Instruction::Terminator(terminator) => {
-            terminator_keeps_rules(alloc, types, locals, draft.entries.len(), terminator)
+            terminator_keeps_rules(types, locals, draft.entries.len(), terminator)
         }
     }
 }

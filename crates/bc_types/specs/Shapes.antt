@@ -7,6 +7,11 @@ use Rattle.bc_syntax.specs.declared.syntax.Ty.{Ty}
 use Rattle.bc_syntax.specs.declared.syntax.Reference.{Reference}
 use Rattle.bc_types.specs.Declarations.{same_name}
 use Rattle.bc_types.specs.Mutabilities.{is_mutable, same_mutability}
+use Rattle.bc_types.specs.Replaced.{replaced_ty}
+
+-- a type with its regions blanked: where there is no argument, each becomes `'static`
+abbrev pub blanked : Ty → Ty
+blanked ty = replaced_ty [] ty
 
 -- instances of one name with one number of regions
 abbrev pub alike : Instance → Instance → Bool

@@ -13,7 +13,10 @@ mod table;
 pub use good_types::{CheckTypes, DeclFault, GoodTypes};
 pub use mutabilities::is_mutable;
 pub use replaced::{replace_region, replace_ty};
-pub use shapes::{have_one_shape, is_copyable_type, is_int_type};
+pub use shapes::{
+    are_alike, are_alike_types, is_copyable_behind, is_copyable_type, is_int_behind,
+    is_same_mutability,
+};
 pub use subtype::{Constraint, push_outlives};
 pub use subtyping::push_sub;
 pub use table::{copy_clauses, copy_type, takes_regions};

@@ -2,7 +2,7 @@
 ghost use Rattle.std.specs.Prelude.{◌≡◌};
 ghost use Rattle.bc_types.specs.Declarations.{same_name};
 ghost use Rattle.bc_types.specs.Mutabilities.{same_mutability};
-ghost use Rattle.bc_types.specs.Shapes.{alike, alike_bases, alike_types, one_shape as shape_test, is_int_base as int_base, is_int_type as int_type, is_copyable_type as copyable_type};
+ghost use Rattle.bc_types.specs.Shapes.{alike, alike_bases, alike_types, is_int_base as int_base, is_int_behind as int_behind, is_copyable_behind as copyable_behind, is_copyable_type as copyable_type};
 
 use crate::mutabilities::is_mutable;
 use bc_syntax::{Base, Instance, ItemName, Mutability, Reference, Ty};
@@ -13,14 +13,17 @@ fn is_same_name(first: &ItemName, second: &ItemName) -> bool
     first.bytes.as_slice() == second.bytes.as_slice()
 }
 
-fn is_same_mutability(first: Mutability, second: Mutability) -> bool
+/// Whether both are shared or both mutable.
+/// (Own.)
+pub fn is_same_mutability(first: Mutability, second: Mutability) -> bool
     ensures { result ≡ same_mutability first second }
 {
     first == second
 }
 
 /// Whether instances have one name and one number of regions.
-fn are_alike(first: &Instance, second: &Instance) -> bool
+/// (Own.)
+pub fn are_alike(first: &Instance, second: &Instance) -> bool
     ensures { result ≡ alike first.now second.now }
 {
     is_same_name(&first.name, &second.name)
@@ -39,7 +42,9 @@ fn are_alike_bases(first: &Base, second: &Base) -> bool
     }
 }
 
-fn are_alike_types(
+/// Whether two types, each given by its references and what they lead to, are equal once regions are blanked.
+/// (Own.)
+pub fn are_alike_types(
     references: &[Reference],
     first: &Base,
     others: &[Reference],
@@ -62,19 +67,6 @@ fn are_alike_types(
     }
 }
 
-/// Whether two types are equal once regions are blanked.
-/// (Own.)
-pub fn have_one_shape(first: &Ty, second: &Ty) -> bool
-    ensures { result ≡ shape_test first.now second.now }
-{
-    are_alike_types(
-        first.references.as_slice(),
-        &first.base,
-        second.references.as_slice(),
-        &second.base,
-    )
-}
-
 fn is_int_base(base: &Base) -> bool
     ensures { result ≡ int_base base.now }
 {
@@ -84,14 +76,25 @@ fn is_int_base(base: &Base) -> bool
     }
 }
 
-/// Whether a type is `int`.
+/// Whether these references to what they lead to are `int`.
 /// (Own.)
-pub fn is_int_type(ty: &Ty) -> bool
-    ensures { result ≡ int_type ty.now }
+pub fn is_int_behind(references: &[Reference], base: &Base) -> bool
+    ensures { result ≡ int_behind references.now base.now }
 {
-    match ty.references.as_slice() {
-        [] => is_int_base(&ty.base),
+    match references {
+        [] => is_int_base(base),
         [_, ..] => false,
+    }
+}
+
+/// Whether `copy` may take a value of the type of these references to what they lead to: it is `int` or a shared reference.
+/// (Own.)
+pub fn is_copyable_behind(references: &[Reference], base: &Base) -> bool
+    ensures { result ≡ copyable_behind references.now base.now }
+{
+    match references {
+        [] => is_int_base(base),
+        [reference, ..] => !is_mutable(reference.mutability),
     }
 }
 
@@ -100,8 +103,5 @@ pub fn is_int_type(ty: &Ty) -> bool
 pub fn is_copyable_type(ty: &Ty) -> bool
     ensures { result ≡ copyable_type ty.now }
 {
-    match ty.references.as_slice() {
-        [] => is_int_base(&ty.base),
-        [reference, ..] => !is_mutable(reference.mutability),
-    }
+    is_copyable_behind(ty.references.as_slice(), &ty.base)
 }

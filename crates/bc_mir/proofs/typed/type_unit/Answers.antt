@@ -9,5 +9,5 @@ use Rattle.bc_mir.proofs.typed.type_unit.Goals as goal
 pub invariant_of-result : goal.invariant_of-result
 invariant_of-result c =
     let same : c.in_ok-draft.draft ≡ mir_of (arc_value c.args.types.now) c.args.unit.now = rw (← c.body.ensures.value) rw (← c.in_ok-shared.ensures) c.in_ok-draft.ensures in
-    let none : misfit c.in_ok-draft.draft ≡ None = sym c.in_ok-misfit.ensures ∙ c.in-None.is in
+    let none : misfit c.in_ok-draft.draft ≡ None = sym c.misfit.ensures ∙ c.in-None.is in
     subst IsTyped (sym same) (typed (arc_value c.args.types.now) c.args.unit.now c.body.ensures.fits (subst Fits same none))
