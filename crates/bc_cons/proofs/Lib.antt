@@ -1,3 +1,3 @@
 pub mod Bounding
-pub mod Rows
+pub mod Growing
 pub mod Mentioning

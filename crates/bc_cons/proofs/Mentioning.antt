@@ -1,7 +1,8 @@
--- A region stands in a type where it is that of a reference or an argument of the struct.
-use Rattle.std.proofs.Common.{◌≡◌, ℕ, Bool, ◌||◌, ◌==◌, List, [], ◌∷◌, map, refl, ap, ◌∙◌}
-use Rattle.std.specs.List.{list_any}
+-- The regions of a type are those of its references and the arguments of the struct.
+use Rattle.std.proofs.Common.{◌≡◌, ℕ, ◌<◌, Bool, ◌||◌, ◌==◌, List, [], ◌∷◌, ◌++◌, map, refl, ap, ◌∙◌}
+use Rattle.std.specs.List.{All, list_any}
 use Rattle.std.proofs.lemmas.List.Folds.{list_any-append}
+use Rattle.std.proofs.lemmas.List.Elements.{All-nil, All-cons, All-head, All-tail}
 use Rattle.bc_syntax.specs.declared.syntax.Region.{Region}
 use Rattle.bc_syntax.specs.declared.syntax.Reference.{Reference}
 use Rattle.bc_syntax.specs.declared.syntax.Ty.{Ty}
@@ -21,3 +22,13 @@ mentioned universals region ty =
     let is_it : Region → Bool = λ other. region_number universals other == region in
     list_any-append is_it (regions_of_references ty.references) (regions_of_base ty.base)
     ∙ ap (λ b. b || list_any is_it (regions_of_base ty.base)) (any_of_map (λ (reference : Reference). reference.region) is_it ty.references)
+
+pub all_below : (universals bound : ℕ) (references : List Reference) (more : List Region) → All (λ (region : Region). region_number universals region < bound) (regions_of_references references ++ more) →
+    All (λ (reference : Reference). region_number universals reference.region < bound) references × All (λ (region : Region). region_number universals region < bound) more
+all_below universals bound [] more all = (All-nil (λ (reference : Reference). region_number universals reference.region < bound), all)
+all_below universals bound (reference ∷ references) more all =
+    let is_below : Region → Type 0 = λ region. region_number universals region < bound in
+    let rest = all_below universals bound references more (All-tail is_below reference.region (regions_of_references references ++ more) all) in (
+      All-cons (λ (other : Reference). region_number universals other.region < bound) reference references (All-head is_below reference.region (regions_of_references references ++ more) all) rest.0,
+      rest.1,
+    )

@@ -3,7 +3,7 @@ ghost use Rattle.std.specs.Prelude.{◌≡◌, ℕ, ◌<◌, length};
 ghost use Rattle.bc_flow.specs.Flow.{row, holds, HaveSize};
 ghost use Rattle.bc_cons.specs.Facts.{ArePairsWithin};
 
-use bc_flow::BitSet;
+use bc_flow::BitTable;
 use std::marker::Model;
 
 /// `longer: shorter`: the longer region has each element that the shorter has. Regions are numbers. (RFC 2094, "Subtyping";
@@ -18,7 +18,7 @@ pub struct Constraint {
 /// (RFC 2094, "Liveness constraints" and "Subtyping".)
 #[derive(Drop)]
 pub struct Facts {
-    starts: Vec<BitSet>,
+    starts: BitTable,
     pairs: Vec<Constraint>,
     elements: usize,
 }
@@ -28,19 +28,19 @@ impl Model for Facts {
 
     ghost Value = { RegionFacts };
 
-    ghost view = { λ f. record { elements = f.elements; starts = f.starts.items; pairs = f.pairs.items } };
+    ghost view = { λ f. record { elements = f.elements; starts = f.starts; pairs = f.pairs.items } };
 
-    ghost invariant = { λ f. IsRegionFacts f.elements f.starts.items f.pairs.items };
+    ghost invariant = { λ f. IsRegionFacts f.elements f.starts f.pairs.items };
 }
 
 impl Facts {
     /// The facts with these start rows, one of so many elements for each region, and these constraints between them.
     /// (Own.)
-    pub fn new(starts: Vec<BitSet>, pairs: Vec<Constraint>, elements: usize) -> Self
-        requires starts { HaveSize elements starts.items }
-        requires pairs { ArePairsWithin (length starts.items) pairs.items }
+    pub fn new(starts: BitTable, pairs: Vec<Constraint>, elements: usize) -> Self
+        requires starts { HaveSize elements starts }
+        requires pairs { ArePairsWithin (length starts) pairs.items }
         ensures elements { result.elements ≡ elements }
-        ensures starts { result.starts ≡ starts.items }
+        ensures starts { result.starts ≡ starts }
         ensures pairs { result.pairs ≡ pairs.items }
     {
         Self {
@@ -68,7 +68,7 @@ impl Facts {
 
     /// The start rows: for each region the set of the elements that it starts with.
     /// (Own.)
-    pub fn starts(&self) -> &[BitSet]
+    pub fn starts(&self) -> &BitTable
         ensures starts { result.now ≡ self.now.starts }
         ensures sizes { HaveSize self.now.elements self.now.starts }
     {
@@ -91,6 +91,6 @@ impl Facts {
         requires element { element < self.now.elements }
         ensures { result ≡ holds self.now.starts region element }
     {
-        self.starts[region].contains(element)
+        self.starts.holds(region, element)
     }
 }

@@ -1,136 +1,204 @@
 //! The rows of the elements that regions start with.
-ghost use Rattle.std.specs.Prelude.{◌≡◌, ◌==◌, ◌+◌, ◌<◌, ◌≤◌, ◌&&◌, ◌||◌, ℕ, nat_lt, length, IfOk};
-ghost use Rattle.std.specs.List.{list_any};
+ghost use Rattle.std.specs.Prelude.{◌≡◌, ◌==◌, ◌+◌, ◌^◌, ◌<◌, ◌≤◌, ◌&&◌, ◌||◌, ℕ, nat_lt, not, length, IfOk};
+ghost use Rattle.std.specs.List.{All, list_any, enumerate_from};
+ghost use Rattle.bc_flow.specs.Flow.{row, holds, HaveSize, AreAdded};
 ghost use Rattle.bc_flow.specs.BitSet.{has};
-ghost use Rattle.bc_flow.specs.Flow.{holds, HaveSize};
-ghost use Rattle.bc_cons.specs.Starts.{universal_start, mentions as mention_test, variable_start, starts_with};
-ghost use Rattle.bc_cons.specs.Below.{TysAreBelow};
+ghost use Rattle.bc_cons.specs.Starts.{universal_start, mentions, goes_to_variable, starts_with, AreGrown};
+ghost use Rattle.bc_cons.specs.Below.{TyIsBelow, TysAreBelow};
 ghost use Rattle.bc_cons.specs.Mentions.{regions_of_base};
 ghost use Rattle.bc_points.specs.Regions.{region_number as number_of};
 
-use bc_flow::BitSet;
+use bc_flow::{BitRow, BitTable};
 use bc_live::LiveSets;
 use bc_mir::Typed;
 use bc_points::region_number;
 use bc_syntax::{Base, Reference, Region, Ty};
 use std::alloc::{AllocError, Global};
 
-/// What a universal region starts with.
-fn universal_row(
+/// Adds what a universal region starts with.
+fn add_universal(rows: &mut BitTable, universals: usize, points: usize, region: usize)
+    requires row { region < length rows.old }
+    requires region { region < universals }
+    requires size { length (row rows.old region) ≡ points + universals }
+    requires small { points + universals < 2 ^ 64 }
+    ensures { AreAdded rows.old rows.new region (universal_start universals points region) }
+{
+    if region == 0 {
+        rows.insert_below(region, points + universals);
+    } else {
+        rows.insert_below(region, points);
+        let _added = rows.insert(region, points + region);
+    }
+}
+
+/// The rows where the universal regions alone start with something.
+fn universal_rows(
     alloc: Global,
     universals: usize,
     points: usize,
-    region: usize,
-) -> Result<BitSet, AllocError>
-    requires region { region < universals }
-    requires universals { universals ≤ 16 }
-    requires points { points ≤ 4096 }
-    ensures size { IfOk result (λ row. length row ≡ points + universals) }
-    ensures members { IfOk result (λ row. (e : ℕ) → has row e ≡ universal_start universals points region e) }
+    regions: usize,
+) -> Result<BitTable, AllocError>
+    requires universals { universals ≤ regions }
+    requires small { points + universals < 2 ^ 64 }
+    ensures regions { IfOk result (λ rows. length rows ≡ regions) }
+    ensures elements { IfOk result (λ rows. HaveSize (points + universals) rows) }
+    ensures starts { IfOk result (λ rows. (r e : ℕ) → holds rows r e ≡ (nat_lt r universals && universal_start universals points r e)) }
 {
-    let mut row = BitSet::new(alloc, points + universals)?;
-    if region == 0 {
-        row.insert_below(points + universals);
-    } else {
-        row.insert_below(points);
-        let _added = row.insert(points + region);
+    let mut rows = BitTable::new(alloc, regions, points + universals)?;
+    for region in 0..universals {
+        add_universal(&mut rows, universals, points, region);
     }
-    Ok(row)
+    Ok(rows)
 }
 
-fn is_numbered(universals: u8, region: Region, number: usize) -> bool
-    ensures { result ≡ (number_of universals region == number) }
+/// Adds points to what a variable starts with. A universal region has all of them.
+fn add_to_region(
+    rows: &mut BitTable,
+    universals: u8,
+    region: Region,
+    live_points: &BitRow<'_>,
+    points: usize,
+)
+    requires region { number_of universals region < length rows.old }
+    requires points { (r : ℕ) → r < length rows.old → points ≤ length (row rows.old r) }
+    ensures { AreGrown rows.old rows.new (λ r e. number_of universals region == r && goes_to_variable universals points live_points.now r e) }
 {
-    region_number(universals, region) == number
+    let number = region_number(universals, region);
+    if number >= usize::from(universals) {
+        rows.union_row_below(number, live_points, points);
+    }
 }
 
-/// Whether a region stands among regions.
-fn stands_among(universals: u8, region: usize, regions: &[Region]) -> bool
-    ensures { result ≡ list_any (λ other. number_of universals other == region) regions.now }
+/// The same for each of some regions.
+fn add_to_regions(
+    rows: &mut BitTable,
+    universals: u8,
+    regions: &[Region],
+    live_points: &BitRow<'_>,
+    points: usize,
+)
+    requires regions { All (λ region. number_of universals region < length rows.old) regions.now }
+    requires points { (r : ℕ) → r < length rows.old → points ≤ length (row rows.old r) }
+    ensures { AreGrown rows.old rows.new (λ r e. list_any (λ region. number_of universals region == r) regions.now && goes_to_variable universals points live_points.now r e) }
 {
-    regions
-        .iter()
-        .any(|other| is_numbered(universals, *other, region))
+    match regions {
+        [] => {}
+        [region, more @ ..] => {
+            add_to_region(rows, universals, *region, live_points, points);
+            add_to_regions(rows, universals, more, live_points, points);
+        }
+    }
 }
 
-/// Whether a region is that of a reference.
-fn stands_in_references(universals: u8, region: usize, references: &[Reference]) -> bool
-    ensures { result ≡ list_any (λ reference. number_of universals reference.region == region) references.now }
+/// The same for the regions of references.
+fn add_to_references(
+    rows: &mut BitTable,
+    universals: u8,
+    references: &[Reference],
+    live_points: &BitRow<'_>,
+    points: usize,
+)
+    requires regions { All (λ reference. number_of universals reference.region < length rows.old) references.now }
+    requires points { (r : ℕ) → r < length rows.old → points ≤ length (row rows.old r) }
+    ensures { AreGrown rows.old rows.new (λ r e. list_any (λ reference. number_of universals reference.region == r) references.now && goes_to_variable universals points live_points.now r e) }
 {
-    references.iter().any(|reference| is_numbered(universals, reference.region, region))
+    match references {
+        [] => {}
+        [reference, more @ ..] => {
+            add_to_region(rows, universals, reference.region, live_points, points);
+            add_to_references(rows, universals, more, live_points, points);
+        }
+    }
 }
 
-/// Whether a region is an argument of a struct.
-fn stands_in_base(universals: u8, region: usize, base: &Base) -> bool
-    ensures { result ≡ list_any (λ other. number_of universals other == region) (regions_of_base base.now) }
+/// The same for the arguments of a struct.
+fn add_to_base(
+    rows: &mut BitTable,
+    universals: u8,
+    base: &Base,
+    live_points: &BitRow<'_>,
+    points: usize,
+)
+    requires regions { All (λ region. number_of universals region < length rows.old) (regions_of_base base.now) }
+    requires points { (r : ℕ) → r < length rows.old → points ≤ length (row rows.old r) }
+    ensures { AreGrown rows.old rows.new (λ r e. list_any (λ region. number_of universals region == r) (regions_of_base base.now) && goes_to_variable universals points live_points.now r e) }
 {
     match base {
-        Base::Int => false,
-        Base::Struct(instance) => { stands_among(universals, region, instance.regions.as_slice()) }
+        Base::Int => {}
+        Base::Struct(instance) => {
+            add_to_regions(
+                rows,
+                universals,
+                instance.regions.as_slice(),
+                live_points,
+                points,
+            );
+        }
     }
 }
 
-/// Whether a region stands in a type.
-#[tactic(auto, using(crate::proofs::Mentioning::mentioned))]
-fn mentions(universals: u8, region: usize, ty: &Ty) -> bool
-    ensures { result ≡ mention_test universals region ty.now }
+/// The same for the regions that stand in a type.
+fn add_to_type(
+    rows: &mut BitTable,
+    universals: u8,
+    ty: &Ty,
+    live_points: &BitRow<'_>,
+    points: usize,
+)
+    requires regions { TyIsBelow universals (length rows.old) ty.now }
+    requires points { (r : ℕ) → r < length rows.old → points ≤ length (row rows.old r) }
+    ensures { AreGrown rows.old rows.new (λ r e. mentions universals r ty.now && goes_to_variable universals points live_points.now r e) }
 {
-    stands_in_references(universals, region, ty.references.as_slice())
-        || stands_in_base(universals, region, &ty.base)
+    add_to_references(
+        rows,
+        universals,
+        ty.references.as_slice(),
+        live_points,
+        points,
+    );
+    add_to_base(rows, universals, &ty.base, live_points, points);
 }
 
-/// Adds the points on whose entry a local is live.
-fn add_points(row: &mut BitSet, live: &LiveSets, local: usize, points: usize)
-    requires { points ≤ length row.old }
-    ensures size { length row.new ≡ length row.old }
-    ensures members { (e : ℕ) → has row.new e ≡ (has row.old e || (nat_lt e points && holds live.now local e)) }
+/// Adds the points on whose entry a local is live to the regions of its type.
+fn add_local(
+    rows: &mut BitTable,
+    universals: u8,
+    live: &LiveSets,
+    local: usize,
+    ty: &Ty,
+    points: usize,
+)
+    requires regions { TyIsBelow universals (length rows.old) ty.now }
+    requires points { (r : ℕ) → r < length rows.old → points ≤ length (row rows.old r) }
+    ensures { AreGrown rows.old rows.new (λ r e. mentions universals r ty.now && goes_to_variable universals points (row live.now local) r e) }
 {
     match live.rows().get(local) {
-        Some(live_points) => row.union_below(live_points, points),
+        Some(live_points) => add_to_type(rows, universals, ty, &live_points, points),
         None => {}
     }
 }
 
-/// What a region variable starts with.
-fn variable_row(
-    alloc: Global,
-    typed: &Typed,
+/// The same for locals from number `local` on.
+fn add_locals(
+    rows: &mut BitTable,
+    universals: u8,
     live: &LiveSets,
-    region: usize,
-) -> Result<BitSet, AllocError>
-    ensures size { IfOk result (λ row. length row ≡ length typed.now.steps + typed.now.universals) }
-    ensures members { IfOk result (λ row. (e : ℕ) → has row e
-        ≡ (nat_lt e (length typed.now.steps) && variable_start typed.now.universals typed.now.locals (holds live.now) region e)) }
+    local: usize,
+    locals: &[Ty],
+    points: usize,
+)
+    requires few { local + length locals.now < 2 ^ 64 }
+    requires regions { TysAreBelow universals (length rows.old) locals.now }
+    requires points { (r : ℕ) → r < length rows.old → points ≤ length (row rows.old r) }
+    ensures { AreGrown rows.old rows.new (λ r e. not (nat_lt r universals) && (nat_lt e points
+        && list_any (λ here. mentions universals r here.1 && holds live.now here.0 e) (enumerate_from local locals.now))) }
 {
-    let universals = typed.universals();
-    let points = typed.steps().len();
-    let mut row = BitSet::new(alloc, points + usize::from(universals))?;
-    for (local, ty) in typed.locals().iter().enumerate() {
-        if mentions(universals, region, ty) {
-            add_points(&mut row, live, local, points);
+    match locals {
+        [] => {}
+        [ty, more @ ..] => {
+            add_local(rows, universals, live, local, ty, points);
+            add_locals(rows, universals, live, local + 1, more, points);
         }
-    }
-    Ok(row)
-}
-
-/// What a region starts with.
-fn start_row(
-    alloc: Global,
-    typed: &Typed,
-    live: &LiveSets,
-    region: usize,
-) -> Result<BitSet, AllocError>
-    ensures size { IfOk result (λ row. length row ≡ length typed.now.steps + typed.now.universals) }
-    ensures members { IfOk result (λ row. (e : ℕ) → has row e ≡ starts_with typed.now (holds live.now) region e) }
-{
-    let universals = usize::from(typed.universals());
-    let points = typed.steps().len();
-    if region < universals {
-        let row = universal_row(alloc, universals, points, region)?;
-        Ok(row)
-    } else {
-        let row = variable_row(alloc, typed, live, region)?;
-        Ok(row)
     }
 }
 
@@ -140,16 +208,16 @@ pub(crate) fn start_rows(
     typed: &Typed,
     live: &LiveSets,
     regions: usize,
-) -> Result<Vec<BitSet>, AllocError>
+) -> Result<BitTable, AllocError>
     requires universals { typed.now.universals ≤ regions }
     requires types { TysAreBelow typed.now.universals regions typed.now.locals }
-    ensures regions { IfOk result (λ rows. length rows.items ≡ regions) }
-    ensures elements { IfOk result (λ rows. HaveSize (length typed.now.steps + typed.now.universals) rows.items) }
-    ensures starts { IfOk result (λ rows. (r e : ℕ) → holds rows.items r e ≡ starts_with typed.now (holds live.now) r e) }
+    ensures regions { IfOk result (λ rows. length rows ≡ regions) }
+    ensures elements { IfOk result (λ rows. HaveSize (length typed.now.steps + typed.now.universals) rows) }
+    ensures starts { IfOk result (λ rows. (r e : ℕ) → holds rows r e ≡ starts_with typed.now (holds live.now) r e) }
 {
-    let mut rows = Vec::with_capacity(alloc, regions)?;
-    for region in 0..regions {
-        rows.push(start_row(alloc, typed, live, region)?)?;
-    }
+    let universals = typed.universals();
+    let points = typed.steps().len();
+    let mut rows = universal_rows(alloc, usize::from(universals), points, regions)?;
+    add_locals(&mut rows, universals, live, 0, typed.locals(), points);
     Ok(rows)
 }

@@ -1,5 +1,5 @@
 -- The facts that flow between groups of nodes are those that flow between the nodes.
-use Rattle.std.proofs.Common.{◌≡◌, ℕ, ◌+◌, ◌<◌, inl, inr, Bool, true, ◌||◌, List, [], map, length, get_or, set, refl, sym, ap, ◌∙◌, arith}
+use Rattle.std.proofs.Common.{◌≡◌, ℕ, ◌+◌, ◌<◌, inl, inr, Bool, true, ◌||◌, List, [], map, length, get_or, refl, sym, ap, ◌∙◌, arith}
 use Rattle.std.specs.List.{All, range_with_len}
 use Rattle.std.proofs.lemmas.Bool.{cases_eq, cases_lt, both_ways, or_cases, or_left, or_right}
 use Rattle.std.proofs.lemmas.List.{get_or-map, get_or_past, length-map}
@@ -11,7 +11,6 @@ use Rattle.bc_flow.specs.Graph.{AreWithin, Leads, at_once, further, turned}
 use Rattle.bc_flow.specs.Flow.{row, holds, HaveSize, Flows, begins, goes_on, IsFlow}
 use Rattle.bc_flow.proofs.Membership.{from_map, in_map}
 use Rattle.bc_flow.proofs.Ways.{edge_is_turned}
-use Rattle.bc_flow.proofs.Rows.{row-set_same, row-set_other}
 use Rattle.bc_groups.specs.Groups.{AreGroups, AreMutual, IsAgreed, group_edge, AreGathered, rows_by}
 
 pub leads_on : (edges : List Edge) (a b c : ℕ) → Leads edges a b → Leads edges b c → Leads edges a c
@@ -90,18 +89,16 @@ group_edges_within edges nodes groups group_of within count all =
     (λ e h. (all e.from 0 (omega (arith, h.0, count)), all e.to 0 (omega (arith, h.1, count)))) edges within)
 
 -- what one node more has
-pub gathered_more : (rows gathered : List (List Bool)) (group_of : List ℕ) (k : ℕ) (x : List Bool) → get_or group_of k 0 < length gathered →
-    ((f : ℕ) → has x f ≡ (holds gathered (get_or group_of k 0) f || holds rows k f)) → AreGathered k rows group_of gathered →
-    AreGathered (k + 1) rows group_of (set gathered (get_or group_of k 0) x)
-gathered_more rows gathered group_of k x within joined before g f =
+pub gathered_more : (rows gathered new : List (List Bool)) (group_of : List ℕ) (k : ℕ) → ((g : ℕ) → (g ≡ get_or group_of k 0 → ⊥) → row new g ≡ row gathered g) →
+    ((f : ℕ) → holds new (get_or group_of k 0) f ≡ (holds gathered (get_or group_of k 0) f || holds rows k f)) → AreGathered k rows group_of gathered → AreGathered (k + 1) rows group_of new
+gathered_more rows gathered new group_of k others joined before g f =
     let own : ℕ = get_or group_of k 0 in
     elim (cases_eq g own) [
       | inl same ↦
-          let written : holds (set gathered own x) g f ≡ (holds gathered own f || holds rows k f) =
-          ap (λ i. holds (set gathered own x) i f) same ∙ ap (λ t. has t f) (row-set_same gathered own x within) ∙ joined f in (
+          let written : holds new g f ≡ (holds gathered own f || holds rows k f) = ap (λ i. holds new i f) same ∙ joined f in (
             λ h. elim (or_cases (holds gathered own f) (holds rows k f) (sym written ∙ h)) [
               | inl old ↦ let n = (before own f).0 old in let below : n.0 < k = n.1 in (n.0, omega (arith, below), n.2 ∙ sym same, n.3)
-              | inr new ↦ (k, omega arith, sym same, new)
+              | inr late ↦ (k, omega arith, sym same, late)
             ],
             λ (n, below, is, h). written ∙ elim (cases_lt n k) [
               | inl early ↦ or_left (holds gathered own f) _ ((before own f).1 (n, early, is ∙ same, h))
@@ -109,7 +106,7 @@ gathered_more rows gathered group_of k x within joined before g f =
             ],
           )
       | inr other ↦
-          let kept : holds (set gathered own x) g f ≡ holds gathered g f = ap (λ t. has t f) (row-set_other gathered own g x other) in (
+          let kept : holds new g f ≡ holds gathered g f = ap (λ t. has t f) (others g other) in (
             λ h. let n = (before g f).0 (sym kept ∙ h) in let below : n.0 < k = n.1 in (n.0, omega (arith, below), n.2, n.3),
             λ (n, below, is, h). elim (cases_lt n k) [
               | inl early ↦ kept ∙ (before g f).1 (n, early, is, h)

@@ -31,8 +31,9 @@ pub fn strong_components(
     requires { AreWithin edges.now nodes }
     ensures { IfOk result (λ found. AreGroups edges.now nodes found.groups found.group_of.items) }
 {
-    let order = postorder(alloc, nodes, edges)?;
-    let labels = labels(alloc, nodes, edges, &order)?;
+    let chains = edge_chains(alloc, nodes, edges)?;
+    let order = postorder(alloc, nodes, edges, &chains)?;
+    let labels = labels(alloc, nodes, edges, &chains, &order)?;
     let found = numbered(alloc, &labels, &order)?;
     Ok(found)
 }
@@ -42,9 +43,11 @@ fn labels(
     alloc: Global,
     nodes: usize,
     edges: &[Edge],
+    chains: &EdgeChains,
     order: &[usize],
 ) -> Result<Vec<usize>, AllocError>
     requires edges { AreWithin edges.now nodes }
+    requires chains { AreChains 0 nodes edges.now chains.now.first.items chains.now.next.items }
     requires order { All (λ n. n < nodes) order.now }
     ensures count { IfOk result (λ labels. length labels.items ≡ nodes) }
     ensures within { IfOk result (λ labels. All (λ n. n < nodes) labels.items) }
@@ -52,8 +55,9 @@ fn labels(
 {
     let back = reversed(alloc, edges)?;
     let all = vec![in alloc; 0; nodes]?;
-    let behind = owners(alloc, &back, &all, order)?;
-    let before = owners(alloc, edges, &behind, order)?;
+    let back_chains = edge_chains(alloc, nodes, &back)?;
+    let behind = owners(alloc, &back, &back_chains, &all, order)?;
+    let before = owners(alloc, edges, chains, &behind, order)?;
     let labels = agreed(alloc, &before, &behind)?;
     Ok(labels)
 }
@@ -63,16 +67,17 @@ fn labels(
 fn owners(
     alloc: Global,
     edges: &[Edge],
+    chains: &EdgeChains,
     classes: &[usize],
     roots: &[usize],
 ) -> Result<Vec<usize>, AllocError>
     requires edges { AreWithin edges.now (length classes.now) }
+    requires chains { AreChains 0 (length classes.now) edges.now chains.now.first.items chains.now.next.items }
     requires roots { All (λ n. n < length classes.now) roots.now }
     ensures count { IfOk result (λ owners. length owners.items ≡ length classes.now) }
     ensures within { IfOk result (λ owners. All (λ n. n < length classes.now) owners.items) }
     ensures led { IfOk result (λ owners. (n : ℕ) → n < length classes.now → Leads edges.now (slice_index owners.items n) n) }
 {
-    let chains = edge_chains(alloc, classes.len(), edges)?;
     let mut spread = Spread {
         reached: vec![in alloc; false; classes.len()]?,
         owners: every_node(alloc, classes.len())?,
@@ -81,7 +86,7 @@ fn owners(
     let mut left = roots.len();
     while left > 0 {
         left -= 1;
-        spread.begin(roots[left], edges, &chains, classes)?;
+        spread.begin(roots[left], edges, chains, classes)?;
     }
     Ok(spread.owners)
 }

@@ -5,7 +5,7 @@ ghost use Rattle.bc_flow.specs.Graph.{AreWithin};
 ghost use Rattle.bc_flow.specs.Flow.{HaveSize};
 ghost use Rattle.bc_groups.specs.Groups.{group_edge, AreGathered};
 
-use bc_flow::{BitSet, Edge, empty_table};
+use bc_flow::{BitTable, Edge};
 use std::alloc::{AllocError, Global};
 
 /// Each edge between nodes as one between their groups, in the same order.
@@ -30,21 +30,21 @@ pub fn group_edges(
 /// For each group the set of all facts of its nodes.
 pub fn gathered(
     alloc: Global,
-    rows: &[BitSet],
+    rows: &BitTable,
     facts: usize,
     group_of: &[usize],
     groups: usize,
-) -> Result<Vec<BitSet>, AllocError>
+) -> Result<BitTable, AllocError>
     requires facts { HaveSize facts rows.now }
     requires nodes { length group_of.now ≡ length rows.now }
     requires groups { All (λ g. g < groups) group_of.now }
-    ensures groups { IfOk result (λ gathered. length gathered.items ≡ groups) }
-    ensures facts { IfOk result (λ gathered. HaveSize facts gathered.items) }
-    ensures gathered { IfOk result (λ gathered. AreGathered (length rows.now) rows.now group_of.now gathered.items) }
+    ensures groups { IfOk result (λ gathered. length gathered ≡ groups) }
+    ensures facts { IfOk result (λ gathered. HaveSize facts gathered) }
+    ensures gathered { IfOk result (λ gathered. AreGathered (length rows.now) rows.now group_of.now gathered) }
 {
-    let mut gathered = empty_table(alloc, groups, facts)?;
+    let mut gathered = BitTable::new(alloc, groups, facts)?;
     for node in 0..rows.len() {
-        let _grown = gathered[group_of[node]].union(&rows[node]);
+        gathered.union_row(group_of[node], &rows.row(node));
     }
     Ok(gathered)
 }

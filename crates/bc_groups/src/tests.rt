@@ -1,5 +1,5 @@
 use crate::{gathered, group_edges, strong_components};
-use bc_flow::{Edge, Entry, holds, table};
+use bc_flow::{Edge, Entry, table};
 use std::test::Fail;
 
 #[test]
@@ -34,7 +34,7 @@ fn groups_have_the_edges_and_facts_of_their_nodes(rt: HostRuntime) -> Result<(),
         &[Entry { node: 0, fact: 0 }, Entry { node: 1, fact: 2 }],
     )?;
     let joined = gathered(alloc, &rows, 3, &[1, 1, 0], 2)?;
-    assert!(rt; holds(&joined, 1, 0) && holds(&joined, 1, 2));
-    assert!(rt; !holds(&joined, 1, 1) && !holds(&joined, 0, 0));
+    assert!(rt; joined.holds(1, 0) && joined.holds(1, 2));
+    assert!(rt; !joined.holds(1, 1) && !joined.holds(0, 0));
     Ok(())
 }

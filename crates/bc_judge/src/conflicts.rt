@@ -9,10 +9,10 @@ ghost use Rattle.bc_judge.specs.Conflicts.{is_conflict as conflict_test, point_o
 
 use crate::error::BorrowError;
 use crate::relevance::is_conflict;
-use bc_flow::BitSet;
+use bc_flow::{BitRow, BitTable};
 use bc_loans::loans;
 use bc_mir::{Point, Step, Typed};
-use bc_points::{Access, Loan, accesses};
+use bc_points::{Access, Loan, push_accesses};
 use std::alloc::{AllocError, Global};
 
 /// A point, by its number, as it is printed. For a number that is no point's the answer is of no use.
@@ -53,7 +53,7 @@ fn push_access(
     errors: &mut Vec<BorrowError>,
     typed: &Typed,
     loans: &[(usize, Loan)],
-    scope: &BitSet,
+    scope: &BitRow<'_>,
     at: Point,
     number: usize,
     access: &Access,
@@ -74,11 +74,11 @@ fn push_access(
 }
 
 /// Appends the conflicts of the accesses of a point.
-fn push_accesses(
+fn push_conflicts(
     errors: &mut Vec<BorrowError>,
     typed: &Typed,
     loans: &[(usize, Loan)],
-    scope: &BitSet,
+    scope: &BitRow<'_>,
     at: Point,
     accesses: &[Access],
 ) -> Result<(), AllocError>
@@ -92,13 +92,15 @@ fn push_accesses(
     Ok(())
 }
 
-/// Appends the conflicts of a point with the loans of `scope`, which are in scope on entry to it.
+/// Appends the conflicts of a point with the loans of `scope`, which are in scope on entry to it. `accesses` is a list to be
+/// filled anew.
 fn push_step(
     alloc: Global,
     errors: &mut Vec<BorrowError>,
+    accesses: &mut Vec<Access>,
     typed: &Typed,
     loans: &[(usize, Loan)],
-    scope: &BitSet,
+    scope: &BitRow<'_>,
     step: &Step,
 ) -> Result<(), AllocError>
     requires { loans.now ≡ loans_of typed.now }
@@ -107,17 +109,19 @@ fn push_step(
     if scope.next_member(0).is_none() {
         return Ok(());
     }
-    let accesses = accesses(alloc, typed, &step.instruction)?;
-    push_accesses(errors, typed, loans, scope, step.point, &accesses)
+    accesses.clear();
+    push_accesses(alloc, accesses, typed, &step.instruction)?;
+    push_conflicts(errors, typed, loans, scope, step.point, accesses)
 }
 
 /// Appends the conflicts of a point, by its number.
 fn push_point(
     alloc: Global,
     errors: &mut Vec<BorrowError>,
+    accesses: &mut Vec<Access>,
     typed: &Typed,
     loans: &[(usize, Loan)],
-    scopes: &[BitSet],
+    scopes: &BitTable,
     point: usize,
     step: &Step,
 ) -> Result<(), AllocError>
@@ -125,7 +129,7 @@ fn push_point(
     ensures { OnOk result (errors.new.items ≡ errors.old.items ++ conflicts_of_step typed.now (holds scopes.now) (point, step.now)) }
 {
     match scopes.get(point) {
-        Some(scope) => push_step(alloc, errors, typed, loans, scope, step),
+        Some(scope) => push_step(alloc, errors, accesses, typed, loans, &scope, step),
         None => Ok(()),
     }
 }
@@ -134,14 +138,24 @@ fn push_point(
 pub(crate) fn conflicts(
     alloc: Global,
     typed: &Typed,
-    scopes: &[BitSet],
+    scopes: &BitTable,
 ) -> Result<Vec<BorrowError>, AllocError>
     ensures { IfOk result (λ errors. errors.items ≡ conflicts_of typed.now (holds scopes.now)) }
 {
     let loans = loans(alloc, typed)?;
     let mut errors = Vec::new(alloc);
+    let mut accesses = Vec::new(alloc);
     for (point, step) in typed.steps().iter().enumerate() {
-        push_point(alloc, &mut errors, typed, &loans, scopes, point, step)?;
+        push_point(
+            alloc,
+            &mut errors,
+            &mut accesses,
+            typed,
+            &loans,
+            scopes,
+            point,
+            step,
+        )?;
     }
     Ok(errors)
 }

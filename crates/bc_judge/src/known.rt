@@ -5,7 +5,7 @@ ghost use Rattle.bc_flow.specs.Flow.{holds, HaveSize};
 ghost use Rattle.bc_judge.specs.Lifetimes.{TellsKnown};
 ghost use Rattle.bc_judge.specs.Known.{edge_of, entries_of};
 
-use bc_flow::{BitSet, Edge, Entry, every_node, flow, holds, table};
+use bc_flow::{BitTable, Edge, Entry, every_node, flow, table};
 use bc_mir::Typed;
 use bc_syntax::Outlives;
 use std::alloc::{AllocError, Global};
@@ -15,7 +15,7 @@ use std::marker::Model;
 /// (RFC 2094, "Named lifetimes".)
 #[derive(Drop)]
 pub struct KnownRelations {
-    rows: Vec<BitSet>,
+    rows: BitTable,
 }
 
 impl Model for KnownRelations {
@@ -23,7 +23,7 @@ impl Model for KnownRelations {
 
     ghost Value = { List (List Bool) };
 
-    ghost view = { λ known. known.rows.items };
+    ghost view = { λ known. known.rows };
 }
 
 impl KnownRelations {
@@ -32,7 +32,7 @@ impl KnownRelations {
     pub fn contains(&self, longer: usize, shorter: usize) -> bool
         ensures { result ≡ holds self.now longer shorter }
     {
-        holds(&self.rows, longer, shorter)
+        self.rows.holds(longer, shorter)
     }
 }
 
@@ -88,6 +88,7 @@ pub fn known_relations(alloc: Global, typed: &Typed) -> Result<KnownRelations, A
     let entries = first_entries(alloc, universals)?;
     let seeds = table(alloc, universals, universals, &entries)?;
     let pending = every_node(alloc, universals)?;
-    let rows = flow(alloc, &edges, seeds, &[], pending)?;
+    let no_kills = BitTable::new(alloc, 0, 0)?;
+    let rows = flow(alloc, &edges, seeds, &no_kills, pending)?;
     Ok(KnownRelations { rows })
 }

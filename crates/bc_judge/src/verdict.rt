@@ -11,7 +11,7 @@ use crate::error::BorrowError;
 use crate::known::{KnownRelations, known_relations};
 use crate::lifetimes::push_lifetimes;
 use bc_cons::Requirements;
-use bc_flow::BitSet;
+use bc_flow::BitTable;
 use bc_mir::Typed;
 use bc_solve::Values;
 use bc_syntax::Sequence;
@@ -31,7 +31,7 @@ fn errors_where(
     alloc: Global,
     typed: &Typed,
     values: &Values,
-    scopes: &[BitSet],
+    scopes: &BitTable,
     known: &KnownRelations,
 ) -> Result<Vec<BorrowError>, AllocError>
     ensures { IfOk result (λ errors. errors.items ≡ errors_of typed.now (holds scopes.now) (holds values.now) (holds known.now)) }
@@ -50,7 +50,7 @@ pub fn errors(
     alloc: Global,
     typed: &Typed,
     values: &Values,
-    scopes: &[BitSet],
+    scopes: &BitTable,
 ) -> Result<Verdict, AllocError>
     ensures errors { IfOk result (λ verdict. AreErrors typed.now (holds scopes.now) (holds values.now) verdict.errors) }
     ensures law { IfOk result (λ verdict. (e : AnError) → Contains verdict.errors e ↔ IsError typed.now (holds scopes.now) (holds values.now) e) }

@@ -4,7 +4,7 @@ ghost use Rattle.bc_live.specs.Entries.{entries_at, listed, use_entries as uses_
 
 use bc_flow::Entry;
 use bc_mir::Typed;
-use bc_points::{defines, uses};
+use bc_points::{defines, push_uses};
 use std::alloc::{AllocError, Global};
 
 /// Appends an entry for each local.
@@ -41,8 +41,10 @@ pub fn use_entries(alloc: Global, typed: &Typed) -> Result<Vec<Entry>, AllocErro
     ensures { IfOk result (λ entries. entries.items ≡ uses_of_points typed.now) }
 {
     let mut entries = Vec::new(alloc);
+    let mut locals = Vec::new(alloc);
     for (point, step) in typed.steps().iter().enumerate() {
-        let locals = uses(alloc, typed, &step.instruction)?;
+        locals.clear();
+        push_uses(alloc, &mut locals, typed, &step.instruction)?;
         push_entries(&mut entries, point, &locals)?;
     }
     Ok(entries)

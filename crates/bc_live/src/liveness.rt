@@ -4,7 +4,7 @@ ghost use Rattle.bc_flow.specs.Flow.{holds, HaveSize};
 ghost use Rattle.bc_live.specs.Live.{IsLive};
 
 use crate::entries::{definition_entries, use_entries};
-use bc_flow::{BitSet, every_node_back, flow, holds, reversed, table, transposed};
+use bc_flow::{BitTable, every_node_back, flow, reversed, table, transposed};
 use bc_mir::Typed;
 use std::alloc::{AllocError, Global};
 use std::marker::Model;
@@ -13,7 +13,7 @@ use std::marker::Model;
 /// (RFC 2094, "Liveness".)
 #[derive(Drop)]
 pub struct LiveSets {
-    rows: Vec<BitSet>,
+    rows: BitTable,
 }
 
 impl Model for LiveSets {
@@ -21,7 +21,7 @@ impl Model for LiveSets {
 
     ghost Value = { List (List Bool) };
 
-    ghost view = { λ sets. sets.rows.items };
+    ghost view = { λ sets. sets.rows };
 }
 
 impl LiveSets {
@@ -30,11 +30,11 @@ impl LiveSets {
     pub fn live(&self, local: usize, point: usize) -> bool
         ensures { result ≡ holds self.now local point }
     {
-        holds(&self.rows, local, point)
+        self.rows.holds(local, point)
     }
 
     /// The points on whose entry each local is live: one set for each local, in order. (Own.)
-    pub fn rows(&self) -> &[BitSet]
+    pub fn rows(&self) -> &BitTable
         ensures { result.now ≡ self.now }
     {
         &self.rows

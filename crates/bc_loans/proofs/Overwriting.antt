@@ -108,9 +108,8 @@ no_row loans by_local place local at past are old l =
 
 -- ---- all points
 
-pub at_point : (loans : List (ℕ × Loan)) (steps : List Step) (p : ℕ) (step : Step) (new : List Bool) → slice_get steps p ≡ Some step → ((l : ℕ) → has new l ≡ is_overwritten loans step.instruction l) →
-    (l : ℕ) → has new l ≡ is_overwritten_at loans steps p l
-at_point loans steps p step new is members l = members l ∙ rw is refl
+pub at_point : (loans : List (ℕ × Loan)) (steps : List Step) (p : ℕ) (step : Step) → slice_get steps p ≡ Some step → (l : ℕ) → is_overwritten loans step.instruction l ≡ is_overwritten_at loans steps p l
+at_point loans steps p step is l = rw is refl
 
 -- past the last point nothing is overwritten
 pub every_point : (loans : List (ℕ × Loan)) (steps : List Step) (rows : List (List Bool)) → length rows ≡ length steps →

@@ -1,8 +1,8 @@
 -- The loans that flow along the edges are those with a path.
-use Rattle.std.proofs.Common.{◌≡◌, ℕ, ◌<◌, ◌≤◌, inl, inr, ◌↔◌, Bool, true, false, not, ◌||◌, ◌&&◌, List, [], ◌∷◌, ◌++◌, length, refl, sym, ap, ◌∙◌, subst, Some, get_or, arith}
+use Rattle.std.proofs.Common.{◌≡◌, ℕ, ◌<◌, ◌≤◌, inl, inr, ◌↔◌, Bool, true, false, not, ◌||◌, List, [], ◌∷◌, ◌++◌, length, refl, sym, ap, ◌∙◌, subst, Some, get_or, arith}
 use Rattle.std.specs.Prelude.{slice_get}
 use Rattle.std.specs.List.{All}
-use Rattle.std.proofs.lemmas.Bool.{false_from_ne_true, both_ways, or_parts, and_parts, and_from, not-true, not-false, not_from_false, cases_lt, lt-ltb}
+use Rattle.std.proofs.lemmas.Bool.{false_from_ne_true, both_ways, or_parts, not-false, cases_lt, lt-ltb}
 use Rattle.std.proofs.lemmas.List.{get_or_past}
 use Rattle.std.proofs.lemmas.List.Elements.{All-nil, All-cons, All-head, All-tail, All-push}
 use Rattle.std.proofs.lemmas.Option.{slice_get_within, slice_get-get_or}
@@ -30,21 +30,20 @@ abbrev Inside : Mir → (ℕ → ℕ → Bool) → ℕ × Loan → ℕ → Type 
 Inside mir value made p = value (region_number mir.universals made.1.region) p ≡ true
 
 -- what the sets of the search say of one loan
-pub record AreSets (mir : Mir) (value : ℕ → ℕ → Bool) (l : ℕ) (made : ℕ × Loan) (outside makers over seeds kills : List (List Bool)) : Type 0 where
-  pub makers_are : (p : ℕ) → (holds makers p l ≡ true) ↔ (made.0 ≡ p)
+pub record AreSets (mir : Mir) (value : ℕ → ℕ → Bool) (l : ℕ) (made : ℕ × Loan) (outside over seeds kills : List (List Bool)) : Type 0 where
   pub over_are : (p : ℕ) → (holds over p l ≡ true) ↔ Kills mir made.1.path p
   pub outside_are : (p : ℕ) → p < length mir.steps → holds outside p l ≡ not (value (region_number mir.universals made.1.region) p)
-  pub seeds_are : (p : ℕ) → holds seeds p l ≡ (holds makers p l && not (holds over p l))
+  pub seeds_are : (p : ℕ) → (holds seeds p l ≡ true) ↔ ((made.0 ≡ p) × (holds over p l ≡ false))
   pub kills_are : (p : ℕ) → holds kills p l ≡ (holds over p l || holds outside p l)
 
-inside_from : (mir : Mir) (value : ℕ → ℕ → Bool) (l : ℕ) (made : ℕ × Loan) (outside makers over seeds kills : List (List Bool)) → AreSets mir value l made outside makers over seeds kills →
+inside_from : (mir : Mir) (value : ℕ → ℕ → Bool) (l : ℕ) (made : ℕ × Loan) (outside over seeds kills : List (List Bool)) → AreSets mir value l made outside over seeds kills →
     (p : ℕ) → p < length mir.steps → holds outside p l ≡ false → Inside mir value made p
-inside_from mir value l made outside makers over seeds kills sets p below h =
+inside_from mir value l made outside over seeds kills sets p below h =
     not-false (value (region_number mir.universals made.1.region) p) (sym (sets.outside_are p below) ∙ h)
 
-outside_from : (mir : Mir) (value : ℕ → ℕ → Bool) (l : ℕ) (made : ℕ × Loan) (outside makers over seeds kills : List (List Bool)) → AreSets mir value l made outside makers over seeds kills →
+outside_from : (mir : Mir) (value : ℕ → ℕ → Bool) (l : ℕ) (made : ℕ × Loan) (outside over seeds kills : List (List Bool)) → AreSets mir value l made outside over seeds kills →
     (p : ℕ) → p < length mir.steps → Inside mir value made p → holds outside p l ≡ false
-outside_from mir value l made outside makers over seeds kills sets p below h = sets.outside_are p below ∙ rw h refl
+outside_from mir value l made outside over seeds kills sets p below h = sets.outside_are p below ∙ rw h refl
 
 -- the loan may still be used after the point
 record Leaves (mir : Mir) (value : ℕ → ℕ → Bool) (made : ℕ × Loan) (point : ℕ) : Type 0 where
@@ -57,60 +56,60 @@ record Leaves (mir : Mir) (value : ℕ → ℕ → Bool) (made : ℕ × Loan) (p
 edge_within : (edges : List Edge) (nodes m n : ℕ) → AreWithin edges nodes → HasEdge edges m n → n < nodes
 edge_within edges nodes m n within (k, h, e) = let t = (within k (record { from = m; to = n }) h).1 in subst (λ (x : Edge). x.to < nodes) e t
 
-leaves_from_flow : (mir : Mir) (value : ℕ → ℕ → Bool) (l : ℕ) (made : ℕ × Loan) (outside makers over seeds kills : List (List Bool)) → AreSets mir value l made outside makers over seeds kills →
+leaves_from_flow : (mir : Mir) (value : ℕ → ℕ → Bool) (l : ℕ) (made : ℕ × Loan) (outside over seeds kills : List (List Bool)) → AreSets mir value l made outside over seeds kills →
     AreWithin (edges_of mir) (length mir.steps) → (p : ℕ) → Flows (edges_of mir) seeds kills l p → Leaves mir value made p
-leaves_from_flow mir value l made outside makers over seeds kills sets within p (begins n h) =
-    let parts = and_parts (holds makers n l) (not (holds over n l)) (sym (sets.seeds_are n) ∙ h) in
-    let at : made.0 ≡ n = (sets.makers_are n).0 parts.0 in
+leaves_from_flow mir value l made outside over seeds kills sets within p (begins n h) =
+    let parts = (sets.seeds_are n).0 h in
+    let at : made.0 ≡ n = parts.0 in
     record {
       steps = [];
       is_path = tt;
       ends = end_of-nil made.0 ∙ at;
       inside = All-nil (Inside mir value made);
-      kept = All-cons (λ q. ¬ (Kills mir made.1.path q)) made.0 [] (λ o. both_ways (holds over n l) (not-true (holds over n l) parts.1) ((sets.over_are n).1 (subst (Kills mir made.1.path) at o))) (All-nil (λ q. ¬ (Kills mir made.1.path q)));
+      kept = All-cons (λ q. ¬ (Kills mir made.1.path q)) made.0 [] (λ o. both_ways (holds over n l) parts.1 ((sets.over_are n).1 (subst (Kills mir made.1.path) at o))) (All-nil (λ q. ¬ (Kills mir made.1.path q)));
     }
-leaves_from_flow mir value l made outside makers over seeds kills sets within p (goes_on m n before edge alive) =
-    let rest = leaves_from_flow mir value l made outside makers over seeds kills sets within m before in
+leaves_from_flow mir value l made outside over seeds kills sets within p (goes_on m n before edge alive) =
+    let rest = leaves_from_flow mir value l made outside over seeds kills sets within m before in
     let parts = or_parts (holds over n l) (holds outside n l) (sym (sets.kills_are n) ∙ alive) in
     record {
       steps = rest.steps ++ n ∷ [];
       is_path = path_after (edges_of mir) made.0 rest.steps n rest.is_path (rw rest.ends edge);
       ends = end_of-after made.0 rest.steps n;
-      inside = All-push (Inside mir value made) rest.steps n rest.inside (inside_from mir value l made outside makers over seeds kills sets n (edge_within (edges_of mir) (length mir.steps) m n within edge) parts.1);
+      inside = All-push (Inside mir value made) rest.steps n rest.inside (inside_from mir value l made outside over seeds kills sets n (edge_within (edges_of mir) (length mir.steps) m n within edge) parts.1);
       kept = All-push (λ q. ¬ (Kills mir made.1.path q)) (made.0 ∷ rest.steps) n rest.kept (λ o. both_ways (holds over n l) parts.0 ((sets.over_are n).1 o));
     }
 
-enters_from_path : (mir : Mir) (value : ℕ → ℕ → Bool) (l : ℕ) (made : ℕ × Loan) (outside makers over seeds kills exits : List (List Bool)) → AreSets mir value l made outside makers over seeds kills →
+enters_from_path : (mir : Mir) (value : ℕ → ℕ → Bool) (l : ℕ) (made : ℕ × Loan) (outside over seeds kills exits : List (List Bool)) → AreSets mir value l made outside over seeds kills →
     AreWithin (edges_of mir) (length mir.steps) → IsFlow (edges_of mir) seeds kills exits →
     (a : ℕ) (between : List ℕ) (q : ℕ) → holds exits a l ≡ true → IsPath (edges_of mir) (a ∷ (between ++ q ∷ [])) →
     All (Inside mir value made) (between ++ q ∷ []) → All (λ p. ¬ (Kills mir made.1.path p)) between → Enters (edges_of mir) exits outside l q
-enters_from_path mir value l made outside makers over seeds kills exits sets within flow a [] q leaves path inside kept = record {
+enters_from_path mir value l made outside over seeds kills exits sets within flow a [] q leaves path inside kept = record {
   before = a;
   leaves = leaves;
   edge = path.0;
-  inside = outside_from mir value l made outside makers over seeds kills sets q (edge_within (edges_of mir) (length mir.steps) a q within path.0) (All-head (Inside mir value made) q [] inside);
+  inside = outside_from mir value l made outside over seeds kills sets q (edge_within (edges_of mir) (length mir.steps) a q within path.0) (All-head (Inside mir value made) q [] inside);
 }
-enters_from_path mir value l made outside makers over seeds kills exits sets within flow a (b ∷ rest) q leaves path inside kept =
+enters_from_path mir value l made outside over seeds kills exits sets within flow a (b ∷ rest) q leaves path inside kept =
     let not_over : holds over b l ≡ false = false_from_ne_true (holds over b l) (λ o. All-head (λ p. ¬ (Kills mir made.1.path p)) b rest kept ((sets.over_are b).0 o)) in
     let not_outside : holds outside b l ≡ false =
-    outside_from mir value l made outside makers over seeds kills sets b (edge_within (edges_of mir) (length mir.steps) a b within path.0) (All-head (Inside mir value made) b (rest ++ q ∷ []) inside) in
-    enters_from_path mir value l made outside makers over seeds kills exits sets within flow b rest q
+    outside_from mir value l made outside over seeds kills sets b (edge_within (edges_of mir) (length mir.steps) a b within path.0) (All-head (Inside mir value made) b (rest ++ q ∷ []) inside) in
+    enters_from_path mir value l made outside over seeds kills exits sets within flow b rest q
     (flow.goes_on a b l leaves path.0 (sets.kills_are b ∙ rw (not_over, not_outside) refl)) path.1
     (All-tail (Inside mir value made) b (rest ++ q ∷ []) inside) (All-tail (λ p. ¬ (Kills mir made.1.path p)) b rest kept)
 
 entered_is_scope : (mir : Mir) (value : ℕ → ℕ → Bool) (l : ℕ) (made : ℕ × Loan) → slice_get (loans_of mir) l ≡ Some made →
-    (outside makers over seeds kills exits : List (List Bool)) → AreSets mir value l made outside makers over seeds kills →
+    (outside over seeds kills exits : List (List Bool)) → AreSets mir value l made outside over seeds kills →
     AreWithin (edges_of mir) (length mir.steps) → IsFlow (edges_of mir) seeds kills exits → (p : ℕ) → Enters (edges_of mir) exits outside l p ↔ IsInScope mir value l p
-entered_is_scope mir value l made is outside makers over seeds kills exits sets within flow p = (
+entered_is_scope mir value l made is outside over seeds kills exits sets within flow p = (
   λ h.
-      let way = leaves_from_flow mir value l made outside makers over seeds kills sets within h.before (flow.least h.before l h.leaves) in
+      let way = leaves_from_flow mir value l made outside over seeds kills sets within h.before (flow.least h.before l h.leaves) in
       record {
         made = made;
         is_loan = is;
         between = way.steps;
         is_path = path_after (edges_of mir) made.0 way.steps p way.is_path (rw way.ends h.edge);
         inside = All-push (Inside mir value made) way.steps p way.inside
-            (inside_from mir value l made outside makers over seeds kills sets p (edge_within (edges_of mir) (length mir.steps) h.before p within h.edge) h.inside);
+            (inside_from mir value l made outside over seeds kills sets p (edge_within (edges_of mir) (length mir.steps) h.before p within h.edge) h.inside);
         kept = way.kept;
       },
   λ h.
@@ -120,9 +119,8 @@ entered_is_scope mir value l made is outside makers over seeds kills exits sets 
       let kept : All (λ q. ¬ (Kills mir made.1.path q)) (made.0 ∷ h.between) = subst (λ (m : ℕ × Loan). All (λ q. ¬ (Kills mir m.1.path q)) (m.0 ∷ h.between)) same h.kept in
       let first : holds over made.0 l ≡ false =
       false_from_ne_true (holds over made.0 l) (λ o. All-head (λ q. ¬ (Kills mir made.1.path q)) made.0 h.between kept ((sets.over_are made.0).0 o)) in
-      let seed : holds seeds made.0 l ≡ true =
-      sets.seeds_are made.0 ∙ and_from (holds makers made.0 l) (not (holds over made.0 l)) ((sets.makers_are made.0).1 refl) (not_from_false (holds over made.0 l) first) in
-      enters_from_path mir value l made outside makers over seeds kills exits sets within flow made.0 h.between p (flow.begins made.0 l seed) path inside
+      let seed : holds seeds made.0 l ≡ true = (sets.seeds_are made.0).1 (refl, first) in
+      enters_from_path mir value l made outside over seeds kills exits sets within flow made.0 h.between p (flow.begins made.0 l seed) path inside
       (All-tail (λ q. ¬ (Kills mir made.1.path q)) made.0 h.between kept),
 )
 
@@ -152,13 +150,12 @@ scopes_are mir value over outside exits rows e over_are outside_are within sizes
   | inl below ↦
       let none_made : ℕ × Loan = get_or (loans_of mir) l (0, record { region = Universal 0; mutability = Shared; path = record { local = 0; projections = [] } }) in
       let is = slice_get-get_or (loans_of mir) l (0, record { region = Universal 0; mutability = Shared; path = record { local = 0; projections = [] } }) below in
-      let sets : AreSets mir value l none_made outside e.makers over e.seeds e.kills = record {
-        makers_are = λ q. let a = e.makers_are q l in let b = made_is_listed (loans_of mir) l none_made is q in (λ h. b.0 (a.0 h), λ h. a.1 (b.1 h));
+      let sets : AreSets mir value l none_made outside over e.seeds e.kills = record {
         over_are = λ q. let a = over_are q l in let b = overwritten_is_kills mir (loans_of mir) l none_made is q in (λ h. b.0 (sym a ∙ h), λ h. a ∙ b.1 h);
         outside_are = λ q small. outside_are q l small below ∙ ap not (inside_is mir value (length mir.steps) l none_made is q small);
-        seeds_are = λ q. e.seeds_are q l;
+        seeds_are = λ q. let a = e.seeds_are q l in let b = made_is_listed (loans_of mir) l none_made is q in (λ h. let t = a.0 h in (b.0 t.0, t.1), λ t. a.1 (b.1 t.0, t.1));
         kills_are = λ q. e.kills_are q l;
       } in
-      let way = entered_is_scope mir value l none_made is outside e.makers over e.seeds e.kills exits sets within e.flow p in
+      let way = entered_is_scope mir value l none_made is outside over e.seeds e.kills exits sets within e.flow p in
       (λ h. way.0 ((entered l p).0 h), λ h. (entered l p).1 (way.1 h))
 ]

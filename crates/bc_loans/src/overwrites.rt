@@ -2,12 +2,12 @@
 ghost use Rattle.std.specs.Prelude.{◌≡◌, ◌<◌, ◌||◌, ◌&&◌, ℕ, length, IfOk};
 ghost use Rattle.std.specs.List.{All};
 ghost use Rattle.bc_flow.specs.BitSet.{has};
-ghost use Rattle.bc_flow.specs.Flow.{holds, HaveSize};
+ghost use Rattle.bc_flow.specs.Flow.{row, holds, HaveSize, AreAdded};
 ghost use Rattle.bc_points.specs.declared.loan.Loan.{Loan as LoanValue};
 ghost use Rattle.bc_loans.specs.Overwrites.{begins_with, has_prefix, is_overwritten, is_overwritten_at};
 
 use crate::entries::local_entries;
-use bc_flow::{BitSet, table};
+use bc_flow::{BitRow, BitTable, table};
 use bc_mir::{Instruction, Step};
 use bc_points::{Loan, is_prefix};
 use bc_syntax::{Place, Statement, Terminator};
@@ -25,93 +25,103 @@ fn locals_bound(loans: &[(usize, Loan)]) -> usize
 }
 
 /// For each local up to the greatest that has any, the loans whose paths begin with it.
-fn loans_by_local(alloc: Global, loans: &[(usize, Loan)]) -> Result<Vec<BitSet>, AllocError>
-    ensures sizes { IfOk result (λ rows. HaveSize (length loans.now) rows.items) }
-    ensures loans { IfOk result (λ rows. (k l : ℕ) → holds rows.items k l ≡ begins_with loans.now k l) }
+fn loans_by_local(alloc: Global, loans: &[(usize, Loan)]) -> Result<BitTable, AllocError>
+    ensures sizes { IfOk result (λ rows. HaveSize (length loans.now) rows) }
+    ensures loans { IfOk result (λ rows. (k l : ℕ) → holds rows k l ≡ begins_with loans.now k l) }
 {
     let entries = local_entries(alloc, loans)?;
     let rows = table(alloc, locals_bound(loans), loans.len(), &entries)?;
     Ok(rows)
 }
 
-/// Adds the loans whose paths begin with a local.
-fn add_loans_of(row: &mut BitSet, by_local: &[BitSet], local: usize)
-    requires { HaveSize (length row.old) by_local.now }
-    ensures size { length row.new ≡ length row.old }
-    ensures members { (l : ℕ) → has row.new l ≡ (has row.old l || holds by_local.now local l) }
+/// Adds to a point's row the loans whose paths begin with a local.
+fn add_loans_of(rows: &mut BitTable, point: usize, by_local: &BitTable, local: usize)
+    requires point { point < length rows.old }
+    requires sizes { HaveSize (length (row rows.old point)) by_local.now }
+    ensures { AreAdded rows.old rows.new point (holds by_local.now local) }
 {
     match by_local.get(local) {
-        Some(loans) => {
-            let _grown = row.union(loans);
-        }
+        Some(loans) => rows.union_row(point, &loans),
         None => {}
     }
 }
 
-/// Adds those of some loans whose paths have a prefix.
-fn add_prefixed(row: &mut BitSet, loans: &[(usize, Loan)], some: &BitSet, prefix: &Place)
-    requires row { length row.old ≡ length loans.now }
+/// Adds to a point's row those of some loans whose paths have a prefix.
+fn add_prefixed(
+    rows: &mut BitTable,
+    point: usize,
+    loans: &[(usize, Loan)],
+    some: &BitRow<'_>,
+    prefix: &Place,
+)
+    requires point { point < length rows.old }
+    requires row { length (row rows.old point) ≡ length loans.now }
     requires some { length some.now ≡ length loans.now }
-    ensures size { length row.new ≡ length row.old }
-    ensures members { (l : ℕ) → has row.new l ≡ (has row.old l || (has some.now l && has_prefix loans.now prefix.now l)) }
+    ensures { AreAdded rows.old rows.new point (λ l. has some.now l && has_prefix loans.now prefix.now l) }
 {
     let mut from = 0;
     while let Some(number) = some.next_member(from) {
         if is_prefix(prefix, &loans[number].1.path) {
-            let _added = row.insert(number);
+            let _added = rows.insert(point, number);
         }
         from = number + 1;
     }
 }
 
-/// Adds the loans whose paths have a place as a prefix.
-fn add_overwritten(row: &mut BitSet, loans: &[(usize, Loan)], by_local: &[BitSet], place: &Place)
-    requires row { length row.old ≡ length loans.now }
+/// Adds to a point's row the loans whose paths have a place as a prefix.
+fn add_overwritten(
+    rows: &mut BitTable,
+    point: usize,
+    loans: &[(usize, Loan)],
+    by_local: &BitTable,
+    place: &Place,
+)
+    requires point { point < length rows.old }
+    requires row { length (row rows.old point) ≡ length loans.now }
     requires sizes { HaveSize (length loans.now) by_local.now }
     requires loans { (k l : ℕ) → holds by_local.now k l ≡ begins_with loans.now k l }
-    ensures size { length row.new ≡ length row.old }
-    ensures members { (l : ℕ) → has row.new l ≡ (has row.old l || has_prefix loans.now place.now l) }
+    ensures { AreAdded rows.old rows.new point (has_prefix loans.now place.now) }
 {
     let local = usize::from(place.local);
     if place.projections.as_slice().is_empty() {
-        add_loans_of(row, by_local, local);
+        add_loans_of(rows, point, by_local, local);
     } else {
         match by_local.get(local) {
-            Some(some) => add_prefixed(row, loans, some, place),
+            Some(some) => add_prefixed(rows, point, loans, &some, place),
             None => {}
         }
     }
 }
 
-/// The loans a prefix of whose path a point overwrites.
-fn overwrite_row(
-    alloc: Global,
+/// Adds to a point's row the loans a prefix of whose path its instruction overwrites.
+fn add_overwrites(
+    rows: &mut BitTable,
+    point: usize,
     loans: &[(usize, Loan)],
-    by_local: &[BitSet],
+    by_local: &BitTable,
     instruction: &Instruction,
-) -> Result<BitSet, AllocError>
+)
+    requires point { point < length rows.old }
+    requires row { length (row rows.old point) ≡ length loans.now }
     requires sizes { HaveSize (length loans.now) by_local.now }
     requires loans { (k l : ℕ) → holds by_local.now k l ≡ begins_with loans.now k l }
-    ensures size { IfOk result (λ row. length row ≡ length loans.now) }
-    ensures members { IfOk result (λ row. (l : ℕ) → has row l ≡ is_overwritten loans.now instruction.now l) }
+    ensures { AreAdded rows.old rows.new point (is_overwritten loans.now instruction.now) }
 {
-    let mut row = BitSet::new(alloc, loans.len())?;
     match instruction {
         Instruction::Statement(Statement::Assign(assignment)) => {
-            add_overwritten(&mut row, loans, by_local, &assignment.target);
+            add_overwritten(rows, point, loans, by_local, &assignment.target);
         }
         Instruction::Statement(Statement::Dead(local)) => {
-            add_loans_of(&mut row, by_local, usize::from(*local));
+            add_loans_of(rows, point, by_local, usize::from(*local));
         }
         Instruction::Terminator(Terminator::Call(call)) => {
-            add_overwritten(&mut row, loans, by_local, &call.destination);
+            add_overwritten(rows, point, loans, by_local, &call.destination);
         }
         Instruction::Statement(Statement::Drop(_) | Statement::Nop)
         | Instruction::Terminator(
             Terminator::Goto(_) | Terminator::If(_) | Terminator::Return | Terminator::Stop,
         ) => {}
     }
-    Ok(row)
 }
 
 /// For each point the loans a prefix of whose path it overwrites.
@@ -119,15 +129,15 @@ pub(crate) fn overwrite_rows(
     alloc: Global,
     loans: &[(usize, Loan)],
     steps: &[Step],
-) -> Result<Vec<BitSet>, AllocError>
-    ensures points { IfOk result (λ rows. length rows.items ≡ length steps.now) }
-    ensures loans { IfOk result (λ rows. HaveSize (length loans.now) rows.items) }
-    ensures members { IfOk result (λ rows. (p l : ℕ) → holds rows.items p l ≡ is_overwritten_at loans.now steps.now p l) }
+) -> Result<BitTable, AllocError>
+    ensures points { IfOk result (λ rows. length rows ≡ length steps.now) }
+    ensures loans { IfOk result (λ rows. HaveSize (length loans.now) rows) }
+    ensures members { IfOk result (λ rows. (p l : ℕ) → holds rows p l ≡ is_overwritten_at loans.now steps.now p l) }
 {
     let by_local = loans_by_local(alloc, loans)?;
-    let mut rows = Vec::with_capacity(alloc, steps.len())?;
-    for step in steps {
-        rows.push(overwrite_row(alloc, loans, &by_local, &step.instruction)?)?;
+    let mut rows = BitTable::new(alloc, steps.len(), loans.len())?;
+    for (point, step) in steps.iter().enumerate() {
+        add_overwrites(&mut rows, point, loans, &by_local, &step.instruction);
     }
     Ok(rows)
 }

@@ -10,9 +10,7 @@ use crate::entries::made_entries;
 use crate::loan_list::loans;
 use crate::outside::loans_outside;
 use crate::overwrites::overwrite_rows;
-use bc_flow::{
-    BitSet, Edge, Entry, empty_table, every_node, flow, holds, join, join_without, table,
-};
+use bc_flow::{BitTable, Edge, Entry, every_node, flow, table_without};
 use bc_mir::Typed;
 use bc_solve::Values;
 use std::alloc::{AllocError, Global};
@@ -22,7 +20,7 @@ use std::marker::Model;
 /// (RFC 2094, "Borrow checker phase 1".)
 #[derive(Drop)]
 pub struct Scopes {
-    rows: Vec<BitSet>,
+    rows: BitTable,
 }
 
 impl Model for Scopes {
@@ -30,7 +28,7 @@ impl Model for Scopes {
 
     ghost Value = { List (List Bool) };
 
-    ghost view = { λ scopes. scopes.rows.items };
+    ghost view = { λ scopes. scopes.rows };
 }
 
 impl Scopes {
@@ -39,11 +37,11 @@ impl Scopes {
     pub fn on_entry(&self, point: usize, loan: usize) -> bool
         ensures { result ≡ holds self.now point loan }
     {
-        holds(&self.rows, point, loan)
+        self.rows.holds(point, loan)
     }
 
     /// The loans in scope on entry to each point: one set for each point, in order. (Own.)
-    pub fn rows(&self) -> &[BitSet]
+    pub fn rows(&self) -> &BitTable
         ensures { result.now ≡ self.now }
     {
         &self.rows
@@ -58,24 +56,22 @@ fn exit_sets(
     loans: usize,
     edges: &[Edge],
     made: &[Entry],
-    overwrites: Vec<BitSet>,
-    outside: &[BitSet],
-) -> Result<Vec<BitSet>, AllocError>
+    overwrites: BitTable,
+    outside: &BitTable,
+) -> Result<BitTable, AllocError>
     requires edges { AreWithin edges.now points }
     requires made { AreEntriesWithin made.now points loans }
-    requires over_points { length overwrites.items ≡ points }
-    requires over_loans { HaveSize loans overwrites.items }
+    requires over_points { length overwrites ≡ points }
+    requires over_loans { HaveSize loans overwrites }
     requires points { length outside.now ≡ points }
     requires loans { HaveSize loans outside.now }
-    ensures points { IfOk result (λ exits. length exits.items ≡ points) }
-    ensures loans { IfOk result (λ exits. HaveSize loans exits.items) }
-    ensures exits { IfOk result (λ exits. AreExits edges.now made.now overwrites.items outside.now exits.items) }
+    ensures points { IfOk result (λ exits. length exits ≡ points) }
+    ensures loans { IfOk result (λ exits. HaveSize loans exits) }
+    ensures exits { IfOk result (λ exits. AreExits edges.now made.now overwrites outside.now exits) }
 {
+    let seeds = table_without(alloc, points, loans, made, &overwrites)?;
     let mut kills = overwrites;
-    let makers = table(alloc, points, loans, made)?;
-    let mut seeds = empty_table(alloc, points, loans)?;
-    join_without(&mut seeds, &makers, &kills);
-    join(&mut kills, outside);
+    kills.join(outside);
     let pending = every_node(alloc, points)?;
     let exits = flow(alloc, edges, seeds, &kills, pending)?;
     Ok(exits)
@@ -87,21 +83,21 @@ fn entry_sets(
     points: usize,
     loans: usize,
     edges: &[Edge],
-    exits: &[BitSet],
-    outside: &[BitSet],
-) -> Result<Vec<BitSet>, AllocError>
+    exits: &BitTable,
+    outside: &BitTable,
+) -> Result<BitTable, AllocError>
     requires edges { AreWithin edges.now points }
     requires exits { length exits.now ≡ points }
     requires exit_loans { HaveSize loans exits.now }
     requires points { length outside.now ≡ points }
     requires loans { HaveSize loans outside.now }
-    ensures points { IfOk result (λ rows. length rows.items ≡ points) }
-    ensures loans { IfOk result (λ rows. HaveSize loans rows.items) }
-    ensures enters { IfOk result (λ rows. (l p : ℕ) → (holds rows.items p l ≡ true) ↔ Enters edges.now exits.now outside.now l p) }
+    ensures points { IfOk result (λ rows. length rows ≡ points) }
+    ensures loans { IfOk result (λ rows. HaveSize loans rows) }
+    ensures enters { IfOk result (λ rows. (l p : ℕ) → (holds rows p l ≡ true) ↔ Enters edges.now exits.now outside.now l p) }
 {
-    let mut rows = empty_table(alloc, points, loans)?;
+    let mut rows = BitTable::new(alloc, points, loans)?;
     for edge in edges {
-        let _grown = rows[edge.to].union_without(&exits[edge.from], &outside[edge.to]);
+        rows.union_row_without(edge.to, &exits.row(edge.from), &outside.row(edge.to));
     }
     Ok(rows)
 }

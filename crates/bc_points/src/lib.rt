@@ -13,7 +13,7 @@ mod support;
 
 pub use access::{Access, AccessKind, Depth, accesses, push_accesses};
 pub use laws::{prefixes_chain, reborrows_list_taken_references, supporters_are_found};
-pub use liveness::{defines, uses};
+pub use liveness::{defines, push_uses};
 pub use loan::{Loan, loan_of};
 pub use pairs::{push_assignment_pairs, push_call_pairs};
 pub use prefix::{from_last_shared, is_prefix, is_shallow_prefix};

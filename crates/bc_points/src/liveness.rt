@@ -1,5 +1,5 @@
 //! The locals that points use and define (RFC 2094, "Liveness").
-ghost use Rattle.std.specs.Prelude.{◌≡◌, ◌++◌, OnOk, IfOk};
+ghost use Rattle.std.specs.Prelude.{◌≡◌, ◌++◌, OnOk};
 ghost use Rattle.std.specs.List.{flat_map};
 ghost use Rattle.bc_points.specs.Accesses.{operand_uses, rvalue_uses, is_local as local_test, target_uses, target_defines, drop_uses, uses_of, defines_of};
 
@@ -74,8 +74,9 @@ fn push_drop(
 }
 
 /// Appends the locals that a point of a unit uses, in the order in which it does; a local stands as often as it is
-/// used.
-fn push_uses(
+/// used. A list serves many points. The error is want of memory alone.
+/// (RFC 2094, "Liveness".)
+pub fn push_uses(
     alloc: Global,
     used: &mut Vec<u8>,
     typed: &Typed,
@@ -105,17 +106,6 @@ fn push_uses(
         Instruction::Statement(Statement::Dead(_) | Statement::Nop)
         | Instruction::Terminator(Terminator::Goto(_) | Terminator::Stop) => Ok(()),
     }
-}
-
-/// The locals that a point of a unit uses, in the order in which it does; a local stands as often as it is used. The
-/// error is want of memory alone.
-/// (RFC 2094, "Liveness".)
-pub fn uses(alloc: Global, typed: &Typed, instruction: &Instruction) -> Result<Vec<u8>, AllocError>
-    ensures { IfOk result (λ used. used.items ≡ uses_of typed.now instruction.now) }
-{
-    let mut used = Vec::new(alloc);
-    push_uses(alloc, &mut used, typed, instruction)?;
-    Ok(used)
 }
 
 fn defined_by(target: &Place) -> Option<u8>

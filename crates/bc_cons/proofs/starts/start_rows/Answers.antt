@@ -1,22 +1,13 @@
-use Rattle.std.proofs.Common.{◌≡◌, ◌+◌, List, Bool, length, arith, length-append, refl}
-use Rattle.std.proofs.lemmas.List.Elements.{All-push}
+use Rattle.std.proofs.Common.{◌||◌, ◌&&◌, not, nat_lt, length, ap, ◌∙◌}
 use Rattle.bc_flow.specs.Flow.{holds}
-use Rattle.bc_cons.specs.Starts.{starts_with}
-use Rattle.bc_flow.proofs.Rows.{one_row_more}
-use Rattle.bc_cons.proofs.Rows.{all_starts}
+use Rattle.bc_cons.specs.Starts.{universal_start, variable_start}
+use Rattle.bc_cons.proofs.Growing.{starts_go}
 use Rattle.bc_cons.proofs.starts.start_rows.Goals as goal
 
-pub loop-region-preserved : goal.loop-region-preserved
-loop-region-preserved c = record {
-  regions = rw (c.in_ok-push.ensures.items, length-append, c.loop-region.invariant.regions) refl;
-  elements = rw c.in_ok-push.ensures.items
-      (All-push (λ (row : List Bool). length row ≡ length c.args.typed.now.steps + c.args.typed.now.universals) c.loop-region.rows.items c.in_ok-start_row.field-0 c.loop-region.invariant.elements c.in_ok-start_row.ensures.size);
-  starts = rw c.in_ok-push.ensures.items
-      (one_row_more (starts_with c.args.typed.now (holds c.args.live.now)) c.loop-region.rows.items c.in_ok-start_row.field-0 c.loop-region.region c.loop-region.invariant.regions c.in_ok-start_row.ensures.members c.loop-region.invariant.starts);
-}
-
 pub returns-clause-starts : goal.returns-clause-starts
-returns-clause-starts c =
-    let count : length c.loop-region.rows.items ≡ c.args.regions = omega (arith, c.loop-region.invariant.regions, c.loop-region-test.false, c.loop-region.auto.region-end) in
-    all_starts c.args.typed.now (holds c.args.live.now) c.loop-region.rows.items c.args.regions count c.requires.universals c.requires.types
-    (λ r e h. c.loop-region.invariant.starts r e (omega (arith, h, c.loop-region-test.false)))
+returns-clause-starts c = λ r e.
+    let mir = c.args.typed.now in
+    let points = length mir.steps in
+    let variable = nat_lt e points && variable_start mir.universals mir.locals (holds c.args.live.now) r e in
+    rw (c.universals-universals.ensures.value, c.steps-points.ensures.value, c.locals.ensures.value) at (c.add_locals.ensures.members r e) ∙ (ap (λ b. b || (not (nat_lt r mir.universals) && variable)) (rw (c.from.ensures, c.universals-universals.ensures.value, c.steps-points.ensures.value) at (c.in_ok-rows.ensures.starts r e))
+    ∙ starts_go (nat_lt r mir.universals) (universal_start mir.universals points r e) variable)

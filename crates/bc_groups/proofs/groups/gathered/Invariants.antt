@@ -5,7 +5,7 @@ use Rattle.bc_groups.proofs.groups.gathered.Given as goal
 
 abbrev pub invariant-loop-node : goal.invariant-loop-node
 invariant-loop-node l = record {
-  groups : length l.gathered.items ≡ l.groups;
-  facts : HaveSize l.facts l.gathered.items;
-  gathered : AreGathered l.node l.rows l.group_of l.gathered.items;
+  groups : length l.gathered ≡ l.groups;
+  facts : HaveSize l.facts l.gathered;
+  gathered : AreGathered l.node l.rows l.group_of l.gathered;
 }

@@ -2,7 +2,7 @@ use Rattle.std.proofs.Common.{◌≡◌, ◌++◌, drop}
 use Rattle.std.specs.List.{flat_map, enumerate_from}
 use Rattle.bc_flow.specs.BitSet.{has}
 use Rattle.bc_judge.specs.Conflicts.{conflicts_of_access}
-use Rattle.bc_judge.proofs.conflicts.push_accesses.Given as goal
+use Rattle.bc_judge.proofs.conflicts.push_conflicts.Given as goal
 
 abbrev pub invariant-loop-number : goal.invariant-loop-number
 invariant-loop-number l =

@@ -1,5 +1,4 @@
 use Rattle.bc_flow.specs.Flow.{holds}
-use Rattle.bc_flow.proofs.Turned.{no_row}
 use Rattle.bc_judge.specs.Conflicts.{conflicts_of_step}
 use Rattle.bc_judge.proofs.OutOfScope.{no_loan_in_scope, nothing-added}
 use Rattle.bc_judge.proofs.conflicts.push_point.Goals as goal
@@ -7,4 +6,4 @@ use Rattle.bc_judge.proofs.conflicts.push_point.Goals as goal
 pub returns-in-None : goal.returns-in-None
 returns-in-None c =
     nothing-added c.args.errors.now.items (conflicts_of_step c.args.typed.now (holds c.args.scopes.now) (c.args.point, c.args.step.now))
-    (no_loan_in_scope c.args.typed.now (holds c.args.scopes.now c.args.point) c.args.step.now (λ n. no_row c.args.scopes.now c.args.point n c.in-None.ensures.lookup.3))
+    (no_loan_in_scope c.args.typed.now (holds c.args.scopes.now c.args.point) c.args.step.now c.in-None.ensures.row)

@@ -20,8 +20,8 @@ flow-requires-clause-edges c =
 
 pub returns-clause-live : goal.returns-clause-live
 returns-clause-live c =
-    sets_are_live c.args.typed.now c.in_ok-seeds.seeds.items c.in_ok-kills.kills.items c.in_ok-by_point.by_point.items c.in_ok-rows.rows.items
+    sets_are_live c.args.typed.now c.in_ok-seeds.seeds c.in_ok-kills.kills c.in_ok-by_point.by_point c.in_ok-rows.rows
     (rw (c.deref.ensures.value, c.in_ok-uses.ensures) at c.in_ok-seeds.ensures.entries)
     (rw (c.deref-2.ensures.value, c.in_ok-definitions.ensures) at c.in_ok-kills.ensures.entries)
-    (rw (c.deref-4.ensures.value, c.in_ok-back.ensures, c.deref-3.ensures.value, c.in_ok-edges.ensures.value, c.deref-5.ensures.value) at c.in_ok-by_point.ensures.flow)
-    (rw c.deref-6.ensures.value at c.in_ok-rows.ensures.members)
+    (rw (c.deref-4.ensures.value, c.in_ok-back.ensures, c.deref-3.ensures.value, c.in_ok-edges.ensures.value) at c.in_ok-by_point.ensures.flow)
+    c.in_ok-rows.ensures.members

@@ -1,26 +1,28 @@
-use Rattle.std.proofs.Common.{◌≡◌, Bool, List, length, length-append, refl, arith}
-use Rattle.std.proofs.lemmas.List.Elements.{All-push}
+use Rattle.std.proofs.Common.{◌||◌, length, refl, ap, arith, ◌∙◌}
 use Rattle.std.proofs.lemmas.Option.{slice_get_read}
+use Rattle.bc_flow.specs.Flow.{holds}
 use Rattle.bc_loans.specs.Overwrites.{is_overwritten_at}
-use Rattle.bc_flow.proofs.Rows.{one_row_more}
+use Rattle.bc_flow.proofs.Rows.{row_filled, sizes_kept}
 use Rattle.bc_loans.proofs.Overwriting.{at_point, every_point}
 use Rattle.bc_loans.proofs.overwrites.overwrite_rows.Goals as goal
 
-pub loop-step-preserved : goal.loop-step-preserved
-loop-step-preserved c = record {
-  points = rw (c.in_ok-push.ensures.items, length-append, c.loop-step.invariant.points) refl;
-  loans = rw c.in_ok-push.ensures.items
-      (All-push (λ (row : List Bool). length row ≡ length c.args.loans.now) c.loop-step.rows.items c.in_ok-overwrite_row.field-0 c.loop-step.invariant.loans c.in_ok-overwrite_row.ensures.size);
-  members = rw c.in_ok-push.ensures.items
-      (one_row_more (is_overwritten_at c.args.loans.now c.args.steps.now) c.loop-step.rows.items c.in_ok-overwrite_row.field-0 c.loop-step.step-index c.loop-step.invariant.points
-      (at_point c.args.loans.now c.args.steps.now c.loop-step.step-index c.step-item.result c.in_ok-overwrite_row.field-0
-      (slice_get_read c.args.steps.now (length c.args.steps.now) c.loop-step.step-index c.step-item.result refl c.loop-step-test.true c.step-item.is)
-      c.in_ok-overwrite_row.ensures.members)
-      c.loop-step.invariant.members);
-}
+pub loop-point-preserved : goal.loop-point-preserved
+loop-point-preserved c =
+    let invariant = c.loop-point.invariant in
+    let point = c.loop-point.point in
+    let new = c.add_overwrites.new.rows in
+    let filled = row_filled (is_overwritten_at c.args.loans.now c.args.steps.now) c.loop-point.rows new point c.add_overwrites.ensures.others
+    (λ l. c.add_overwrites.ensures.members l ∙ ap (λ t. holds c.loop-point.rows point l || t) (at_point c.args.loans.now c.args.steps.now point c.index-steps-point.result
+    (slice_get_read c.args.steps.now (length c.args.steps.now) point c.index-steps-point.result refl c.loop-point-test.true c.index-steps-point.is) l))
+    invariant.members invariant.rest in
+    record {
+      points = c.add_overwrites.ensures.rows ∙ invariant.points;
+      loans = sizes_kept (length c.args.loans.now) c.loop-point.rows new point c.add_overwrites.ensures.rows c.add_overwrites.ensures.others c.add_overwrites.ensures.size invariant.loans;
+      members = filled.0;
+      rest = filled.1;
+    }
 
 pub returns-clause-members : goal.returns-clause-members
 returns-clause-members c =
-    every_point c.args.loans.now c.args.steps.now c.loop-step.rows.items
-    (omega (arith, c.loop-step.invariant.points, c.loop-step-test.false, c.loop-step.auto.step-index-end))
-    (λ p l h. c.loop-step.invariant.members p l (omega (arith, h, c.loop-step-test.false)))
+    every_point c.args.loans.now c.args.steps.now c.loop-point.rows c.loop-point.invariant.points
+    (λ p l h. c.loop-point.invariant.members p l (omega (arith, h, c.loop-point-test.false)))
