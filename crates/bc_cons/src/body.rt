@@ -33,7 +33,7 @@ fn pairs_of_steps(
 ) -> Result<Vec<RegionConstraint>, AllocError>
     ensures { IfOk result (λ pairs. pairs.items ≡ flat_map (λ step. pairs_at types.now locals.now step.instruction) steps.now) }
 {
-    let mut pairs = Vec::new(alloc);
+    let mut pairs = Vec::with_capacity(alloc, steps.len())?;
     for step in steps {
         push_pairs_at(alloc, &mut pairs, types, locals, &step.instruction)?;
     }

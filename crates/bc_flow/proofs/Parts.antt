@@ -1,10 +1,7 @@
 -- The words of one row, lent out as a part of the block.
-use Rattle.std.proofs.Common.{◌≡◌, ℕ, ◌+◌, ◌-◌, ◌*◌, ◌/◌, ◌%◌, ◌^◌, ◌<◌, ◌≤◌, Bool, false, not, ◌||◌, ◌&&◌, nat_lt, List, [], length, get_or, take, drop, ◌++◌, inl, inr, refl, sym, ap, ◌∙◌, arith, w64}
+use Rattle.std.proofs.Common.{◌≡◌, ℕ, ◌+◌, ◌-◌, ◌*◌, ◌/◌, ◌%◌, ◌<◌, ◌≤◌, Bool, false, ◌||◌, ◌&&◌, nat_lt, List, length, get_or, take, drop, ◌++◌, inl, inr, refl, sym, ap, ◌∙◌, arith}
 use borrow.Rule.Slice.PartMut.{put_mid}
-use Rattle.std.specs.Prelude.{bit_or, bit_and}
-use Rattle.std.specs.Int.{bit_not}
 use Rattle.std.proofs.lemmas.Bool.{cases_lt, lt-ltb, le-ltb}
-use Rattle.std.proofs.Math.Bool.{and-true}
 use Rattle.std.proofs.lemmas.List.{get_or_past, length-append, length-take-le, length-drop, get_or_append_left, get_or-append_right, get_or-take, get_or-drop}
 use Rattle.std.proofs.lemmas.List.Edits.{get_or-between}
 use Rattle.std.proofs.lemmas.Nat.Bits.{bit_at-zero}
@@ -12,7 +9,7 @@ use Rattle.bc_flow.specs.BitSet.{has}
 use Rattle.bc_flow.specs.Packed.{bit, bits_of, IsPacked}
 use Rattle.bc_flow.specs.Flow.{row, holds, AreAdded}
 use Rattle.bc_flow.specs.Tabled.{row_of, table_of, IsTable}
-use Rattle.bc_flow.proofs.Members.{length-bits_of, has-bits_of, same_by_has, bit-or_without}
+use Rattle.bc_flow.proofs.Members.{length-bits_of, has-bits_of, same_by_has}
 use Rattle.bc_flow.proofs.Rows.{others_kept}
 use Rattle.bc_flow.proofs.Tabled.{rows_is, size_is, row_in, has-row_of, get_or-table_of, OthersKept, IsRowJoined, row_joined, no_fact}
 
@@ -106,12 +103,6 @@ row_of_part {rows} {width} {size} {words} {table} t view n h =
       | inr past ↦ packed.clean i past ∙ sym (no_fact t view n i (omega (arith, h, rows_is t view)) past)
     ])
 
--- the number of words of a row of the same size
-pub same_length : {rows width size size2 : ℕ} {words from : List ℕ} {table : List (List Bool)} {set : List Bool} (lent : List ℕ) → IsTable rows width size words → table_of rows width size words ≡ table → lent ≡ words → (n : ℕ) → n < length table →
-    IsPacked size2 from → bits_of size2 from ≡ set → length set ≡ length (row table n) → length (part (n * width) width lent) ≡ length from
-same_length {rows} {width} {size} {size2} {words} {from} lent t view e n h packed view2 same =
-    ap (λ l. length (part (n * width) width l)) e ∙ omega (arith, length-part (n * width) width words (row_in t view n h), t.wide, packed.count, same, size_is t view n h, ap length view2, length-bits_of size2 from)
-
 -- the bits that a part has room for
 pub room : {rows width size : ℕ} {words : List ℕ} {table : List (List Bool)} (lent : List ℕ) → IsTable rows width size words → table_of rows width size words ≡ table → lent ≡ words → (n : ℕ) → n < length table →
     (count : ℕ) → count ≤ length (row table n) → count ≤ 64 * length (part (n * width) width lent)
@@ -144,13 +135,6 @@ below_size set size h f = elim (cases_lt f size) [
   | inr past ↦ rw (le-ltb f size past, get_or_past set f false (omega (arith, h, past))) refl
 ]
 
--- a row without members, of no size
-pub no_members : IsPacked 0 []
-no_members = record { count = refl; clean = λ i _. bit-past [] i (omega arith) }
-
-pub none_left_out : (count f : ℕ) → (nat_lt f count && not (has (bits_of 0 []) f)) ≡ nat_lt f count
-none_left_out count f = ap (λ b. nat_lt f count && not b) (get_or_past (bits_of 0 []) f false (omega (arith, length-bits_of 0 []))) ∙ and-true (nat_lt f count)
-
 -- numbers were added to the part, and it came back
 abbrev pub IsPartJoined : ℕ → ℕ → ℕ → List ℕ → ℕ → List ℕ → List ℕ → List (List Bool) → ℕ → (ℕ → Bool) → Type 0
 IsPartJoined rows width size old len lent new table to added =
@@ -175,15 +159,13 @@ none_below t view to h count small i past = le-ltb i count (omega (arith, past, 
 member_is : {size : ℕ} {words : List ℕ} {set : List Bool} → IsPacked size words → bits_of size words ≡ set → (i : ℕ) → bit words i ≡ has set i
 member_is packed view i = sym (has-bits_of packed i) ∙ ap (λ t. has t i) view
 
--- each number below a count, without the members of a set
-pub filled_row_without : {rows width size size2 : ℕ} {old without : List ℕ} {table : List (List Bool)} {left_out : List Bool} (len : ℕ) (lent new : List ℕ) (to count : ℕ) → IsTable rows width size old → table_of rows width size old ≡ table → lent ≡ old → to < length table →
-    count ≤ length (row table to) → IsPacked size2 without → bits_of size2 without ≡ left_out → len ≡ length old → length new ≡ length (part (to * width) width lent) →
-    ((i : ℕ) → bit new i ≡ (bit (part (to * width) width lent) i || (nat_lt i count && not (bit without i)))) →
-    IsPartJoined rows width size old len lent new table to (λ i. nat_lt i count && not (has left_out i))
-filled_row_without {rows} {width} {size} {size2} {old} {without} {table} {left_out} len lent new to count t view e h small packed view2 whole same bits =
-    part_joined len lent new to (λ i. nat_lt i count && not (has left_out i)) t view e h whole same
-    (λ i. bits i ∙ ap (λ b. bit (part (to * width) width lent) i || (nat_lt i count && not b)) (member_is packed view2 i))
-    (λ i past. ap (λ b. b && not (has left_out i)) (none_below t view to h count small i past))
+-- each number below a count
+pub filled_row : {rows width size : ℕ} {old : List ℕ} {table : List (List Bool)} (len : ℕ) (lent new : List ℕ) (to count : ℕ) → IsTable rows width size old → table_of rows width size old ≡ table → lent ≡ old → to < length table →
+    count ≤ length (row table to) → len ≡ length old → length new ≡ length (part (to * width) width lent) →
+    ((i : ℕ) → bit new i ≡ (bit (part (to * width) width lent) i || nat_lt i count)) →
+    IsPartJoined rows width size old len lent new table to (λ i. nat_lt i count)
+filled_row {rows} {width} {size} {old} {table} len lent new to count t view e h small whole same bits =
+    part_joined len lent new to (λ i. nat_lt i count) t view e h whole same bits (none_below t view to h count small)
 
 -- the members of a set below a count
 pub joined_row_below : {rows width size size2 : ℕ} {old from : List ℕ} {table : List (List Bool)} {set : List Bool} (len : ℕ) (lent new : List ℕ) (to count : ℕ) → IsTable rows width size old → table_of rows width size old ≡ table → lent ≡ old → to < length table →
@@ -194,15 +176,3 @@ joined_row_below {rows} {width} {size} {size2} {old} {from} {table} {set} len le
     part_joined len lent new to (λ i. nat_lt i count && has set i) t view e h whole same
     (λ i. bits i ∙ ap (λ b. bit (part (to * width) width lent) i || (nat_lt i count && b)) (member_is packed view2 i))
     (λ i past. ap (λ b. b && has set i) (none_below t view to h count small i past))
-
--- the members of a set that are not in another, all of one size
-pub joined_row_without : {rows width size size2 size3 : ℕ} {old from without : List ℕ} {table : List (List Bool)} {set left_out : List Bool} (len : ℕ) (lent new : List ℕ) (to : ℕ) → IsTable rows width size old → table_of rows width size old ≡ table → lent ≡ old → to < length table →
-    IsPacked size2 from → bits_of size2 from ≡ set → length set ≡ length (row table to) → IsPacked size3 without → bits_of size3 without ≡ left_out → length left_out ≡ length (row table to) →
-    len ≡ length old → length new ≡ length (part (to * width) width lent) → ((k : ℕ) → get_or without k 0 < 2 ^ 64) →
-    ((k : ℕ) → k < length (part (to * width) width lent) → get_or new k 0 ≡ bit_or (get_or (part (to * width) width lent) k 0) (bit_and (get_or from k 0) (bit_not w64 (get_or without k 0)))) →
-    IsPartJoined rows width size old len lent new table to (λ i. has set i && not (has left_out i))
-joined_row_without {rows} {width} {size} {size2} {size3} {old} {from} {without} {table} {set} {left_out} len lent new to t view e h packed view2 sizes packed3 view3 sizes3 whole same small words =
-    part_joined len lent new to (λ i. has set i && not (has left_out i)) t view e h whole same
-    (λ i. bit-or_without new (part (to * width) width lent) from without same (sym (same_length lent t view e to h packed view2 sizes)) (sym (same_length lent t view e to h packed3 view3 sizes3)) small words i ∙
-    (ap (λ b. bit (part (to * width) width lent) i || (b && not (bit without i))) (member_is packed view2 i) ∙ ap (λ b. bit (part (to * width) width lent) i || (has set i && not b)) (member_is packed3 view3 i)))
-    (λ i past. ap (λ b. b && not (has left_out i)) (get_or_past set i false (omega (arith, past, sizes, size_is t view to h))))

@@ -1,5 +1,5 @@
 -- What the words of a table say of its rows.
-use Rattle.std.proofs.Common.{◌≡◌, ℕ, ◌+◌, ◌-◌, ◌*◌, ◌/◌, ◌%◌, ◌^◌, ◌<◌, ◌≤◌, Bool, true, false, not, ◌||◌, ◌&&◌, eqb, List, [], length, get_or, set, take, drop, ◌++◌, min, inl, inr, refl, sym, ap, ◌∙◌, arith, w64, suc, zero-mul}
+use Rattle.std.proofs.Common.{◌≡◌, ℕ, ◌+◌, ◌-◌, ◌*◌, ◌/◌, ◌%◌, ◌^◌, ◌<◌, ◌≤◌, Bool, true, false, not, ◌||◌, ◌&&◌, eqb, List, [], length, get_or, set, take, drop, ◌++◌, min, inl, inr, refl, sym, ap, ◌∙◌, arith, w64, suc}
 use Rattle.std.specs.Prelude.{bit_or, bit_and}
 use Rattle.std.specs.Int.{bit_at, bit_not}
 use Rattle.std.proofs.Math.Nat.{mul-le-mul_right, suc-mul}
@@ -13,7 +13,7 @@ use Rattle.bc_flow.specs.BitSet.{has, absent_count}
 use Rattle.bc_flow.specs.Packed.{bit, is_set}
 use Rattle.bc_flow.specs.Flow.{row, holds, HaveSize}
 use Rattle.bc_flow.specs.Tabled.{row_of, table_of, IsTable}
-use Rattle.bc_flow.proofs.Members.{same_from_absent, word_from_bits, refilled, or_bits, min_below, without_bits, bit-or, word_with, bit-set_same, bit-set_other, same_by_has, not_one}
+use Rattle.bc_flow.proofs.Members.{same_from_absent, word_from_bits, refilled, or_bits, min_below, without_bits, word_with, bit-set_same, bit-set_other, same_by_has, not_one}
 use Rattle.bc_flow.proofs.Filled.{bit_is}
 use Rattle.bc_flow.proofs.Words.{Differs, Differs-more}
 
@@ -323,59 +323,6 @@ union_table_without {rows} {width} {size} {rows2} {width2} {size2} {old} {kills}
     (ap (λ b. bit old (64 * (to * width) + i) || (b && not (bit kills (64 * (kill * width2) + i)))) (cell_is t view from i there p) ∙
     ap (λ b. bit old (64 * (to * width) + i) || (holds table from i && not b)) (cell_is t2 view2 kill i killing (omega (arith, p, wide)))))
     (λ i p. ap (λ b. b && not (holds killed kill i)) (no_fact t view from i there p))
-
--- ---- whole tables joined
-
-pub same_words : {rows width size rows2 width2 size2 : ℕ} {old other : List ℕ} {table from : List (List Bool)} → IsTable rows width size old → table_of rows width size old ≡ table →
-    IsTable rows2 width2 size2 other → table_of rows2 width2 size2 other ≡ from → length from ≡ length table → HaveSize (length (row table 0)) from → length other ≡ length old
-same_words {rows} {width} {size} {rows2} {width2} t view t2 view2 nodes sizes =
-    let same : rows2 ≡ rows = omega (arith, rows_is t view, rows_is t2 view2, nodes) in
-    elim (cases_eq rows 0) [
-      | inl none ↦ t2.count ∙ (ap (λ r. r * width2) (same ∙ none) ∙ (zero-mul width2 ∙ (sym (zero-mul width) ∙ (ap (λ r. r * width) (sym none) ∙ sym t.count))))
-      | inr some ↦
-          let wide = same_width t view t2 view2 0 0 (omega (arith, some, rows_is t view)) (omega (arith, some, same, rows_is t2 view2)) sizes in
-          t2.count ∙ (ap (λ r. r * width2) same ∙ (ap (λ w. rows * w) wide ∙ sym t.count))
-    ]
-
-pub record IsJoinedTable (rows width size : ℕ) (items : List ℕ) (table from : List (List Bool)) : Type 0 where
-  pub packed : IsTable rows width size items
-  pub nodes : length (table_of rows width size items) ≡ length table
-  pub facts : HaveSize (length (row table 0)) (table_of rows width size items)
-  pub members : (n f : ℕ) → holds (table_of rows width size items) n f ≡ (holds table n f || holds from n f)
-
-all_joined_words : {rows width size rows2 width2 size2 : ℕ} {old other : List ℕ} {table from : List (List Bool)} (new : List ℕ) → IsTable rows width size old → table_of rows width size old ≡ table →
-    IsTable rows2 width2 size2 other → table_of rows2 width2 size2 other ≡ from → length from ≡ length table → HaveSize (length (row table 0)) from → length new ≡ length old →
-    ((k : ℕ) → k < length old → get_or new k 0 ≡ bit_or (get_or old k 0) (get_or other k 0)) → IsJoinedTable rows width size new table from
-all_joined_words {rows} {width} {size} {rows2} {width2} {size2} {old} {other} {table} {from} new t view t2 view2 nodes sizes same words =
-    let bits : (i : ℕ) → bit new i ≡ (bit old i || bit other i) = bit-or new old other same (same_words t view t2 view2 nodes sizes) words in
-    let there : (n : ℕ) → n < rows → n < rows2 = λ n h. omega (arith, h, rows_is t view, rows_is t2 view2, nodes) in
-    let wide : (n : ℕ) → n < rows → width2 ≡ width = λ n h. same_width t view t2 view2 0 0 (omega (arith, h, rows_is t view)) (omega (arith, there n h, rows_is t2 view2)) sizes in
-    let cells : (n i : ℕ) → n < rows → i < 64 * width → bit new (64 * (n * width) + i) ≡ (holds table n i || holds from n i) = λ n i h p.
-    let w : width2 ≡ width = wide n h in
-    let p2 : i < 64 * width2 = omega (arith, p, w) in
-    let here : bit other (64 * (n * width) + i) ≡ holds from n i = ap (λ v. bit other (64 * (n * v) + i)) (sym w) ∙ cell_is t2 view2 n i (there n h) p2 in
-    bits (64 * (n * width) + i) ∙ (ap (λ b. b || bit other (64 * (n * width) + i)) (cell_is t view n i h p) ∙ ap (λ b. holds table n i || b) here) in
-    let past : (n f : ℕ) → n < rows → size ≤ f → holds from n f ≡ false = λ n f h p.
-    no_fact t2 view2 n f (there n h) (omega (arith, p, size_is t view 0 (omega (arith, h, rows_is t view)), size_is t2 view2 0 (omega (arith, there n h, rows_is t2 view2)), sizes 0 [] (omega (arith, there n h, rows_is t2 view2)))) in
-    record {
-      packed = record { count = same ∙ t.count; wide = t.wide; clean = λ n i h p q. cells n i h q ∙ rw (no_fact t view n i h p, past n i h p) refl };
-      nodes = length-table_of rows width size new ∙ rows_is t view;
-      facts = λ k d h.
-          let k_in : k < rows = omega (arith, h, length-table_of rows width size new) in
-          sizes_of rows width size new k d h ∙ sym (size_is t view 0 (omega (arith, k_in, rows_is t view)));
-      members = λ n f. elim (cases_lt n rows) [
-        | inr out ↦ holds_none rows width size new n f out ∙ rw (no_row t view n f out, no_row t2 view2 n f (omega (arith, out, rows_is t view, rows_is t2 view2, nodes))) refl
-        | inl h ↦ elim (cases_lt f size) [
-          | inl p ↦ holds_at rows width size new n f h p ∙ cells n f h (omega (arith, p, t.wide))
-          | inr p ↦ holds_past rows width size new n f h p ∙ rw (no_fact t view n f h p, past n f h p) refl
-        ]
-      ];
-    }
-
-pub all_joined : {rows width size rows2 width2 size2 : ℕ} {old other : List ℕ} {table from : List (List Bool)} (len : ℕ) (new : List ℕ) → IsTable rows width size old → table_of rows width size old ≡ table →
-    IsTable rows2 width2 size2 other → table_of rows2 width2 size2 other ≡ from → length from ≡ length table → HaveSize (length (row table 0)) from → len ≡ length old → length new ≡ length old →
-    ((k : ℕ) → k < length old → get_or new k 0 ≡ bit_or (get_or old k 0) (get_or other k 0)) → IsJoinedTable rows width size (take len (new ++ drop (length new) old)) table from
-all_joined len new t view t2 view2 nodes sizes whole same words = rw (refilled len new _ same whole) (all_joined_words new t view t2 view2 nodes sizes same words)
 
 -- ---- one number added
 

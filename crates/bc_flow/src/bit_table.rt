@@ -6,9 +6,7 @@ ghost use Rattle.bc_flow.specs.BitSet.{has, absent_count, IsNextMember};
 ghost use Rattle.bc_flow.specs.Packed.{is_set};
 ghost use Rattle.bc_flow.specs.Flow.{row, holds, HaveSize, AreAdded};
 
-use crate::bit_words::{
-    fill_below_without, next_bit, union_words, union_words_below, union_words_without,
-};
+use crate::bit_words::{fill_below, next_bit, union_words_below};
 use std::alloc::{AllocError, Global};
 use std::marker::Model;
 
@@ -219,21 +217,8 @@ impl BitTable {
         requires count { count ≤ length (row self.old node) }
         ensures { AreAdded self.old self.new node (λ f. nat_lt f count) }
     {
-        let none = BitRow {
-            words: &[],
-            size: 0,
-        };
-        self.insert_below_without(node, count, &none);
-    }
-
-    /// Adds each number below `count` that is not in `without`, a row whose size may differ. (Own.)
-    pub fn insert_below_without(&mut self, node: usize, count: usize, without: &BitRow<'_>)
-        requires node { node < length self.old }
-        requires count { count ≤ length (row self.old node) }
-        ensures { AreAdded self.old self.new node (λ f. nat_lt f count && not (has without.now f)) }
-    {
         let at = node * self.width;
-        fill_below_without(&mut self.words[at..at + self.width], count, without.words);
+        fill_below(&mut self.words[at..at + self.width], count);
     }
 
     /// Adds the members of `from`, a row of the same size. (Own.)
@@ -253,21 +238,6 @@ impl BitTable {
     {
         let at = node * self.width;
         union_words_below(&mut self.words[at..at + self.width], from.words, count);
-    }
-
-    /// Adds the members of `from` that are not in `without`, three rows of one size. (Own.)
-    pub fn union_row_without(&mut self, node: usize, from: &BitRow<'_>, without: &BitRow<'_>)
-        requires node { node < length self.old }
-        requires from { length from.now ≡ length (row self.old node) }
-        requires without { length without.now ≡ length (row self.old node) }
-        ensures { AreAdded self.old self.new node (λ f. has from.now f && not (has without.now f)) }
-    {
-        let at = node * self.width;
-        let _grown = union_words_without(
-            &mut self.words[at..at + self.width],
-            from.words,
-            without.words,
-        );
     }
 
     /// Adds the numbers of the row `from` to those of the row `to`. The answer is whether there was a new one.
@@ -312,17 +282,6 @@ impl BitTable {
         let source = from * self.width;
         let taboo = kill * kills.width;
         union_within_without(&mut self.words, at, source, self.width, &kills.words, taboo)
-    }
-
-    /// Adds the members of each row of `other`, a table of as many rows of the same size. (Own.)
-    pub fn join(&mut self, other: &Self)
-        requires nodes { length other.now ≡ length self.old }
-        requires other { HaveSize (length (row self.old 0)) other.now }
-        ensures rows { length self.new ≡ length self.old }
-        ensures facts { HaveSize (length (row self.old 0)) self.new }
-        ensures joined { (n f : ℕ) → holds self.new n f ≡ (holds self.old n f || holds other.now n f) }
-    {
-        let _grown = union_words(&mut self.words, &other.words);
     }
 }
 

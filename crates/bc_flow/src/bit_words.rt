@@ -17,23 +17,6 @@ pub(crate) fn next_bit(words: &[u64], size: usize, from: usize) -> Option<usize>
     Some(64 * index + word.trailing_zeros() as usize)
 }
 
-/// Adds the bits of `from`. The answer is whether there was a new one.
-pub(crate) fn union_words(into: &mut [u64], from: &[u64]) -> bool
-    requires { length into.old ≡ length from.now }
-    ensures words { (k : ℕ) → k < length into.old → slice_index into.new k ≡ bit_or (slice_index into.old k) (slice_index from.now k) }
-    ensures unchanged { result ≡ false → into.new ≡ into.old }
-    ensures changed { result ≡ true → (k : ℕ) × (slice_index into.new k < 2 ^ 64) × (slice_index into.old k < 2 ^ 64) × (slice_index into.new k ≡ slice_index into.old k → ⊥) }
-{
-    let mut changed = false;
-    for k in 0..into.len() {
-        let before = into[k];
-        let after = before | from[k];
-        into[k] = after;
-        changed |= after != before;
-    }
-    changed
-}
-
 /// Adds the first `count` bits of `from`, which may have fewer or more words.
 pub(crate) fn union_words_below(into: &mut [u64], from: &[u64], count: usize)
     requires { count ≤ 64 * length into.old }
@@ -48,36 +31,13 @@ pub(crate) fn union_words_below(into: &mut [u64], from: &[u64], count: usize)
     }
 }
 
-/// Adds the bits of `from` that are not in `without`. The answer is whether there was a new one.
-pub(crate) fn union_words_without(into: &mut [u64], from: &[u64], without: &[u64]) -> bool
-    requires from { length into.old ≡ length from.now }
-    requires without { length into.old ≡ length without.now }
-    ensures fits { (k : ℕ) → slice_index without.now k < 2 ^ 64 }
-    ensures words { (k : ℕ) → k < length into.old → slice_index into.new k ≡ bit_or (slice_index into.old k) (bit_and (slice_index from.now k) (bit_not w64 (slice_index without.now k))) }
-    ensures unchanged { result ≡ false → into.new ≡ into.old }
-    ensures changed { result ≡ true → (k : ℕ) × (slice_index into.new k < 2 ^ 64) × (slice_index into.old k < 2 ^ 64) × (slice_index into.new k ≡ slice_index into.old k → ⊥) }
-{
-    let mut changed = false;
-    for k in 0..into.len() {
-        let before = into[k];
-        let after = before | (from[k] & !without[k]);
-        into[k] = after;
-        changed |= after != before;
-    }
-    changed
-}
-
-/// Adds those of the first `count` bits that are not in `without`, which may have fewer or more words.
-pub(crate) fn fill_below_without(words: &mut [u64], count: usize, without: &[u64])
+/// Sets the first `count` bits.
+pub(crate) fn fill_below(words: &mut [u64], count: usize)
     requires { count ≤ 64 * length words.old }
-    ensures { (i : ℕ) → bit words.new i ≡ (bit words.old i || (nat_lt i count && not (bit without.now i))) }
+    ensures { (i : ℕ) → bit words.new i ≡ (bit words.old i || nat_lt i count) }
 {
     for k in 0..count.div_ceil(64) {
-        let left_out = match without.get(k) {
-            Some(word) => *word,
-            None => 0,
-        };
-        words[k] |= first_bits(count - 64 * k) & !left_out;
+        words[k] |= first_bits(count - 64 * k);
     }
 }
 

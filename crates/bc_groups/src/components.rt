@@ -81,7 +81,7 @@ fn owners(
     let mut spread = Spread {
         reached: vec![in alloc; false; classes.len()]?,
         owners: every_node(alloc, classes.len())?,
-        opened: Vec::new(alloc),
+        opened: Vec::with_capacity(alloc, classes.len())?,
     };
     let mut left = roots.len();
     while left > 0 {
@@ -206,7 +206,7 @@ fn numbered(alloc: Global, labels: &[usize], order: &[usize]) -> Result<Grouping
     let none = labels.len();
     let mut naming = Naming {
         numbers: vec![in alloc; none; none]?,
-        names: Vec::new(alloc),
+        names: Vec::with_capacity(alloc, none)?,
     };
     let mut group_of = vec![in alloc; 0; none]?;
     let mut left = order.len();

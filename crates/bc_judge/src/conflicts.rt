@@ -31,9 +31,9 @@ fn push_conflict(
     typed: &Typed,
     at: Point,
     number: usize,
-    access: &Access,
+    access: &Access<'_>,
     maker: usize,
-    loan: &Loan,
+    loan: &Loan<'_>,
 ) -> Result<(), AllocError>
     ensures { OnOk result ((scope : ℕ → Bool) (n : ℕ) → scope n ≡ true →
         errors.new.items ≡ errors.old.items ++ conflict_with typed.now scope at (number, access.now) (n, (maker, loan.now))) }
@@ -52,11 +52,11 @@ fn push_conflict(
 fn push_access(
     errors: &mut Vec<BorrowError>,
     typed: &Typed,
-    loans: &[(usize, Loan)],
+    loans: &[(usize, Loan<'_>)],
     scope: &BitRow<'_>,
     at: Point,
     number: usize,
-    access: &Access,
+    access: &Access<'_>,
 ) -> Result<(), AllocError>
     requires { loans.now ≡ loans_of typed.now }
     ensures { OnOk result (errors.new.items
@@ -77,10 +77,10 @@ fn push_access(
 fn push_conflicts(
     errors: &mut Vec<BorrowError>,
     typed: &Typed,
-    loans: &[(usize, Loan)],
+    loans: &[(usize, Loan<'_>)],
     scope: &BitRow<'_>,
     at: Point,
-    accesses: &[Access],
+    accesses: &[Access<'_>],
 ) -> Result<(), AllocError>
     requires { loans.now ≡ loans_of typed.now }
     ensures { OnOk result (errors.new.items
@@ -94,14 +94,14 @@ fn push_conflicts(
 
 /// Appends the conflicts of a point with the loans of `scope`, which are in scope on entry to it. `accesses` is a list to be
 /// filled anew.
-fn push_step(
+fn push_step<'a>(
     alloc: Global,
     errors: &mut Vec<BorrowError>,
-    accesses: &mut Vec<Access>,
+    accesses: &mut Vec<Access<'a>>,
     typed: &Typed,
-    loans: &[(usize, Loan)],
+    loans: &[(usize, Loan<'_>)],
     scope: &BitRow<'_>,
-    step: &Step,
+    step: &'a Step,
 ) -> Result<(), AllocError>
     requires { loans.now ≡ loans_of typed.now }
     ensures { OnOk result (errors.new.items ≡ errors.old.items ++ conflicts_at typed.now (has scope.now) step.now) }
@@ -115,15 +115,15 @@ fn push_step(
 }
 
 /// Appends the conflicts of a point, by its number.
-fn push_point(
+fn push_point<'a>(
     alloc: Global,
     errors: &mut Vec<BorrowError>,
-    accesses: &mut Vec<Access>,
+    accesses: &mut Vec<Access<'a>>,
     typed: &Typed,
-    loans: &[(usize, Loan)],
+    loans: &[(usize, Loan<'_>)],
     scopes: &BitTable,
     point: usize,
-    step: &Step,
+    step: &'a Step,
 ) -> Result<(), AllocError>
     requires { loans.now ≡ loans_of typed.now }
     ensures { OnOk result (errors.new.items ≡ errors.old.items ++ conflicts_of_step typed.now (holds scopes.now) (point, step.now)) }

@@ -40,7 +40,7 @@ fn push_listed(entries: &mut Vec<Entry>, point: usize, local: Option<u8>) -> Res
 pub fn use_entries(alloc: Global, typed: &Typed) -> Result<Vec<Entry>, AllocError>
     ensures { IfOk result (λ entries. entries.items ≡ uses_of_points typed.now) }
 {
-    let mut entries = Vec::new(alloc);
+    let mut entries = Vec::with_capacity(alloc, typed.steps().len())?;
     let mut locals = Vec::new(alloc);
     for (point, step) in typed.steps().iter().enumerate() {
         locals.clear();
@@ -54,7 +54,7 @@ pub fn use_entries(alloc: Global, typed: &Typed) -> Result<Vec<Entry>, AllocErro
 pub fn definition_entries(alloc: Global, typed: &Typed) -> Result<Vec<Entry>, AllocError>
     ensures { IfOk result (λ entries. entries.items ≡ definitions_of_points typed.now) }
 {
-    let mut entries = Vec::new(alloc);
+    let mut entries = Vec::with_capacity(alloc, typed.steps().len())?;
     for (point, step) in typed.steps().iter().enumerate() {
         push_listed(&mut entries, point, defines(&step.instruction))?;
     }

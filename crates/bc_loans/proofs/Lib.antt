@@ -1,5 +1,3 @@
 pub mod Listing
-pub mod Insides
-pub mod Overwriting
-pub mod Entering
 pub mod Ways
+pub mod Walking

@@ -94,7 +94,8 @@ impl Typed {
         ensures value { IfOk result (λ edges. edges.items ≡ edges_of self.now) }
         ensures within { AreWithin (edges_of self.now) (length self.now.steps) }
     {
-        let mut edges = Vec::new(alloc);
+        let most = self.steps().len().saturating_add(self.draft.entries.len());
+        let mut edges = Vec::with_capacity(alloc, most)?;
         for (point, step) in self.steps().iter().enumerate() {
             self.draft.push_edges(&mut edges, point, &step.instruction)?;
         }

@@ -93,6 +93,17 @@ fn local_types(alloc: Global, body: &Body) -> Result<Vec<Ty>, AllocError>
     Ok(types)
 }
 
+/// How many points a body has, by which its list of points is sized.
+fn point_count(body: &Body) -> usize {
+    let mut count = 0_usize;
+    for block in body.blocks.as_slice() {
+        count = count
+            .saturating_add(block.statements.len())
+            .saturating_add(1);
+    }
+    count
+}
+
 /// Appends the points of a block.
 fn push_block(steps: &mut Vec<Step>, number: usize, block: &Block) -> Result<(), AllocError>
     ensures { OnOk result (steps.new.items ≡ steps.old.items ++ block_steps number 0 block.now.statements block.now.terminator) }
@@ -129,8 +140,8 @@ impl Draft {
         requires { universal_count body.now.header ≤ 16 }
         ensures { IfOk result (λ draft. draft ≡ mir_of (arc_value types) body.now) }
     {
-        let mut steps = Vec::new(alloc);
-        let mut entries = Vec::new(alloc);
+        let mut steps = Vec::with_capacity(alloc, point_count(body))?;
+        let mut entries = Vec::with_capacity(alloc, body.blocks.len())?;
         for (number, block) in body.blocks.as_slice().iter().enumerate() {
             entries.push(steps.len())?;
             push_block(&mut steps, number, block)?;

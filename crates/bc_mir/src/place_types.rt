@@ -1,10 +1,11 @@
 //! Types of places, through the fields of structs.
-ghost use Rattle.std.specs.Prelude.{◌≡◌, ◌++◌, IfOk, OnOk};
+ghost use Rattle.std.specs.Prelude.{◌≡◌, ◌++◌, ⊤, List, Some, IfOk, OnOk, MatchOption};
+ghost use Rattle.bc_syntax.specs.declared.syntax.Declaration.{Declaration};
 ghost use Rattle.bc_mir.specs.Places.{are_mutable};
 ghost use Rattle.bc_mir.specs.PlaceTypes.{field_of as field_there, type_behind as behind, type_of_place as place_there, references_behind as dereferenced_behind, references_of_place as dereferenced_there, mutable_behind, mutable_on_way};
 
 use bc_syntax::{Base, Place, Projection, Reference, ShortSequence, Ty};
-use bc_types::{GoodTypes, is_mutable};
+use bc_types::{GoodTypes, TyRef, is_mutable};
 use std::alloc::{AllocError, Global};
 
 /// Field `k` of a struct.
@@ -98,6 +99,39 @@ pub fn type_of_place(
             &local.base,
         ),
         None => Ok(None),
+    }
+}
+
+/// The type behind projections that dereference alone.
+fn lent_behind<'a>(
+    projections: &[Projection],
+    references: &'a [Reference],
+    base: &'a Base,
+) -> Option<TyRef<'a>>
+    ensures { MatchOption result ⊤ (λ ty. (types : List Declaration) → behind types projections.now references.now base.now ≡ Some ty) }
+{
+    match projections {
+        [] => Some(TyRef::behind(references, base)),
+        [Projection::Deref, rest @ ..] => match references {
+            [] => None,
+            [_, more @ ..] => lent_behind(rest, more, base),
+        },
+        [Projection::Field(_), ..] => None,
+    }
+}
+
+/// The type of a place that has one and goes through no field, as it stands in the type of its local; `None` for any other. It
+/// takes no memory. (RFC 2094, "The MIR".)
+pub fn lent_type_of_place<'a>(locals: &'a [Ty], place: &Place) -> Option<TyRef<'a>>
+    ensures { MatchOption result ⊤ (λ ty. (types : List Declaration) → place_there types locals.now place.now ≡ Some ty) }
+{
+    match locals.get(usize::from(place.local)) {
+        Some(local) => lent_behind(
+            place.projections.as_slice(),
+            local.references.as_slice(),
+            &local.base,
+        ),
+        None => None,
     }
 }
 

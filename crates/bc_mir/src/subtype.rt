@@ -4,7 +4,7 @@ ghost use Rattle.bc_types.specs.Subtyping.{sub};
 
 use crate::typed::Typed;
 use bc_syntax::Ty;
-use bc_types::{Constraint, push_sub};
+use bc_types::{Constraint, TyRef, push_sub};
 use std::alloc::AllocError;
 
 impl Typed {
@@ -19,6 +19,11 @@ impl Typed {
     ) -> Result<(), AllocError>
         ensures { OnOk result (constraints.new.items ≡ constraints.old.items ++ sub self.now.types value.now target.now) }
     {
-        push_sub(constraints, self.types(), value, target)
+        push_sub(
+            constraints,
+            self.types(),
+            &TyRef::of(value),
+            &TyRef::of(target),
+        )
     }
 }

@@ -1,14 +1,15 @@
 //! Types of operands and rvalues (own, over the language of RFC 2094, "The MIR").
-ghost use Rattle.std.specs.Prelude.{◌≡◌, IfOk};
+ghost use Rattle.std.specs.Prelude.{◌≡◌, ⊤, List, Some, IfOk, MatchOption};
+ghost use Rattle.bc_syntax.specs.declared.syntax.Declaration.{Declaration};
 ghost use Rattle.bc_mir.specs.Rules.{int_type as type_int, type_of_operand as operand_there, type_to_write as written_there, type_to_borrow as borrowed_there, type_referenced as referenced, struct_type as type_struct, type_of_rvalue as rvalue_there};
 
-use crate::place_types::{goes_only_mutable, push_references, type_of_place};
+use crate::place_types::{goes_only_mutable, lent_type_of_place, push_references, type_of_place};
 use crate::places::has_no_deref;
 use crate::rules::{are_operands_int, can_create};
 use bc_syntax::{
     Base, Borrow, Instance, Mutability, Operand, Place, Reference, Rvalue, ShortSequence, Ty,
 };
-use bc_types::{GoodTypes, is_copyable_type};
+use bc_types::{GoodTypes, TyRef, is_copyable_type};
 use std::alloc::{AllocError, Global};
 
 fn int_type(alloc: Global) -> Ty
@@ -49,6 +50,47 @@ pub fn type_of_operand(
             }
         }
         Operand::Number(_) => Ok(Some(int_type(alloc))),
+    }
+}
+
+/// The type of an operand that copies or moves a place which goes through no field, as it stands in the type of its local; `None`
+/// for any other, and where it breaks a rule. It takes no memory. (Own.)
+pub fn lent_type_of_operand<'a>(locals: &'a [Ty], operand: &Operand) -> Option<TyRef<'a>>
+    ensures { MatchOption result ⊤ (λ ty. (types : List Declaration) → operand_there types locals.now operand.now ≡ Some ty) }
+{
+    match operand {
+        Operand::Copy(place) => {
+            let ty = lent_type_of_place(locals, place)?;
+            if ty.is_copyable() { Some(ty) } else { None }
+        }
+        Operand::Move(place) => {
+            if !has_no_deref(place) {
+                return None;
+            }
+            lent_type_of_place(locals, place)
+        }
+        Operand::Number(_) => None,
+    }
+}
+
+/// The type of a place that is borrowed, where it goes through no field, as it stands in the type of its local; `None` for any
+/// other, and where the borrow breaks a rule. It takes no memory. (Own.)
+pub fn lent_type_to_borrow<'a>(
+    types: &GoodTypes,
+    locals: &'a [Ty],
+    borrow: &Borrow,
+) -> Option<TyRef<'a>>
+    ensures { MatchOption result ⊤ (λ ty. borrowed_there types.now locals.now borrow.now.reference.mutability borrow.now.place ≡ Some ty) }
+{
+    match borrow.reference.mutability {
+        Mutability::Shared => lent_type_of_place(locals, &borrow.place),
+        Mutability::Mutable => {
+            if goes_only_mutable(types, locals, &borrow.place) {
+                lent_type_of_place(locals, &borrow.place)
+            } else {
+                None
+            }
+        }
     }
 }
 
@@ -97,7 +139,8 @@ fn type_referenced(alloc: Global, reference: Reference, ty: Ty) -> Result<Ty, Al
     })
 }
 
-fn type_of_borrow(
+/// The type of a borrow, or `None` where it breaks a rule. The error is want of memory alone. (Own.)
+pub fn type_of_borrow(
     alloc: Global,
     types: &GoodTypes,
     locals: &[Ty],

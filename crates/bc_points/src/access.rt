@@ -1,10 +1,11 @@
 //! The accesses of points (RFC 2094, "Borrow checker phase 2").
 ghost use Rattle.std.specs.Prelude.{◌≡◌, ◌≤◌, ◌++◌, ◌∷◌, [], length, IfOk, OnOk};
 ghost use Rattle.std.specs.List.{flat_map};
-ghost use Rattle.bc_points.specs.Accesses.{local_place as place_of_local, access_of, operand_accesses, borrow_access as kind_of_borrow, rvalue_accesses, runs_drop as drop_run, drop_access, statement_accesses, return_accesses, terminator_accesses, accesses_of};
+ghost use Rattle.bc_points.specs.Accesses.{access_of, operand_accesses, borrow_access as kind_of_borrow, rvalue_accesses, runs_drop as drop_run, drop_access, statement_accesses, return_accesses, terminator_accesses, accesses_of};
 
+use crate::place_ref::PlaceRef;
 use bc_mir::{Instruction, Typed, type_of_place};
-use bc_syntax::{Mutability, Operand, Place, Rvalue, ShortSequence, Statement, Terminator, Ty};
+use bc_syntax::{Mutability, Operand, Place, Rvalue, Statement, Terminator, Ty};
 use bc_types::GoodTypes;
 use std::alloc::{AllocError, Global};
 
@@ -26,25 +27,10 @@ pub enum AccessKind {
 /// An access of a point to a place.
 /// (RFC 2094, "Borrow checker phase 2: reporting errors".)
 #[derive(Drop)]
-pub struct Access {
-    pub place: Place,
+pub struct Access<'a> {
+    pub place: PlaceRef<'a>,
     pub depth: Depth,
     pub kind: AccessKind,
-}
-
-pub(crate) fn copy_place(place: &Place) -> Result<Place, AllocError>
-    ensures { IfOk result (λ copy. copy ≡ place.now) }
-{
-    place.clone()
-}
-
-fn local_place(alloc: Global, local: u8) -> Place
-    ensures { result ≡ place_of_local local }
-{
-    Place {
-        local,
-        projections: ShortSequence::new(alloc),
-    }
 }
 
 fn borrow_access(mutability: Mutability) -> AccessKind
@@ -57,33 +43,41 @@ fn borrow_access(mutability: Mutability) -> AccessKind
 }
 
 /// Appends an access.
-fn push_access(
-    accesses: &mut Vec<Access>,
+fn push_access<'a>(
+    accesses: &mut Vec<Access<'a>>,
     depth: Depth,
     kind: AccessKind,
-    place: Place,
+    place: PlaceRef<'a>,
 ) -> Result<(), AllocError>
-    ensures { OnOk result (accesses.new.items ≡ accesses.old.items ++ access_of depth kind place ∷ []) }
+    ensures { OnOk result (accesses.new.items ≡ accesses.old.items ++ access_of depth kind place.entry ∷ []) }
 {
     accesses.push(Access { place, depth, kind })?;
     Ok(())
 }
 
-fn push_operand(accesses: &mut Vec<Access>, operand: &Operand) -> Result<(), AllocError>
+fn push_operand<'a>(accesses: &mut Vec<Access<'a>>, operand: &'a Operand) -> Result<(), AllocError>
     ensures { OnOk result (accesses.new.items ≡ accesses.old.items ++ operand_accesses operand.now) }
 {
     match operand {
         Operand::Copy(place) => {
-            push_access(accesses, Depth::Deep, AccessKind::Read, copy_place(place)?)
+            push_access(accesses, Depth::Deep, AccessKind::Read, PlaceRef::of(place))
         }
         Operand::Move(place) => {
-            push_access(accesses, Depth::Deep, AccessKind::Write, copy_place(place)?)
+            push_access(
+                accesses,
+                Depth::Deep,
+                AccessKind::Write,
+                PlaceRef::of(place),
+            )
         }
         Operand::Number(_) => Ok(()),
     }
 }
 
-fn push_operands(accesses: &mut Vec<Access>, operands: &[Operand]) -> Result<(), AllocError>
+fn push_operands<'a>(
+    accesses: &mut Vec<Access<'a>>,
+    operands: &'a [Operand],
+) -> Result<(), AllocError>
     ensures { OnOk result (accesses.new.items ≡ accesses.old.items ++ flat_map operand_accesses operands.now) }
 {
     for operand in operands {
@@ -92,14 +86,14 @@ fn push_operands(accesses: &mut Vec<Access>, operands: &[Operand]) -> Result<(),
     Ok(())
 }
 
-fn push_rvalue(accesses: &mut Vec<Access>, rvalue: &Rvalue) -> Result<(), AllocError>
+fn push_rvalue<'a>(accesses: &mut Vec<Access<'a>>, rvalue: &'a Rvalue) -> Result<(), AllocError>
     ensures { OnOk result (accesses.new.items ≡ accesses.old.items ++ rvalue_accesses rvalue.now) }
 {
     match rvalue {
         Rvalue::Use(operand) => push_operand(accesses, operand),
         Rvalue::Borrow(borrow) => {
             let kind = borrow_access(borrow.reference.mutability);
-            push_access(accesses, Depth::Deep, kind, copy_place(&borrow.place)?)
+            push_access(accesses, Depth::Deep, kind, PlaceRef::of(&borrow.place))
         }
         Rvalue::Aggregate(aggregate) => push_operands(accesses, aggregate.operands.as_slice()),
         Rvalue::Calc(operands) => push_operands(accesses, operands.as_slice()),
@@ -107,8 +101,8 @@ fn push_rvalue(accesses: &mut Vec<Access>, rvalue: &Rvalue) -> Result<(), AllocE
 }
 
 /// Appends the access of what overwrites a place.
-fn push_write(accesses: &mut Vec<Access>, place: Place) -> Result<(), AllocError>
-    ensures { OnOk result (accesses.new.items ≡ accesses.old.items ++ access_of Depth.Shallow AccessKind.Write place ∷ []) }
+fn push_write<'a>(accesses: &mut Vec<Access<'a>>, place: PlaceRef<'a>) -> Result<(), AllocError>
+    ensures { OnOk result (accesses.new.items ≡ accesses.old.items ++ access_of Depth.Shallow AccessKind.Write place.entry ∷ []) }
 {
     push_access(accesses, Depth::Shallow, AccessKind::Write, place)
 }
@@ -129,12 +123,12 @@ pub(crate) fn runs_drop(
 }
 
 /// Appends the access of a drop: it reaches what is behind the place where the place's type holds a drop.
-fn push_drop(
+fn push_drop<'a>(
     alloc: Global,
-    accesses: &mut Vec<Access>,
+    accesses: &mut Vec<Access<'a>>,
     types: &GoodTypes,
     locals: &[Ty],
-    place: &Place,
+    place: &'a Place,
 ) -> Result<(), AllocError>
     ensures { OnOk result (accesses.new.items ≡ accesses.old.items ++ drop_access types.now locals.now place.now ∷ []) }
 {
@@ -144,48 +138,47 @@ fn push_drop(
         Depth::Shallow
     };
     accesses.push(Access {
-        place: copy_place(place)?,
+        place: PlaceRef::of(place),
         depth,
         kind: AccessKind::Write,
     })?;
     Ok(())
 }
 
-fn push_statement(
+fn push_statement<'a>(
     alloc: Global,
-    accesses: &mut Vec<Access>,
+    accesses: &mut Vec<Access<'a>>,
     types: &GoodTypes,
     locals: &[Ty],
-    statement: &Statement,
+    statement: &'a Statement,
 ) -> Result<(), AllocError>
     ensures { OnOk result (accesses.new.items ≡ accesses.old.items ++ statement_accesses types.now locals.now statement.now) }
 {
     match statement {
         Statement::Assign(assignment) => {
             push_rvalue(accesses, &assignment.value)?;
-            push_write(accesses, copy_place(&assignment.target)?)
+            push_write(accesses, PlaceRef::of(&assignment.target))
         }
-        Statement::Dead(local) => push_write(accesses, local_place(alloc, *local)),
+        Statement::Dead(local) => push_write(accesses, PlaceRef::of_local(*local)),
         Statement::Drop(place) => push_drop(alloc, accesses, types, locals, place),
         Statement::Nop => Ok(()),
     }
 }
 
-fn push_locals(alloc: Global, accesses: &mut Vec<Access>, locals: usize) -> Result<(), AllocError>
+fn push_locals(accesses: &mut Vec<Access<'_>>, locals: usize) -> Result<(), AllocError>
     requires { locals ≤ 256 }
     ensures { OnOk result (accesses.new.items ≡ accesses.old.items ++ return_accesses locals) }
 {
     for local in 0..locals {
-        push_write(accesses, local_place(alloc, local as u8))?;
+        push_write(accesses, PlaceRef::of_local(local as u8))?;
     }
     Ok(())
 }
 
-fn push_terminator(
-    alloc: Global,
-    accesses: &mut Vec<Access>,
+fn push_terminator<'a>(
+    accesses: &mut Vec<Access<'a>>,
     locals: usize,
-    terminator: &Terminator,
+    terminator: &'a Terminator,
 ) -> Result<(), AllocError>
     requires { locals ≤ 256 }
     ensures { OnOk result (accesses.new.items ≡ accesses.old.items ++ terminator_accesses locals terminator.now) }
@@ -194,9 +187,9 @@ fn push_terminator(
         Terminator::If(condition) => push_operand(accesses, &condition.operand),
         Terminator::Call(call) => {
             push_operands(accesses, call.operands.as_slice())?;
-            push_write(accesses, copy_place(&call.destination)?)
+            push_write(accesses, PlaceRef::of(&call.destination))
         }
-        Terminator::Return => push_locals(alloc, accesses, locals),
+        Terminator::Return => push_locals(accesses, locals),
         Terminator::Goto(_) | Terminator::Stop => Ok(()),
     }
 }
@@ -204,11 +197,11 @@ fn push_terminator(
 /// Appends the accesses of a point of a unit in order, by what happens there, so that a list serves many
 /// points. The error is want of memory alone.
 /// (RFC 2094, "Borrow checker phase 2: reporting errors".)
-pub fn push_accesses(
+pub fn push_accesses<'a>(
     alloc: Global,
-    accesses: &mut Vec<Access>,
+    accesses: &mut Vec<Access<'a>>,
     typed: &Typed,
-    instruction: &Instruction,
+    instruction: &'a Instruction,
 ) -> Result<(), AllocError>
     ensures { OnOk result (accesses.new.items ≡ accesses.old.items ++ accesses_of typed.now instruction.now) }
 {
@@ -217,7 +210,7 @@ pub fn push_accesses(
             push_statement(alloc, accesses, typed.types(), typed.locals(), statement)
         }
         Instruction::Terminator(terminator) => {
-            push_terminator(alloc, accesses, typed.locals().len(), terminator)
+            push_terminator(accesses, typed.locals().len(), terminator)
         }
     }
 }
@@ -225,11 +218,11 @@ pub fn push_accesses(
 /// The accesses of a point of a unit in order, by what happens there. The number of an access is its place
 /// in this list. The error is want of memory alone.
 /// (RFC 2094, "Borrow checker phase 2: reporting errors".)
-pub fn accesses(
+pub fn accesses<'a>(
     alloc: Global,
     typed: &Typed,
-    instruction: &Instruction,
-) -> Result<Vec<Access>, AllocError>
+    instruction: &'a Instruction,
+) -> Result<Vec<Access<'a>>, AllocError>
     ensures { IfOk result (λ accesses. accesses.items ≡ accesses_of typed.now instruction.now) }
 {
     let mut accesses = Vec::new(alloc);

@@ -7,6 +7,7 @@ mod laws;
 mod liveness;
 mod loan;
 mod pairs;
+mod place_ref;
 mod prefix;
 mod region;
 mod support;
@@ -16,6 +17,7 @@ pub use laws::{prefixes_chain, reborrows_list_taken_references, supporters_are_f
 pub use liveness::{defines, push_uses};
 pub use loan::{Loan, loan_of};
 pub use pairs::{push_assignment_pairs, push_call_pairs};
+pub use place_ref::PlaceRef;
 pub use prefix::{from_last_shared, is_prefix, is_shallow_prefix};
 pub use region::region_number;
 pub use support::supports;

@@ -1,29 +1,69 @@
 //! What points demand of regions, beside reborrows.
-ghost use Rattle.std.specs.Prelude.{◌≡◌, ◌++◌, ◌∷◌, [], map, OnOk};
+ghost use Rattle.std.specs.Prelude.{◌≡◌, ◌++◌, ◌∷◌, [], Some, map, OnOk};
+ghost use Rattle.bc_mir.specs.Rules.{type_referenced, type_of_operand as operand_type, type_of_rvalue as rvalue_type};
+ghost use Rattle.bc_types.specs.Replaced.{replaced_ty};
 ghost use Rattle.bc_points.specs.Pairs.{sub_found, sub_place, operand_pair, operand_pairs, replaced_clause, field_pairs, assignment_pairs, called_pairs, call_pairs};
 
-use bc_mir::{type_of_operand, type_of_place, type_of_rvalue};
-use bc_syntax::{
-    Assignment, Call, ExternDeclaration, Operand, Outlives, Place, Region, Rvalue, Ty,
+use bc_mir::{
+    lent_type_of_operand, lent_type_of_place, lent_type_to_borrow, type_of_borrow, type_of_operand,
+    type_of_place, type_of_rvalue,
 };
-use bc_types::{Constraint, GoodTypes, push_outlives, push_sub, replace_region, replace_ty};
+use bc_syntax::{
+    Assignment, Borrow, Call, ExternDeclaration, Operand, Outlives, Place, Reference, Region,
+    Rvalue, Ty,
+};
+use bc_types::{
+    Constraint, GoodTypes, TyRef, push_outlives, push_sub, push_sub_reference, replace_region,
+    replace_ty,
+};
 use std::alloc::{AllocError, Global};
 
-fn push_sub_found(
+/// Appends what makes a value a subtype of the type of a place.
+fn push_sub_place(
+    alloc: Global,
     constraints: &mut Vec<Constraint>,
     types: &GoodTypes,
-    value: &Option<Ty>,
-    target: &Ty,
+    locals: &[Ty],
+    value: &TyRef<'_>,
+    place: &Place,
 ) -> Result<(), AllocError>
-    ensures { OnOk result (constraints.new.items ≡ constraints.old.items ++ sub_found types.now value.now target.now) }
+    ensures { OnOk result (constraints.new.items ≡ constraints.old.items ++ sub_place types.now locals.now (Some value.now) place.now) }
 {
-    match value {
-        Some(ty) => push_sub(constraints, types, ty, target),
-        None => Ok(()),
+    match lent_type_of_place(locals, place) {
+        Some(target) => push_sub(constraints, types, value, &target),
+        None => match type_of_place(alloc, types, locals, place)? {
+            Some(target) => push_sub(constraints, types, value, &TyRef::of(&target)),
+            None => Ok(()),
+        },
     }
 }
 
-fn push_sub_place(
+/// The same of a reference to a value.
+fn push_sub_place_reference(
+    alloc: Global,
+    constraints: &mut Vec<Constraint>,
+    types: &GoodTypes,
+    locals: &[Ty],
+    reference: Reference,
+    pointee: &TyRef<'_>,
+    place: &Place,
+) -> Result<(), AllocError>
+    ensures { OnOk result (constraints.new.items
+        ≡ constraints.old.items ++ sub_place types.now locals.now (Some (type_referenced reference pointee.now)) place.now) }
+{
+    match lent_type_of_place(locals, place) {
+        Some(target) => push_sub_reference(constraints, types, reference, pointee, &target),
+        None => match type_of_place(alloc, types, locals, place)? {
+            Some(target) => {
+                push_sub_reference(constraints, types, reference, pointee, &TyRef::of(&target))
+            }
+            None => Ok(()),
+        },
+    }
+}
+
+/// The same of a value that was built, if there is one.
+fn push_sub_place_found(
     alloc: Global,
     constraints: &mut Vec<Constraint>,
     types: &GoodTypes,
@@ -33,9 +73,107 @@ fn push_sub_place(
 ) -> Result<(), AllocError>
     ensures { OnOk result (constraints.new.items ≡ constraints.old.items ++ sub_place types.now locals.now value.now place.now) }
 {
-    match type_of_place(alloc, types, locals, place)? {
-        Some(target) => push_sub_found(constraints, types, value, &target),
+    match value {
+        Some(ty) => push_sub_place(alloc, constraints, types, locals, &TyRef::of(ty), place),
         None => Ok(()),
+    }
+}
+
+/// The same of an operand.
+fn push_sub_place_operand(
+    alloc: Global,
+    constraints: &mut Vec<Constraint>,
+    types: &GoodTypes,
+    locals: &[Ty],
+    operand: &Operand,
+    place: &Place,
+) -> Result<(), AllocError>
+    ensures { OnOk result (constraints.new.items
+        ≡ constraints.old.items ++ sub_place types.now locals.now (operand_type types.now locals.now operand.now) place.now) }
+{
+    match lent_type_of_operand(locals, operand) {
+        Some(value) => push_sub_place(alloc, constraints, types, locals, &value, place),
+        None => {
+            let value = type_of_operand(alloc, types, locals, operand)?;
+            push_sub_place_found(alloc, constraints, types, locals, &value, place)
+        }
+    }
+}
+
+/// The same of a borrow.
+fn push_sub_place_borrow(
+    alloc: Global,
+    constraints: &mut Vec<Constraint>,
+    types: &GoodTypes,
+    locals: &[Ty],
+    borrow: &Borrow,
+    place: &Place,
+) -> Result<(), AllocError>
+    ensures { OnOk result (constraints.new.items
+        ≡ constraints.old.items ++ sub_place types.now locals.now (rvalue_type types.now locals.now (Rvalue.Borrow borrow.now)) place.now) }
+{
+    let reference = borrow.reference;
+    match lent_type_to_borrow(types, locals, borrow) {
+        Some(pointee) => push_sub_place_reference(
+            alloc,
+            constraints,
+            types,
+            locals,
+            reference,
+            &pointee,
+            place,
+        ),
+        None => {
+            let value = type_of_borrow(alloc, types, locals, borrow)?;
+            push_sub_place_found(alloc, constraints, types, locals, &value, place)
+        }
+    }
+}
+
+/// The same of an rvalue.
+fn push_sub_place_rvalue(
+    alloc: Global,
+    constraints: &mut Vec<Constraint>,
+    types: &GoodTypes,
+    locals: &[Ty],
+    rvalue: &Rvalue,
+    place: &Place,
+) -> Result<(), AllocError>
+    ensures { OnOk result (constraints.new.items
+        ≡ constraints.old.items ++ sub_place types.now locals.now (rvalue_type types.now locals.now rvalue.now) place.now) }
+{
+    match rvalue {
+        Rvalue::Use(operand) => {
+            push_sub_place_operand(alloc, constraints, types, locals, operand, place)
+        }
+        Rvalue::Borrow(borrow) => {
+            push_sub_place_borrow(alloc, constraints, types, locals, borrow, place)
+        }
+        Rvalue::Aggregate(_) | Rvalue::Calc(_) => {
+            let value = type_of_rvalue(alloc, types, locals, rvalue)?;
+            push_sub_place_found(alloc, constraints, types, locals, &value, place)
+        }
+    }
+}
+
+/// Appends what makes an operand a subtype of a type.
+fn push_sub_operand(
+    alloc: Global,
+    constraints: &mut Vec<Constraint>,
+    types: &GoodTypes,
+    locals: &[Ty],
+    operand: &Operand,
+    target: &TyRef<'_>,
+) -> Result<(), AllocError>
+    ensures { OnOk result (constraints.new.items
+        ≡ constraints.old.items ++ sub_found types.now (operand_type types.now locals.now operand.now) target.now) }
+{
+    match lent_type_of_operand(locals, operand) {
+        Some(value) => push_sub(constraints, types, &value, target),
+        None => match type_of_operand(alloc, types, locals, operand)? {
+            Some(value) => push_sub(constraints, types, &TyRef::of(&value), target),
+            None => Ok(()),
+        },
     }
 }
 
@@ -52,9 +190,15 @@ fn push_operand_pair(
     ensures { OnOk result (constraints.new.items
         ≡ constraints.old.items ++ operand_pair types.now locals.now arguments.now operand.now expected.now) }
 {
-    let value = type_of_operand(alloc, types, locals, operand)?;
     let target = replace_ty(alloc, arguments, expected)?;
-    push_sub_found(constraints, types, &value, &target)
+    push_sub_operand(
+        alloc,
+        constraints,
+        types,
+        locals,
+        operand,
+        &TyRef::of(&target),
+    )
 }
 
 fn push_operand_pairs(
@@ -145,14 +289,37 @@ pub fn push_assignment_pairs(
     ensures { OnOk result (constraints.new.items ≡ constraints.old.items ++ assignment_pairs types.now locals.now assignment.now) }
 {
     push_field_pairs(alloc, constraints, types, locals, &assignment.value)?;
-    let value = type_of_rvalue(alloc, types, locals, &assignment.value)?;
+    push_sub_place_rvalue(
+        alloc,
+        constraints,
+        types,
+        locals,
+        &assignment.value,
+        &assignment.target,
+    )
+}
+
+/// Appends what makes a result, with the declared regions replaced by arguments, a subtype of the type of a place.
+fn push_returned_pairs(
+    alloc: Global,
+    constraints: &mut Vec<Constraint>,
+    types: &GoodTypes,
+    locals: &[Ty],
+    arguments: &[Region],
+    declared: &Ty,
+    place: &Place,
+) -> Result<(), AllocError>
+    ensures { OnOk result (constraints.new.items
+        ≡ constraints.old.items ++ sub_place types.now locals.now (Some (replaced_ty arguments.now declared.now)) place.now) }
+{
+    let returned = replace_ty(alloc, arguments, declared)?;
     push_sub_place(
         alloc,
         constraints,
         types,
         locals,
-        &value,
-        &assignment.target,
+        &TyRef::of(&returned),
+        place,
     )
 }
 
@@ -180,13 +347,13 @@ fn push_called_pairs(
         parameters,
     )?;
     push_clauses(constraints, arguments, header.clauses.as_slice())?;
-    let returned = Some(replace_ty(alloc, arguments, &header.result)?);
-    push_sub_place(
+    push_returned_pairs(
         alloc,
         constraints,
         types,
         locals,
-        &returned,
+        arguments,
+        &header.result,
         &call.destination,
     )
 }

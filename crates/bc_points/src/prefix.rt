@@ -4,8 +4,9 @@ ghost use Rattle.std.specs.Option.{option_copied};
 ghost use Rattle.bc_mir.specs.Places.{are_mutable as all_mutable};
 ghost use Rattle.bc_points.specs.Prefixes.{from_last_shared as since_last_shared, rest_after as after, same_projection, rest_of as what_follows, is_prefix as prefix_test, is_shallow_prefix as shallow_test};
 
+use crate::place_ref::PlaceRef;
 use bc_mir::are_fields;
-use bc_syntax::{Place, Projection, Reference};
+use bc_syntax::{Projection, Reference};
 use bc_types::is_mutable;
 
 fn are_mutable(references: &[Reference]) -> bool
@@ -61,18 +62,18 @@ fn rest_after<'a>(
 }
 
 /// What a place has after one of its prefixes, or `None` where the first is no prefix of the second.
-pub(crate) fn rest_of<'a>(prefix: &Place, place: &'a Place) -> Option<&'a [Projection]>
+pub(crate) fn rest_of<'a>(prefix: &PlaceRef<'_>, place: &PlaceRef<'a>) -> Option<&'a [Projection]>
     ensures { option_copied result ≡ what_follows prefix.now place.now }
 {
-    if prefix.local != place.local {
+    if prefix.local() != place.local() {
         return None;
     }
-    rest_after(prefix.projections.as_slice(), place.projections.as_slice())
+    rest_after(prefix.projections(), place.projections())
 }
 
 /// Whether the first place is the second, or what taking away last projections of the second gives.
 /// (RFC 2094, "Reborrow constraints".)
-pub fn is_prefix(prefix: &Place, place: &Place) -> bool
+pub fn is_prefix(prefix: &PlaceRef<'_>, place: &PlaceRef<'_>) -> bool
     ensures { result ≡ prefix_test prefix.now place.now }
 {
     rest_of(prefix, place).is_some()
@@ -80,7 +81,7 @@ pub fn is_prefix(prefix: &Place, place: &Place) -> bool
 
 /// Whether the first place is a prefix of the second for which fields alone were taken away (RFC 2094,
 /// "Borrow checker phase 2": shallow prefixes).
-pub fn is_shallow_prefix(prefix: &Place, place: &Place) -> bool
+pub fn is_shallow_prefix(prefix: &PlaceRef<'_>, place: &PlaceRef<'_>) -> bool
     ensures { result ≡ shallow_test prefix.now place.now }
 {
     match rest_of(prefix, place) {

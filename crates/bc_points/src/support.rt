@@ -2,9 +2,10 @@
 ghost use Rattle.std.specs.Prelude.{◌≡◌};
 ghost use Rattle.bc_points.specs.Supports.{goes_on_mutable as going_on, supports as support, supports_behind as support_behind, supports_from as support_from};
 
+use crate::place_ref::PlaceRef;
 use crate::prefix::rest_of;
 use bc_mir::passes_only_mutable;
-use bc_syntax::{Base, Place, Projection, Reference, Ty};
+use bc_syntax::{Base, Projection, Reference, Ty};
 use bc_types::GoodTypes;
 
 /// Whether behind projections is a type from which the rest dereference mutable references alone. Regions do not tell, so
@@ -39,13 +40,18 @@ fn supports_behind(
     }
 }
 
-fn supports_from(types: &GoodTypes, locals: &[Ty], prefix: &Place, rest: &[Projection]) -> bool
+fn supports_from(
+    types: &GoodTypes,
+    locals: &[Ty],
+    prefix: &PlaceRef<'_>,
+    rest: &[Projection],
+) -> bool
     ensures { result ≡ support_from types.now locals.now prefix.now rest.now }
 {
-    match locals.get(usize::from(prefix.local)) {
+    match locals.get(usize::from(prefix.local())) {
         Some(local) => supports_behind(
             types,
-            prefix.projections.as_slice(),
+            prefix.projections(),
             rest,
             local.references.as_slice(),
             &local.base,
@@ -54,7 +60,12 @@ fn supports_from(types: &GoodTypes, locals: &[Ty], prefix: &Place, rest: &[Proje
     }
 }
 
-fn goes_on_mutable(types: &GoodTypes, locals: &[Ty], prefix: &Place, rest: &[Projection]) -> bool
+fn goes_on_mutable(
+    types: &GoodTypes,
+    locals: &[Ty],
+    prefix: &PlaceRef<'_>,
+    rest: &[Projection],
+) -> bool
     ensures { result ≡ going_on types.now locals.now prefix.now rest.now }
 {
     supports_from(types, locals, prefix, rest)
@@ -62,7 +73,12 @@ fn goes_on_mutable(types: &GoodTypes, locals: &[Ty], prefix: &Place, rest: &[Pro
 
 /// Whether the first place is a prefix of the second for which no dereference of a shared reference was taken away.
 /// (RFC 2094, "Reborrow constraints".)
-pub fn supports(types: &GoodTypes, locals: &[Ty], prefix: &Place, place: &Place) -> bool
+pub fn supports(
+    types: &GoodTypes,
+    locals: &[Ty],
+    prefix: &PlaceRef<'_>,
+    place: &PlaceRef<'_>,
+) -> bool
     ensures { result ≡ support types.now locals.now prefix.now place.now }
 {
     match rest_of(prefix, place) {

@@ -9,6 +9,7 @@ mod shapes;
 mod subtype;
 mod subtyping;
 mod table;
+mod ty_ref;
 
 pub use good_types::{CheckTypes, DeclFault, GoodTypes};
 pub use mutabilities::is_mutable;
@@ -18,5 +19,6 @@ pub use shapes::{
     is_same_mutability,
 };
 pub use subtype::{Constraint, push_outlives};
-pub use subtyping::push_sub;
+pub use subtyping::{push_sub, push_sub_reference};
 pub use table::{copy_clauses, copy_type, takes_regions};
+pub use ty_ref::TyRef;

@@ -1,12 +1,13 @@
 //! Subtypes with variance (RFC 2094, "Subtyping"; rustc-dev-guide, "Variance").
-ghost use Rattle.std.specs.Prelude.{◌≡◌, ◌++◌, OnOk};
+ghost use Rattle.std.specs.Prelude.{◌≡◌, ◌++◌, ◌∷◌, OnOk};
 ghost use Rattle.bc_types.specs.Subtyping.{related, related_arguments, related_bases, related_types, sub};
 
 use crate::good::is_invariant;
 use crate::good_types::GoodTypes;
 use crate::mutabilities::is_mutable;
 use crate::subtype::{Constraint, push_outlives};
-use bc_syntax::{Base, Reference, Region, Ty, Variance};
+use crate::ty_ref::TyRef;
+use bc_syntax::{Base, Reference, Region, Variance};
 use std::alloc::AllocError;
 
 fn push_related(
@@ -107,8 +108,8 @@ fn push_related_types(
 pub fn push_sub(
     constraints: &mut Vec<Constraint>,
     types: &GoodTypes,
-    value: &Ty,
-    target: &Ty,
+    value: &TyRef<'_>,
+    target: &TyRef<'_>,
 ) -> Result<(), AllocError>
     ensures { OnOk result (constraints.new.items ≡ constraints.old.items ++ sub types.now value.now target.now) }
 {
@@ -116,9 +117,40 @@ pub fn push_sub(
         constraints,
         types,
         false,
-        value.references.as_slice(),
-        &value.base,
-        target.references.as_slice(),
-        &target.base,
+        value.references(),
+        value.base(),
+        target.references(),
+        target.base(),
     )
+}
+
+/// Appends what makes a reference to the first type a subtype of the second, where both have one shape. The error is want of
+/// memory alone.
+/// (RFC 2094, "Subtyping".)
+pub fn push_sub_reference(
+    constraints: &mut Vec<Constraint>,
+    types: &GoodTypes,
+    reference: Reference,
+    pointee: &TyRef<'_>,
+    target: &TyRef<'_>,
+) -> Result<(), AllocError>
+    ensures { OnOk result (constraints.new.items
+        ≡ constraints.old.items ++ sub types.now (record { references = reference ∷ pointee.now.references; base = pointee.now.base }) target.now) }
+{
+    match target.references() {
+        [] => Ok(()),
+        [first, rest @ ..] => {
+            let behind = is_mutable(reference.mutability);
+            push_related(constraints, false, reference.region, first.region)?;
+            push_related_types(
+                constraints,
+                types,
+                behind,
+                pointee.references(),
+                pointee.base(),
+                rest,
+                target.base(),
+            )
+        }
+    }
 }

@@ -39,7 +39,7 @@ fn show_numbers<W: Write, F: Fn(usize) -> bool>(
     writeln!(out)
 }
 
-fn show_access<W: Write>(access: &Access, out: &mut W) -> io::Result<()> {
+fn show_access<W: Write>(access: &Access<'_>, out: &mut W) -> io::Result<()> {
     let depth = match access.depth {
         Depth::Shallow => "shallow",
         Depth::Deep => "deep",
@@ -48,7 +48,7 @@ fn show_access<W: Write>(access: &Access, out: &mut W) -> io::Result<()> {
         AccessKind::Read => "read",
         AccessKind::Write => "write",
     };
-    write!(out, ", {depth} {kind} of _{}", access.place.local)
+    write!(out, ", {depth} {kind} of _{}", access.place.local())
 }
 
 fn show_point<W: Write>(
@@ -105,11 +105,11 @@ fn show_loan<W: Write>(
     typed: &Typed,
     number: usize,
     maker: usize,
-    loan: &Loan,
+    loan: &Loan<'_>,
     out: &mut W,
 ) -> io::Result<()> {
     let region = region_number(typed.universals(), loan.region);
-    let local = loan.path.local;
+    let local = loan.path.local();
     writeln!(
         out,
         "loan {number}: of _{local} at {maker} in region {region}"

@@ -12,8 +12,8 @@ step size n rows new added were is = (is.rows ∙ were.0, sizes_kept size rows n
 inserted : (size n : ℕ) (rows new : List (List Bool)) → AreFive size rows → length new ≡ length rows → new ≡ set rows n (row new n) → length (row new n) ≡ length (row rows n) → AreFive size new
 inserted size n rows new were count others kept = (count ∙ were.0, sizes_kept size rows new n count (others_kept rows new n others) kept were.1)
 
-pub insert_below_without-requires-clause-count : goal.insert_below_without-requires-clause-count
-insert_below_without-requires-clause-count c =
+pub union_row_below-requires-clause-count : goal.union_row_below-requires-clause-count
+union_row_below-requires-clause-count c =
     let size : ℕ = c.args.size in
     let a : AreFive size c.in_ok-rows.rows = (c.in_ok-rows.ensures.rows, c.in_ok-rows.ensures.size) in
     let b = step size 0 c.in_ok-rows.rows c.insert_below.new.self _ a c.insert_below.ensures in
@@ -32,5 +32,5 @@ returns-clause-size c =
     let e = inserted size 1 c.union_row.new.self c.insert-added-2.new.self d c.insert-added-2.ensures.rows c.insert-added-2.ensures.others c.insert-added-2.ensures.size in
     let f = inserted size 1 c.insert-added-2.new.self c.insert-added-3.new.self e c.insert-added-3.ensures.rows c.insert-added-3.ensures.others c.insert-added-3.ensures.size in
     let g = step size 3 c.insert-added-3.new.self c.insert_below-2.new.self _ f c.insert_below-2.ensures in
-    let last = step size 4 c.insert_below-2.new.self c.insert_below_without.new.self _ g c.insert_below_without.ensures in
+    let last = step size 4 c.insert_below-2.new.self c.union_row_below.new.self _ g c.union_row_below.ensures in
     last.1

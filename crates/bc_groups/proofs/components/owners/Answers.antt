@@ -16,5 +16,5 @@ loop-left-init c =
         within = c.in_ok-every_node.ensures.within;
         led = leads_itself c.args.edges.now nodes c.in_ok-every_node.field-0.items itself;
       };
-      none_open = ap length c.new.ensures.items;
+      none_open = ap length c.in_ok-with_capacity.ensures.items;
     }

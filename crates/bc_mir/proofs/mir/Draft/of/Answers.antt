@@ -13,8 +13,8 @@ loop-number-preserved c =
     let is : block ≡ get_or blocks here.number block = rw (← same) c.block-item.is in
     let added = c.in_ok-push_block.ensures in
     let count : length c.push_block.new.steps.items ≡ length here.steps.items + length block.statements + 1 = ap length added ∙ length-append here.steps.items (block_steps here.number 0 block.statements block.terminator) ∙ omega (arith, length-block_steps here.number 0 block.statements block.terminator) in
-    let counted : c.len.result ≡ length here.steps.items = omega arith in
+    let counted : c.len-in-loop-number.result ≡ length here.steps.items = omega arith in
     record {
       steps = rw added (steps-more here.steps.items _ here.number blocks block below is here.invariant.steps);
-      entries = rw (count, c.in_ok-push.ensures.items) (entries-more here.entries.items _ c.len.result (length here.steps.items) here.number blocks block below is counted here.invariant.entries);
+      entries = rw (count, c.in_ok-push.ensures.items) (entries-more here.entries.items _ c.len-in-loop-number.result (length here.steps.items) here.number blocks block below is counted here.invariant.entries);
     }

@@ -1,5 +1,0 @@
-use Rattle.bc_flow.proofs.Fronts.{AreFilled}
-use Rattle.bc_flow.proofs.bit_words.fill_below_without.Given as goal
-
-abbrev pub invariant-loop-k : goal.invariant-loop-k
-invariant-loop-k l = AreFilled l.words l.initial.words l.without l.count l.k

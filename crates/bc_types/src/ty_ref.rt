@@ -1,0 +1,63 @@
+//! Types that are lent.
+ghost use Rattle.std.specs.Prelude.{◌≡◌};
+ghost use Rattle.bc_types.specs.Shapes.{is_copyable_type};
+
+use crate::shapes::is_copyable_behind;
+use bc_syntax::{Base, Reference, Ty};
+use std::marker::Model;
+
+/// A type that is lent: its references, the outermost first, and what they lead to, where they stand. It takes no memory, and
+/// contracts see it as the type. (Own.)
+#[derive(Drop)]
+pub struct TyRef<'a> {
+    references: &'a [Reference],
+    base: &'a Base,
+}
+
+impl<'a> Model for TyRef<'a> {
+    ghost use Rattle.bc_syntax.specs.declared.syntax.Ty.{Ty};
+
+    ghost Value = { Ty };
+
+    ghost view = { λ t. record { references = t.references.now; base = t.base.now } };
+}
+
+impl<'a> TyRef<'a> {
+    /// A type, lent. (Own.)
+    pub fn of(ty: &'a Ty) -> TyRef<'a>
+        ensures { result ≡ ty.now }
+    {
+        TyRef {
+            references: ty.references.as_slice(),
+            base: &ty.base,
+        }
+    }
+
+    /// The type of these references to what they lead to. (Own.)
+    pub fn behind(references: &'a [Reference], base: &'a Base) -> TyRef<'a>
+        ensures { result ≡ record { references = references.now; base = base.now } }
+    {
+        TyRef { references, base }
+    }
+
+    /// The references of the type, the outermost first. (Own.)
+    pub fn references(&self) -> &'a [Reference]
+        ensures { result.now ≡ self.now.references }
+    {
+        self.references
+    }
+
+    /// What the references of the type lead to. (Own.)
+    pub fn base(&self) -> &'a Base
+        ensures { result.now ≡ self.now.base }
+    {
+        self.base
+    }
+
+    /// Whether `copy` may take a value of the type: it is `int` or a shared reference. (Own.)
+    pub fn is_copyable(&self) -> bool
+        ensures { result ≡ is_copyable_type self.now }
+    {
+        is_copyable_behind(self.references, self.base)
+    }
+}
