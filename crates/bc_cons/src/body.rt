@@ -34,8 +34,16 @@ fn pairs_of_steps(
     ensures { IfOk result (λ pairs. pairs.items ≡ flat_map (λ step. pairs_at types.now locals.now step.instruction) steps.now) }
 {
     let mut pairs = Vec::with_capacity(alloc, steps.len())?;
+    let mut references = Vec::new(alloc);
     for step in steps {
-        push_pairs_at(alloc, &mut pairs, types, locals, &step.instruction)?;
+        push_pairs_at(
+            alloc,
+            &mut pairs,
+            &mut references,
+            types,
+            locals,
+            &step.instruction,
+        )?;
     }
     Ok(pairs)
 }

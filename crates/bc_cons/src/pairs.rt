@@ -3,7 +3,7 @@ ghost use Rattle.std.specs.Prelude.{◌≡◌, ◌++◌, map, OnOk};
 ghost use Rattle.bc_types.specs.Subtype.{outlives};
 ghost use Rattle.bc_cons.specs.Constraints.{reborrow_pairs, pairs_at};
 
-use bc_mir::{Constraint as RegionConstraint, GoodTypes, Instruction, references_of_place};
+use bc_mir::{Constraint as RegionConstraint, GoodTypes, Instruction, push_references_of_place};
 use bc_points::{from_last_shared, push_assignment_pairs, push_call_pairs};
 use bc_syntax::{Reference, Region, Rvalue, Statement, Terminator, Ty};
 use std::alloc::{AllocError, Global};
@@ -25,10 +25,11 @@ fn push_outlives(
     Ok(())
 }
 
-/// Appends the pairs of a borrow through references.
+/// Appends the pairs of a borrow through references. `references` is a list to be filled anew.
 fn push_reborrow(
     alloc: Global,
     pairs: &mut Vec<RegionConstraint>,
+    references: &mut Vec<Reference>,
     types: &GoodTypes,
     locals: &[Ty],
     rvalue: &Rvalue,
@@ -37,7 +38,8 @@ fn push_reborrow(
 {
     match rvalue {
         Rvalue::Borrow(borrow) => {
-            let references = references_of_place(alloc, types, locals, &borrow.place)?;
+            references.clear();
+            push_references_of_place(alloc, references, types, locals, &borrow.place)?;
             let supporting = from_last_shared(references.as_slice());
             push_outlives(pairs, supporting, borrow.reference.region)
         }
@@ -45,10 +47,11 @@ fn push_reborrow(
     }
 }
 
-/// Appends the pairs of a point, by what happens there.
+/// Appends the pairs of a point, by what happens there. `references` is a list to be filled anew.
 pub(crate) fn push_pairs_at(
     alloc: Global,
     pairs: &mut Vec<RegionConstraint>,
+    references: &mut Vec<Reference>,
     types: &GoodTypes,
     locals: &[Ty],
     instruction: &Instruction,
@@ -58,7 +61,7 @@ pub(crate) fn push_pairs_at(
     match instruction {
         Instruction::Statement(Statement::Assign(assignment)) => {
             push_assignment_pairs(alloc, pairs, types, locals, assignment)?;
-            push_reborrow(alloc, pairs, types, locals, &assignment.value)
+            push_reborrow(alloc, pairs, references, types, locals, &assignment.value)
         }
         Instruction::Terminator(Terminator::Call(call)) => {
             push_call_pairs(alloc, pairs, types, locals, call)

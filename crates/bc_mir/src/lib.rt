@@ -19,7 +19,7 @@ pub use bc_types::{CheckTypes, Constraint, DeclFault, GoodTypes, is_mutable};
 pub use laws::{edges_join_points, entries_begin_blocks};
 pub use mir::{Instruction, Point, Step};
 pub use place_types::{
-    lent_type_of_place, passes_only_mutable, references_of_place, type_of_place,
+    lent_type_of_place, passes_only_mutable, push_references_of_place, type_of_place,
 };
 pub use places::are_fields;
 pub use typed::{IllFault, KidHeader, Typed, Where, type_unit};

@@ -172,30 +172,29 @@ fn push_references_behind(
     }
 }
 
-/// The references that a place dereferences, the first dereference first; none for a local that is not declared. The
+/// Appends the references that a place dereferences, the first dereference first; none for a local that is not declared. The
 /// error is want of memory alone.
 /// (RFC 2094, "Reborrow constraints".)
-pub fn references_of_place(
+pub fn push_references_of_place(
     alloc: Global,
+    out: &mut Vec<Reference>,
     types: &GoodTypes,
     locals: &[Ty],
     place: &Place,
-) -> Result<Vec<Reference>, AllocError>
-    ensures { IfOk result (λ references. references.items ≡ dereferenced_there types.now locals.now place.now) }
+) -> Result<(), AllocError>
+    ensures { OnOk result (out.new.items ≡ out.old.items ++ dereferenced_there types.now locals.now place.now) }
 {
-    let mut references = Vec::new(alloc);
     match locals.get(usize::from(place.local)) {
         Some(local) => push_references_behind(
             alloc,
-            &mut references,
+            out,
             types,
             place.projections.as_slice(),
             local.references.as_slice(),
             &local.base,
-        )?,
-        None => {}
+        ),
+        None => Ok(()),
     }
-    Ok(references)
 }
 
 /// Whether projections of a type dereference mutable references alone. Regions do not tell, so a field is taken as it is

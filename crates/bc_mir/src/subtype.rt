@@ -19,11 +19,8 @@ impl Typed {
     ) -> Result<(), AllocError>
         ensures { OnOk result (constraints.new.items ≡ constraints.old.items ++ sub self.now.types value.now target.now) }
     {
-        push_sub(
-            constraints,
-            self.types(),
-            &TyRef::of(value),
-            &TyRef::of(target),
-        )
+        let value = TyRef::of(value);
+        let target = TyRef::of(target);
+        push_sub(constraints, self.types(), &value, &target)
     }
 }

@@ -2,6 +2,7 @@
 #![tactic(auto)]
 
 use bc_check::{Stop, check_and_tell, stop_with};
+use std::alloc::AllocError;
 use std::fs::File;
 use std::io::{BufWriter, ErrorKind, Stderr};
 use std::process::ExitCode;
@@ -14,6 +15,13 @@ fn read_words(rt: &HostRuntime) -> io::Result<Vec<String>> {
         words.push(word)?;
     }
     Ok(words)
+}
+
+/// Has the C library keep what a body's analysis gives back, for the next body, and not hand it to the system each time: it keeps
+/// what is smaller than the greatest block that it was ever given back (mallopt(3), `M_MMAP_THRESHOLD`), which is this one.
+fn keep_memory(rt: &HostRuntime) {
+    let block: Result<Vec<u8>, AllocError> = Vec::with_capacity(rt.alloc(), 1 << 24);
+    drop(block);
 }
 
 /// Checks the file of this name. What it prints stands in a buffer, which `check_and_tell` empties. Where the output fails,
@@ -34,7 +42,10 @@ fn main(rt: HostRuntime) -> ExitCode {
     let mut err = rt.stderr();
     let ended = match read_words(&rt) {
         Ok(words) => match words.as_slice() {
-            [command, file] if command.as_str() == "check" => check_file(&rt, file, &mut err),
+            [command, file] if command.as_str() == "check" => {
+                keep_memory(&rt);
+                check_file(&rt, file, &mut err)
+            }
             _ => stop_with("", &Stop::WrongUse, &mut err),
         },
         Err(fault) if fault.kind() == ErrorKind::OutOfMemory => {
