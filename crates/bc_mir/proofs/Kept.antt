@@ -10,7 +10,7 @@ use Rattle.bc_syntax.specs.declared.syntax.Block.{Block}
 use Rattle.bc_syntax.specs.declared.syntax.Statement.{Statement as Simple}
 use Rattle.bc_syntax.specs.declared.syntax.Terminator.{Terminator as Ending}
 use Rattle.bc_syntax.specs.declared.syntax.Terminator.TheVariants.{Goto, If, Call, Return, Stop}
-use Rattle.bc_syntax.proofs.Headers.{header_parts}
+use Rattle.bc_syntax.proofs.Signatures.{signature_parts}
 use Rattle.bc_syntax.specs.Fits.{Fits as Sized, universal_count, locals_of, point_count, clause_fits, ty_fits, statement_fits, terminator_fits, block_fits}
 use Rattle.bc_flow.specs.declared.graph.Edge.{Edge}
 use Rattle.bc_mir.specs.declared.mir.Step.{Step}
@@ -120,31 +120,31 @@ some-point [] some = absurd (omega arith)
 some-point (block ∷ blocks) some = omega (arith, length-append (block_steps 0 0 block.statements block.terminator) (steps_from 1 blocks), length-block_steps 0 0 block.statements block.terminator)
 
 -- the types of the locals name regions that may be named
-types-fit : (body : Body) → Sized body → list_all (ty_fits true (universal_count body.header)) (locals_of body) ≡ true
+types-fit : (body : Body) → Sized body → list_all (ty_fits true (universal_count body.header.signature)) (locals_of body) ≡ true
 types-fit body sized =
-    let n = universal_count body.header in
-    let header = header_parts 15 body.header sized.header in
-    let parameters = (and_parts (list_all (ty_fits false n) body.header.parameters) _ header.parameters).0 in
-    and_from _ _ (ty-wider n body.header.result header.result)
-    (list_all-append (ty_fits true n) body.header.parameters body.lets ∙ and_from _ _ (types-wider n body.header.parameters parameters) sized.lets)
+    let n = universal_count body.header.signature in
+    let signature = signature_parts 15 body.header.signature sized.header in
+    let parameters = (and_parts (list_all (ty_fits false n) body.header.signature.parameters) _ signature.parameters).0 in
+    and_from _ _ (ty-wider n body.header.signature.result signature.result)
+    (list_all-append (ty_fits true n) body.header.signature.parameters body.lets ∙ and_from _ _ (types-wider n body.header.signature.parameters parameters) sized.lets)
 
 -- a unit that fits is typed
 pub typed : (types : List Declaration) (body : Body) → Sized body → Fits (mir_of types body) → IsTyped (mir_of types body)
 typed types body sized fits =
     let mir = mir_of types body in
-    let header = header_parts 15 body.header sized.header in
+    let signature = signature_parts 15 body.header.signature sized.header in
     let count : length mir.steps ≡ point_count body.blocks = length-steps_from 0 body.blocks in
     record {
       fits = fits;
       some_universal = omega arith;
-      universals = omega (arith, header.few);
-      clauses = (and_parts (list_all (clause_fits (universal_count body.header)) body.header.clauses) _ header.clauses).0;
+      universals = omega (arith, signature.few);
+      clauses = (and_parts (list_all (clause_fits (universal_count body.header.signature)) body.header.signature.clauses) _ signature.clauses).0;
       some_local = omega arith;
       locals = sized.locals;
       types = types-fit body sized;
       some_point = some-point body.blocks sized.some_block;
       points = omega (arith, count, sized.points);
-      instructions = steps-fit (universal_count body.header) (length (locals_of body)) 0 body.blocks sized.blocks;
+      instructions = steps-fit (universal_count body.header.signature) (length (locals_of body)) 0 body.blocks sized.blocks;
       edges = edges-within mir 0 mir.steps (λ label below. omega (arith, count, entries-within 0 label body.blocks below)) (omega arith) (steps-go-on 0 body.blocks) (no_unfit mir fits);
     }
 

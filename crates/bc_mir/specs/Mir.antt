@@ -48,8 +48,8 @@ entries_from first (block ∷ blocks) = first ∷ entries_from (first + length b
 abbrev pub mir_of : List Declaration → Body → Mir
 mir_of types body = record {
   types = types;
-  universals = universal_count body.header;
-  clauses = body.header.clauses;
+  universals = universal_count body.header.signature;
+  clauses = body.header.signature.clauses;
   locals = locals_of body;
   steps = steps_from 0 body.blocks;
   entries = entries_from 0 body.blocks;

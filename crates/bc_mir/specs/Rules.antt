@@ -113,9 +113,9 @@ statement_keeps_rules types locals Nop = true
 -- and the result has the shape of the destination
 abbrev pub can_call : List Declaration → List Ty → Calling → ExternDeclaration → Bool
 can_call types locals call d =
-    length d.header.regions == length call.function.regions
-    && (have_shapes types locals call.operands d.header.parameters
-    && of_one_shape (type_to_write types locals call.destination) (Some d.header.result))
+    length d.signature.regions == length call.function.regions
+    && (have_shapes types locals call.operands d.signature.parameters
+    && of_one_shape (type_to_write types locals call.destination) (Some d.signature.result))
 
 -- a terminator fits if each of its labels is a block, what it tests is an `int`, and what it calls is declared
 abbrev pub terminator_keeps_rules : List Declaration → List Ty → ℕ → Ending → Bool

@@ -87,8 +87,8 @@ fn local_types(alloc: Global, body: &Body) -> Result<Vec<Ty>, AllocError>
     ensures { IfOk result (λ types. types.items ≡ locals_of body.now) }
 {
     let mut types = Vec::new(alloc);
-    types.push(copy_type(&body.header.result)?)?;
-    push_types(&mut types, body.header.parameters.as_slice())?;
+    types.push(copy_type(&body.header.signature.result)?)?;
+    push_types(&mut types, body.header.signature.parameters.as_slice())?;
     push_types(&mut types, body.lets.as_slice())?;
     Ok(types)
 }
@@ -137,9 +137,10 @@ impl Draft {
         types: Arc<GoodTypes, Global>,
         body: &Body,
     ) -> Result<Draft, AllocError>
-        requires { universal_count body.now.header ≤ 16 }
+        requires { universal_count body.now.header.signature ≤ 16 }
         ensures { IfOk result (λ draft. draft ≡ mir_of (arc_value types) body.now) }
     {
+        let signature = &body.header.signature;
         let mut steps = Vec::with_capacity(alloc, point_count(body))?;
         let mut entries = Vec::with_capacity(alloc, body.blocks.len())?;
         for (number, block) in body.blocks.as_slice().iter().enumerate() {
@@ -148,8 +149,8 @@ impl Draft {
         }
         Ok(Draft {
             types,
-            universals: (body.header.regions.len() + 1) as u8,
-            clauses: copy_clauses(&body.header.clauses)?,
+            universals: (signature.regions.len() + 1) as u8,
+            clauses: copy_clauses(&signature.clauses)?,
             locals: local_types(alloc, body)?,
             steps,
             entries,

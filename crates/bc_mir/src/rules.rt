@@ -186,11 +186,11 @@ fn takes_result(types: &GoodTypes, locals: &[Ty], destination: &Place, returned:
 fn can_call(types: &GoodTypes, locals: &[Ty], call: &Call, declaration: &ExternDeclaration) -> bool
     ensures { result ≡ callable types.now locals.now call.now declaration.now }
 {
-    let header = &declaration.header;
+    let signature = &declaration.signature;
     let operands = call.operands.as_slice();
-    header.regions.len() == call.function.regions.as_slice().len()
-        && have_shapes(types, locals, operands, header.parameters.as_slice())
-        && takes_result(types, locals, &call.destination, &header.result)
+    signature.regions.len() == call.function.regions.as_slice().len()
+        && have_shapes(types, locals, operands, signature.parameters.as_slice())
+        && takes_result(types, locals, &call.destination, &signature.result)
 }
 
 fn condition_keeps_rules(

@@ -66,9 +66,9 @@ assignment_pairs types locals assignment =
 -- function's regions replaced
 abbrev pub called_pairs : List Declaration → List Ty → Calling → ExternDeclaration → List Constraint
 called_pairs types locals call d =
-    operand_pairs types locals call.function.regions call.operands d.header.parameters
-    ++ (map (replaced_clause call.function.regions) d.header.clauses
-    ++ sub_place types locals (Some (replaced_ty call.function.regions d.header.result)) call.destination)
+    operand_pairs types locals call.function.regions call.operands d.signature.parameters
+    ++ (map (replaced_clause call.function.regions) d.signature.clauses
+    ++ sub_place types locals (Some (replaced_ty call.function.regions d.signature.result)) call.destination)
 
 abbrev pub call_pairs : List Declaration → List Ty → Calling → List Constraint
 call_pairs types locals call = option_map_or (called_pairs types locals call) (extern_of types call.function.name) []

@@ -334,9 +334,9 @@ fn push_called_pairs(
     ensures { OnOk result (constraints.new.items ≡ constraints.old.items ++ called_pairs types.now locals.now call.now declaration.now) }
 {
     let arguments = call.function.regions.as_slice();
-    let header = &declaration.header;
+    let signature = &declaration.signature;
     let operands = call.operands.as_slice();
-    let parameters = header.parameters.as_slice();
+    let parameters = signature.parameters.as_slice();
     push_operand_pairs(
         alloc,
         constraints,
@@ -346,14 +346,14 @@ fn push_called_pairs(
         operands,
         parameters,
     )?;
-    push_clauses(constraints, arguments, header.clauses.as_slice())?;
+    push_clauses(constraints, arguments, signature.clauses.as_slice())?;
     push_returned_pairs(
         alloc,
         constraints,
         types,
         locals,
         arguments,
-        &header.result,
+        &signature.result,
         &call.destination,
     )
 }

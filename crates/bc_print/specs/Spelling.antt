@@ -33,6 +33,7 @@ use Rattle.bc_syntax.specs.declared.syntax.Terminator.{Terminator}
 use Rattle.bc_syntax.specs.declared.syntax.Terminator.TheVariants as terminator_kinds
 use Rattle.bc_syntax.specs.declared.syntax.Block.{Block}
 use Rattle.bc_syntax.specs.declared.syntax.Outlives.{Outlives}
+use Rattle.bc_syntax.specs.declared.syntax.Signature.{Signature}
 use Rattle.bc_syntax.specs.declared.syntax.Header.{Header}
 use Rattle.bc_syntax.specs.declared.syntax.Body.{Body}
 use Rattle.bc_syntax.specs.declared.syntax.Variance.{Variance}
@@ -200,20 +201,24 @@ lets regions number (t ∷ ts) = declared regions number t ++ lets regions (numb
 abbrev pub parameters : List RegionName → List Ty → List Token
 parameters regions ts = symbol s.OpenParen ++ (commas (ty regions) ts ++ symbol s.CloseParen)
 
--- what stands behind a function's name or the word `fn`
-abbrev pub signature : Header → List Token
-signature h = angled region_name h.regions ++ (clauses h.regions h.clauses ++ (parameters h.regions h.parameters ++ (symbol s.Arrow ++ ty h.regions h.result)))
+-- what a function takes and what it returns
+abbrev pub function_ty : Signature → List Token
+function_ty f = parameters f.regions f.parameters ++ (symbol s.Arrow ++ ty f.regions f.result)
+
+-- what stands behind the name of an extern function or the word `fn`
+abbrev pub signature : Signature → List Token
+signature f = angled region_name f.regions ++ (clauses f.regions f.clauses ++ function_ty f)
 
 abbrev pub header : Header → List Token
-header h = symbol s.Fn ++ signature h
+header h = symbol s.Fn ++ signature h.signature
 
 -- the first of the `let` locals
 abbrev pub first_let : Header → ℕ
-first_let h = 1 + length h.parameters
+first_let h = 1 + length h.signature.parameters
 
 -- what stands behind a header
 abbrev pub body : Body → List Token
-body u = symbol s.OpenBrace ++ (lets u.header.regions (first_let u.header) u.lets ++ (blocks u.header.regions 0 u.blocks ++ symbol s.CloseBrace))
+body u = symbol s.OpenBrace ++ (lets u.header.signature.regions (first_let u.header) u.lets ++ (blocks u.header.signature.regions 0 u.blocks ++ symbol s.CloseBrace))
 
 abbrev pub unit : Body → List Token
 unit u = header u.header ++ body u
@@ -244,7 +249,7 @@ struct_rest d = item_name d.name ++ (angled mark (zip d.variances d.regions) ++ 
 
 -- an extern function behind its first word
 abbrev pub extern_rest : ExternDeclaration → List Token
-extern_rest d = item_name d.name ++ (signature d.header ++ symbol s.Semicolon)
+extern_rest d = item_name d.name ++ (signature d.signature ++ symbol s.Semicolon)
 
 abbrev pub declaration : Declaration → List Token
 declaration (declarations.Struct d) = symbol s.Struct ++ struct_rest d

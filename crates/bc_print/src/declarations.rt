@@ -123,7 +123,7 @@ fn write_extern_rest<W: Write>(declaration: &ExternDeclaration, out: &mut W) -> 
     ensures { OnOk result (Writes (W.contents out.old) (W.contents out.new) (spell.extern_rest declaration.now)) }
 {
     write_item_name(&declaration.name, out)?;
-    write_signature(&declaration.header, out)?;
+    write_signature(&declaration.signature, out)?;
     write_symbol(Symbol::Semicolon, out)
 }
 

@@ -11,7 +11,7 @@ use crate::names::write_ty;
 use crate::numbering::Numbering;
 use crate::points::write_blocks;
 use crate::tokens::{write_angled, write_commas, write_numbered, write_symbol};
-use bc_syntax::{Body, Header, Outlives, RegionName, Symbol, Ty, Unit};
+use bc_syntax::{Body, Outlives, RegionName, Signature, Symbol, Ty, Unit};
 use std::io;
 use std::io::Write;
 
@@ -43,16 +43,24 @@ pub fn write_parameters<W: Write>(
     write_symbol(Symbol::CloseParen, out)
 }
 
-/// Writes what stands behind a function's name or the word `fn`. Own.
-pub fn write_signature<W: Write>(header: &Header, out: &mut W) -> io::Result<()>
-    ensures { OnOk result (Writes (W.contents out.old) (W.contents out.new) (spell.signature header.now)) }
+/// Writes what a function takes and what it returns.
+fn write_function_ty<W: Write>(signature: &Signature, out: &mut W) -> io::Result<()>
+    ensures { OnOk result (Writes (W.contents out.old) (W.contents out.new) (spell.function_ty signature.now)) }
 {
-    let regions = header.regions.as_slice();
-    write_angled(regions, regions, out)?;
-    write_clauses(regions, header.clauses.as_slice(), out)?;
-    write_parameters(regions, header.parameters.as_slice(), out)?;
+    let regions = signature.regions.as_slice();
+    write_parameters(regions, signature.parameters.as_slice(), out)?;
     write_symbol(Symbol::Arrow, out)?;
-    write_ty(regions, &header.result, out)
+    write_ty(regions, &signature.result, out)
+}
+
+/// Writes what stands behind the name of an extern function or the word `fn`. Own.
+pub fn write_signature<W: Write>(signature: &Signature, out: &mut W) -> io::Result<()>
+    ensures { OnOk result (Writes (W.contents out.old) (W.contents out.new) (spell.signature signature.now)) }
+{
+    let regions = signature.regions.as_slice();
+    write_angled(regions, regions, out)?;
+    write_clauses(regions, signature.clauses.as_slice(), out)?;
+    write_function_ty(signature, out)
 }
 
 fn write_let<W: Write>(regions: &[RegionName], number: u64, ty: &Ty, out: &mut W) -> io::Result<()>
@@ -86,8 +94,8 @@ fn write_body<W: Write>(body: &Body, out: &mut W) -> io::Result<()>
     requires { length (locals_of body.now) ≤ 256 }
     ensures { OnOk result (Writes (W.contents out.old) (W.contents out.new) (spell.body body.now)) }
 {
-    let regions = body.header.regions.as_slice();
-    let first_let = 1 + body.header.parameters.len();
+    let regions = body.header.signature.regions.as_slice();
+    let first_let = 1 + body.header.signature.parameters.len();
     write_symbol(Symbol::OpenBrace, out)?;
     write_lets(regions, first_let, body.lets.as_slice(), out)?;
     write_blocks(regions, body.blocks.as_slice(), out)?;
@@ -101,7 +109,7 @@ pub fn print_unit<W: Write>(unit: &Unit, out: &mut W) -> io::Result<()>
 {
     let body = unit.body();
     out.write_all(Symbol::Fn.text())?;
-    write_signature(&body.header, out)?;
+    write_signature(&body.header.signature, out)?;
     write_body(body, out)?;
     out.write_all(b"\n")
 }

@@ -35,6 +35,7 @@ use Rattle.bc_syntax.specs.declared.syntax.Outlives.{Outlives}
 use Rattle.bc_syntax.specs.declared.syntax.RegionName.{RegionName}
 use Rattle.bc_syntax.specs.declared.syntax.UnitKind.{UnitKind}
 use Rattle.bc_syntax.specs.declared.syntax.UnitKind.TheVariants as unit_kinds
+use Rattle.bc_syntax.specs.declared.syntax.Signature.{Signature}
 use Rattle.bc_syntax.specs.declared.syntax.Header.{Header}
 use Rattle.bc_syntax.specs.declared.syntax.Body.{Body}
 use Rattle.bc_syntax.specs.declared.syntax.Variance.{Variance}
@@ -65,6 +66,7 @@ use Rattle.bc_syntax.specs.contracts.syntax.BlockPartialEq.TheImpl as block_impl
 use Rattle.bc_syntax.specs.contracts.syntax.OutlivesPartialEq.TheImpl as outlives_impl
 use Rattle.bc_syntax.specs.contracts.syntax.RegionNamePartialEq.TheImpl as region_name_impl
 use Rattle.bc_syntax.specs.contracts.syntax.UnitKindPartialEq.TheImpl as unit_kind_impl
+use Rattle.bc_syntax.specs.contracts.syntax.SignaturePartialEq.TheImpl as signature_impl
 use Rattle.bc_syntax.specs.contracts.syntax.HeaderPartialEq.TheImpl as header_impl
 use Rattle.bc_syntax.specs.contracts.syntax.BodyPartialEq.TheImpl as body_impl
 use Rattle.bc_syntax.specs.contracts.syntax.VariancePartialEq.TheImpl as variance_impl
@@ -241,10 +243,15 @@ region_name a b =
 pub unit_kind : (a b : UnitKind) → Decides ((unit_kind_impl.ghosts).eq a b) (a ≡ b)
 unit_kind unit_kinds.Function unit_kinds.Function = (λ _. refl, λ _. refl)
 
+pub signature : (a b : Signature) → Decides ((signature_impl.ghosts).eq a b) (a ≡ b)
+signature a b =
+    Decides-like _ (λ p i. record { regions = p.0 i; clauses = p.1.0 i; parameters = p.1.1.0 i; result = p.1.1.1 i }) (λ e. (ap (λ (r : Signature). r.regions) e, (ap (λ (r : Signature). r.clauses) e, (ap (λ (r : Signature). r.parameters) e, ap (λ (r : Signature). r.result) e))))
+    (Decides-and _ _ (slice_eq-Decides region_name a.regions b.regions _ refl) (Decides-and _ _ (slice_eq-Decides outlives a.clauses b.clauses _ refl) (Decides-and _ _ (slice_eq-Decides ty a.parameters b.parameters _ refl) (ty a.result b.result))))
+
 pub header : (a b : Header) → Decides ((header_impl.ghosts).eq a b) (a ≡ b)
 header a b =
-    Decides-like _ (λ p i. record { kind = p.0 i; regions = p.1.0 i; clauses = p.1.1.0 i; parameters = p.1.1.1.0 i; result = p.1.1.1.1 i }) (λ e. (ap (λ (r : Header). r.kind) e, (ap (λ (r : Header). r.regions) e, (ap (λ (r : Header). r.clauses) e, (ap (λ (r : Header). r.parameters) e, ap (λ (r : Header). r.result) e)))))
-    (Decides-and _ _ (unit_kind a.kind b.kind) (Decides-and _ _ (slice_eq-Decides region_name a.regions b.regions _ refl) (Decides-and _ _ (slice_eq-Decides outlives a.clauses b.clauses _ refl) (Decides-and _ _ (slice_eq-Decides ty a.parameters b.parameters _ refl) (ty a.result b.result)))))
+    Decides-like _ (λ p i. record { kind = p.0 i; signature = p.1 i }) (λ e. (ap (λ (r : Header). r.kind) e, ap (λ (r : Header). r.signature) e))
+    (Decides-and _ _ (unit_kind a.kind b.kind) (signature a.signature b.signature))
 
 pub body : (a b : Body) → Decides ((body_impl.ghosts).eq a b) (a ≡ b)
 body a b =
@@ -264,8 +271,8 @@ struct_declaration a b =
 
 pub extern_declaration : (a b : ExternDeclaration) → Decides ((extern_declaration_impl.ghosts).eq a b) (a ≡ b)
 extern_declaration a b =
-    Decides-like _ (λ p i. record { name = p.0 i; header = p.1 i }) (λ e. (ap (λ (r : ExternDeclaration). r.name) e, ap (λ (r : ExternDeclaration). r.header) e))
-    (Decides-and _ _ (item_name a.name b.name) (header a.header b.header))
+    Decides-like _ (λ p i. record { name = p.0 i; signature = p.1 i }) (λ e. (ap (λ (r : ExternDeclaration). r.name) e, ap (λ (r : ExternDeclaration). r.signature) e))
+    (Decides-and _ _ (item_name a.name b.name) (signature a.signature b.signature))
 
 pub declaration : (a b : Declaration) → Decides ((declaration_impl.ghosts).eq a b) (a ≡ b)
 declaration (declarations.Struct x) (declarations.Struct y) = Decides-like _ (λ e. ap (λ k. declarations.Struct k) e) (λ e. cc) (struct_declaration x y)

@@ -1,4 +1,4 @@
 pub mod Keywords
 pub mod Fronts
 pub mod Equality
-pub mod Headers
+pub mod Signatures

@@ -29,6 +29,7 @@ use Rattle.bc_syntax.specs.declared.syntax.Terminator.{Terminator}
 use Rattle.bc_syntax.specs.declared.syntax.Terminator.TheVariants as terminators
 use Rattle.bc_syntax.specs.declared.syntax.Block.{Block}
 use Rattle.bc_syntax.specs.declared.syntax.Outlives.{Outlives}
+use Rattle.bc_syntax.specs.declared.syntax.Signature.{Signature}
 use Rattle.bc_syntax.specs.declared.syntax.Header.{Header}
 use Rattle.bc_syntax.specs.declared.syntax.Body.{Body}
 use Rattle.bc_syntax.specs.declared.syntax.StructDeclaration.{StructDeclaration}
@@ -37,13 +38,13 @@ use Rattle.bc_syntax.specs.declared.syntax.Declaration.{Declaration}
 use Rattle.bc_syntax.specs.declared.syntax.Declaration.TheVariants as declarations
 use Rattle.bc_syntax.specs.Words.{is_region_name, is_word}
 
--- how many universal regions a header has: `'static` and those that it declares
-abbrev pub universal_count : Header → ℕ
-universal_count header = length header.regions + 1
+-- how many universal regions a signature has: `'static` and those that it declares
+abbrev pub universal_count : Signature → ℕ
+universal_count signature = length signature.regions + 1
 
 -- the types of the locals in order: the result, the parameters, the `let` locals
 abbrev pub locals_of : Body → List Ty
-locals_of body = body.header.result ∷ (body.header.parameters ++ body.lets)
+locals_of body = body.header.signature.result ∷ (body.header.signature.parameters ++ body.lets)
 
 -- how many points blocks have: their statements, and a terminator each
 abbrev pub point_count : List Block → ℕ
@@ -155,9 +156,13 @@ clauses_fit universals clauses = list_all (clause_fits universals) clauses && na
 abbrev pub parameters_fit : ℕ → List Ty → Bool
 parameters_fit universals parameters = list_all (ty_fits false universals) parameters && nat_le (length parameters) 16
 
--- a header with at most so many declared regions
-abbrev pub header_fits : ℕ → Header → Bool
-header_fits limit header = are_new [] header.regions && nat_le (length header.regions) limit && clauses_fit (universal_count header) header.clauses && parameters_fit (universal_count header) header.parameters && ty_fits false (universal_count header) header.result
+-- a signature with at most so many declared regions
+abbrev pub signature_fits : ℕ → Signature → Bool
+signature_fits limit s = are_new [] s.regions && nat_le (length s.regions) limit && clauses_fit (universal_count s) s.clauses && parameters_fit (universal_count s) s.parameters && ty_fits false (universal_count s) s.result
+
+-- what stands before a body
+abbrev pub header_fits : Header → Bool
+header_fits header = signature_fits 15 header.signature
 
 -- ---- declarations
 
@@ -165,7 +170,7 @@ abbrev pub struct_fits : StructDeclaration → Bool
 struct_fits d = item_fits d.name && are_new [] d.regions && nat_le (length d.regions) 8 && length d.variances == length d.regions && list_all (ty_fits false (length d.regions + 1)) d.fields && nat_le (length d.fields) 16
 
 abbrev pub extern_fits : ExternDeclaration → Bool
-extern_fits d = item_fits d.name && header_fits 8 d.header
+extern_fits d = item_fits d.name && signature_fits 8 d.signature
 
 abbrev pub declaration_fits : Declaration → Bool
 declaration_fits (declarations.Struct d) = struct_fits d
@@ -184,10 +189,10 @@ pub record TypesFit (ds : List Declaration) : Type 0 where
 -- ---- bodies
 
 pub record Fits (body : Body) : Type 0 where
-  pub header : header_fits 15 body.header ≡ true
-  pub lets : list_all (ty_fits true (universal_count body.header)) body.lets ≡ true
+  pub header : header_fits body.header ≡ true
+  pub lets : list_all (ty_fits true (universal_count body.header.signature)) body.lets ≡ true
   pub locals : length (locals_of body) ≤ 256
   pub some_block : 1 ≤ length body.blocks
   pub few_blocks : length body.blocks ≤ 256
   pub points : point_count body.blocks ≤ 4096
-  pub blocks : list_all (block_fits (universal_count body.header) (length (locals_of body))) body.blocks ≡ true
+  pub blocks : list_all (block_fits (universal_count body.header.signature) (length (locals_of body))) body.blocks ≡ true

@@ -4,7 +4,7 @@ ghost use Rattle.std.specs.List.{list_all, filter};
 ghost use Rattle.bc_syntax.specs.Fits as spec;
 ghost use Rattle.bc_syntax.specs.Fits.{TypesFit};
 
-use crate::fits::{Limits, are_new, header_fits, item_fits, tys_fit};
+use crate::fits::{Limits, are_new, item_fits, signature_fits, tys_fit};
 use crate::sequence::Sequence;
 use crate::syntax::{Declaration, ExternDeclaration, StructDeclaration};
 use std::marker::Model;
@@ -32,7 +32,7 @@ fn struct_fits(declaration: &StructDeclaration) -> bool
 fn extern_fits(declaration: &ExternDeclaration) -> bool
     ensures { result ≡ spec.extern_fits declaration.now }
 {
-    item_fits(&declaration.name) && header_fits(&declaration.header, 8)
+    item_fits(&declaration.name) && signature_fits(&declaration.signature, 8)
 }
 
 fn declaration_fits(declaration: &Declaration) -> bool

@@ -8,8 +8,8 @@ ghost use Rattle.bc_syntax.specs.declared.syntax.RegionName.{RegionName};
 
 use crate::syntax::{
     Aggregate, Assignment, Base, Block, Body, Borrow, Call, Condition, Header, Instance, ItemName,
-    Operand, Outlives, Place, Projection, Reference, Region, RegionName, Rvalue, Statement,
-    Terminator, Ty,
+    Operand, Outlives, Place, Projection, Reference, Region, RegionName, Rvalue, Signature,
+    Statement, Terminator, Ty,
 };
 use crate::words::{is_region_name, is_word};
 
@@ -310,12 +310,12 @@ fn has_few_points(blocks: &[Block]) -> bool
     true
 }
 
-/// Whether a header has a spelling where it may declare at most so many regions.
-pub(crate) fn header_fits(header: &Header, limit: usize) -> bool
+/// Whether a signature has a spelling where it may declare at most so many regions.
+pub(crate) fn signature_fits(signature: &Signature, limit: usize) -> bool
     requires { limit ≤ 15 }
-    ensures { result ≡ spec.header_fits limit header.now }
+    ensures { result ≡ spec.signature_fits limit signature.now }
 {
-    let regions = header.regions.as_slice();
+    let regions = signature.regions.as_slice();
     if regions.len() > limit {
         return false;
     }
@@ -324,12 +324,19 @@ pub(crate) fn header_fits(header: &Header, limit: usize) -> bool
         universals: regions.len() + 1,
         locals: 0,
     };
-    let parameters = header.parameters.as_slice();
+    let parameters = signature.parameters.as_slice();
     are_new(regions)
-        && clauses_fit(limits.universals, header.clauses.as_slice())
+        && clauses_fit(limits.universals, signature.clauses.as_slice())
         && tys_fit(limits, parameters)
         && parameters.len() <= 16
-        && ty_fits(limits, &header.result)
+        && ty_fits(limits, &signature.result)
+}
+
+/// Whether a unit's header has a spelling.
+fn header_fits(header: &Header) -> bool
+    ensures { result ≡ spec.header_fits header.now }
+{
+    signature_fits(&header.signature, 15)
 }
 
 /// Whether a body has a spelling: its numbers are within their limits, its regions and locals are declared, and its
@@ -338,13 +345,14 @@ pub fn fits(body: &Body) -> bool
     ensures { IsTrue result ↔ Fits body.now }
 {
     let blocks = body.blocks.as_slice();
-    if !header_fits(&body.header, 15) || body.lets.len() > 255 {
+    let signature = &body.header.signature;
+    if !header_fits(&body.header) || body.lets.len() > 255 {
         return false;
     }
     let limits = Limits {
         variables: true,
-        universals: body.header.regions.len() + 1,
-        locals: 1 + body.header.parameters.len() + body.lets.len(),
+        universals: signature.regions.len() + 1,
+        locals: 1 + signature.parameters.len() + body.lets.len(),
     };
     limits.locals <= 256
         && 1 <= blocks.len()

@@ -19,8 +19,8 @@ pub use symbol::{Symbol, same};
 pub use syntax::{
     Aggregate, Assignment, Base, Block, Body, Borrow, Call, Condition, Declaration,
     ExternDeclaration, Header, Instance, ItemName, Mutability, Operand, Outlives, Place,
-    Projection, Reference, Region, RegionName, Rvalue, Statement, StructDeclaration, Terminator,
-    Ty, UnitKind, Variance,
+    Projection, Reference, Region, RegionName, Rvalue, Signature, Statement, StructDeclaration,
+    Terminator, Ty, UnitKind, Variance,
 };
 pub use unit::Unit;
 pub use words::{

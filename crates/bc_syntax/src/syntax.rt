@@ -188,14 +188,21 @@ pub enum UnitKind {
     Function,
 }
 
-/// What stands before a unit's body. The regions' numbers are 1 and up, in this order. Own.
+/// The regions and clauses that a unit or an extern function declares, what it takes and what it returns. The regions'
+/// numbers are 1 and up, in this order. Own.
 #[derive(Clone, Drop, PartialEq)]
-pub struct Header {
-    pub kind: UnitKind,
+pub struct Signature {
     pub regions: Sequence<RegionName>,
     pub clauses: Sequence<Outlives>,
     pub parameters: Sequence<Ty>,
     pub result: Ty,
+}
+
+/// What stands before a unit's body. Own.
+#[derive(Clone, Drop, PartialEq)]
+pub struct Header {
+    pub kind: UnitKind,
+    pub signature: Signature,
 }
 
 /// A header with its body. Local 0 has the result's type; then come the parameters, then the `let` locals.
@@ -226,12 +233,11 @@ pub struct StructDeclaration {
     pub fields: Sequence<Ty>,
 }
 
-/// `extern NAME<regions> where clauses (parameters) -> result`: its header's regions have the numbers 1 and up, in this
-/// order. Own.
+/// `extern NAME<regions> where clauses (parameters) -> result`. Own.
 #[derive(Clone, Drop, PartialEq)]
 pub struct ExternDeclaration {
     pub name: ItemName,
-    pub header: Header,
+    pub signature: Signature,
 }
 
 /// A struct, or a function that is declared alone. Own.

@@ -22,7 +22,7 @@ use Rattle.bc_syntax.specs.declared.syntax.ExternDeclaration.{ExternDeclaration}
 use Rattle.bc_syntax.specs.declared.syntax.Declaration.{Declaration}
 use Rattle.bc_syntax.specs.declared.syntax.Declaration.TheVariants as declarations
 use Rattle.bc_syntax.specs.Symbol.{same}
-use Rattle.bc_syntax.specs.Fits.{is_new, are_new, item_fits, ty_fits, struct_fits, header_fits, extern_fits, declaration_fits, is_struct, TypesFit}
+use Rattle.bc_syntax.specs.Fits.{is_new, are_new, item_fits, ty_fits, struct_fits, signature_fits, extern_fits, declaration_fits, is_struct, TypesFit}
 use Rattle.bc_print.specs.Token.{Token, Fixed, Word, End}
 use Rattle.bc_tokens.specs.Token.{Tokens, tokens}
 use Rattle.bc_tokens.specs.Parser.{Parser, Reads, and_then, sees, after, at_end, expect, pure, declared_list}
@@ -34,7 +34,7 @@ use Rattle.bc_text.proofs.Begins.{Begins, join, split, bind_ok, ok_is, chosen, e
 use Rattle.bc_text.proofs.NameLaws.{Declares, Anything, NoLess, new_region_takes, new_region_again, item_name_takes, item_name_again}
 use Rattle.bc_text.proofs.TypeLaws.{ty_takes, ty_again}
 use Rattle.bc_text.proofs.Lists.{SpellsBeside, Closes, are_fitting, declared_list_takes, declared_list_again}
-use Rattle.bc_text.proofs.UnitLaws.{header_of_takes, header_of_again, header_fit, header_is, end_takes, end_again, answer_Ok}
+use Rattle.bc_text.proofs.UnitLaws.{signature_takes, signature_again, signature_fit, signature_is, end_takes, end_again, answer_Ok}
 use Rattle.bc_text.proofs.Ends.{tokens_are_text, within, ends_there, all_of_it, begins_whole}
 
 -- ---- marks
@@ -323,24 +323,24 @@ struct_again ts d rest b fits =
 extern_takes : (ts : Tokens) (y : ExternDeclaration × Tokens) → read.extern_declaration ts ≡ Ok y → Begins ts (spell.extern_rest y.0) y.1 × (extern_fits y.0 ≡ true)
 unfolding read.extern_declaration
 extern_takes ts y e =
-    let b = bind_ok (read.item_name ts) (λ name rest. and_then (read.header_of 8 rest) (λ h mid. and_then (expect s.Semicolon mid) (λ _ last. Ok (record { name = name; header = h }, last)))) y e in
-    let c = bind_ok (read.header_of 8 b.0.1) (λ h mid. and_then (expect s.Semicolon mid) (λ _ last. Ok (record { name = b.0.0; header = h }, last))) y b.2 in
-    let d = bind_ok (expect s.Semicolon c.0.1) (λ _ last. Ok (record { name = b.0.0; header = c.0.0 }, last)) y c.2 in
+    let b = bind_ok (read.item_name ts) (λ name rest. and_then (read.signature 8 rest) (λ h mid. and_then (expect s.Semicolon mid) (λ _ last. Ok (record { name = name; signature = h }, last)))) y e in
+    let c = bind_ok (read.signature 8 b.0.1) (λ h mid. and_then (expect s.Semicolon mid) (λ _ last. Ok (record { name = b.0.0; signature = h }, last))) y b.2 in
+    let d = bind_ok (expect s.Semicolon c.0.1) (λ _ last. Ok (record { name = b.0.0; signature = c.0.0 }, last)) y c.2 in
     let name = item_name_takes ts b.0 b.1 in
-    let h = header_of_takes 8 b.0.1 c.0 c.1 in
+    let h = signature_takes 8 b.0.1 c.0 c.1 in
     let tail = join b.0.1 (spell.signature c.0.0) c.0.1 (spell.symbol s.Semicolon) d.0.1 h.0 (expect_takes s.Semicolon c.0.1 d.0 d.1) in
-    subst (λ (q : ExternDeclaration × Tokens). Begins ts (spell.extern_rest q.0) q.1 × (extern_fits q.0 ≡ true)) (ok_is (record { name = b.0.0; header = c.0.0 }, d.0.1) y d.2)
-    (join ts (spell.item_name b.0.0) b.0.1 (spell.signature c.0.0 ++ spell.symbol s.Semicolon) d.0.1 name.0 tail, and_from (item_fits b.0.0) (header_fits 8 c.0.0) name.1 (header_fit 8 c.0.0 h.1))
+    subst (λ (q : ExternDeclaration × Tokens). Begins ts (spell.extern_rest q.0) q.1 × (extern_fits q.0 ≡ true)) (ok_is (record { name = b.0.0; signature = c.0.0 }, d.0.1) y d.2)
+    (join ts (spell.item_name b.0.0) b.0.1 (spell.signature c.0.0 ++ spell.symbol s.Semicolon) d.0.1 name.0 tail, and_from (item_fits b.0.0) (signature_fits 8 c.0.0) name.1 (signature_fit 8 c.0.0 h.1))
 
 extern_again : (ts : Tokens) (d : ExternDeclaration) (rest : Tokens) → Begins ts (spell.extern_rest d) rest → extern_fits d ≡ true → read.extern_declaration ts ≡ Ok (d, rest)
 unfolding read.extern_declaration same
 extern_again ts d rest b fits =
-    let parts = and_parts (item_fits d.name) (header_fits 8 d.header) fits in
-    let a = split ts (spell.item_name d.name) (spell.signature d.header ++ spell.symbol s.Semicolon) rest b in
-    let c = split a.0 (spell.signature d.header) (spell.symbol s.Semicolon) rest a.2 in
+    let parts = and_parts (item_fits d.name) (signature_fits 8 d.signature) fits in
+    let a = split ts (spell.item_name d.name) (spell.signature d.signature ++ spell.symbol s.Semicolon) rest b in
+    let c = split a.0 (spell.signature d.signature) (spell.symbol s.Semicolon) rest a.2 in
     rw (
       item_name_again ts d.name a.0 a.1 parts.0,
-      header_of_again 8 a.0 d.header c.0 c.1 (header_is 8 d.header parts.1) (sees_none s.Less c.0 (Fixed s.Semicolon) [] rest c.2 refl),
+      signature_again 8 a.0 d.signature c.0 c.1 (signature_is 8 d.signature parts.1) (sees_none s.Less c.0 (Fixed s.Semicolon) [] rest c.2 refl),
       expect_again s.Semicolon c.0 rest c.2,
     ) refl
 

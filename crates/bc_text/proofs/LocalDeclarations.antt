@@ -18,7 +18,7 @@ use Rattle.bc_text.specs.Reading as read
 use Rattle.bc_print.specs.Spelling as spell
 use Rattle.bc_text.proofs.Local.{Parses, Steps, Any, Looks, is_taken, then, then_steps, gives, refuses, moved, made, optional, filled, either_steps, seen, seen_steps, past, if_seen, if_past, symbol_looks, either_looks, expects, eats, eaten, ends, one_more, in_angles}
 use Rattle.bc_text.proofs.DeclarationLaws.{zipped}
-use Rattle.bc_text.proofs.LocalUnits.{new_region, item_name, begins_ty, ty, header_of}
+use Rattle.bc_text.proofs.LocalUnits.{new_region, item_name, begins_ty, ty, signature}
 
 variance : Parses Any read.variance [] spell.variance
 unfolding read.variance
@@ -71,7 +71,7 @@ struct_declaration = then (item_name false []) (λ name _. then (in_angles begin
 
 extern_declaration : Parses Any read.extern_declaration [] spell.extern_rest
 unfolding read.extern_declaration
-extern_declaration = then (item_name false []) (λ name _. then (header_of 8) (λ h _. then (expects s.Semicolon) (λ _ _. gives (record { name = name; header = h }) tt refl)))
+extern_declaration = then (item_name false []) (λ name _. then (signature 8) (λ f _. then (expects s.Semicolon) (λ _ _. gives (record { name = name; signature = f }) tt refl)))
 
 a_struct : Parses Any (expect s.Struct >> (declarations.Struct <$> read.struct_declaration)) [] spell.declaration
 a_struct = then (expects s.Struct) (λ _ _. made _ struct_declaration (λ d _. refl))

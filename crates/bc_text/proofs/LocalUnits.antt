@@ -300,19 +300,19 @@ module _ (regions : List RegionName) where
   signature_is : (a b c d e : List Token) → a ++ (b ++ (c ++ (d ++ e))) ≡ (((a ++ b) ++ c) ++ d) ++ e
   signature_is a b c d e = sym (append_assoc a b (c ++ (d ++ e))) ∙ sym (append_assoc (a ++ b) c (d ++ e)) ∙ sym (append_assoc ((a ++ b) ++ c) d e)
 
-  signature : Parses Any (read.signature regions) (spell.angled spell.region_name regions) spell.signature
-  unfolding read.signature
-  signature = then clauses (λ cs _. then parameters (λ ps _. then (expects s.Arrow) (λ _ _. then (ty false regions) (λ r _.
-      gives (record { kind = Function; regions = regions; clauses = cs; parameters = ps; result = r }) tt
+  behind_regions : Parses Any (read.behind_regions regions) (spell.angled spell.region_name regions) spell.signature
+  unfolding read.behind_regions read.function_ty
+  behind_regions = then clauses (λ cs _. then parameters (λ ps _. then (expects s.Arrow) (λ _ _. then (ty false regions) (λ r _.
+      gives (record { regions = regions; clauses = cs; parameters = ps; result = r }) tt
       (signature_is (spell.angled spell.region_name regions) (spell.clauses regions cs) (spell.parameters regions ps) (spell.symbol s.Arrow) (spell.ty regions r))))))
 
-pub header_of : (limit : ℕ) → Parses Any (read.header_of limit) [] spell.signature
-unfolding read.header_of
-header_of limit = then (in_angles region_looks (new_region false) limit) (λ rs _. signature rs)
+pub signature : (limit : ℕ) → Parses Any (read.signature limit) [] spell.signature
+unfolding read.signature
+signature limit = then (in_angles region_looks (new_region false) limit) (λ rs _. behind_regions rs)
 
 header : Parses Any read.header [] spell.header
 unfolding read.header
-header = then (expects s.Fn) (λ _ _. behind (header_of 15) (λ h _. refl))
+header = then (expects s.Fn) (λ _ _. then (signature 15) (λ f _. gives (record { kind = Function; signature = f }) tt refl))
 
 -- ---- units
 
@@ -345,10 +345,10 @@ body_of : (h : Header) → Parses Any (read.body_of h) (spell.header h) spell.un
 unfolding read.body_of
 body_of h =
     then (expects s.OpenBrace) (λ _ _.
-    then (lets_from h.regions (1 + length h.parameters) 256 []) (λ ls _.
-    then (blocks h.regions (1 + length h.parameters + length ls)) (λ bs _.
+    then (lets_from h.signature.regions (1 + length h.signature.parameters) 256 []) (λ ls _.
+    then (blocks h.signature.regions (1 + length h.signature.parameters + length ls)) (λ bs _.
     then (expects s.CloseBrace) (λ _ _.
-    then ends (λ _ _. gives (record { header = h; lets = ls; blocks = bs }) tt (body_is (spell.header h) (spell.symbol s.OpenBrace) (spell.lets h.regions (spell.first_let h) ls) (spell.blocks h.regions 0 bs) (spell.symbol s.CloseBrace)))))))
+    then ends (λ _ _. gives (record { header = h; lets = ls; blocks = bs }) tt (body_is (spell.header h) (spell.symbol s.OpenBrace) (spell.lets h.signature.regions (spell.first_let h) ls) (spell.blocks h.signature.regions 0 bs) (spell.symbol s.CloseBrace)))))))
 
 pub unit : Parses Any read.unit [] spell.unit
 unfolding read.unit

@@ -14,11 +14,12 @@ use Rattle.bc_syntax.specs.declared.syntax.Ty.{Ty}
 use Rattle.bc_syntax.specs.declared.syntax.UnitKind.{UnitKind}
 use Rattle.bc_syntax.specs.declared.syntax.UnitKind.TheVariants.{Function}
 use Rattle.bc_syntax.specs.declared.syntax.Block.{Block}
+use Rattle.bc_syntax.specs.declared.syntax.Signature.{Signature}
 use Rattle.bc_syntax.specs.declared.syntax.Header.{Header}
 use Rattle.bc_syntax.specs.declared.syntax.Body.{Body}
 use Rattle.bc_syntax.specs.Symbol.{same}
-use Rattle.bc_syntax.specs.Fits.{header_fits, Fits, is_new, are_new, clause_fits, clauses_fit, parameters_fit, ty_fits, block_fits}
-use Rattle.bc_syntax.proofs.Headers.{header_parts}
+use Rattle.bc_syntax.specs.Fits.{signature_fits, header_fits, Fits, is_new, are_new, clause_fits, clauses_fit, parameters_fit, ty_fits, block_fits}
+use Rattle.bc_syntax.proofs.Signatures.{signature_parts}
 use Rattle.bc_print.specs.Token.{Token, Fixed, Numbered, Word, Region, NotAscii, Stray, End}
 use Rattle.bc_tokens.specs.Token.{Tokens, tokens}
 use Rattle.bc_tokens.specs.Parser.{Outcome, Reads, and_then, sees, sees_region, after, is_end, at_end, numbered, position, expect, pure, fail, fault, declared_list}
@@ -77,22 +78,22 @@ module _ (regions : List RegionName) (declares : Declares regions) where
 
   -- ---- signatures
 
-  abbrev made : List Outlives → List Ty → Ty → Header
-  made clauses parameters result = record { kind = Function; regions = regions; clauses = clauses; parameters = parameters; result = result }
+  abbrev made : List Outlives → List Ty → Ty → Signature
+  made clauses parameters result = record { regions = regions; clauses = clauses; parameters = parameters; result = result }
 
   -- what stands behind the declared regions
-  abbrev rest_of : Header → List Token
+  abbrev rest_of : Signature → List Token
   rest_of h = spell.clauses regions h.clauses ++ (spell.parameters regions h.parameters ++ (spell.symbol s.Arrow ++ spell.ty regions h.result))
 
-  pub record SignatureFits (h : Header) : Type 0 where
+  pub record RestFits (h : Signature) : Type 0 where
     pub regions_are : h.regions ≡ regions
     pub clauses : clauses_fit count h.clauses ≡ true
     pub parameters : parameters_fit count h.parameters ≡ true
     pub result : ty_fits false count h.result ≡ true
 
-  pub signature_takes : (ts : Tokens) (y : Header × Tokens) → read.signature regions ts ≡ Ok y → Begins ts (rest_of y.0) y.1 × SignatureFits y.0
-  unfolding read.signature
-  signature_takes ts y e =
+  pub behind_regions_takes : (ts : Tokens) (y : Signature × Tokens) → read.behind_regions regions ts ≡ Ok y → Begins ts (rest_of y.0) y.1 × RestFits y.0
+  unfolding read.behind_regions read.function_ty
+  behind_regions_takes ts y e =
       let b = bind_ok (read.clauses regions ts) (λ cs t1. and_then (read.parameters regions t1) (λ ps t2. and_then (expect s.Arrow t2) (λ _ t3. and_then (read.ty false regions t3) (λ r t4. Ok (made cs ps r, t4))))) y e in
       let c = bind_ok (read.parameters regions b.0.1) (λ ps t2. and_then (expect s.Arrow t2) (λ _ t3. and_then (read.ty false regions t3) (λ r t4. Ok (made b.0.0 ps r, t4)))) y b.2 in
       let d = bind_ok (expect s.Arrow c.0.1) (λ _ t3. and_then (read.ty false regions t3) (λ r t4. Ok (made b.0.0 c.0.0 r, t4))) y c.2 in
@@ -103,20 +104,15 @@ module _ (regions : List RegionName) (declares : Declares regions) where
       let t2 = join c.0.1 (spell.symbol s.Arrow) d.0.1 (spell.ty regions f.0.0) f.0.1 (expect_takes s.Arrow c.0.1 d.0 d.1) r.0 in
       let t1 = join b.0.1 (spell.parameters regions c.0.0) c.0.1 (spell.symbol s.Arrow ++ spell.ty regions f.0.0) f.0.1 ps.0 t2 in
       let whole = join ts (spell.clauses regions b.0.0) b.0.1 (spell.parameters regions c.0.0 ++ (spell.symbol s.Arrow ++ spell.ty regions f.0.0)) f.0.1 cs.0 t1 in
-      subst (λ (q : Header × Tokens). Begins ts (rest_of q.0) q.1 × SignatureFits q.0) (ok_is (made b.0.0 c.0.0 f.0.0, f.0.1) y f.2)
+      subst (λ (q : Signature × Tokens). Begins ts (rest_of q.0) q.1 × RestFits q.0) (ok_is (made b.0.0 c.0.0 f.0.0, f.0.1) y f.2)
       (whole, record { regions_are = refl; clauses = cs.1; parameters = ps.1; result = r.1 })
 
-  is_function : (kind : UnitKind) → Function ≡ kind
-  is_function Function = refl
+  made_is : (h : Signature) → h.regions ≡ regions → made h.clauses h.parameters h.result ≡ h
+  made_is h same_regions = ap (λ (rs : List RegionName). record { regions = rs; clauses = h.clauses; parameters = h.parameters; result = h.result }) (sym same_regions)
 
-  made_is : (h : Header) → h.regions ≡ regions → made h.clauses h.parameters h.result ≡ h
-  made_is h same_regions =
-      ap (λ (rs : List RegionName). record { kind = Function; regions = rs; clauses = h.clauses; parameters = h.parameters; result = h.result }) (sym same_regions)
-      ∙ ap (λ (kind : UnitKind). record { kind = kind; regions = h.regions; clauses = h.clauses; parameters = h.parameters; result = h.result }) (is_function h.kind)
-
-  pub signature_again : (ts : Tokens) (h : Header) (rest : Tokens) → Begins ts (rest_of h) rest → SignatureFits h → NoLess rest → read.signature regions ts ≡ Ok (h, rest)
-  unfolding read.signature same
-  signature_again ts h rest b fits other =
+  pub behind_regions_again : (ts : Tokens) (h : Signature) (rest : Tokens) → Begins ts (rest_of h) rest → RestFits h → NoLess rest → read.behind_regions regions ts ≡ Ok (h, rest)
+  unfolding read.behind_regions read.function_ty same
+  behind_regions_again ts h rest b fits other =
       let a = split ts (spell.clauses regions h.clauses) (spell.parameters regions h.parameters ++ (spell.symbol s.Arrow ++ spell.ty regions h.result)) rest b in
       let c = split a.0 (spell.parameters regions h.parameters) (spell.symbol s.Arrow ++ spell.ty regions h.result) rest a.2 in
       let d = split c.0 (spell.symbol s.Arrow) (spell.ty regions h.result) rest c.2 in
@@ -128,9 +124,9 @@ module _ (regions : List RegionName) (declares : Declares regions) where
         parameters_again regions a.0 h.parameters c.0 declares c.1 fits.parameters,
         expect_again s.Arrow c.0 d.0 d.1,
         ty_again false regions declares d.0 h.result rest d.2 fits.result other,
-      ) (ap (λ (k : Header). Ok (k, rest)) (made_is h fits.regions_are))
+      ) (ap (λ (k : Signature). Ok (k, rest)) (made_is h fits.regions_are))
 
--- ---- headers
+-- ---- regions that are declared
 
 new_law : SpellsBeside read.new_region spell.region_name is_new Anything
 new_law = record { takes = new_region_takes; again = λ found ts x rest b fits ends. new_region_again found ts x rest b fits }
@@ -151,26 +147,26 @@ fitting_is : (before names : List RegionName) → are_fitting is_new before name
 fitting_is before [] = refl
 fitting_is before (x ∷ names) = ap (λ b. is_new before x && b) (fitting_is (before ++ x ∷ []) names)
 
--- a header that declares at most so many regions
-pub record HeaderIs (limit : ℕ) (h : Header) : Type 0 where
+-- a signature that declares at most so many regions
+pub record SignatureIs (limit : ℕ) (h : Signature) : Type 0 where
   pub declares : Declares h.regions
   pub few : length h.regions ≤ limit
-  pub signature : (d : Declares h.regions) → SignatureFits h.regions d h
+  pub behind : (d : Declares h.regions) → RestFits h.regions d h
 
-pub header_of_takes : (limit : ℕ) (ts : Tokens) (y : Header × Tokens) → read.header_of limit ts ≡ Ok y → Begins ts (spell.signature y.0) y.1 × HeaderIs limit y.0
-unfolding read.header_of
-header_of_takes limit ts y e =
-    let b = bind_ok (declared_list sees_region read.new_region limit ts) (λ rs rest. read.signature rs rest) y e in
+pub signature_takes : (limit : ℕ) (ts : Tokens) (y : Signature × Tokens) → read.signature limit ts ≡ Ok y → Begins ts (spell.signature y.0) y.1 × SignatureIs limit y.0
+unfolding read.signature
+signature_takes limit ts y e =
+    let b = bind_ok (declared_list sees_region read.new_region limit ts) (λ rs rest. read.behind_regions rs rest) y e in
     let list = declared_list_takes new_law sees_region limit ts b.0 b.1 in
     let declares : Declares b.0.0 = sym (fitting_is [] b.0.0) ∙ list.1.0 in
-    let g = signature_takes b.0.0 declares b.0.1 y b.2 in
+    let g = behind_regions_takes b.0.0 declares b.0.1 y b.2 in
     let whole = join ts (spell.angled spell.region_name b.0.0) b.0.1 (rest_of b.0.0 declares y.0) y.1 list.0 g.0 in
     let is = g.1.regions_are in (
       subst (λ (rs : List RegionName). Begins ts (spell.angled spell.region_name rs ++ (spell.clauses rs y.0.clauses ++ (spell.parameters rs y.0.parameters ++ (spell.symbol s.Arrow ++ spell.ty rs y.0.result)))) y.1) (sym is) whole,
       record {
         declares = subst Declares (sym is) declares;
         few = subst (λ (rs : List RegionName). length rs ≤ limit) (sym is) list.1.1;
-        signature = λ d. record {
+        behind = λ d. record {
           regions_are = refl;
           clauses = subst (λ (rs : List RegionName). clauses_fit (length rs + 1) y.0.clauses ≡ true) (sym is) g.1.clauses;
           parameters = subst (λ (rs : List RegionName). parameters_fit (length rs + 1) y.0.parameters ≡ true) (sym is) g.1.parameters;
@@ -185,40 +181,50 @@ no_less_from regions [] ps l ts rest b = sees_none s.Less ts (Fixed s.OpenParen)
 no_less_from regions (c ∷ cs) ps l ts rest b = sees_none s.Less ts (Fixed s.Where) (spell.commas (spell.clause regions) (c ∷ cs) ++ (spell.parameters regions ps ++ l)) rest b refl
 
 -- no `<` begins what stands behind the declared regions
-no_less : (h : Header) (ts rest : Tokens) → Begins ts (spell.clauses h.regions h.clauses ++ (spell.parameters h.regions h.parameters ++ (spell.symbol s.Arrow ++ spell.ty h.regions h.result))) rest → NoLess ts
+no_less : (h : Signature) (ts rest : Tokens) → Begins ts (spell.clauses h.regions h.clauses ++ (spell.parameters h.regions h.parameters ++ (spell.symbol s.Arrow ++ spell.ty h.regions h.result))) rest → NoLess ts
 unfolding same
 no_less h ts rest b = no_less_from h.regions h.clauses h.parameters (spell.symbol s.Arrow ++ spell.ty h.regions h.result) ts rest b
 
-pub header_of_again : (limit : ℕ) (ts : Tokens) (h : Header) (rest : Tokens) → Begins ts (spell.signature h) rest → HeaderIs limit h → NoLess rest → read.header_of limit ts ≡ Ok (h, rest)
-unfolding read.header_of
-header_of_again limit ts h rest b fits other =
+pub signature_again : (limit : ℕ) (ts : Tokens) (h : Signature) (rest : Tokens) → Begins ts (spell.signature h) rest → SignatureIs limit h → NoLess rest → read.signature limit ts ≡ Ok (h, rest)
+unfolding read.signature
+signature_again limit ts h rest b fits other =
     let tail = spell.clauses h.regions h.clauses ++ (spell.parameters h.regions h.parameters ++ (spell.symbol s.Arrow ++ spell.ty h.regions h.result)) in
     let a = split ts (spell.angled spell.region_name h.regions) tail rest b in
     rw (declared_list_again new_law sees_region limit names_close ts h.regions a.0 a.1 (fitting_is [] h.regions ∙ fits.declares, fits.few) (no_less h a.0 rest a.2))
-    (signature_again h.regions fits.declares a.0 h rest a.2 (fits.signature fits.declares) other)
+    (behind_regions_again h.regions fits.declares a.0 h rest a.2 (fits.behind fits.declares) other)
 
-header_takes : (ts : Tokens) (y : Header × Tokens) → read.header ts ≡ Ok y → Begins ts (spell.header y.0) y.1 × HeaderIs 15 y.0
-unfolding read.header
-header_takes ts y e =
-    let b = bind_ok (expect s.Fn ts) (λ _ rest. read.header_of 15 rest) y e in
-    let g = header_of_takes 15 b.0.1 y b.2 in
-    (join ts (spell.symbol s.Fn) b.0.1 (spell.signature y.0) y.1 (expect_takes s.Fn ts b.0 b.1) g.0, g.1)
-
-header_again : (ts : Tokens) (h : Header) (rest : Tokens) → Begins ts (spell.header h) rest → HeaderIs 15 h → NoLess rest → read.header ts ≡ Ok (h, rest)
-unfolding read.header
-header_again ts h rest b fits other =
-    let a = split ts (spell.symbol s.Fn) (spell.signature h) rest b in
-    rw (expect_again s.Fn ts a.0 a.1) (header_of_again 15 a.0 h rest a.2 fits other)
-
-pub header_fit : (limit : ℕ) (h : Header) → HeaderIs limit h → header_fits limit h ≡ true
-header_fit limit h is =
-    let g = is.signature is.declares in
+pub signature_fit : (limit : ℕ) (h : Signature) → SignatureIs limit h → signature_fits limit h ≡ true
+signature_fit limit h is =
+    let g = is.behind is.declares in
     and_from _ _ (and_from _ _ (and_from _ _ (and_from (are_new [] h.regions) _ is.declares (le-leb (length h.regions) limit is.few)) g.clauses) g.parameters) g.result
 
-pub header_is : (limit : ℕ) (h : Header) → header_fits limit h ≡ true → HeaderIs limit h
-header_is limit h fits =
-    let p = header_parts limit h fits in
-    record { declares = p.regions; few = p.few; signature = λ _. record { regions_are = refl; clauses = p.clauses; parameters = p.parameters; result = p.result } }
+pub signature_is : (limit : ℕ) (h : Signature) → signature_fits limit h ≡ true → SignatureIs limit h
+signature_is limit h fits =
+    let p = signature_parts limit h fits in
+    record { declares = p.regions; few = p.few; behind = λ _. record { regions_are = refl; clauses = p.clauses; parameters = p.parameters; result = p.result } }
+
+-- ---- headers
+
+abbrev function_of : Signature → Header
+function_of f = record { kind = Function; signature = f }
+
+header_takes : (ts : Tokens) (y : Header × Tokens) → read.header ts ≡ Ok y → Begins ts (spell.header y.0) y.1 × SignatureIs 15 y.0.signature
+unfolding read.header
+header_takes ts y e =
+    let b = bind_ok (expect s.Fn ts) (λ _ rest. and_then (read.signature 15 rest) (λ f last. Ok (function_of f, last))) y e in
+    let c = bind_ok (read.signature 15 b.0.1) (λ f last. Ok (function_of f, last)) y b.2 in
+    let g = signature_takes 15 b.0.1 c.0 c.1 in
+    subst (λ (q : Header × Tokens). Begins ts (spell.header q.0) q.1 × SignatureIs 15 q.0.signature) (ok_is (function_of c.0.0, c.0.1) y c.2)
+    (join ts (spell.symbol s.Fn) b.0.1 (spell.signature c.0.0) c.0.1 (expect_takes s.Fn ts b.0 b.1) g.0, g.1)
+
+is_function : (kind : UnitKind) → Function ≡ kind
+is_function Function = refl
+
+header_again : (ts : Tokens) (h : Header) (rest : Tokens) → Begins ts (spell.header h) rest → SignatureIs 15 h.signature → NoLess rest → read.header ts ≡ Ok (h, rest)
+unfolding read.header
+header_again ts h rest b fits other =
+    let a = split ts (spell.symbol s.Fn) (spell.signature h.signature) rest b in
+    rw (expect_again s.Fn ts a.0 a.1, signature_again 15 a.0 h.signature rest a.2 fits other) (ap (λ (kind : UnitKind). Ok (record { kind = kind; signature = h.signature }, rest)) (is_function h.kind))
 
 -- ---- lets
 
@@ -342,7 +348,7 @@ closing = Fixed s.CloseBrace ∷ (End ∷ [])
 -- ---- bodies
 
 abbrev pub body_tokens : Body → List Token
-body_tokens u = spell.symbol s.OpenBrace ++ (spell.lets u.header.regions (spell.first_let u.header) u.lets ++ (spell.blocks u.header.regions 0 u.blocks ++ closing))
+body_tokens u = spell.symbol s.OpenBrace ++ (spell.lets u.header.signature.regions (spell.first_let u.header) u.lets ++ (spell.blocks u.header.signature.regions 0 u.blocks ++ closing))
 
 abbrev pub whole_tokens : Body → List Token
 whole_tokens u = spell.header u.header ++ body_tokens u
@@ -353,33 +359,33 @@ made_of h ls bs = record { header = h; lets = ls; blocks = bs }
 plus-zero : (k : ℕ) → k + 0 ≡ k
 plus-zero k = omega arith
 
-locals_are : (h : Header) (ls : List Ty) → 1 + length h.parameters + length ls ≡ length (h.result ∷ (h.parameters ++ ls))
-locals_are h ls = omega (arith, length-append h.parameters ls)
+locals_are : (h : Header) (ls : List Ty) → 1 + length h.signature.parameters + length ls ≡ length (h.signature.result ∷ (h.signature.parameters ++ ls))
+locals_are h ls = omega (arith, length-append h.signature.parameters ls)
 
-body_takes : (h : Header) (ts : Tokens) (y : Body × Tokens) → header_fits 15 h ≡ true → read.body_of h ts ≡ Ok y → (y.0.header ≡ h) × Begins ts (body_tokens y.0) (after y.1) × Fits y.0
+body_takes : (h : Header) (ts : Tokens) (y : Body × Tokens) → header_fits h ≡ true → read.body_of h ts ≡ Ok y → (y.0.header ≡ h) × Begins ts (body_tokens y.0) (after y.1) × Fits y.0
 unfolding read.body_of
 body_takes h ts y fits e =
-    let parts = header_parts 15 h fits in
-    let locals : List Ty → ℕ = λ ls. 1 + length h.parameters + length ls in
-    let b = bind_ok (expect s.OpenBrace ts) (λ _ t2. and_then (read.lets_from h.regions (1 + length h.parameters) 256 [] t2) (λ ls t3. and_then (read.blocks h.regions (1 + length h.parameters + length ls) t3) (λ bs t4. and_then (expect s.CloseBrace t4) (λ _ t5. and_then (at_end t5) (λ _ t6. Ok (made_of h ls bs, t6)))))) y e in
-    let c = bind_ok (read.lets_from h.regions (1 + length h.parameters) 256 [] b.0.1) (λ ls t3. and_then (read.blocks h.regions (1 + length h.parameters + length ls) t3) (λ bs t4. and_then (expect s.CloseBrace t4) (λ _ t5. and_then (at_end t5) (λ _ t6. Ok (made_of h ls bs, t6))))) y b.2 in
+    let parts = signature_parts 15 h.signature fits in
+    let locals : List Ty → ℕ = λ ls. 1 + length h.signature.parameters + length ls in
+    let b = bind_ok (expect s.OpenBrace ts) (λ _ t2. and_then (read.lets_from h.signature.regions (1 + length h.signature.parameters) 256 [] t2) (λ ls t3. and_then (read.blocks h.signature.regions (1 + length h.signature.parameters + length ls) t3) (λ bs t4. and_then (expect s.CloseBrace t4) (λ _ t5. and_then (at_end t5) (λ _ t6. Ok (made_of h ls bs, t6)))))) y e in
+    let c = bind_ok (read.lets_from h.signature.regions (1 + length h.signature.parameters) 256 [] b.0.1) (λ ls t3. and_then (read.blocks h.signature.regions (1 + length h.signature.parameters + length ls) t3) (λ bs t4. and_then (expect s.CloseBrace t4) (λ _ t5. and_then (at_end t5) (λ _ t6. Ok (made_of h ls bs, t6))))) y b.2 in
     let ls = c.0.0 in
-    let d = bind_ok (read.blocks h.regions (1 + length h.parameters + length ls) c.0.1) (λ bs t4. and_then (expect s.CloseBrace t4) (λ _ t5. and_then (at_end t5) (λ _ t6. Ok (made_of h ls bs, t6)))) y c.2 in
+    let d = bind_ok (read.blocks h.signature.regions (1 + length h.signature.parameters + length ls) c.0.1) (λ bs t4. and_then (expect s.CloseBrace t4) (λ _ t5. and_then (at_end t5) (λ _ t6. Ok (made_of h ls bs, t6)))) y c.2 in
     let bs = d.0.0 in
     let f = bind_ok (expect s.CloseBrace d.0.1) (λ _ t5. and_then (at_end t5) (λ _ t6. Ok (made_of h ls bs, t6))) y d.2 in
     let g = bind_ok (at_end f.0.1) (λ _ t6. Ok (made_of h ls bs, t6)) y f.2 in
-    let parameters = and_parts (list_all (ty_fits false (length h.regions + 1)) h.parameters) _ parts.parameters in
-    let few_parameters = leb-true (length h.parameters) 16 parameters.1 in
-    let few : 1 + length h.parameters + 0 ≤ 256 = omega (arith, few_parameters) in
-    let let_part = lets_take h.regions parts.regions (1 + length h.parameters) 256 [] b.0.1 c.0 few c.1 in
-    let let_text : Begins b.0.1 (spell.lets h.regions (1 + length h.parameters) ls) c.0.1 = subst (λ (l : List Ty). Begins b.0.1 (spell.lets h.regions (1 + length h.parameters) l) c.0.1) (sym let_part.1) (subst (λ k. Begins b.0.1 (spell.lets h.regions k let_part.0) c.0.1) (plus-zero (1 + length h.parameters)) let_part.2) in
-    let let_fits : list_all (ty_fits true (length h.regions + 1)) ls ≡ true = subst (λ (l : List Ty). list_all (ty_fits true (length h.regions + 1)) l ≡ true) (sym let_part.1) let_part.3 in
-    let count : 1 + length h.parameters + length ls ≤ 256 = subst (λ (l : List Ty). 1 + length h.parameters + length l ≤ 256) (sym let_part.1) (omega (arith, let_part.4)) in
-    let block_part = blocks_take h.regions parts.regions (1 + length h.parameters + length ls) count c.0.1 d.0 d.1 in
+    let parameters = and_parts (list_all (ty_fits false (length h.signature.regions + 1)) h.signature.parameters) _ parts.parameters in
+    let few_parameters = leb-true (length h.signature.parameters) 16 parameters.1 in
+    let few : 1 + length h.signature.parameters + 0 ≤ 256 = omega (arith, few_parameters) in
+    let let_part = lets_take h.signature.regions parts.regions (1 + length h.signature.parameters) 256 [] b.0.1 c.0 few c.1 in
+    let let_text : Begins b.0.1 (spell.lets h.signature.regions (1 + length h.signature.parameters) ls) c.0.1 = subst (λ (l : List Ty). Begins b.0.1 (spell.lets h.signature.regions (1 + length h.signature.parameters) l) c.0.1) (sym let_part.1) (subst (λ k. Begins b.0.1 (spell.lets h.signature.regions k let_part.0) c.0.1) (plus-zero (1 + length h.signature.parameters)) let_part.2) in
+    let let_fits : list_all (ty_fits true (length h.signature.regions + 1)) ls ≡ true = subst (λ (l : List Ty). list_all (ty_fits true (length h.signature.regions + 1)) l ≡ true) (sym let_part.1) let_part.3 in
+    let count : 1 + length h.signature.parameters + length ls ≤ 256 = subst (λ (l : List Ty). 1 + length h.signature.parameters + length l ≤ 256) (sym let_part.1) (omega (arith, let_part.4)) in
+    let block_part = blocks_take h.signature.regions parts.regions (1 + length h.signature.parameters + length ls) count c.0.1 d.0 d.1 in
     let end = join d.0.1 (spell.symbol s.CloseBrace) f.0.1 (End ∷ []) (after g.0.1) (expect_takes s.CloseBrace d.0.1 f.0 f.1) (end_takes f.0.1 g.0 g.1) in
-    let t3 = join c.0.1 (spell.blocks h.regions 0 bs) d.0.1 closing (after g.0.1) block_part.0 end in
-    let t2 = join b.0.1 (spell.lets h.regions (1 + length h.parameters) ls) c.0.1 (spell.blocks h.regions 0 bs ++ closing) (after g.0.1) let_text t3 in
-    let whole = join ts (spell.symbol s.OpenBrace) b.0.1 (spell.lets h.regions (1 + length h.parameters) ls ++ (spell.blocks h.regions 0 bs ++ closing)) (after g.0.1) (expect_takes s.OpenBrace ts b.0 b.1) t2 in
+    let t3 = join c.0.1 (spell.blocks h.signature.regions 0 bs) d.0.1 closing (after g.0.1) block_part.0 end in
+    let t2 = join b.0.1 (spell.lets h.signature.regions (1 + length h.signature.parameters) ls) c.0.1 (spell.blocks h.signature.regions 0 bs ++ closing) (after g.0.1) let_text t3 in
+    let whole = join ts (spell.symbol s.OpenBrace) b.0.1 (spell.lets h.signature.regions (1 + length h.signature.parameters) ls ++ (spell.blocks h.signature.regions 0 bs ++ closing)) (after g.0.1) (expect_takes s.OpenBrace ts b.0 b.1) t2 in
     subst (λ (q : Body × Tokens). (q.0.header ≡ h) × Begins ts (body_tokens q.0) (after q.1) × Fits q.0) (ok_is (made_of h ls bs, g.0.1) y g.2) (
       refl,
       whole,
@@ -390,7 +396,7 @@ body_takes h ts y fits e =
         some_block = block_part.4;
         few_blocks = block_part.3;
         points = block_part.2;
-        blocks = subst (λ k. list_all (block_fits (length h.regions + 1) k) bs ≡ true) (locals_are h ls) block_part.1;
+        blocks = subst (λ k. list_all (block_fits (length h.signature.regions + 1) k) bs ≡ true) (locals_are h ls) block_part.1;
       },
     )
 
@@ -403,24 +409,24 @@ body_again : (ts : Tokens) (u : Body) (rest : Tokens) → Begins ts (body_tokens
 unfolding read.body_of same
 body_again ts u rest p fits =
     let h = u.header in
-    let declares = (header_parts 15 h fits.header).regions in
-    let b = split ts (spell.symbol s.OpenBrace) (spell.lets h.regions (1 + length h.parameters) u.lets ++ (spell.blocks h.regions 0 u.blocks ++ closing)) rest p in
-    let c = split b.0 (spell.lets h.regions (1 + length h.parameters) u.lets) (spell.blocks h.regions 0 u.blocks ++ closing) rest b.2 in
-    let d = split c.0 (spell.blocks h.regions 0 u.blocks) closing rest c.2 in
+    let declares = (signature_parts 15 h.signature fits.header).regions in
+    let b = split ts (spell.symbol s.OpenBrace) (spell.lets h.signature.regions (1 + length h.signature.parameters) u.lets ++ (spell.blocks h.signature.regions 0 u.blocks ++ closing)) rest p in
+    let c = split b.0 (spell.lets h.signature.regions (1 + length h.signature.parameters) u.lets) (spell.blocks h.signature.regions 0 u.blocks ++ closing) rest b.2 in
+    let d = split c.0 (spell.blocks h.signature.regions 0 u.blocks) closing rest c.2 in
     let f = split d.0 (spell.symbol s.CloseBrace) (End ∷ []) rest d.2 in
     let same_count = locals_are h u.lets in
-    let count : 1 + length h.parameters + length u.lets ≤ 256 = subst (λ k. k ≤ 256) (sym same_count) fits.locals in
-    let block_fit : list_all (block_fits (length h.regions + 1) (1 + length h.parameters + length u.lets)) u.blocks ≡ true = subst (λ k. list_all (block_fits (length h.regions + 1) k) u.blocks ≡ true) (sym same_count) fits.blocks in
-    let text : Begins b.0 (spell.lets h.regions (1 + length h.parameters + 0) u.lets) c.0 = subst (λ k. Begins b.0 (spell.lets h.regions k u.lets) c.0) (sym (plus-zero (1 + length h.parameters))) c.1 in
-    let few : 1 + length h.parameters + 0 + length u.lets ≤ 256 = omega (arith, count) in
+    let count : 1 + length h.signature.parameters + length u.lets ≤ 256 = subst (λ k. k ≤ 256) (sym same_count) fits.locals in
+    let block_fit : list_all (block_fits (length h.signature.regions + 1) (1 + length h.signature.parameters + length u.lets)) u.blocks ≡ true = subst (λ k. list_all (block_fits (length h.signature.regions + 1) k) u.blocks ≡ true) (sym same_count) fits.blocks in
+    let text : Begins b.0 (spell.lets h.signature.regions (1 + length h.signature.parameters + 0) u.lets) c.0 = subst (λ k. Begins b.0 (spell.lets h.signature.regions k u.lets) c.0) (sym (plus-zero (1 + length h.signature.parameters))) c.1 in
+    let few : 1 + length h.signature.parameters + 0 + length u.lets ≤ 256 = omega (arith, count) in
     let room : length u.lets + 1 ≤ 256 = omega (arith, count) in
-    let no_let = no_let_before u.header.regions u.blocks fits.some_block closing c.0 rest c.2 in
+    let no_let = no_let_before u.header.signature.regions u.blocks fits.some_block closing c.0 rest c.2 in
     let no_label = sees_numbered_none n.Label d.0 (Fixed s.CloseBrace) (End ∷ []) rest d.2 refl in (
       f.0,
       rw (
         expect_again s.OpenBrace ts b.0 b.1,
-        lets_again h.regions declares (1 + length h.parameters) 256 [] u.lets b.0 c.0 text fits.lets few room no_let,
-        blocks_again h.regions declares (1 + length h.parameters + length u.lets) count c.0 u.blocks d.0 d.1 block_fit fits.points fits.few_blocks fits.some_block no_label,
+        lets_again h.signature.regions declares (1 + length h.signature.parameters) 256 [] u.lets b.0 c.0 text fits.lets few room no_let,
+        blocks_again h.signature.regions declares (1 + length h.signature.parameters + length u.lets) count c.0 u.blocks d.0 d.1 block_fit fits.points fits.few_blocks fits.some_block no_label,
         expect_again s.CloseBrace d.0 f.0 f.1,
         end_again f.0 rest f.2,
       ) refl,
@@ -433,7 +439,7 @@ unfolding read.unit
 unit_takes ts y e =
     let a = bind_ok (read.header ts) (λ h rest. read.body_of h rest) y e in
     let head = header_takes ts a.0 a.1 in
-    let body = body_takes a.0.0 a.0.1 y (header_fit 15 a.0.0 head.1) a.2 in
+    let body = body_takes a.0.0 a.0.1 y (signature_fit 15 a.0.0.signature head.1) a.2 in
     let text : Begins ts (spell.header y.0.header) a.0.1 = subst (λ (h : Header). Begins ts (spell.header h) a.0.1) (sym body.0) head.0 in
     (join ts (spell.header y.0.header) a.0.1 (body_tokens y.0) (after y.1) text body.1, body.2)
 
@@ -441,9 +447,9 @@ pub unit_again : (ts : Tokens) (u : Body) (rest : Tokens) → Begins ts (whole_t
 unfolding read.unit same
 unit_again ts u rest p fits =
     let a = split ts (spell.header u.header) (body_tokens u) rest p in
-    let brace = sees_none s.Less a.0 (Fixed s.OpenBrace) (spell.lets u.header.regions (spell.first_let u.header) u.lets ++ (spell.blocks u.header.regions 0 u.blocks ++ closing)) rest a.2 refl in
+    let brace = sees_none s.Less a.0 (Fixed s.OpenBrace) (spell.lets u.header.signature.regions (spell.first_let u.header) u.lets ++ (spell.blocks u.header.signature.regions 0 u.blocks ++ closing)) rest a.2 refl in
     let body = body_again a.0 u rest a.2 fits in
-    (body.0, rw (header_again ts u.header a.0 a.1 (header_is 15 u.header fits.header) brace) body.1)
+    (body.0, rw (header_again ts u.header a.0 a.1 (signature_is 15 u.header.signature fits.header) brace) body.1)
 
 -- what is read has a spelling
 pub body_fits : (ts later : Tokens) (r : Result Body Refusal) (u : Body) → Reads (read.unit ts) r later → r ≡ Ok u → Fits u

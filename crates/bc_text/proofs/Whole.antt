@@ -35,7 +35,7 @@ use Rattle.bc_syntax.specs.declared.syntax.Terminator.{Terminator}
 use Rattle.bc_syntax.specs.declared.syntax.Terminator.TheVariants as terminator_kinds
 use Rattle.bc_syntax.specs.declared.syntax.Block.{Block}
 use Rattle.bc_syntax.specs.declared.syntax.Outlives.{Outlives}
-use Rattle.bc_syntax.specs.declared.syntax.Header.{Header}
+use Rattle.bc_syntax.specs.declared.syntax.Signature.{Signature}
 use Rattle.bc_syntax.specs.declared.syntax.Body.{Body}
 use Rattle.bc_syntax.specs.Fits as fit
 use Rattle.bc_syntax.specs.declared.syntax.Variance.{Variance}
@@ -45,7 +45,7 @@ use Rattle.bc_syntax.specs.declared.syntax.ExternDeclaration.{ExternDeclaration}
 use Rattle.bc_syntax.specs.declared.syntax.Declaration.{Declaration}
 use Rattle.bc_syntax.specs.declared.syntax.Declaration.TheVariants as declarations
 use Rattle.bc_syntax.specs.Fits.{Fits, TypesFit}
-use Rattle.bc_syntax.proofs.Headers.{header_parts}
+use Rattle.bc_syntax.proofs.Signatures.{signature_parts}
 use Rattle.bc_syntax.specs.Words.{is_region_name, is_word}
 use Rattle.bc_print.specs.Token.{Token}
 use Rattle.bc_print.specs.Universals.{universal_names}
@@ -293,9 +293,9 @@ module _ (regions : List RegionName) (new : fit.are_new [] regions ≡ true) whe
 
 -- ---- units
 
-signature : (limit : ℕ) (h : Header) → fit.header_fits limit h ≡ true → AllWhole (spell.signature h)
+signature : (limit : ℕ) (h : Signature) → fit.signature_fits limit h ≡ true → AllWhole (spell.signature h)
 signature limit h fits =
-    let parts = header_parts limit h fits in
+    let parts = signature_parts limit h fits in
     let rs = h.regions in
     let arrow = spell.symbol s.Arrow ++ spell.ty rs h.result in
     let rest = spell.parameters rs h.parameters ++ arrow in
@@ -304,17 +304,17 @@ signature limit h fits =
 
 body : (u : Body) → Fits u → AllWhole (spell.body u)
 body u fits =
-    let rs = u.header.regions in
-    let new = (header_parts 15 u.header fits.header).regions in
+    let rs = u.header.signature.regions in
+    let new = (signature_parts 15 u.header.signature fits.header).regions in
     let count = length (fit.locals_of u) in
-    let all_locals : length (fit.locals_of u) ≡ 1 + (length u.header.parameters + length u.lets) = omega (arith, length-append u.header.parameters u.lets) in
+    let all_locals : length (fit.locals_of u) ≡ 1 + (length u.header.signature.parameters + length u.lets) = omega (arith, length-append u.header.signature.parameters u.lets) in
     let few : spell.first_let u.header + length u.lets ≤ 256 = omega (arith, fits.locals, all_locals) in
     let few_blocks : 0 + length u.blocks ≤ 256 = omega (arith, fits.few_blocks) in
     let blocks_part = joined (spell.blocks rs 0 u.blocks) (spell.symbol s.CloseBrace) (blocks rs new count fits.locals 0 u.blocks few_blocks fits.blocks) (tt, tt) in
     (tt, joined (spell.lets rs (spell.first_let u.header) u.lets) (spell.blocks rs 0 u.blocks ++ spell.symbol s.CloseBrace) (lets rs new (spell.first_let u.header) u.lets few fits.lets) blocks_part)
 
 pub unit_is_whole : (u : Body) → Fits u → AllWhole (spell.unit u)
-unit_is_whole u fits = (tt, joined (spell.signature u.header) (spell.body u) (signature 15 u.header fits.header) (body u fits))
+unit_is_whole u fits = (tt, joined (spell.signature u.header.signature) (spell.body u) (signature 15 u.header.signature fits.header) (body u fits))
 
 -- ---- declarations
 
@@ -364,9 +364,9 @@ struct_rest d h =
 
 extern_rest : (d : ExternDeclaration) → fit.extern_fits d ≡ true → AllWhole (spell.extern_rest d)
 extern_rest d h =
-    let p = and_parts (fit.item_fits d.name) (fit.header_fits 8 d.header) h in
-    joined (spell.item_name d.name) (spell.signature d.header ++ spell.symbol s.Semicolon) (whole_item d.name p.0)
-    (joined (spell.signature d.header) (spell.symbol s.Semicolon) (signature 8 d.header p.1) (tt, tt))
+    let p = and_parts (fit.item_fits d.name) (fit.signature_fits 8 d.signature) h in
+    joined (spell.item_name d.name) (spell.signature d.signature ++ spell.symbol s.Semicolon) (whole_item d.name p.0)
+    (joined (spell.signature d.signature) (spell.symbol s.Semicolon) (signature 8 d.signature p.1) (tt, tt))
 
 declaration : (d : Declaration) → fit.declaration_fits d ≡ true → AllWhole (spell.declaration d)
 declaration (declarations.Struct d) h = (tt, struct_rest d h)

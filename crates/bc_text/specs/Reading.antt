@@ -38,6 +38,7 @@ use Rattle.bc_syntax.specs.declared.syntax.Terminator.TheVariants as terminator_
 use Rattle.bc_syntax.specs.declared.syntax.Block.{Block}
 use Rattle.bc_syntax.specs.declared.syntax.Outlives.{Outlives}
 use Rattle.bc_syntax.specs.declared.syntax.UnitKind.TheVariants.{Function}
+use Rattle.bc_syntax.specs.declared.syntax.Signature.{Signature}
 use Rattle.bc_syntax.specs.declared.syntax.Header.{Header}
 use Rattle.bc_syntax.specs.declared.syntax.Body.{Body}
 use Rattle.bc_syntax.specs.declared.symbol.Symbol.{Symbol}
@@ -337,21 +338,27 @@ clauses regions = opened_list sees_region (clause regions) 32 s.Where
 unfoldable pub parameters : List RegionName → Parser (List Ty)
 parameters regions = expect s.OpenParen >> closed_list begins_ty (ty false regions) 16 s.CloseParen
 
--- what stands behind the regions that a header declares
-unfoldable pub signature : List RegionName → Parser Header
-signature regions = do
-  cs ← clauses regions
+-- what a function with these regions and clauses takes and what it returns
+unfoldable pub function_ty : List RegionName → List Outlives → Parser Signature
+function_ty regions cs = do
   ps ← parameters regions
   expect s.Arrow
   r ← ty false regions
-  pure (record { kind = Function; regions = regions; clauses = cs; parameters = ps; result = r })
+  pure (record { regions = regions; clauses = cs; parameters = ps; result = r })
 
--- a header that declares at most so many regions, behind its first word or its name
-unfoldable pub header_of : ℕ → Parser Header
-header_of limit = declared_list sees_region new_region limit >>= signature
+-- what stands behind the regions that a signature declares
+unfoldable pub behind_regions : List RegionName → Parser Signature
+behind_regions regions = clauses regions >>= function_ty regions
+
+-- a signature that declares at most so many regions
+unfoldable pub signature : ℕ → Parser Signature
+signature limit = declared_list sees_region new_region limit >>= behind_regions
 
 unfoldable pub header : Parser Header
-header = expect s.Fn >> header_of 15
+header = do
+  expect s.Fn
+  f ← signature 15
+  pure (record { kind = Function; signature = f })
 
 -- ---- units
 
@@ -383,8 +390,8 @@ lets_from regions number (suc room) found = lets_turn regions number (lets_from 
 unfoldable pub body_of : Header → Parser Body
 body_of h = do
   expect s.OpenBrace
-  ls ← lets_from h.regions (1 + length h.parameters) 256 []
-  bs ← blocks h.regions (1 + length h.parameters + length ls)
+  ls ← lets_from h.signature.regions (1 + length h.signature.parameters) 256 []
+  bs ← blocks h.signature.regions (1 + length h.signature.parameters + length ls)
   expect s.CloseBrace
   at_end
   pure (record { header = h; lets = ls; blocks = bs })
@@ -454,9 +461,9 @@ struct_declaration = do
 unfoldable pub extern_declaration : Parser ExternDeclaration
 extern_declaration = do
   name ← item_name
-  h ← header_of 8
+  f ← signature 8
   expect s.Semicolon
-  pure (record { name = name; header = h })
+  pure (record { name = name; signature = f })
 
 -- a first word, and what it begins, where so many of its kind stand before
 abbrev pub counted : {A : Type 0} → ℕ → Symbol → Parser A → Parser A

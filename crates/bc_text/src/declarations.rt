@@ -11,7 +11,7 @@ ghost use Rattle.bc_text.specs.declared.fault.ReadFault.TheVariants.{TooLong};
 ghost use Rattle.bc_text.specs.Reading as spec;
 
 use crate::fault::ReadFault;
-use crate::reader::{MAX_TEXT, header_of};
+use crate::reader::{MAX_TEXT, signature};
 use crate::regions::{item_name, new_region, refuse_past};
 use crate::types::{begins_ty, ty};
 use bc_syntax::{
@@ -175,9 +175,9 @@ fn extern_declaration(alloc: Global, cursor: &mut Cursor<'_>) -> Result<ExternDe
     ensures { Reads (spec.extern_declaration cursor.old) result cursor.new }
 {
     let name = item_name(alloc, cursor)?;
-    let header = header_of(alloc, cursor, 8)?;
+    let signature = signature(alloc, cursor, 8)?;
     cursor.expect(Symbol::Semicolon)?;
-    Ok(ExternDeclaration { name, header })
+    Ok(ExternDeclaration { name, signature })
 }
 
 #[tactic(auto, unfolding(crate::specs::Reading::declaration))]

@@ -13,7 +13,9 @@ use crate::fault::ReadFault;
 use crate::regions::{new_regions, refuse_past, universal};
 use crate::types::{parameters, ty};
 use bc_print::Numbering;
-use bc_syntax::{Body, Header, Outlives, RegionName, Sequence, Symbol, Ty, Unit, UnitKind};
+use bc_syntax::{
+    Body, Header, Outlives, RegionName, Sequence, Signature, Symbol, Ty, Unit, UnitKind,
+};
 use bc_tokens::{Cursor, Refusal};
 use std::alloc::Global;
 
@@ -62,25 +64,24 @@ fn clauses(
     }
 }
 
-/// What stands behind the regions that a header declares.
-#[tactic(auto, unfolding(crate::specs::Reading::signature))]
-fn signature(
+/// What a function with these regions and clauses takes and what it returns.
+#[tactic(auto, unfolding(crate::specs::Reading::function_ty))]
+fn function_ty(
     alloc: Global,
     cursor: &mut Cursor<'_>,
     regions: Sequence<RegionName>,
-) -> Result<Header, Refusal>
+    clauses: Sequence<Outlives>,
+) -> Result<Signature, Refusal>
     requires { length regions ≤ 15 }
-    ensures few { IfOk result (λ h. length h.parameters ≤ 16) }
-    ensures regions { IfOk result (λ h. h.regions ≡ regions) }
-    ensures reads { Reads (spec.signature regions cursor.old) result cursor.new }
+    ensures few { IfOk result (λ f. length f.parameters ≤ 16) }
+    ensures regions { IfOk result (λ f. f.regions ≡ regions) }
+    ensures reads { Reads (spec.function_ty regions clauses cursor.old) result cursor.new }
 {
     let names = regions.as_slice();
-    let clauses = clauses(alloc, cursor, names)?;
     let parameters = parameters(alloc, cursor, names)?;
     cursor.expect(Symbol::Arrow)?;
     let result = ty(alloc, cursor, false, names)?;
-    Ok(Header {
-        kind: UnitKind::Function,
+    Ok(Signature {
         regions,
         clauses,
         parameters,
@@ -88,26 +89,46 @@ fn signature(
     })
 }
 
-/// A header that declares at most so many regions, behind its first word or its name. Own.
-#[tactic(auto, unfolding(crate::specs::Reading::header_of))]
-pub fn header_of(alloc: Global, cursor: &mut Cursor<'_>, limit: u8) -> Result<Header, Refusal>
+/// What stands behind the regions that a signature declares.
+#[tactic(auto, unfolding(crate::specs::Reading::behind_regions))]
+fn behind_regions(
+    alloc: Global,
+    cursor: &mut Cursor<'_>,
+    regions: Sequence<RegionName>,
+) -> Result<Signature, Refusal>
+    requires { length regions ≤ 15 }
+    ensures few { IfOk result (λ f. length f.parameters ≤ 16) }
+    ensures regions { IfOk result (λ f. f.regions ≡ regions) }
+    ensures reads { Reads (spec.behind_regions regions cursor.old) result cursor.new }
+{
+    let clauses = clauses(alloc, cursor, regions.as_slice())?;
+    function_ty(alloc, cursor, regions, clauses)
+}
+
+/// A signature that declares at most so many regions. Own.
+#[tactic(auto, unfolding(crate::specs::Reading::signature))]
+pub fn signature(alloc: Global, cursor: &mut Cursor<'_>, limit: u8) -> Result<Signature, Refusal>
     requires { limit ≤ 15 }
-    ensures few { IfOk result (λ h. length h.parameters ≤ 16) }
-    ensures regions { IfOk result (λ h. length h.regions ≤ 15) }
-    ensures reads { Reads (spec.header_of limit cursor.old) result cursor.new }
+    ensures few { IfOk result (λ f. length f.parameters ≤ 16) }
+    ensures regions { IfOk result (λ f. length f.regions ≤ 15) }
+    ensures reads { Reads (spec.signature limit cursor.old) result cursor.new }
 {
     let regions = new_regions(alloc, cursor, limit)?;
-    signature(alloc, cursor, regions)
+    behind_regions(alloc, cursor, regions)
 }
 
 #[tactic(auto, unfolding(crate::specs::Reading::header))]
 fn header(alloc: Global, cursor: &mut Cursor<'_>) -> Result<Header, Refusal>
-    ensures few { IfOk result (λ h. length h.parameters ≤ 16) }
-    ensures regions { IfOk result (λ h. length h.regions ≤ 15) }
+    ensures few { IfOk result (λ h. length h.signature.parameters ≤ 16) }
+    ensures regions { IfOk result (λ h. length h.signature.regions ≤ 15) }
     ensures reads { Reads (spec.header cursor.old) result cursor.new }
 {
     cursor.expect(Symbol::Fn)?;
-    header_of(alloc, cursor, 15)
+    let signature = signature(alloc, cursor, 15)?;
+    Ok(Header {
+        kind: UnitKind::Function,
+        signature,
+    })
 }
 
 #[tactic(auto, unfolding(crate::specs::Reading::declared_ty))]
@@ -168,13 +189,13 @@ fn lets(
 /// A body behind its header.
 #[tactic(auto, unfolding(crate::specs::Reading::body_of))]
 fn body_of(alloc: Global, cursor: &mut Cursor<'_>, header: Header) -> Result<Body, Refusal>
-    requires few { length header.parameters ≤ 16 }
-    requires regions { length header.regions ≤ 15 }
+    requires few { length header.signature.parameters ≤ 16 }
+    requires regions { length header.signature.regions ≤ 15 }
     ensures { Reads (spec.body_of header cursor.old) result cursor.new }
 {
     cursor.expect(Symbol::OpenBrace)?;
-    let first = 1 + header.parameters.len() as u16;
-    let regions = header.regions.as_slice();
+    let first = 1 + header.signature.parameters.len() as u16;
+    let regions = header.signature.regions.as_slice();
     let lets = lets(alloc, cursor, regions, first)?;
     let locals = first + lets.len() as u16;
     let blocks = blocks(alloc, cursor, regions, locals)?;

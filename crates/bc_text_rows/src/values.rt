@@ -1,7 +1,7 @@
 //! What texts are read as: each form of a unit and of declarations once, and its value told part by part.
 use bc_syntax::{
     Base, Block, Body, Condition, Declaration, Header, Instance, Mutability, Operand, Outlives,
-    Place, Projection, Reference, Region, RegionName, Rvalue, Sequence, Statement,
+    Place, Projection, Reference, Region, RegionName, Rvalue, Sequence, Signature, Statement,
     StructDeclaration, Terminator, Ty, Unit, Variance,
 };
 use bc_text::{MAX_TEXT, ReadFault, read_types, read_unit};
@@ -183,13 +183,13 @@ fn is_clause(clause: &Outlives, longer: u8, shorter: u8) -> bool {
     clause.longer == longer && clause.shorter == shorter
 }
 
-fn is_the_header(header: &Header) -> bool {
-    are_a_and_b(header.regions.as_slice())
-        && matches!(header.clauses.as_slice(), [first, second]
+fn is_the_signature(signature: &Signature) -> bool {
+    are_a_and_b(signature.regions.as_slice())
+        && matches!(signature.clauses.as_slice(), [first, second]
             if is_clause(first, 1, 2) && is_clause(second, 2, 0))
-        && matches!(header.parameters.as_slice(), [first, second]
+        && matches!(signature.parameters.as_slice(), [first, second]
             if is_int(first, &[]) && is_struct(second, &[mutable(A), shared(STATIC)], b"Pair", &[B, A]))
-        && is_struct(&header.result, &[shared(B)], b"Leaf", &[])
+        && is_struct(&signature.result, &[shared(B)], b"Leaf", &[])
 }
 
 fn are_the_lets(lets: &[Ty]) -> bool {
@@ -199,7 +199,7 @@ fn are_the_lets(lets: &[Ty]) -> bool {
 }
 
 fn is_the_body(body: &Body) -> bool {
-    is_the_header(&body.header)
+    is_the_signature(&body.header.signature)
         && are_the_lets(body.lets.as_slice())
         && are_the_blocks(body.blocks.as_slice())
 }
@@ -224,12 +224,12 @@ fn is_list(declaration: &StructDeclaration) -> bool {
             if is_int(first, &[shared(A)]) && is_struct(second, &[], b"List", &[B, STATIC]))
 }
 
-fn is_header_of_f(header: &Header) -> bool {
-    are_a_and_b(header.regions.as_slice())
-        && matches!(header.clauses.as_slice(), [clause] if is_clause(clause, 2, 1))
-        && matches!(header.parameters.as_slice(), [first, second]
+fn is_signature_of_f(signature: &Signature) -> bool {
+    are_a_and_b(signature.regions.as_slice())
+        && matches!(signature.clauses.as_slice(), [clause] if is_clause(clause, 2, 1))
+        && matches!(signature.parameters.as_slice(), [first, second]
             if is_int(first, &[mutable(A)]) && is_int(second, &[]))
-        && is_struct(&header.result, &[], b"Leaf", &[])
+        && is_struct(&signature.result, &[], b"Leaf", &[])
 }
 
 fn are_the_declarations(declarations: &[Declaration]) -> bool {
@@ -242,7 +242,7 @@ fn are_the_declarations(declarations: &[Declaration]) -> bool {
             is_leaf(first)
                 && is_list(second)
                 && third.name.bytes.as_slice() == b"f".as_slice()
-                && is_header_of_f(&third.header)
+                && is_signature_of_f(&third.signature)
         }
         _ => false,
     }

@@ -104,7 +104,7 @@ is_good earlier (Struct d) =
     not (is_some (struct_among earlier d.name)) && list_all (is_good_field earlier d.variances) d.fields
 is_good earlier (Extern d) =
     not (is_some (extern_among earlier d.name))
-    && (list_all (has_declared_base earlier) d.header.parameters && has_declared_base earlier d.header.result)
+    && (list_all (has_declared_base earlier) d.signature.parameters && has_declared_base earlier d.signature.result)
 
 -- the number of the first declaration that is not good, the first of these having a number
 abbrev pub first_bad_behind : List Declaration → ℕ → List Declaration → Option ℕ

@@ -152,8 +152,8 @@ fn is_good_extern(table: &Table, declaration: &ExternDeclaration) -> bool
     ensures { result ≡ goodness (reverse table.now) (Declaration.Extern declaration.now) }
 {
     table.extern_of(&declaration.name).is_none()
-        && have_declared_bases(table, declaration.header.parameters.as_slice())
-        && has_declared_base(table, &declaration.header.result)
+        && have_declared_bases(table, declaration.signature.parameters.as_slice())
+        && has_declared_base(table, &declaration.signature.result)
 }
 
 /// Whether a declaration is good behind those of a table.

@@ -10,8 +10,8 @@ ghost use Rattle.bc_types.specs.Drops.{holds_drop as holding, struct_holds_drop 
 
 use crate::replaced::copy_name;
 use bc_syntax::{
-    Base, Declaration, ExternDeclaration, Header, Instance, ItemName, Outlives, RegionName,
-    Sequence, StructDeclaration, Ty,
+    Base, Declaration, ExternDeclaration, Instance, ItemName, Outlives, RegionName, Sequence,
+    Signature, StructDeclaration, Ty,
 };
 use indexmap::IndexMap;
 use std::alloc::{AllocError, Global};
@@ -78,15 +78,14 @@ pub fn copy_type(ty: &Ty) -> Result<Ty, AllocError>
     ty.clone()
 }
 
-fn copy_header(header: &Header) -> Result<Header, AllocError>
-    ensures { IfOk result (λ copy. copy ≡ header.now) }
+fn copy_signature(signature: &Signature) -> Result<Signature, AllocError>
+    ensures { IfOk result (λ copy. copy ≡ signature.now) }
 {
-    Ok(Header {
-        kind: header.kind,
-        regions: copy_names(&header.regions)?,
-        clauses: copy_clauses(&header.clauses)?,
-        parameters: copy_types(&header.parameters)?,
-        result: copy_type(&header.result)?,
+    Ok(Signature {
+        regions: copy_names(&signature.regions)?,
+        clauses: copy_clauses(&signature.clauses)?,
+        parameters: copy_types(&signature.parameters)?,
+        result: copy_type(&signature.result)?,
     })
 }
 
@@ -95,7 +94,7 @@ fn copy_extern(declaration: &ExternDeclaration) -> Result<ExternDeclaration, All
 {
     Ok(ExternDeclaration {
         name: copy_name(&declaration.name)?,
-        header: copy_header(&declaration.header)?,
+        signature: copy_signature(&declaration.signature)?,
     })
 }
 

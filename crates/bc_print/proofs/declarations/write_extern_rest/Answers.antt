@@ -10,5 +10,5 @@ returns g c =
     let d = c.args.declaration.now in
     let end = spell.symbol s.Semicolon in
     on_ok_weaker c.write_symbol.result
-    (λ done. writes_both _ _ _ (spell.item_name d.name) (spell.signature d.header ++ end) c.in_ok-write_item_name.ensures (writes_both _ _ _ (spell.signature d.header) end c.in_ok-write_signature.ensures done))
+    (λ done. writes_both _ _ _ (spell.item_name d.name) (spell.signature d.signature ++ end) c.in_ok-write_item_name.ensures (writes_both _ _ _ (spell.signature d.signature) end c.in_ok-write_signature.ensures done))
     c.write_symbol.ensures

@@ -15,4 +15,4 @@ returns g c =
     let fn_word = rw c.text.ensures at c.in_ok-write_all.ensures.bytes in
     on_ok_weaker c.write_all-2.result
     (λ done. subst (λ (u : Body). Appends (g.W.Write.contents c.args.out.now) (g.W.Write.contents c.write_all-2.new.self) (printed (spell.unit u))) c.body-body.ensures.value
-    (prints _ _ _ _ _ (Fixed s.Fn) (spell.signature body.header) (spell.body body) fn_word c.in_ok-write_signature.ensures c.in_ok-write_body.ensures done)) c.write_all-2.ensures.bytes
+    (prints _ _ _ _ _ (Fixed s.Fn) (spell.signature body.header.signature) (spell.body body) fn_word c.in_ok-write_signature.ensures c.in_ok-write_body.ensures done)) c.write_all-2.ensures.bytes

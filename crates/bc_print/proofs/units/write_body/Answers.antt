@@ -7,7 +7,7 @@ use Rattle.bc_print.proofs.units.write_body.Goals as goal
 
 pub returns : goal.returns
 returns g c =
-    let regions = c.args.body.now.header.regions in
+    let regions = c.args.body.now.header.signature.regions in
     let opening = spell.symbol s.OpenBrace in
     let lets = spell.lets regions (spell.first_let c.args.body.now.header) c.args.body.now.lets in
     let blocks = spell.blocks regions 0 c.args.body.now.blocks in
