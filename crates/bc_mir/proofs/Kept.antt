@@ -11,7 +11,8 @@ use Rattle.bc_syntax.specs.declared.syntax.Statement.{Statement as Simple}
 use Rattle.bc_syntax.specs.declared.syntax.Terminator.{Terminator as Ending}
 use Rattle.bc_syntax.specs.declared.syntax.Terminator.TheVariants.{Goto, If, Call, Return, Stop}
 use Rattle.bc_syntax.proofs.Signatures.{signature_parts}
-use Rattle.bc_syntax.specs.Fits.{Fits as Sized, universal_count, locals_of, point_count, clause_fits, ty_fits, statement_fits, terminator_fits, block_fits}
+use Rattle.bc_syntax.specs.Locals.{locals_of}
+use Rattle.bc_syntax.specs.Fits.{Fits as Sized, universal_count, point_count, clause_fits, ty_fits, statement_fits, terminator_fits, block_fits}
 use Rattle.bc_flow.specs.declared.graph.Edge.{Edge}
 use Rattle.bc_mir.specs.declared.mir.Step.{Step}
 use Rattle.bc_flow.specs.Graph.{AreWithin}

@@ -9,7 +9,8 @@ use Rattle.bc_syntax.specs.declared.syntax.Declaration.{Declaration}
 use Rattle.bc_syntax.specs.declared.syntax.Statement.{Statement as Simple}
 use Rattle.bc_syntax.specs.declared.syntax.Terminator.{Terminator as Ending}
 use Rattle.bc_syntax.specs.declared.syntax.Terminator.TheVariants.{Goto, If, Call, Return, Stop}
-use Rattle.bc_syntax.specs.Fits.{universal_count, locals_of}
+use Rattle.bc_syntax.specs.Fits.{universal_count}
+use Rattle.bc_syntax.specs.Locals.{locals_of}
 use Rattle.bc_flow.specs.declared.graph.Edge.{Edge}
 use Rattle.bc_mir.specs.declared.mir.Step.{Step}
 use Rattle.bc_mir.specs.declared.mir.Instruction.{Instruction}

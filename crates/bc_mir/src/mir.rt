@@ -1,11 +1,11 @@
 //! The points of a unit in one list.
 ghost use Rattle.std.specs.Prelude.{◌≡◌, ◌≤◌, ◌++◌, IfOk, OnOk};
 ghost use Rattle.std.specs.Arc.{arc_value};
-ghost use Rattle.bc_syntax.specs.Fits.{universal_count, locals_of};
+ghost use Rattle.bc_syntax.specs.Fits.{universal_count};
 ghost use Rattle.bc_mir.specs.Mir.{block_steps, mir_of};
 
 use bc_syntax::{Block, Body, Outlives, Sequence, Statement, Terminator, Ty};
-use bc_types::{GoodTypes, copy_clauses, copy_type};
+use bc_types::{GoodTypes, copy_clauses};
 use std::alloc::{AllocError, Global};
 use std::marker::Model;
 use std::sync::Arc;
@@ -73,26 +73,6 @@ fn copy_terminator(terminator: &Terminator) -> Result<Terminator, AllocError>
     terminator.clone()
 }
 
-fn push_types(types: &mut Vec<Ty>, more: &[Ty]) -> Result<(), AllocError>
-    ensures { OnOk result (types.new.items ≡ types.old.items ++ more.now) }
-{
-    for ty in more {
-        types.push(copy_type(ty)?)?;
-    }
-    Ok(())
-}
-
-/// The types of the locals in order: the result, the parameters, the `let` locals.
-fn local_types(alloc: Global, body: &Body) -> Result<Vec<Ty>, AllocError>
-    ensures { IfOk result (λ types. types.items ≡ locals_of body.now) }
-{
-    let mut types = Vec::new(alloc);
-    types.push(copy_type(&body.header.signature.result)?)?;
-    push_types(&mut types, body.header.signature.parameters.as_slice())?;
-    push_types(&mut types, body.lets.as_slice())?;
-    Ok(types)
-}
-
 /// How many points a body has, by which its list of points is sized.
 fn point_count(body: &Body) -> usize {
     let mut count = 0_usize;
@@ -151,7 +131,7 @@ impl Draft {
             types,
             universals: (signature.regions.len() + 1) as u8,
             clauses: copy_clauses(&signature.clauses)?,
-            locals: local_types(alloc, body)?,
+            locals: body.local_types(alloc)?,
             steps,
             entries,
         })

@@ -1,5 +1,5 @@
 -- How each value is spelled, token by token.
-use Rattle.std.specs.Prelude.{ℕ, ◌+◌, Bool, true, false, List, [], ◌∷◌, ◌++◌, length, get_or}
+use Rattle.std.specs.Prelude.{ℕ, ◌+◌, Bool, true, false, List, [], ◌∷◌, ◌++◌, get_or}
 use Rattle.std.specs.List.{flat_map, zip}
 use Rattle.bc_syntax.specs.declared.symbol.Symbol.{Symbol}
 use Rattle.bc_syntax.specs.declared.symbol.Symbol.TheVariants as s
@@ -42,6 +42,7 @@ use Rattle.bc_syntax.specs.declared.syntax.StructDeclaration.{StructDeclaration}
 use Rattle.bc_syntax.specs.declared.syntax.ExternDeclaration.{ExternDeclaration}
 use Rattle.bc_syntax.specs.declared.syntax.Declaration.{Declaration}
 use Rattle.bc_syntax.specs.declared.syntax.Declaration.TheVariants as declarations
+use Rattle.bc_syntax.specs.Locals.{first_let}
 use Rattle.bc_print.specs.Token.{Token, Fixed, Numbered, Word}
 use Rattle.bc_print.specs.Token.{Region as Named}
 use Rattle.bc_print.specs.Universals.{universal_names}
@@ -211,10 +212,6 @@ signature f = angled region_name f.regions ++ (clauses f.regions f.clauses ++ fu
 
 abbrev pub header : Header → List Token
 header h = symbol s.Fn ++ signature h.signature
-
--- the first of the `let` locals
-abbrev pub first_let : Header → ℕ
-first_let h = 1 + length h.signature.parameters
 
 -- what stands behind a header
 abbrev pub body : Body → List Token

@@ -3,7 +3,7 @@
 
 ghost use Rattle.std.specs.Prelude.{◌≡◌, ◌+◌, ◌≤◌, OnOk, length, []};
 ghost use Rattle.std.specs.Io.KnownBytes.{Appends};
-ghost use Rattle.bc_syntax.specs.Fits.{locals_of};
+ghost use Rattle.bc_syntax.specs.Locals.{locals_of};
 ghost use Rattle.bc_print.specs.Printing.{Writes, printed};
 ghost use Rattle.bc_print.specs.Spelling as spell;
 
@@ -95,7 +95,7 @@ fn write_body<W: Write>(body: &Body, out: &mut W) -> io::Result<()>
     ensures { OnOk result (Writes (W.contents out.old) (W.contents out.new) (spell.body body.now)) }
 {
     let regions = body.header.signature.regions.as_slice();
-    let first_let = 1 + body.header.signature.parameters.len();
+    let first_let = body.header.first_let();
     write_symbol(Symbol::OpenBrace, out)?;
     write_lets(regions, first_let, body.lets.as_slice(), out)?;
     write_blocks(regions, body.blocks.as_slice(), out)?;

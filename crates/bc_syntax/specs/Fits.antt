@@ -37,14 +37,11 @@ use Rattle.bc_syntax.specs.declared.syntax.ExternDeclaration.{ExternDeclaration}
 use Rattle.bc_syntax.specs.declared.syntax.Declaration.{Declaration}
 use Rattle.bc_syntax.specs.declared.syntax.Declaration.TheVariants as declarations
 use Rattle.bc_syntax.specs.Words.{is_region_name, is_word}
+use Rattle.bc_syntax.specs.Locals.{locals_of}
 
 -- how many universal regions a signature has: `'static` and those that it declares
 abbrev pub universal_count : Signature → ℕ
 universal_count signature = length signature.regions + 1
-
--- the types of the locals in order: the result, the parameters, the `let` locals
-abbrev pub locals_of : Body → List Ty
-locals_of body = body.header.signature.result ∷ (body.header.signature.parameters ++ body.lets)
 
 -- how many points blocks have: their statements, and a terminator each
 abbrev pub point_count : List Block → ℕ

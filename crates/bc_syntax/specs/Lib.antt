@@ -2,4 +2,5 @@ pub mod Bytes
 pub mod Symbol
 pub mod Likely
 pub mod Words
+pub mod Locals
 pub mod Fits

@@ -3,7 +3,8 @@ ghost use Rattle.std.specs.Prelude.{◌≡◌, ◌+◌, ◌≤◌, ◌<◌, ◌&
 ghost use Rattle.std.specs.List.{list_all, list_any};
 ghost use Rattle.std.specs.Str.{bytes_eq};
 ghost use Rattle.bc_syntax.specs.Fits as spec;
-ghost use Rattle.bc_syntax.specs.Fits.{Fits, universal_count as universals_of, locals_of, point_count};
+ghost use Rattle.bc_syntax.specs.Fits.{Fits, universal_count as universals_of, point_count};
+ghost use Rattle.bc_syntax.specs.Locals.{locals_of};
 ghost use Rattle.bc_syntax.specs.declared.syntax.RegionName.{RegionName};
 
 use crate::syntax::{
@@ -345,14 +346,13 @@ pub fn fits(body: &Body) -> bool
     ensures { IsTrue result ↔ Fits body.now }
 {
     let blocks = body.blocks.as_slice();
-    let signature = &body.header.signature;
     if !header_fits(&body.header) || body.lets.len() > 255 {
         return false;
     }
     let limits = Limits {
         variables: true,
-        universals: signature.regions.len() + 1,
-        locals: 1 + signature.parameters.len() + body.lets.len(),
+        universals: body.header.signature.regions.len() + 1,
+        locals: body.header.first_let() + body.lets.len(),
     };
     limits.locals <= 256
         && 1 <= blocks.len()

@@ -5,6 +5,7 @@
 mod bytes;
 mod declarations;
 mod fits;
+mod locals;
 mod sequence;
 mod symbol;
 mod syntax;

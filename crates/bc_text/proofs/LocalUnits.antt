@@ -23,6 +23,7 @@ use Rattle.bc_syntax.specs.declared.syntax.Place.{Place}
 use Rattle.bc_syntax.specs.declared.syntax.Statement.{Statement}
 use Rattle.bc_syntax.specs.declared.syntax.Block.{Block}
 use Rattle.bc_syntax.specs.declared.syntax.Header.{Header}
+use Rattle.bc_syntax.specs.Locals.{first_let}
 use Rattle.bc_syntax.specs.declared.syntax.Ty.{Ty}
 use Rattle.bc_syntax.specs.Fits.{is_new}
 use Rattle.bc_syntax.specs.Words.{is_word}
@@ -345,10 +346,10 @@ body_of : (h : Header) → Parses Any (read.body_of h) (spell.header h) spell.un
 unfolding read.body_of
 body_of h =
     then (expects s.OpenBrace) (λ _ _.
-    then (lets_from h.signature.regions (1 + length h.signature.parameters) 256 []) (λ ls _.
-    then (blocks h.signature.regions (1 + length h.signature.parameters + length ls)) (λ bs _.
+    then (lets_from h.signature.regions (first_let h) 256 []) (λ ls _.
+    then (blocks h.signature.regions (first_let h + length ls)) (λ bs _.
     then (expects s.CloseBrace) (λ _ _.
-    then ends (λ _ _. gives (record { header = h; lets = ls; blocks = bs }) tt (body_is (spell.header h) (spell.symbol s.OpenBrace) (spell.lets h.signature.regions (spell.first_let h) ls) (spell.blocks h.signature.regions 0 bs) (spell.symbol s.CloseBrace)))))))
+    then ends (λ _ _. gives (record { header = h; lets = ls; blocks = bs }) tt (body_is (spell.header h) (spell.symbol s.OpenBrace) (spell.lets h.signature.regions (first_let h) ls) (spell.blocks h.signature.regions 0 bs) (spell.symbol s.CloseBrace)))))))
 
 pub unit : Parses Any read.unit [] spell.unit
 unfolding read.unit

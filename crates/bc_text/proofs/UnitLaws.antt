@@ -18,6 +18,7 @@ use Rattle.bc_syntax.specs.declared.syntax.Signature.{Signature}
 use Rattle.bc_syntax.specs.declared.syntax.Header.{Header}
 use Rattle.bc_syntax.specs.declared.syntax.Body.{Body}
 use Rattle.bc_syntax.specs.Symbol.{same}
+use Rattle.bc_syntax.specs.Locals.{declared_locals, first_let}
 use Rattle.bc_syntax.specs.Fits.{signature_fits, header_fits, Fits, is_new, are_new, clause_fits, clauses_fit, parameters_fit, ty_fits, block_fits}
 use Rattle.bc_syntax.proofs.Signatures.{signature_parts}
 use Rattle.bc_print.specs.Token.{Token, Fixed, Numbered, Word, Region, NotAscii, Stray, End}
@@ -348,7 +349,7 @@ closing = Fixed s.CloseBrace ∷ (End ∷ [])
 -- ---- bodies
 
 abbrev pub body_tokens : Body → List Token
-body_tokens u = spell.symbol s.OpenBrace ++ (spell.lets u.header.signature.regions (spell.first_let u.header) u.lets ++ (spell.blocks u.header.signature.regions 0 u.blocks ++ closing))
+body_tokens u = spell.symbol s.OpenBrace ++ (spell.lets u.header.signature.regions (first_let u.header) u.lets ++ (spell.blocks u.header.signature.regions 0 u.blocks ++ closing))
 
 abbrev pub whole_tokens : Body → List Token
 whole_tokens u = spell.header u.header ++ body_tokens u
@@ -359,33 +360,33 @@ made_of h ls bs = record { header = h; lets = ls; blocks = bs }
 plus-zero : (k : ℕ) → k + 0 ≡ k
 plus-zero k = omega arith
 
-locals_are : (h : Header) (ls : List Ty) → 1 + length h.signature.parameters + length ls ≡ length (h.signature.result ∷ (h.signature.parameters ++ ls))
-locals_are h ls = omega (arith, length-append h.signature.parameters ls)
+locals_are : (h : Header) (ls : List Ty) → first_let h + length ls ≡ length (declared_locals h ++ ls)
+locals_are h ls = omega (arith, length-append (declared_locals h) ls)
 
 body_takes : (h : Header) (ts : Tokens) (y : Body × Tokens) → header_fits h ≡ true → read.body_of h ts ≡ Ok y → (y.0.header ≡ h) × Begins ts (body_tokens y.0) (after y.1) × Fits y.0
 unfolding read.body_of
 body_takes h ts y fits e =
     let parts = signature_parts 15 h.signature fits in
-    let locals : List Ty → ℕ = λ ls. 1 + length h.signature.parameters + length ls in
-    let b = bind_ok (expect s.OpenBrace ts) (λ _ t2. and_then (read.lets_from h.signature.regions (1 + length h.signature.parameters) 256 [] t2) (λ ls t3. and_then (read.blocks h.signature.regions (1 + length h.signature.parameters + length ls) t3) (λ bs t4. and_then (expect s.CloseBrace t4) (λ _ t5. and_then (at_end t5) (λ _ t6. Ok (made_of h ls bs, t6)))))) y e in
-    let c = bind_ok (read.lets_from h.signature.regions (1 + length h.signature.parameters) 256 [] b.0.1) (λ ls t3. and_then (read.blocks h.signature.regions (1 + length h.signature.parameters + length ls) t3) (λ bs t4. and_then (expect s.CloseBrace t4) (λ _ t5. and_then (at_end t5) (λ _ t6. Ok (made_of h ls bs, t6))))) y b.2 in
+    let locals : List Ty → ℕ = λ ls. first_let h + length ls in
+    let b = bind_ok (expect s.OpenBrace ts) (λ _ t2. and_then (read.lets_from h.signature.regions (first_let h) 256 [] t2) (λ ls t3. and_then (read.blocks h.signature.regions (first_let h + length ls) t3) (λ bs t4. and_then (expect s.CloseBrace t4) (λ _ t5. and_then (at_end t5) (λ _ t6. Ok (made_of h ls bs, t6)))))) y e in
+    let c = bind_ok (read.lets_from h.signature.regions (first_let h) 256 [] b.0.1) (λ ls t3. and_then (read.blocks h.signature.regions (first_let h + length ls) t3) (λ bs t4. and_then (expect s.CloseBrace t4) (λ _ t5. and_then (at_end t5) (λ _ t6. Ok (made_of h ls bs, t6))))) y b.2 in
     let ls = c.0.0 in
-    let d = bind_ok (read.blocks h.signature.regions (1 + length h.signature.parameters + length ls) c.0.1) (λ bs t4. and_then (expect s.CloseBrace t4) (λ _ t5. and_then (at_end t5) (λ _ t6. Ok (made_of h ls bs, t6)))) y c.2 in
+    let d = bind_ok (read.blocks h.signature.regions (first_let h + length ls) c.0.1) (λ bs t4. and_then (expect s.CloseBrace t4) (λ _ t5. and_then (at_end t5) (λ _ t6. Ok (made_of h ls bs, t6)))) y c.2 in
     let bs = d.0.0 in
     let f = bind_ok (expect s.CloseBrace d.0.1) (λ _ t5. and_then (at_end t5) (λ _ t6. Ok (made_of h ls bs, t6))) y d.2 in
     let g = bind_ok (at_end f.0.1) (λ _ t6. Ok (made_of h ls bs, t6)) y f.2 in
     let parameters = and_parts (list_all (ty_fits false (length h.signature.regions + 1)) h.signature.parameters) _ parts.parameters in
     let few_parameters = leb-true (length h.signature.parameters) 16 parameters.1 in
-    let few : 1 + length h.signature.parameters + 0 ≤ 256 = omega (arith, few_parameters) in
-    let let_part = lets_take h.signature.regions parts.regions (1 + length h.signature.parameters) 256 [] b.0.1 c.0 few c.1 in
-    let let_text : Begins b.0.1 (spell.lets h.signature.regions (1 + length h.signature.parameters) ls) c.0.1 = subst (λ (l : List Ty). Begins b.0.1 (spell.lets h.signature.regions (1 + length h.signature.parameters) l) c.0.1) (sym let_part.1) (subst (λ k. Begins b.0.1 (spell.lets h.signature.regions k let_part.0) c.0.1) (plus-zero (1 + length h.signature.parameters)) let_part.2) in
+    let few : first_let h + 0 ≤ 256 = omega (arith, few_parameters) in
+    let let_part = lets_take h.signature.regions parts.regions (first_let h) 256 [] b.0.1 c.0 few c.1 in
+    let let_text : Begins b.0.1 (spell.lets h.signature.regions (first_let h) ls) c.0.1 = subst (λ (l : List Ty). Begins b.0.1 (spell.lets h.signature.regions (first_let h) l) c.0.1) (sym let_part.1) (subst (λ k. Begins b.0.1 (spell.lets h.signature.regions k let_part.0) c.0.1) (plus-zero (first_let h)) let_part.2) in
     let let_fits : list_all (ty_fits true (length h.signature.regions + 1)) ls ≡ true = subst (λ (l : List Ty). list_all (ty_fits true (length h.signature.regions + 1)) l ≡ true) (sym let_part.1) let_part.3 in
-    let count : 1 + length h.signature.parameters + length ls ≤ 256 = subst (λ (l : List Ty). 1 + length h.signature.parameters + length l ≤ 256) (sym let_part.1) (omega (arith, let_part.4)) in
-    let block_part = blocks_take h.signature.regions parts.regions (1 + length h.signature.parameters + length ls) count c.0.1 d.0 d.1 in
+    let count : first_let h + length ls ≤ 256 = subst (λ (l : List Ty). first_let h + length l ≤ 256) (sym let_part.1) (omega (arith, let_part.4)) in
+    let block_part = blocks_take h.signature.regions parts.regions (first_let h + length ls) count c.0.1 d.0 d.1 in
     let end = join d.0.1 (spell.symbol s.CloseBrace) f.0.1 (End ∷ []) (after g.0.1) (expect_takes s.CloseBrace d.0.1 f.0 f.1) (end_takes f.0.1 g.0 g.1) in
     let t3 = join c.0.1 (spell.blocks h.signature.regions 0 bs) d.0.1 closing (after g.0.1) block_part.0 end in
-    let t2 = join b.0.1 (spell.lets h.signature.regions (1 + length h.signature.parameters) ls) c.0.1 (spell.blocks h.signature.regions 0 bs ++ closing) (after g.0.1) let_text t3 in
-    let whole = join ts (spell.symbol s.OpenBrace) b.0.1 (spell.lets h.signature.regions (1 + length h.signature.parameters) ls ++ (spell.blocks h.signature.regions 0 bs ++ closing)) (after g.0.1) (expect_takes s.OpenBrace ts b.0 b.1) t2 in
+    let t2 = join b.0.1 (spell.lets h.signature.regions (first_let h) ls) c.0.1 (spell.blocks h.signature.regions 0 bs ++ closing) (after g.0.1) let_text t3 in
+    let whole = join ts (spell.symbol s.OpenBrace) b.0.1 (spell.lets h.signature.regions (first_let h) ls ++ (spell.blocks h.signature.regions 0 bs ++ closing)) (after g.0.1) (expect_takes s.OpenBrace ts b.0 b.1) t2 in
     subst (λ (q : Body × Tokens). (q.0.header ≡ h) × Begins ts (body_tokens q.0) (after q.1) × Fits q.0) (ok_is (made_of h ls bs, g.0.1) y g.2) (
       refl,
       whole,
@@ -410,23 +411,23 @@ unfolding read.body_of same
 body_again ts u rest p fits =
     let h = u.header in
     let declares = (signature_parts 15 h.signature fits.header).regions in
-    let b = split ts (spell.symbol s.OpenBrace) (spell.lets h.signature.regions (1 + length h.signature.parameters) u.lets ++ (spell.blocks h.signature.regions 0 u.blocks ++ closing)) rest p in
-    let c = split b.0 (spell.lets h.signature.regions (1 + length h.signature.parameters) u.lets) (spell.blocks h.signature.regions 0 u.blocks ++ closing) rest b.2 in
+    let b = split ts (spell.symbol s.OpenBrace) (spell.lets h.signature.regions (first_let h) u.lets ++ (spell.blocks h.signature.regions 0 u.blocks ++ closing)) rest p in
+    let c = split b.0 (spell.lets h.signature.regions (first_let h) u.lets) (spell.blocks h.signature.regions 0 u.blocks ++ closing) rest b.2 in
     let d = split c.0 (spell.blocks h.signature.regions 0 u.blocks) closing rest c.2 in
     let f = split d.0 (spell.symbol s.CloseBrace) (End ∷ []) rest d.2 in
     let same_count = locals_are h u.lets in
-    let count : 1 + length h.signature.parameters + length u.lets ≤ 256 = subst (λ k. k ≤ 256) (sym same_count) fits.locals in
-    let block_fit : list_all (block_fits (length h.signature.regions + 1) (1 + length h.signature.parameters + length u.lets)) u.blocks ≡ true = subst (λ k. list_all (block_fits (length h.signature.regions + 1) k) u.blocks ≡ true) (sym same_count) fits.blocks in
-    let text : Begins b.0 (spell.lets h.signature.regions (1 + length h.signature.parameters + 0) u.lets) c.0 = subst (λ k. Begins b.0 (spell.lets h.signature.regions k u.lets) c.0) (sym (plus-zero (1 + length h.signature.parameters))) c.1 in
-    let few : 1 + length h.signature.parameters + 0 + length u.lets ≤ 256 = omega (arith, count) in
+    let count : first_let h + length u.lets ≤ 256 = subst (λ k. k ≤ 256) (sym same_count) fits.locals in
+    let block_fit : list_all (block_fits (length h.signature.regions + 1) (first_let h + length u.lets)) u.blocks ≡ true = subst (λ k. list_all (block_fits (length h.signature.regions + 1) k) u.blocks ≡ true) (sym same_count) fits.blocks in
+    let text : Begins b.0 (spell.lets h.signature.regions (first_let h + 0) u.lets) c.0 = subst (λ k. Begins b.0 (spell.lets h.signature.regions k u.lets) c.0) (sym (plus-zero (first_let h))) c.1 in
+    let few : first_let h + 0 + length u.lets ≤ 256 = omega (arith, count) in
     let room : length u.lets + 1 ≤ 256 = omega (arith, count) in
     let no_let = no_let_before u.header.signature.regions u.blocks fits.some_block closing c.0 rest c.2 in
     let no_label = sees_numbered_none n.Label d.0 (Fixed s.CloseBrace) (End ∷ []) rest d.2 refl in (
       f.0,
       rw (
         expect_again s.OpenBrace ts b.0 b.1,
-        lets_again h.signature.regions declares (1 + length h.signature.parameters) 256 [] u.lets b.0 c.0 text fits.lets few room no_let,
-        blocks_again h.signature.regions declares (1 + length h.signature.parameters + length u.lets) count c.0 u.blocks d.0 d.1 block_fit fits.points fits.few_blocks fits.some_block no_label,
+        lets_again h.signature.regions declares (first_let h) 256 [] u.lets b.0 c.0 text fits.lets few room no_let,
+        blocks_again h.signature.regions declares (first_let h + length u.lets) count c.0 u.blocks d.0 d.1 block_fit fits.points fits.few_blocks fits.some_block no_label,
         expect_again s.CloseBrace d.0 f.0 f.1,
         end_again f.0 rest f.2,
       ) refl,
@@ -447,7 +448,7 @@ pub unit_again : (ts : Tokens) (u : Body) (rest : Tokens) → Begins ts (whole_t
 unfolding read.unit same
 unit_again ts u rest p fits =
     let a = split ts (spell.header u.header) (body_tokens u) rest p in
-    let brace = sees_none s.Less a.0 (Fixed s.OpenBrace) (spell.lets u.header.signature.regions (spell.first_let u.header) u.lets ++ (spell.blocks u.header.signature.regions 0 u.blocks ++ closing)) rest a.2 refl in
+    let brace = sees_none s.Less a.0 (Fixed s.OpenBrace) (spell.lets u.header.signature.regions (first_let u.header) u.lets ++ (spell.blocks u.header.signature.regions 0 u.blocks ++ closing)) rest a.2 refl in
     let body = body_again a.0 u rest a.2 fits in
     (body.0, rw (header_again ts u.header a.0 a.1 (signature_is 15 u.header.signature fits.header) brace) body.1)
 

@@ -45,6 +45,7 @@ use Rattle.bc_syntax.specs.declared.syntax.ExternDeclaration.{ExternDeclaration}
 use Rattle.bc_syntax.specs.declared.syntax.Declaration.{Declaration}
 use Rattle.bc_syntax.specs.declared.syntax.Declaration.TheVariants as declarations
 use Rattle.bc_syntax.specs.Fits.{Fits, TypesFit}
+use Rattle.bc_syntax.specs.Locals.{declared_locals, first_let, locals_of}
 use Rattle.bc_syntax.proofs.Signatures.{signature_parts}
 use Rattle.bc_syntax.specs.Words.{is_region_name, is_word}
 use Rattle.bc_print.specs.Token.{Token}
@@ -306,12 +307,12 @@ body : (u : Body) → Fits u → AllWhole (spell.body u)
 body u fits =
     let rs = u.header.signature.regions in
     let new = (signature_parts 15 u.header.signature fits.header).regions in
-    let count = length (fit.locals_of u) in
-    let all_locals : length (fit.locals_of u) ≡ 1 + (length u.header.signature.parameters + length u.lets) = omega (arith, length-append u.header.signature.parameters u.lets) in
-    let few : spell.first_let u.header + length u.lets ≤ 256 = omega (arith, fits.locals, all_locals) in
+    let count = length (locals_of u) in
+    let all_locals : length (locals_of u) ≡ first_let u.header + length u.lets = omega (arith, length-append (declared_locals u.header) u.lets) in
+    let few : first_let u.header + length u.lets ≤ 256 = omega (arith, fits.locals, all_locals) in
     let few_blocks : 0 + length u.blocks ≤ 256 = omega (arith, fits.few_blocks) in
     let blocks_part = joined (spell.blocks rs 0 u.blocks) (spell.symbol s.CloseBrace) (blocks rs new count fits.locals 0 u.blocks few_blocks fits.blocks) (tt, tt) in
-    (tt, joined (spell.lets rs (spell.first_let u.header) u.lets) (spell.blocks rs 0 u.blocks ++ spell.symbol s.CloseBrace) (lets rs new (spell.first_let u.header) u.lets few fits.lets) blocks_part)
+    (tt, joined (spell.lets rs (first_let u.header) u.lets) (spell.blocks rs 0 u.blocks ++ spell.symbol s.CloseBrace) (lets rs new (first_let u.header) u.lets few fits.lets) blocks_part)
 
 pub unit_is_whole : (u : Body) → Fits u → AllWhole (spell.unit u)
 unit_is_whole u fits = (tt, joined (spell.signature u.header.signature) (spell.body u) (signature 15 u.header.signature fits.header) (body u fits))

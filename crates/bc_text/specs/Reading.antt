@@ -48,6 +48,7 @@ use Rattle.bc_syntax.specs.declared.syntax.StructDeclaration.{StructDeclaration}
 use Rattle.bc_syntax.specs.declared.syntax.ExternDeclaration.{ExternDeclaration}
 use Rattle.bc_syntax.specs.declared.syntax.Declaration.{Declaration}
 use Rattle.bc_syntax.specs.declared.syntax.Declaration.TheVariants as declarations
+use Rattle.bc_syntax.specs.Locals.{first_let}
 use Rattle.bc_syntax.specs.Fits.{is_new, is_struct}
 use Rattle.bc_syntax.specs.Words.{is_word}
 use Rattle.bc_tokens.specs.Token.{Tokens, tokens}
@@ -390,8 +391,8 @@ lets_from regions number (suc room) found = lets_turn regions number (lets_from 
 unfoldable pub body_of : Header → Parser Body
 body_of h = do
   expect s.OpenBrace
-  ls ← lets_from h.signature.regions (1 + length h.signature.parameters) 256 []
-  bs ← blocks h.signature.regions (1 + length h.signature.parameters + length ls)
+  ls ← lets_from h.signature.regions (first_let h) 256 []
+  bs ← blocks h.signature.regions (first_let h + length ls)
   expect s.CloseBrace
   at_end
   pure (record { header = h; lets = ls; blocks = bs })

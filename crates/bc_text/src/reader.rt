@@ -194,7 +194,7 @@ fn body_of(alloc: Global, cursor: &mut Cursor<'_>, header: Header) -> Result<Bod
     ensures { Reads (spec.body_of header cursor.old) result cursor.new }
 {
     cursor.expect(Symbol::OpenBrace)?;
-    let first = 1 + header.signature.parameters.len() as u16;
+    let first = header.first_let() as u16;
     let regions = header.signature.regions.as_slice();
     let lets = lets(alloc, cursor, regions, first)?;
     let locals = first + lets.len() as u16;

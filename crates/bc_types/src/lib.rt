@@ -20,5 +20,5 @@ pub use shapes::{
 };
 pub use subtype::{Constraint, push_outlives};
 pub use subtyping::{push_sub, push_sub_reference};
-pub use table::{copy_clauses, copy_type, takes_regions};
+pub use table::{copy_clauses, takes_regions};
 pub use ty_ref::TyRef;

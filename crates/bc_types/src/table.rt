@@ -71,8 +71,7 @@ pub fn copy_clauses(clauses: &Sequence<Outlives>) -> Result<Sequence<Outlives>, 
     clauses.clone()
 }
 
-/// The same type again. `AllocError` only where memory was refused. (Own.)
-pub fn copy_type(ty: &Ty) -> Result<Ty, AllocError>
+fn copy_type(ty: &Ty) -> Result<Ty, AllocError>
     ensures { IfOk result (λ copy. copy ≡ ty.now) }
 {
     ty.clone()

@@ -1,0 +1,45 @@
+//! The locals of a body, in their order: those that its header declares, then the `let` locals.
+ghost use Rattle.std.specs.Prelude.{◌≡◌, ◌++◌, IfOk, OnOk};
+ghost use Rattle.bc_syntax.specs.Locals.{first_let, locals_of};
+
+use crate::syntax::{Body, Header, Ty};
+use std::alloc::{AllocError, Global};
+
+fn copy_type(ty: &Ty) -> Result<Ty, AllocError>
+    ensures { IfOk result (λ copy. copy ≡ ty.now) }
+{
+    ty.clone()
+}
+
+fn push_types(types: &mut Vec<Ty>, more: &[Ty]) -> Result<(), AllocError>
+    ensures { OnOk result (types.new.items ≡ types.old.items ++ more.now) }
+{
+    for ty in more {
+        types.push(copy_type(ty)?)?;
+    }
+    Ok(())
+}
+
+impl Header {
+    /// The number of the first `let` local, which is how many locals the header declares: the result and the parameters.
+    /// (rustc-dev-guide, "The MIR".)
+    pub fn first_let(&self) -> usize
+        ensures { result ≡ first_let self.now }
+    {
+        1 + self.signature.parameters.as_slice().len()
+    }
+}
+
+impl Body {
+    /// The types of the locals in order: the result, the parameters, the `let` locals. `AllocError` only where memory was
+    /// refused. (rustc-dev-guide, "The MIR".)
+    pub fn local_types(&self, alloc: Global) -> Result<Vec<Ty>, AllocError>
+        ensures { IfOk result (λ types. types.items ≡ locals_of self.now) }
+    {
+        let mut types = Vec::new(alloc);
+        types.push(copy_type(&self.header.signature.result)?)?;
+        push_types(&mut types, self.header.signature.parameters.as_slice())?;
+        push_types(&mut types, self.lets.as_slice())?;
+        Ok(types)
+    }
+}
