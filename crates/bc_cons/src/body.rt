@@ -52,11 +52,13 @@ fn pairs_of_steps(
 fn differing(alloc: Global, pairs: &[RegionConstraint]) -> Result<Vec<RegionConstraint>, AllocError>
     ensures { IfOk result (λ kept. kept.items ≡ filter differ pairs.now) }
 {
-    pairs
-        .iter()
-        .copied()
-        .filter(|pair| !is_same_region(pair.longer, pair.shorter))
-        .collect(alloc)
+    let mut kept = Vec::with_capacity(alloc, pairs.len())?;
+    for pair in pairs {
+        if !is_same_region(pair.longer, pair.shorter) {
+            kept.push(*pair)?;
+        }
+    }
+    Ok(kept)
 }
 
 fn constraint(universals: u8, pair: RegionConstraint) -> Constraint

@@ -36,7 +36,8 @@ impl Body {
     pub fn local_types(&self, alloc: Global) -> Result<Vec<Ty>, AllocError>
         ensures { IfOk result (λ types. types.items ≡ locals_of self.now) }
     {
-        let mut types = Vec::new(alloc);
+        let count = self.header.first_let().saturating_add(self.lets.len());
+        let mut types = Vec::with_capacity(alloc, count)?;
         types.push(copy_type(&self.header.signature.result)?)?;
         push_types(&mut types, self.header.signature.parameters.as_slice())?;
         push_types(&mut types, self.lets.as_slice())?;
