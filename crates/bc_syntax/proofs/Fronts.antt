@@ -1,12 +1,14 @@
 -- The keyword that stands at the front of a text, told before its run is gone over.
-use Rattle.std.proofs.Common.{◌≡◌, ℕ, Bool, true, false, cond, List, [], ◌∷◌, ◌++◌, length, take, drop, refl, sym, ap, ◌∙◌, subst, slice_index, arith}
+use Rattle.std.proofs.Common.{◌≡◌, ◌≢◌, ℕ, ◌<◌, ◌≤◌, Bool, true, false, cond, List, [], ◌∷◌, ◌++◌, length, take, drop, get_or, refl, sym, ap, ◌∙◌, subst, slice_index, arith}
 use Rattle.std.specs.Prelude.{Option, Some, None, IfSome, ◌&&◌, ◌==◌, not, nat_eq}
 use Rattle.std.specs.Bool.{then_some}
 use Rattle.std.specs.List.{AllByRecursion, list_all, prefix_len}
 use Rattle.std.specs.Str.{bytes_eq}
 use Rattle.std.proofs.lemmas.Bool.{and_parts}
 use Rattle.std.proofs.lemmas.Bool.Decides.{nat_tests}
-use Rattle.std.proofs.lemmas.List.{take-append-drop}
+use Rattle.std.proofs.lemmas.Grind.{same_number_lists}
+use Rattle.std.proofs.lemmas.List.{take-append-drop, length-take-le, get_or-take}
+use Rattle.std.proofs.lemmas.Slice.Eq.{bytes_eq-Decides}
 use Rattle.std.proofs.lemmas.List.Sums.{take_while-cons}
 use Rattle.bc_syntax.specs.declared.symbol.Symbol.{Symbol}
 use Rattle.bc_syntax.specs.declared.symbol.TheConstants.{KEYWORDS}
@@ -50,6 +52,21 @@ runs_as (w ∷ word) (b ∷ bytes) h =
     by first others false e =
         ap (λ t. (t && bytes_eq word (take (length word) bytes)) && not (is_run_byte (slice_index bytes (length word)))) e
         ∙ differs w b word bytes e (is_run_byte b) refl
+
+-- ---- whether a text begins with a word
+
+pub same_front : (word bytes : List ℕ) → length word ≤ length bytes → ((k : ℕ) → k < length word → get_or word k 0 ≡ get_or bytes k 0)
+    → true ≡ bytes_eq word (take (length word) bytes)
+same_front word bytes le same =
+    let all : word ≡ take (length word) bytes = same_number_lists word (take (length word) bytes) (sym (length-take-le (length word) bytes le)) (λ k lt. same k lt ∙ sym (get_or-take (length word) bytes k 0 lt)) in
+    grind (arith, bytes_eq-Decides word (take (length word) bytes), all)
+
+pub other_front : (word bytes : List ℕ) (k : ℕ) → k < length word → get_or word k 0 ≢ get_or bytes k 0 → false ≡ bytes_eq word (take (length word) bytes)
+other_front word bytes k lt other = by (bytes_eq word (take (length word) bytes)) refl
+  where
+    by : (t : Bool) → bytes_eq word (take (length word) bytes) ≡ t → false ≡ t
+    by true e = absurd (other (ap (λ (l : List ℕ). get_or l k 0) (is_text word (take (length word) bytes) e) ∙ get_or-take (length word) bytes k 0 lt))
+    by false e = refl
 
 -- ---- the one keyword that a text may begin with
 

@@ -1,5 +1,5 @@
 //! Reading bytes of a text.
-ghost use Rattle.std.specs.Prelude.{◌≡◌, ◌≤◌, true, length, drop, slice_index, take_while};
+ghost use Rattle.std.specs.Prelude.{◌≡◌, ◌≤◌, true, length, take, drop, slice_index, take_while};
 ghost use Rattle.std.specs.List.{list_all};
 ghost use Rattle.std.specs.Str.{bytes_eq};
 ghost use Rattle.bc_syntax.specs.Bytes.{is_run_byte, run};
@@ -62,10 +62,28 @@ pub fn run(bytes: &[u8]) -> &[u8]
     &bytes[..run_len(bytes)]
 }
 
+/// Whether a text begins with a word. Words are short, and known where this is called: so each byte of one is compared by
+/// itself.
+#[inline(always)]
+fn begins_with(bytes: &[u8], word: &[u8]) -> bool
+    ensures { result ≡ bytes_eq word.now (take (length word.now) bytes.now) }
+{
+    if bytes.len() < word.len() {
+        return false;
+    }
+    for index in 0..word.len() {
+        if bytes[index] != word[index] {
+            return false;
+        }
+    }
+    true
+}
+
 /// Whether the letters, digits and `_` at the front are this word, which has no others.
+#[inline(always)]
 pub(crate) fn runs_as(bytes: &[u8], word: &[u8]) -> bool
     requires { list_all is_run_byte word.now ≡ true }
     ensures { result ≡ bytes_eq word.now (run bytes.now) }
 {
-    bytes.starts_with(word) && !is_run_byte(byte_at(bytes, word.len()))
+    begins_with(bytes, word) && !is_run_byte(byte_at(bytes, word.len()))
 }

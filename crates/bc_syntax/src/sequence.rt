@@ -1,5 +1,6 @@
 //! Lists inside the values of this crate. A contract sees each as the list of its items alone.
 ghost use Rattle.std.specs.Prelude.{◌≡◌, ◌++◌, ◌∷◌, [], length, List, OnOk, OnErr, IfOk, IsTrue, ◌↔◌};
+ghost use Rattle.smallvec.specs.SmallVec.{HasRoomFor};
 
 use smallvec::SmallVec;
 use std::alloc::{AllocError, Global};
@@ -118,6 +119,20 @@ impl<T, const N: usize> ShortSequence<T, N> {
     }
 }
 
+/// Makes room for more items than a list has places of its own. The longest lists that are read item by item have 16 items,
+/// and so grow once.
+#[cold]
+#[inline(never)]
+fn make_room<T: Default + Drop, const N: usize>(
+    items: &mut SmallVec<T, N>,
+) -> Result<(), AllocError>
+    ensures items { items.new.items ≡ items.old.items }
+    ensures ok { OnOk result (HasRoomFor items.new 1) }
+    ensures err { OnErr result (items.new ≡ items.old) }
+{
+    items.reserve(14)
+}
+
 impl<T: Default + Drop, const N: usize> ShortSequence<T, N> {
     /// The empty list. It takes no memory. Own.
     pub fn new(alloc: Global) -> Self
@@ -130,11 +145,16 @@ impl<T: Default + Drop, const N: usize> ShortSequence<T, N> {
 
     /// Puts an item behind the others. Where memory is refused, which can be only from item `N` on, the list
     /// stays as it was. Own.
+    #[inline(always)]
     pub fn push(&mut self, item: T) -> Result<(), AllocError>
         ensures ok { OnOk result (self.new ≡ self.old ++ item ∷ []) }
         ensures err { OnErr result (self.new ≡ self.old) }
     {
-        self.items.push(item)?;
+        let items = &mut self.items;
+        if items.len() >= items.capacity() {
+            make_room(items)?;
+        }
+        items.push_reserved(item);
         Ok(())
     }
 }

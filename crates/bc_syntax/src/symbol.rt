@@ -1,6 +1,8 @@
 //! Keywords and signs: the tokens that are always spelled the same.
-ghost use Rattle.std.specs.Prelude.{◌≡◌, nat_lt, None, IfSome, if◌then◌else◌};
-ghost use Rattle.bc_syntax.specs.Bytes.{run};
+ghost use Rattle.std.specs.Prelude.{◌≡◌, nat_lt, None, true, IfSome, if◌then◌else◌};
+ghost use Rattle.std.specs.List.{list_all};
+ghost use Rattle.std.specs.Str.{bytes_eq};
+ghost use Rattle.bc_syntax.specs.Bytes.{is_run_byte, run};
 ghost use Rattle.bc_syntax.specs.Symbol.{text, same, keyword_of, sign_of};
 ghost use Rattle.bc_syntax.specs.Likely.{likely_c, likely_i, likely_keyword};
 
@@ -102,6 +104,7 @@ pub fn same(a: Symbol, b: Symbol) -> bool
 
 impl Symbol {
     /// How the symbol is spelled. Own.
+    #[inline(always)]
     #[tactic(auto, unfolding(crate::specs::Symbol::text))]
     pub fn text(self) -> &'static [u8]
         ensures { result.now ≡ text self }
@@ -156,12 +159,13 @@ impl Symbol {
     }
 
     /// The keyword that the letters, digits and `_` at the front of a text are. They are not gone over for it. Own.
+    #[inline(always)]
     pub fn of_run(bytes: &[u8]) -> Option<Symbol>
         ensures value { result ≡ keyword_of (run bytes.now) }
         ensures spelled { IfSome result (λ keyword. run bytes.now ≡ text keyword) }
     {
         let keyword = likely_keyword(bytes)?;
-        runs_as(bytes, keyword.text()).then_some(keyword)
+        runs_as_keyword(bytes, keyword).then_some(keyword)
     }
 
     /// The sign that a byte below `?` is: most signs of a text are. They lie so near one another that a table tells
@@ -204,7 +208,41 @@ impl Symbol {
     }
 }
 
+/// Whether the letters, digits and `_` at the front of a text are this keyword. Each keyword is compared by itself, so that the
+/// bytes that it has are known there.
+#[inline(always)]
+#[tactic(auto, unfolding(crate::specs::Symbol::text))]
+fn runs_as_keyword(bytes: &[u8], keyword: Symbol) -> bool
+    requires { list_all is_run_byte (text keyword) ≡ true }
+    ensures { result ≡ bytes_eq (text keyword) (run bytes.now) }
+{
+    match keyword {
+        Symbol::Fn => runs_as(bytes, b"fn"),
+        Symbol::Closure => runs_as(bytes, b"closure"),
+        Symbol::Where => runs_as(bytes, b"where"),
+        Symbol::Let => runs_as(bytes, b"let"),
+        Symbol::Int => runs_as(bytes, b"int"),
+        Symbol::Mut => runs_as(bytes, b"mut"),
+        Symbol::Copy => runs_as(bytes, b"copy"),
+        Symbol::Move => runs_as(bytes, b"move"),
+        Symbol::Calc => runs_as(bytes, b"calc"),
+        Symbol::Dead => runs_as(bytes, b"dead"),
+        Symbol::Drop => runs_as(bytes, b"drop"),
+        Symbol::Nop => runs_as(bytes, b"nop"),
+        Symbol::Goto => runs_as(bytes, b"goto"),
+        Symbol::If => runs_as(bytes, b"if"),
+        Symbol::Call => runs_as(bytes, b"call"),
+        Symbol::Invoke => runs_as(bytes, b"invoke"),
+        Symbol::Return => runs_as(bytes, b"return"),
+        Symbol::Stop => runs_as(bytes, b"stop"),
+        Symbol::Struct => runs_as(bytes, b"struct"),
+        Symbol::Extern => runs_as(bytes, b"extern"),
+        _ => runs_as(bytes, keyword.text()),
+    }
+}
+
 /// The keyword that begins with `c` and has this second and fourth byte.
+#[inline(always)]
 fn likely_c(second: u8, fourth: u8) -> Option<Symbol>
     ensures { result ≡ likely_c second fourth }
 {
@@ -219,6 +257,7 @@ fn likely_c(second: u8, fourth: u8) -> Option<Symbol>
 }
 
 /// The keyword that begins with `i` and has this second and third byte.
+#[inline(always)]
 fn likely_i(second: u8, third: u8) -> Option<Symbol>
     ensures { result ≡ likely_i second third }
 {
@@ -232,6 +271,7 @@ fn likely_i(second: u8, third: u8) -> Option<Symbol>
 }
 
 /// The one keyword that a word may be, by its bytes.
+#[inline(always)]
 #[tactic(auto, unfolding(crate::specs::Likely::likely_keyword))]
 fn likely_keyword(word: &[u8]) -> Option<Symbol>
     ensures { result ≡ likely_keyword word.now }
