@@ -106,6 +106,42 @@ pub all_region_bytes : (bytes rest : List ℕ) (front others : ℕ) → front �
     → others ≡ length (run rest) → eqb others 0 ≡ list_all is_region_byte (take (front + others) bytes)
 all_region_bytes = all_front is_region_byte region_in_run
 
+-- ---- fronts of one item or two
+
+none : (p : ℕ → Bool) (bytes : List ℕ) → p (slice_index bytes 0) ≡ false → take_while p bytes ≡ []
+none p [] h = refl
+none p (b ∷ bytes) h = take_while-cons p b bytes ∙ ap (λ t. cond t (b ∷ take_while p bytes) []) h
+
+one : (p : ℕ → Bool) (bytes : List ℕ) → p 0 ≡ false → p (slice_index bytes 0) ≡ true → p (slice_index bytes 1) ≡ false → take_while p bytes ≡ take 1 bytes
+one p [] z h n = absurd cc
+one p (b ∷ []) z h n = take_while-cons p b [] ∙ ap (λ t. cond t (b ∷ take_while p []) []) h
+one p (b ∷ c ∷ bytes) z h n = take_while-cons p b (c ∷ bytes) ∙ ap (λ t. cond t (b ∷ take_while p (c ∷ bytes)) []) h ∙ ap (λ (l : List ℕ). b ∷ l) (none p (c ∷ bytes) n)
+
+two : (p : ℕ → Bool) (bytes : List ℕ) → p 0 ≡ false → p (slice_index bytes 0) ≡ true → p (slice_index bytes 1) ≡ true → p (slice_index bytes 2) ≡ false
+    → take_while p bytes ≡ take 2 bytes
+two p [] z h k n = absurd cc
+two p (b ∷ bytes) z h k n = take_while-cons p b bytes ∙ ap (λ t. cond t (b ∷ take_while p bytes) []) h ∙ ap (λ (l : List ℕ). b ∷ l) (one p bytes z k n)
+
+-- a digit alone is a number
+pub one_digit : (bytes : List ℕ) → is_ascii_digit (slice_index bytes 0) ≡ true → is_run_byte (slice_index bytes 1) ≡ false
+    → (take 1 bytes ≡ run bytes) × (true ≡ is_number (run bytes))
+unfolding is_number
+one_digit [] h n = absurd cc
+one_digit (b ∷ bytes) h n =
+    let e : run (b ∷ bytes) ≡ b ∷ [] = one is_run_byte (b ∷ bytes) refl (digit_in_run b h) n in
+    (sym e, rw (e, h) refl)
+
+-- two digits that do not begin with 0 are a number
+pub two_digits : (bytes : List ℕ) → is_ascii_digit (slice_index bytes 0) ≡ true → (slice_index bytes 0 == 48) ≡ false → is_ascii_digit (slice_index bytes 1) ≡ true
+    → is_run_byte (slice_index bytes 2) ≡ false
+    → (take 2 bytes ≡ run bytes) × (true ≡ is_number (run bytes))
+unfolding is_number
+two_digits [] h other k n = absurd cc
+two_digits (b ∷ []) h other k n = absurd cc
+two_digits (b ∷ c ∷ bytes) h other k n =
+    let e : run (b ∷ c ∷ bytes) ≡ b ∷ c ∷ [] = two is_run_byte (b ∷ c ∷ bytes) refl (digit_in_run b h) (digit_in_run c k) n in
+    (sym e, rw (e, h, k, other) refl)
+
 -- ---- what a run is, by its first byte
 
 run-cons : (b : ℕ) (bytes : List ℕ) → is_run_byte b ≡ true → run (b ∷ bytes) ≡ b ∷ run bytes

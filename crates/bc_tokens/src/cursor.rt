@@ -10,10 +10,11 @@ ghost use Rattle.bc_tokens.specs.declared.refusal.Refusal.TheVariants.{NoMemory}
 
 use crate::refusal::Refusal;
 use crate::token::{
-    Kind, Token, letter_lexeme, local_lexeme, number_lexeme, quoted_lexeme, sign_lexeme,
+    Kind, Token, keyword_lexeme, letter_lexeme, local_lexeme, number_lexeme, quoted_lexeme,
+    sign_lexeme,
 };
 use bc_print::Numbering;
-use bc_syntax::{Symbol, behind, same};
+use bc_syntax::{Symbol, behind, byte_at, same};
 use std::marker::Model;
 
 /// The tokens of a text from one of them on. Own.
@@ -38,13 +39,30 @@ impl<'a> Model for Cursor<'a> {
     ghost invariant = { IsCursor };
 }
 
+#[inline(always)]
+fn is_blank(byte: u8) -> bool
+    ensures { result ≡ is_blank byte }
+{
+    byte == b' ' || byte == b'\n'
+}
+
+fn all_blanks(text: &[u8]) -> usize
+    ensures count { result ≡ length (take_while is_blank text.now) }
+    ensures within { result ≤ length text.now }
+{
+    text.iter().take_while(|byte| is_blank(**byte)).count()
+}
+
+/// How many blanks stand at the front of a text: mostly one.
+#[inline(always)]
 fn blanks(text: &[u8]) -> usize
     ensures count { result ≡ length (take_while is_blank text.now) }
     ensures within { result ≤ length text.now }
 {
-    text.iter()
-        .take_while(|byte| **byte == b' ' || **byte == b'\n')
-        .count()
+    if is_blank(byte_at(text, 0)) && !is_blank(byte_at(text, 1)) {
+        return 1;
+    }
+    all_blanks(text)
 }
 
 #[tactic(auto, unfolding(crate::specs::Parser::same_numbering))]
@@ -100,6 +118,21 @@ impl<'a> Cursor<'a> {
         requires { (first self.old).token ≢ End }
         ensures { self.new ≡ after self.old }
     {
+        let text = self.rest;
+        if text.is_empty() || is_blank(text[0]) {
+            self.take_blanks();
+        } else {
+            self.at = self.end;
+            self.cut(text);
+        }
+    }
+
+    /// Goes past the next token, and the blanks behind it.
+    #[inline(never)]
+    fn take_blanks(&mut self)
+        requires { (first self.old).token ≢ End }
+        ensures { self.new ≡ after self.old }
+    {
         let blanks = blanks(self.rest);
         let text = behind(self.rest, blanks);
         self.at = self.end + blanks;
@@ -127,10 +160,10 @@ impl<'a> Cursor<'a> {
             self.put(Token::bare(Kind::Fixed(sign)), 1, text);
         } else if first.is_ascii_alphabetic() {
             self.cut_letters(text);
-        } else if first.is_ascii_digit() {
-            self.cut_number(text);
         } else if first == b'_' {
             self.cut_local(text);
+        } else if first.is_ascii_digit() {
+            self.cut_number(text);
         } else if first == b'\'' {
             self.cut_quoted(text);
         } else {
@@ -139,8 +172,21 @@ impl<'a> Cursor<'a> {
         }
     }
 
+    /// Cuts a keyword, a label or another word. What is no keyword is cut in a function of its own, too.
     #[inline(never)]
     fn cut_letters(&mut self, text: &'a [u8])
+        requires form { is_ascii_alphabetic (slice_index text.now 0) ≡ true }
+        requires fits { spec.position self.old + length text.now < 2 ^ 64 }
+        ensures { self.new ≡ tokens 0 (spec.position self.old) text.now }
+    {
+        match keyword_lexeme(text) {
+            Some((token, len)) => self.put(token, len, text),
+            None => self.cut_word(text),
+        }
+    }
+
+    #[inline(never)]
+    fn cut_word(&mut self, text: &'a [u8])
         requires form { is_ascii_alphabetic (slice_index text.now 0) ≡ true }
         requires fits { spec.position self.old + length text.now < 2 ^ 64 }
         ensures { self.new ≡ tokens 0 (spec.position self.old) text.now }

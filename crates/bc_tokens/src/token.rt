@@ -1,5 +1,5 @@
 //! Tokens, cut one at a time from the front of a text.
-ghost use Rattle.std.specs.Prelude.{◌≡◌, ◌≢◌, ◌≤◌, ◌<◌, ◌+◌, ◌∷◌, true, false, length, take, take_while, slice_index, if◌then◌else◌};
+ghost use Rattle.std.specs.Prelude.{◌≡◌, ◌≢◌, ◌≤◌, ◌<◌, ◌+◌, ◌∷◌, true, false, length, take, take_while, slice_index, IfSome, if◌then◌else◌};
 ghost use Rattle.std.specs.Char.{is_ascii_alphabetic, is_ascii_digit};
 ghost use Rattle.std.specs.List.{list_all};
 ghost use Rattle.bc_syntax.specs.Bytes.{is_run_byte, run};
@@ -10,7 +10,7 @@ ghost use Rattle.bc_syntax.specs.Symbol.{keyword_of, sign_of};
 
 use bc_print::Numbering;
 use bc_syntax::{
-    Symbol, behind, byte_at, is_number_of, is_region_name_of, region_len, run, run_len,
+    Symbol, behind, byte_at, is_number_of, is_region_name_of, is_run_byte, region_len, run, run_len,
 };
 
 /// What a token is. Own.
@@ -70,8 +70,7 @@ fn counted(bytes: &[u8]) -> (usize, u64)
 
 /// The run at the front, what it counts, and whether it is a number. It is gone over once: its digits, then what
 /// follows them.
-#[inline(always)]
-fn number_run(bytes: &[u8]) -> (&[u8], u64, bool)
+fn any_number_run(bytes: &[u8]) -> (&[u8], u64, bool)
     ensures run { result.0.now ≡ run bytes.now }
     ensures number { result.2 ≡ is_number (run bytes.now) }
     ensures counts { result.2 ≡ true → Counts result.1 (value result.0.now) }
@@ -81,6 +80,29 @@ fn number_run(bytes: &[u8]) -> (&[u8], u64, bool)
     let others = run_len(behind(bytes, digits));
     let run = &bytes[..digits + others];
     (run, number, is_number_of(run, others == 0))
+}
+
+/// The run at the front, what it counts, and whether it is a number. Most numbers have one digit or two.
+#[inline(always)]
+fn number_run(bytes: &[u8]) -> (&[u8], u64, bool)
+    ensures run { result.0.now ≡ run bytes.now }
+    ensures number { result.2 ≡ is_number (run bytes.now) }
+    ensures counts { result.2 ≡ true → Counts result.1 (value result.0.now) }
+    ensures within { length result.0.now ≤ length bytes.now }
+{
+    let first = byte_at(bytes, 0);
+    let second = byte_at(bytes, 1);
+    if !first.is_ascii_digit() {
+        return any_number_run(bytes);
+    }
+    if !is_run_byte(second) {
+        return (&bytes[..1], u64::from(first - b'0'), true);
+    }
+    if first != b'0' && second.is_ascii_digit() && !is_run_byte(byte_at(bytes, 2)) {
+        let number = u64::from(first - b'0') * 10 + u64::from(second - b'0');
+        return (&bytes[..2], number, true);
+    }
+    any_number_run(bytes)
 }
 
 /// The run at the front, and whether it is a name of a region. It is gone over once.
@@ -259,6 +281,26 @@ pub fn local_lexeme(bytes: &[u8]) -> (Token<'_>, usize)
 {
     let (token, len) = number_token(Numbering::Local, behind(bytes, 1));
     (token, 1 + len)
+}
+
+/// The keyword at the front of a text that begins with a letter, if one is there, and how many bytes it has. Own.
+#[inline(always)]
+pub fn keyword_lexeme(bytes: &[u8]) -> Option<(Token<'_>, usize)>
+    requires { is_ascii_alphabetic (slice_index bytes.now 0) ≡ true }
+    ensures token { IfSome result (λ found. (shown found.0.kind found.0.text.now, found.1) ≡ lexeme bytes.now) }
+    ensures some { IfSome result (λ found. 0 < found.1) }
+    ensures within { IfSome result (λ found. found.1 ≤ length bytes.now) }
+    ensures not_end { IfSome result (λ found. found.0.kind ≢ Kind.End) }
+    ensures keeps { IfSome result (λ found. Keeps found.0.kind found.0.text.now found.0.number) }
+{
+    // Labels begin so, and no keyword does.
+    if byte_at(bytes, 0) == b'b' {
+        return None;
+    }
+    match Symbol::of_run(bytes) {
+        Some(keyword) => Some((Token::bare(Kind::Fixed(keyword)), keyword.text().len())),
+        None => None,
+    }
 }
 
 /// The token at the front of a text that begins with a letter, and how many bytes it has. Own.

@@ -1,25 +1,33 @@
-use Rattle.std.proofs.Common.{◌≡◌, ◌+◌, ◌∙◌, ap, sym, subst, take, arith}
-use Rattle.bc_syntax.specs.Words.{is_number}
-use Rattle.bc_tokens.specs.Token.{Counts, value}
-use Rattle.bc_tokens.proofs.Runs.{digits_split, all_digits, number_ends}
+use Rattle.std.proofs.Common.{◌≡◌, true, false, slice_index, arith}
+use Rattle.std.specs.Prelude.{◌==◌}
+use Rattle.std.specs.Char.{is_ascii_digit}
+use Rattle.std.proofs.lemmas.Grind.{common_steps}
+use Rattle.std.proofs.lemmas.Bool.Decides.{nat_tests}
+use Rattle.bc_syntax.specs.Bytes.{is_run_byte}
+use Rattle.bc_tokens.proofs.Runs.{one_digit, two_digits}
 use Rattle.bc_tokens.proofs.token.number_run.Goals as goal
 
-pub is_number_of-requires : goal.is_number_of-requires
-is_number_of-requires c = all_digits c.args.bytes.now c.behind.result.now c.counted-digits.result.0 c.run_len-others.result c.counted-digits.ensures.count c.behind.ensures c.run_len-others.ensures.count
-
-pub returns-clause-run : goal.returns-clause-run
-returns-clause-run c = digits_split c.args.bytes.now c.behind.result.now c.counted-digits.result.0 c.run_len-others.result c.counted-digits.ensures.count c.behind.ensures c.run_len-others.ensures.count
-
-pub returns-clause-number : goal.returns-clause-number
-returns-clause-number c = c.is_number_of.ensures ∙ ap is_number (digits_split c.args.bytes.now c.behind.result.now c.counted-digits.result.0 c.run_len-others.result c.counted-digits.ensures.count c.behind.ensures c.run_len-others.ensures.count)
-
-pub returns-clause-counts : goal.returns-clause-counts
-returns-clause-counts c = λ h.
+pub returns-then-not-is_run_byte-clause-number : goal.returns-then-not-is_run_byte-clause-number
+returns-then-not-is_run_byte-clause-number c =
     let bytes = c.args.bytes.now in
-    let digits = c.counted-digits.result.0 in
-    let none : c.run_len-others.result ≡ 0 =
-    number_ends (take (digits + c.run_len-others.result) bytes) c.run_len-others.result
-    (all_digits bytes c.behind.result.now digits c.run_len-others.result c.counted-digits.ensures.count c.behind.ensures c.run_len-others.ensures.count) (sym c.is_number_of.ensures ∙ h)
-    in
-    let same : digits ≡ digits + c.run_len-others.result = omega (arith, none) in
-    subst (λ k. Counts c.counted-digits.result.1 (value (take k bytes))) same c.counted-digits.ensures.number
+    let digit : is_ascii_digit (slice_index bytes 0) ≡ true = grind (arith, common_steps) in
+    let end : is_run_byte (slice_index bytes 1) ≡ false = grind (arith, common_steps) in
+    (one_digit bytes digit end).1
+
+pub returns-then-not-is_run_byte-2-clause-run : goal.returns-then-not-is_run_byte-2-clause-run
+returns-then-not-is_run_byte-2-clause-run c =
+    let bytes = c.args.bytes.now in
+    let digit : is_ascii_digit (slice_index bytes 0) ≡ true = grind (arith, common_steps) in
+    let other : (slice_index bytes 0 == 48) ≡ false = grind (arith, nat_tests, common_steps) in
+    let second : is_ascii_digit (slice_index bytes 1) ≡ true = grind (arith, common_steps) in
+    let end : is_run_byte (slice_index bytes 2) ≡ false = grind (arith, common_steps) in
+    (two_digits bytes digit other second end).0
+
+pub returns-then-not-is_run_byte-2-clause-number : goal.returns-then-not-is_run_byte-2-clause-number
+returns-then-not-is_run_byte-2-clause-number c =
+    let bytes = c.args.bytes.now in
+    let digit : is_ascii_digit (slice_index bytes 0) ≡ true = grind (arith, common_steps) in
+    let other : (slice_index bytes 0 == 48) ≡ false = grind (arith, nat_tests, common_steps) in
+    let second : is_ascii_digit (slice_index bytes 1) ≡ true = grind (arith, common_steps) in
+    let end : is_run_byte (slice_index bytes 2) ≡ false = grind (arith, common_steps) in
+    (two_digits bytes digit other second end).1
