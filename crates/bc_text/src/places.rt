@@ -39,8 +39,7 @@ fn projection(cursor: &mut Cursor<'_>) -> Result<Projection, Refusal>
     }
 }
 
-#[inline(always)]
-fn projections(
+fn some_projections(
     alloc: Global,
     cursor: &mut Cursor<'_>,
 ) -> Result<ShortSequence<Projection, 8>, Refusal>
@@ -59,6 +58,21 @@ fn projections(
         });
     }
     Ok(found)
+}
+
+/// The projections behind a local: mostly none, and then there is no list that a place would have to take over.
+#[inline(always)]
+fn projections(
+    alloc: Global,
+    cursor: &mut Cursor<'_>,
+) -> Result<ShortSequence<Projection, 8>, Refusal>
+    ensures { Reads (spec.projections_from 8 [] cursor.old) result cursor.new }
+{
+    if cursor.sees(Symbol::Dot) {
+        some_projections(alloc, cursor)
+    } else {
+        Ok(ShortSequence::new(alloc))
+    }
 }
 
 /// A place. Own.
@@ -170,42 +184,8 @@ fn aggregate(
     Ok(Aggregate { instance, operands })
 }
 
-#[tactic(auto, unfolding(crate::specs::Reading::created))]
-fn created(
-    alloc: Global,
-    cursor: &mut Cursor<'_>,
-    regions: &[RegionName],
-    locals: u16,
-) -> Result<Rvalue, Refusal>
-    requires { length regions.now ≤ 15 }
-    ensures { Reads (spec.created regions.now locals cursor.old) result cursor.new }
-{
-    if cursor.sees_word() {
-        Ok(Rvalue::Aggregate(aggregate(alloc, cursor, regions, locals)?))
-    } else {
-        Ok(Rvalue::Use(operand(alloc, cursor, locals)?))
-    }
-}
-
-#[tactic(auto, unfolding(crate::specs::Reading::computed))]
-fn computed(
-    alloc: Global,
-    cursor: &mut Cursor<'_>,
-    regions: &[RegionName],
-    locals: u16,
-) -> Result<Rvalue, Refusal>
-    requires { length regions.now ≤ 15 }
-    ensures { Reads (spec.computed regions.now locals cursor.old) result cursor.new }
-{
-    if cursor.eat(Symbol::Calc) {
-        Ok(Rvalue::Calc(operands(alloc, cursor, locals)?))
-    } else {
-        created(alloc, cursor, regions, locals)
-    }
-}
-
 /// What an assignment computes. Own.
-#[tactic(auto, unfolding(crate::specs::Reading::rvalue))]
+#[tactic(auto, unfolding(crate::specs::Reading::rvalue, crate::specs::Reading::computed, crate::specs::Reading::created))]
 pub fn rvalue(
     alloc: Global,
     cursor: &mut Cursor<'_>,
@@ -216,8 +196,13 @@ pub fn rvalue(
     ensures { Reads (spec.rvalue regions.now locals cursor.old) result cursor.new }
 {
     if cursor.eat(Symbol::Ampersand) {
-        Ok(Rvalue::Borrow(borrow(alloc, cursor, regions, locals)?))
-    } else {
-        computed(alloc, cursor, regions, locals)
+        return Ok(Rvalue::Borrow(borrow(alloc, cursor, regions, locals)?));
     }
+    if cursor.eat(Symbol::Calc) {
+        return Ok(Rvalue::Calc(operands(alloc, cursor, locals)?));
+    }
+    if cursor.sees_word() {
+        return Ok(Rvalue::Aggregate(aggregate(alloc, cursor, regions, locals)?));
+    }
+    Ok(Rvalue::Use(operand(alloc, cursor, locals)?))
 }

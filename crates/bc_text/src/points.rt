@@ -47,27 +47,8 @@ fn called(
     })
 }
 
-#[tactic(auto, unfolding(crate::specs::Reading::value_of))]
-fn value_of(
-    alloc: Global,
-    cursor: &mut Cursor<'_>,
-    regions: &[RegionName],
-    locals: u16,
-    target: Place,
-) -> Result<Point, Refusal>
-    requires { length regions.now ≤ 15 }
-    ensures { Reads (spec.value_of regions.now locals target cursor.old) result cursor.new }
-{
-    if cursor.eat(Symbol::Call) {
-        let call = called(alloc, cursor, regions, locals, target)?;
-        return Ok(Point::Terminator(Terminator::Call(call)));
-    }
-    let value = rvalue(alloc, cursor, regions, locals)?;
-    let assignment = Assignment { target, value };
-    Ok(Point::Statement(Statement::Assign(assignment)))
-}
-
-#[tactic(auto, unfolding(crate::specs::Reading::assignment))]
+#[inline(always)]
+#[tactic(auto, unfolding(crate::specs::Reading::assignment, crate::specs::Reading::value_of))]
 fn assignment(
     alloc: Global,
     cursor: &mut Cursor<'_>,
@@ -79,59 +60,13 @@ fn assignment(
 {
     let target = place(alloc, cursor, locals)?;
     cursor.expect(Symbol::Equals)?;
-    value_of(alloc, cursor, regions, locals, target)
-}
-
-#[tactic(auto, unfolding(crate::specs::Reading::active))]
-fn active(
-    alloc: Global,
-    cursor: &mut Cursor<'_>,
-    regions: &[RegionName],
-    locals: u16,
-) -> Result<Point, Refusal>
-    requires { length regions.now ≤ 15 }
-    ensures { Reads (spec.active regions.now locals cursor.old) result cursor.new }
-{
-    if cursor.eat(Symbol::Nop) {
-        Ok(Point::Statement(Statement::Nop))
-    } else {
-        assignment(alloc, cursor, regions, locals)
+    if cursor.eat(Symbol::Call) {
+        let call = called(alloc, cursor, regions, locals, target)?;
+        return Ok(Point::Terminator(Terminator::Call(call)));
     }
-}
-
-#[tactic(auto, unfolding(crate::specs::Reading::dropping))]
-fn dropping(
-    alloc: Global,
-    cursor: &mut Cursor<'_>,
-    regions: &[RegionName],
-    locals: u16,
-) -> Result<Point, Refusal>
-    requires { length regions.now ≤ 15 }
-    ensures { Reads (spec.dropping regions.now locals cursor.old) result cursor.new }
-{
-    if cursor.eat(Symbol::Drop) {
-        let place = place(alloc, cursor, locals)?;
-        Ok(Point::Statement(Statement::Drop(place)))
-    } else {
-        active(alloc, cursor, regions, locals)
-    }
-}
-
-#[tactic(auto, unfolding(crate::specs::Reading::dying))]
-fn dying(
-    alloc: Global,
-    cursor: &mut Cursor<'_>,
-    regions: &[RegionName],
-    locals: u16,
-) -> Result<Point, Refusal>
-    requires { length regions.now ≤ 15 }
-    ensures { Reads (spec.dying regions.now locals cursor.old) result cursor.new }
-{
-    if cursor.eat(Symbol::Dead) {
-        Ok(Point::Statement(Statement::Dead(local(cursor, locals)?)))
-    } else {
-        dropping(alloc, cursor, regions, locals)
-    }
+    let value = rvalue(alloc, cursor, regions, locals)?;
+    let assignment = Assignment { target, value };
+    Ok(Point::Statement(Statement::Assign(assignment)))
 }
 
 #[tactic(auto, unfolding(crate::specs::Reading::condition))]
@@ -148,60 +83,33 @@ fn condition(alloc: Global, cursor: &mut Cursor<'_>, locals: u16) -> Result<Cond
     })
 }
 
-#[tactic(auto, unfolding(crate::specs::Reading::branching))]
-fn branching(
+/// A statement: what no keyword of a terminator begins.
+#[inline(always)]
+#[tactic(auto, unfolding(crate::specs::Reading::dying, crate::specs::Reading::dropping, crate::specs::Reading::active))]
+fn dying(
     alloc: Global,
     cursor: &mut Cursor<'_>,
     regions: &[RegionName],
     locals: u16,
 ) -> Result<Point, Refusal>
     requires { length regions.now ≤ 15 }
-    ensures { Reads (spec.branching regions.now locals cursor.old) result cursor.new }
+    ensures { Reads (spec.dying regions.now locals cursor.old) result cursor.new }
 {
-    if cursor.eat(Symbol::If) {
-        let condition = condition(alloc, cursor, locals)?;
-        Ok(Point::Terminator(Terminator::If(condition)))
-    } else {
-        dying(alloc, cursor, regions, locals)
+    if cursor.eat(Symbol::Dead) {
+        return Ok(Point::Statement(Statement::Dead(local(cursor, locals)?)));
     }
-}
-
-#[tactic(auto, unfolding(crate::specs::Reading::going))]
-fn going(
-    alloc: Global,
-    cursor: &mut Cursor<'_>,
-    regions: &[RegionName],
-    locals: u16,
-) -> Result<Point, Refusal>
-    requires { length regions.now ≤ 15 }
-    ensures { Reads (spec.going regions.now locals cursor.old) result cursor.new }
-{
-    if cursor.eat(Symbol::Goto) {
-        Ok(Point::Terminator(Terminator::Goto(label(cursor)?)))
-    } else {
-        branching(alloc, cursor, regions, locals)
+    if cursor.eat(Symbol::Drop) {
+        let place = place(alloc, cursor, locals)?;
+        return Ok(Point::Statement(Statement::Drop(place)));
     }
-}
-
-#[tactic(auto, unfolding(crate::specs::Reading::stopping))]
-fn stopping(
-    alloc: Global,
-    cursor: &mut Cursor<'_>,
-    regions: &[RegionName],
-    locals: u16,
-) -> Result<Point, Refusal>
-    requires { length regions.now ≤ 15 }
-    ensures { Reads (spec.stopping regions.now locals cursor.old) result cursor.new }
-{
-    if cursor.eat(Symbol::Stop) {
-        Ok(Point::Terminator(Terminator::Stop))
-    } else {
-        going(alloc, cursor, regions, locals)
+    if cursor.eat(Symbol::Nop) {
+        return Ok(Point::Statement(Statement::Nop));
     }
+    assignment(alloc, cursor, regions, locals)
 }
 
 /// A statement or a terminator. Own.
-#[tactic(auto, unfolding(crate::specs::Reading::point))]
+#[tactic(auto, unfolding(crate::specs::Reading::point, crate::specs::Reading::stopping, crate::specs::Reading::going, crate::specs::Reading::branching))]
 pub fn read_point(
     alloc: Global,
     cursor: &mut Cursor<'_>,
@@ -212,8 +120,17 @@ pub fn read_point(
     ensures { Reads (spec.point regions.now locals cursor.old) result cursor.new }
 {
     if cursor.eat(Symbol::Return) {
-        Ok(Point::Terminator(Terminator::Return))
-    } else {
-        stopping(alloc, cursor, regions, locals)
+        return Ok(Point::Terminator(Terminator::Return));
     }
+    if cursor.eat(Symbol::Stop) {
+        return Ok(Point::Terminator(Terminator::Stop));
+    }
+    if cursor.eat(Symbol::Goto) {
+        return Ok(Point::Terminator(Terminator::Goto(label(cursor)?)));
+    }
+    if cursor.eat(Symbol::If) {
+        let condition = condition(alloc, cursor, locals)?;
+        return Ok(Point::Terminator(Terminator::If(condition)));
+    }
+    dying(alloc, cursor, regions, locals)
 }
