@@ -2,3 +2,4 @@ pub mod Equality
 pub mod Histories
 pub mod Counting
 pub mod Bodies
+pub mod Suited

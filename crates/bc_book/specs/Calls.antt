@@ -1,11 +1,11 @@
 -- Declarations and a map from names to bodies, which know of no memo, and the histories of one thread over them.
-use Rattle.std.specs.Prelude.{◌≡◌, ◌≢◌, ◌==◌, ◌↔◌, ◌<◌, ℕ, Bool, true, false, Option, Some, None, IsSome, List, [], ◌∷◌, ◌++◌, length, map, filter, fold, count_by, if◌then◌else◌}
+use Rattle.std.specs.Prelude.{◌≡◌, ◌≢◌, ◌==◌, ◌↔◌, ◌<◌, ℕ, Bool, true, false, Option, Some, None, IsSome, List, [], ◌∷◌, ◌++◌, length, map, filter, fold, count_by, if◌then◌else◌, MatchOption, ⊤}
 use Rattle.std.specs.List.{AllPairs, Contains}
 use Rattle.bc_text.specs.Names.{NameParts, is_same_name}
 use Rattle.bc_syntax.specs.declared.syntax.Declaration.{Declaration}
 use Rattle.bc_syntax.specs.declared.syntax.Body.{Body}
 use Rattle.bc_syntax.specs.declared.syntax.UnitKind.{UnitKind}
-use Rattle.bc_syntax.specs.declared.syntax.UnitKind.TheVariants.{Function}
+use Rattle.bc_syntax.specs.declared.syntax.UnitKind.TheVariants.{Function, Closure}
 use Rattle.bc_prov.specs.declared.outcome.Outcome.{Outcome}
 use Rattle.bc_prov.specs.Outcome.{IsOutcome}
 use Rattle.bc_book.specs.declared.call.Call.{Call}
@@ -45,9 +45,14 @@ HoldsCount bodies count =
     (names : List NameParts) × AllPairs (λ a b. a ≢ b) names
     × ((name : NameParts) → IsSome (bodies name) ↔ Contains names name) × (length names ≡ count)
 
--- a function has a root as its name
+-- a function has a root as its name, and no closure is held
 abbrev pub Suits : UnitKind → NameParts → Type 0
 Suits Function name = name.segments ≡ []
+Suits Closure name = ⊥
+
+-- each body is held at a name that suits its kind
+abbrev pub AreSuited : Bodies → Type 0
+AreSuited bodies = (name : NameParts) → MatchOption (bodies name) ⊤ (λ (body : Body). Suits body.header.kind name)
 
 -- the reply to a put of a body at a name
 abbrev pub IsPutReply : Bodies → NameParts → Body → PutReply → Type 0

@@ -197,6 +197,7 @@ fn suits(kind: UnitKind, name: &Name) -> bool
 {
     match kind {
         UnitKind::Function => name.segments().is_empty(),
+        UnitKind::Closure => false,
     }
 }
 

@@ -4,7 +4,7 @@ use Rattle.bc_text.specs.Names.{name_text}
 use Rattle.bc_prov.specs.declared.outcome.BodyErrors.{BodyErrors}
 use Rattle.bc_judge.specs.declared.error.BorrowError.{BorrowError}
 use Rattle.bc_prov.specs.declared.outcome.Outcome.{Outcome}
-use Rattle.bc_prov.specs.declared.outcome.Outcome.TheVariants.{NoBody, BadTypes, Ill, Report}
+use Rattle.bc_prov.specs.declared.outcome.Outcome.TheVariants.{NoBody, Missing, BadTypes, Ill, Report}
 use Rattle.bc_mir.specs.Lines.{place_text}
 use Rattle.bc_judge.specs.Lines.{error_text}
 use Rattle.bc_check.specs.Text.{line}
@@ -21,6 +21,7 @@ body_lines body =
 -- the lines of an outcome
 abbrev pub report : Outcome → List ℕ
 report NoBody = line (codes "no body")
+report (Missing name) = line (codes "missing " ++ name_text name)
 report (BadTypes index) = line (codes "bad declaration " ++ decimal index)
 report (Ill name place) = line (codes "ill " ++ name_text name ++ codes " at " ++ place_text place)
 report (Report bodies) = flat_map body_lines bodies

@@ -4,7 +4,7 @@ use Rattle.std.specs.List.{All, list_all}
 use Rattle.bc_text.specs.Names.{NameParts, name_text}
 use Rattle.bc_prov.specs.declared.outcome.BodyErrors.{BodyErrors}
 use Rattle.bc_prov.specs.declared.outcome.Outcome.{Outcome}
-use Rattle.bc_prov.specs.declared.outcome.Outcome.TheVariants.{NoBody, BadTypes, Ill, Report}
+use Rattle.bc_prov.specs.declared.outcome.Outcome.TheVariants.{NoBody, Missing, BadTypes, Ill, Report}
 use Rattle.bc_book.specs.declared.call.Call.{Call}
 use Rattle.bc_book.specs.declared.call.Call.TheVariants.{Types, Put, Ask}
 use Rattle.bc_book.specs.declared.call.PutReply.{PutReply}
@@ -68,6 +68,7 @@ are_clean bodies = list_all (λ (body : BodyErrors). length body.errors == 0) bo
 -- 2 for an outcome that is no report, 1 for a report with an error
 abbrev pub outcome_status : Outcome → ℕ
 outcome_status NoBody = 2
+outcome_status (Missing name) = 2
 outcome_status (BadTypes index) = 2
 outcome_status (Ill name place) = 2
 outcome_status (Report bodies) = if are_clean bodies then 0 else 1

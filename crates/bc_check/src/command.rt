@@ -47,7 +47,7 @@ fn outcome_status(outcome: &Outcome) -> u8
     ensures range { result ≤ 2 }
 {
     match outcome {
-        Outcome::NoBody | Outcome::BadTypes(_) | Outcome::Ill(_, _) => 2,
+        Outcome::NoBody | Outcome::Missing(_) | Outcome::BadTypes(_) | Outcome::Ill(_, _) => 2,
         Outcome::Report(bodies) => { if are_clean(bodies.as_slice()) { 0 } else { 1 } }
     }
 }

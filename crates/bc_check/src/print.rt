@@ -36,6 +36,7 @@ pub fn write_report<W: Write>(outcome: &Outcome, out: &mut W) -> io::Result<()>
 {
     match outcome {
         Outcome::NoBody => writeln!(out, "no body"),
+        Outcome::Missing(name) => writeln!(out, "missing {name}"),
         Outcome::BadTypes(index) => writeln!(out, "bad declaration {index}"),
         Outcome::Ill(name, place) => writeln!(out, "ill {name} at {place}"),
         Outcome::Report(bodies) => {

@@ -9,7 +9,7 @@ use Rattle.bc_mir.specs.Mir.{Mir}
 use Rattle.bc_points.specs.Regions.{region_number}
 use Rattle.bc_cons.specs.declared.facts.Constraint.{Constraint}
 use Rattle.bc_cons.specs.Constraints.{numbered, differ, all_pairs}
-use Rattle.bc_cons.specs.Mentions.{regions_of}
+use Rattle.bc_mir.specs.Mentions.{regions_of}
 use Rattle.bc_cons.specs.Bounds.{regions_bound, types_bound, pairs_bound}
 use Rattle.bc_cons.specs.Below.{TyIsBelow, TysAreBelow, PairsAreBelow, IsRegionCount}
 use Rattle.bc_cons.specs.Facts.{ArePairsWithin}

@@ -8,7 +8,7 @@ use Rattle.bc_mir.specs.Mir.{Mir}
 use Rattle.bc_points.specs.Regions.{region_number}
 use Rattle.bc_cons.specs.Constraints.{constraints_of}
 use Rattle.bc_cons.specs.Facts.{ArePairsWithin}
-use Rattle.bc_cons.specs.Mentions.{regions_of}
+use Rattle.bc_mir.specs.Mentions.{regions_of}
 
 -- the regions of a type, of each type, and of each pair have numbers below the bound
 abbrev pub TyIsBelow : ℕ → ℕ → Ty → Type 0

@@ -13,9 +13,9 @@ use crate::pairs::push_pairs_at;
 use crate::requirements::Requirements;
 use crate::starts::start_rows;
 use bc_live::LiveSets;
-use bc_mir::{Constraint as RegionConstraint, GoodTypes, Step, Typed};
+use bc_mir::{Constraint as RegionConstraint, Step, Typed};
 use bc_points::region_number;
-use bc_syntax::{Region, Ty};
+use bc_syntax::Region;
 use std::alloc::{AllocError, Global};
 
 fn is_same_region(first: Region, second: Region) -> bool
@@ -27,23 +27,15 @@ fn is_same_region(first: Region, second: Region) -> bool
 /// The pairs of points, in order.
 fn pairs_of_steps(
     alloc: Global,
-    types: &GoodTypes,
-    locals: &[Ty],
+    typed: &Typed,
     steps: &[Step],
 ) -> Result<Vec<RegionConstraint>, AllocError>
-    ensures { IfOk result (λ pairs. pairs.items ≡ flat_map (λ step. pairs_at types.now locals.now step.instruction) steps.now) }
+    ensures { IfOk result (λ pairs. pairs.items ≡ flat_map (λ step. pairs_at typed.now step.instruction) steps.now) }
 {
     let mut pairs = Vec::with_capacity(alloc, steps.len())?;
     let mut references = Vec::new(alloc);
     for step in steps {
-        push_pairs_at(
-            alloc,
-            &mut pairs,
-            &mut references,
-            types,
-            locals,
-            &step.instruction,
-        )?;
+        push_pairs_at(alloc, &mut pairs, &mut references, typed, &step.instruction)?;
     }
     Ok(pairs)
 }
@@ -102,10 +94,7 @@ pub fn constraints(
     ensures pairs { IfOk result (λ facts. facts.pairs ≡ constraints_of typed.now) }
 {
     let universals = typed.universals();
-    let pairs = differing(
-        alloc,
-        &pairs_of_steps(alloc, typed.types(), typed.locals(), typed.steps())?,
-    )?;
+    let pairs = differing(alloc, &pairs_of_steps(alloc, typed, typed.steps())?)?;
     let declared = types_bound(universals, usize::from(universals), typed.locals());
     let regions = pairs_bound(universals, declared, &pairs);
     let starts = start_rows(alloc, typed, live, regions)?;

@@ -1,6 +1,6 @@
 //! How many regions a body has, by the numbers that it uses.
 ghost use Rattle.std.specs.Prelude.{◌≡◌};
-ghost use Rattle.bc_cons.specs.Mentions.{regions_of_references, regions_of_base, regions_of};
+ghost use Rattle.bc_mir.specs.Mentions.{regions_of_references, regions_of_base, regions_of};
 ghost use Rattle.bc_cons.specs.Bounds.{regions_bound as bound_of_regions, types_bound as bound_of_types, pairs_bound as bound_of_pairs};
 
 use bc_mir::Constraint as RegionConstraint;
@@ -29,13 +29,14 @@ fn references_bound(universals: u8, least: usize, references: &[Reference]) -> u
     bound
 }
 
-/// The same for the arguments of a struct.
+/// The same for the arguments of a struct or a closure.
 fn base_bound(universals: u8, least: usize, base: &Base) -> usize
     ensures { result ≡ bound_of_regions universals least (regions_of_base base.now) }
 {
     match base {
         Base::Int => least,
         Base::Struct(instance) => regions_bound(universals, least, instance.regions.as_slice()),
+        Base::Closure(closure) => regions_bound(universals, least, closure.regions.as_slice()),
     }
 }
 

@@ -3,9 +3,9 @@ ghost use Rattle.std.specs.Prelude.{◌≡◌, ◌++◌, map, OnOk};
 ghost use Rattle.bc_types.specs.Subtype.{outlives};
 ghost use Rattle.bc_cons.specs.Constraints.{reborrow_pairs, pairs_at};
 
-use bc_mir::{Constraint as RegionConstraint, GoodTypes, Instruction, push_references_of_place};
-use bc_points::{from_last_shared, push_assignment_pairs, push_call_pairs};
-use bc_syntax::{Reference, Region, Rvalue, Statement, Terminator, Ty};
+use bc_mir::{Constraint as RegionConstraint, Instruction, Typed};
+use bc_points::{from_last_shared, push_assignment_pairs, push_call_pairs, push_invocation_pairs};
+use bc_syntax::{Reference, Region, Rvalue, Statement, Terminator};
 use std::alloc::{AllocError, Global};
 
 /// Appends that the region of each reference outlives a region.
@@ -30,20 +30,19 @@ fn push_reborrow(
     alloc: Global,
     pairs: &mut Vec<RegionConstraint>,
     references: &mut Vec<Reference>,
-    types: &GoodTypes,
-    locals: &[Ty],
+    typed: &Typed,
     rvalue: &Rvalue,
 ) -> Result<(), AllocError>
-    ensures { OnOk result (pairs.new.items ≡ pairs.old.items ++ reborrow_pairs types.now locals.now rvalue.now) }
+    ensures { OnOk result (pairs.new.items ≡ pairs.old.items ++ reborrow_pairs typed.now rvalue.now) }
 {
     match rvalue {
         Rvalue::Borrow(borrow) => {
             references.clear();
-            push_references_of_place(alloc, references, types, locals, &borrow.place)?;
+            typed.push_references_of_place(alloc, references, &borrow.place)?;
             let supporting = from_last_shared(references.as_slice());
             push_outlives(pairs, supporting, borrow.reference.region)
         }
-        Rvalue::Use(_) | Rvalue::Aggregate(_) | Rvalue::Calc(_) => Ok(()),
+        Rvalue::Use(_) | Rvalue::Aggregate(_) | Rvalue::Closure(_) | Rvalue::Calc(_) => Ok(()),
     }
 }
 
@@ -52,19 +51,21 @@ pub(crate) fn push_pairs_at(
     alloc: Global,
     pairs: &mut Vec<RegionConstraint>,
     references: &mut Vec<Reference>,
-    types: &GoodTypes,
-    locals: &[Ty],
+    typed: &Typed,
     instruction: &Instruction,
 ) -> Result<(), AllocError>
-    ensures { OnOk result (pairs.new.items ≡ pairs.old.items ++ pairs_at types.now locals.now instruction.now) }
+    ensures { OnOk result (pairs.new.items ≡ pairs.old.items ++ pairs_at typed.now instruction.now) }
 {
     match instruction {
         Instruction::Statement(Statement::Assign(assignment)) => {
-            push_assignment_pairs(alloc, pairs, types, locals, assignment)?;
-            push_reborrow(alloc, pairs, references, types, locals, &assignment.value)
+            push_assignment_pairs(alloc, pairs, typed, assignment)?;
+            push_reborrow(alloc, pairs, references, typed, &assignment.value)
         }
         Instruction::Terminator(Terminator::Call(call)) => {
-            push_call_pairs(alloc, pairs, types, locals, call)
+            push_call_pairs(alloc, pairs, typed, call)
+        }
+        Instruction::Terminator(Terminator::Invoke(invocation)) => {
+            push_invocation_pairs(alloc, pairs, typed, invocation)
         }
         Instruction::Statement(Statement::Dead(_) | Statement::Drop(_) | Statement::Nop)
         | Instruction::Terminator(

@@ -5,7 +5,7 @@ ghost use Rattle.bc_flow.specs.Flow.{row, holds, HaveSize, AreAdded};
 ghost use Rattle.bc_flow.specs.BitSet.{has};
 ghost use Rattle.bc_cons.specs.Starts.{universal_start, mentions, goes_to_variable, starts_with, AreGrown};
 ghost use Rattle.bc_cons.specs.Below.{TyIsBelow, TysAreBelow};
-ghost use Rattle.bc_cons.specs.Mentions.{regions_of_base};
+ghost use Rattle.bc_mir.specs.Mentions.{regions_of_base};
 ghost use Rattle.bc_points.specs.Regions.{region_number as number_of};
 
 use bc_flow::{BitRow, BitTable};
@@ -111,7 +111,7 @@ fn add_to_references(
     }
 }
 
-/// The same for the arguments of a struct.
+/// The same for the arguments of a struct or a closure.
 fn add_to_base(
     rows: &mut BitTable,
     universals: u8,
@@ -130,6 +130,15 @@ fn add_to_base(
                 rows,
                 universals,
                 instance.regions.as_slice(),
+                live_points,
+                points,
+            );
+        }
+        Base::Closure(closure) => {
+            add_to_regions(
+                rows,
+                universals,
+                closure.regions.as_slice(),
                 live_points,
                 points,
             );

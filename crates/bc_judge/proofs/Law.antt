@@ -79,10 +79,10 @@ from_conflicts mir in_scope value e h =
     let loan = from_flat_map (conflict_with mir (in_scope here.0.0) step.point access.0) (enumerate_from 0 (loans_of mir)) e access.2 in
     let is_loan = at_number (loans_of mir) loan.0 loan.1 in
     let maker = maker_of mir loan.0.0 loan.0.1 is_loan in
-    let conflicts = is_conflict mir.types mir.locals access.0.1 loan.0.1.1 in
+    let conflicts = is_conflict mir access.0.1 loan.0.1.1 in
     let one = from_if (in_scope here.0.0 loan.0.0 && conflicts) (Conflict step.point access.0.0 (point_of mir.steps loan.0.1.0)) e loan.2 in
     let both = and_parts (in_scope here.0.0 loan.0.0) conflicts one.0 in
-    let parts = and_parts (is_write access.0.1.kind || is_mutable loan.0.1.1.mutability) (is_relevant_at mir.types mir.locals access.0.1.depth access.0.1.place loan.0.1.1.path) both.1 in
+    let parts = and_parts (is_write access.0.1.kind || is_mutable loan.0.1.1.mutability) (is_relevant_at mir access.0.1.depth access.0.1.place loan.0.1.1.path) both.1 in
     let found : IsConflict mir in_scope step.point access.0.0 (point_of mir.steps loan.0.1.0) = record {
       point = here.0.0;
       step = step;
@@ -109,17 +109,17 @@ in_conflicts mir in_scope at number loan_at h =
     let loan : ℕ × (ℕ × Loan) = (h.loan_number, (h.maker, h.loan)) in
     let printed : point_of mir.steps h.maker ≡ loan_at = printed_at mir.steps h.maker h.maker_step h.is_maker ∙ h.at_maker in
     let is_e : Conflict h.step.point number (point_of mir.steps h.maker) ≡ e = ap (λ v. Conflict v number (point_of mir.steps h.maker)) h.at_point ∙ ap (λ v. Conflict at number v) printed in
-    let conflicts : is_conflict mir.types mir.locals h.access h.loan ≡ true =
-    and_from (is_write h.access.kind || is_mutable h.loan.mutability) (is_relevant_at mir.types mir.locals h.access.depth h.access.place h.loan.path)
+    let conflicts : is_conflict mir h.access h.loan ≡ true =
+    and_from (is_write h.access.kind || is_mutable h.loan.mutability) (is_relevant_at mir h.access.depth h.access.place h.loan.path)
     (writes_one h.access.kind h.loan.mutability h.one_writes) h.relevant in
-    let both = and_from (in_scope h.point h.loan_number) (is_conflict mir.types mir.locals h.access h.loan) h.in_scope_here conflicts in
+    let both = and_from (in_scope h.point h.loan_number) (is_conflict mir h.access h.loan) h.in_scope_here conflicts in
     in_flat_map (conflicts_of_step mir in_scope) (enumerate_from 0 mir.steps) (h.point, h.step) e (numbered mir.steps h.point h.step h.is_step)
     (in_flat_map (conflicts_of_access mir (in_scope h.point) h.step.point) (enumerate_from 0 (accesses_of mir h.step.instruction)) (number, h.access) e
     (numbered (accesses_of mir h.step.instruction) number h.access h.is_access)
     (in_flat_map (conflict_with mir (in_scope h.point) h.step.point (number, h.access)) (enumerate_from 0 (loans_of mir)) loan e
     (numbered (loans_of mir) h.loan_number (h.maker, h.loan) h.is_loan)
     (subst (λ v. Contains (conflict_with mir (in_scope h.point) h.step.point (number, h.access) loan) v) is_e
-    (in_if (in_scope h.point h.loan_number && is_conflict mir.types mir.locals h.access h.loan) (Conflict h.step.point number (point_of mir.steps h.maker)) both))))
+    (in_if (in_scope h.point h.loan_number && is_conflict mir h.access h.loan) (Conflict h.step.point number (point_of mir.steps h.maker)) both))))
 
 -- ---- failures
 

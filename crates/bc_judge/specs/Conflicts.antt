@@ -2,8 +2,6 @@
 use Rattle.std.specs.Prelude.{ℕ, Bool, true, false, ◌&&◌, ◌||◌, if◌then◌else◌, List, [], ◌∷◌, slice_get}
 use Rattle.std.specs.List.{flat_map, enumerate_from}
 use Rattle.std.specs.Option.{option_map_or}
-use Rattle.bc_syntax.specs.declared.syntax.Ty.{Ty}
-use Rattle.bc_syntax.specs.declared.syntax.Declaration.{Declaration}
 use Rattle.bc_syntax.specs.declared.syntax.Place.{Place}
 use Rattle.bc_points.specs.declared.access.Access.{Access}
 use Rattle.bc_points.specs.declared.access.Depth.{Depth}
@@ -23,18 +21,18 @@ use Rattle.bc_judge.specs.declared.error.BorrowError.{BorrowError}
 use Rattle.bc_judge.specs.declared.error.BorrowError.TheVariants.{Conflict}
 
 -- an access of this depth to a place reaches a loan of a path
-abbrev pub is_relevant_at : List Declaration → List Ty → Depth → Place → Place → Bool
-is_relevant_at types locals Shallow place path = is_prefix path place || is_shallow_prefix place path
-is_relevant_at types locals Deep place path = is_prefix path place || supports types locals place path
+abbrev pub is_relevant_at : Mir → Depth → Place → Place → Bool
+is_relevant_at mir Shallow place path = is_prefix path place || is_shallow_prefix place path
+is_relevant_at mir Deep place path = is_prefix path place || supports mir place path
 
 abbrev pub is_write : AccessKind → Bool
 is_write Read = false
 is_write Write = true
 
 -- a relevant access conflicts with a loan unless the access reads and the loan is shared
-abbrev pub is_conflict : List Declaration → List Ty → Access → Loan → Bool
-is_conflict types locals access loan =
-    (is_write access.kind || is_mutable loan.mutability) && is_relevant_at types locals access.depth access.place loan.path
+abbrev pub is_conflict : Mir → Access → Loan → Bool
+is_conflict mir access loan =
+    (is_write access.kind || is_mutable loan.mutability) && is_relevant_at mir access.depth access.place loan.path
 
 -- a point, by its number, as it is printed
 abbrev pub point_of : List Step → ℕ → Point
@@ -47,7 +45,7 @@ ScopeTest = ℕ → ℕ → Bool
 -- the conflict of a numbered access of a point with a numbered loan, if they conflict and the loan is in scope there
 abbrev pub conflict_with : Mir → (ℕ → Bool) → Point → ℕ × Access → ℕ × (ℕ × Loan) → List BorrowError
 conflict_with mir in_scope at access loan =
-    if in_scope loan.0 && is_conflict mir.types mir.locals access.1 loan.1.1
+    if in_scope loan.0 && is_conflict mir access.1 loan.1.1
     then Conflict at access.0 (point_of mir.steps loan.1.0) ∷ []
     else []
 

@@ -42,7 +42,7 @@ pub record IsConflict (mir : Mir) (in_scope : ScopeTest) (at : Point) (number : 
   pub at_maker : maker_step.point ≡ loan_at
   pub in_scope_here : in_scope point loan_number ≡ true
   pub one_writes : (access.kind ≡ Write) ⊎ (loan.mutability ≡ Mutable)
-  pub relevant : is_relevant_at mir.types mir.locals access.depth access.place loan.path ≡ true
+  pub relevant : is_relevant_at mir access.depth access.place loan.path ≡ true
 
 -- a failure: two universal regions, of which the value of the first has the end of the second, and the first is not
 -- known to outlive the second

@@ -38,7 +38,7 @@ fn push_conflict(
     ensures { OnOk result ((scope : ℕ → Bool) (n : ℕ) → scope n ≡ true →
         errors.new.items ≡ errors.old.items ++ conflict_with typed.now scope at (number, access.now) (n, (maker, loan.now))) }
 {
-    if is_conflict(typed.types(), typed.locals(), access, loan) {
+    if is_conflict(typed, access, loan) {
         errors.push(BorrowError::Conflict {
             at,
             access: number,

@@ -2,26 +2,19 @@
 ghost use Rattle.std.specs.Prelude.{◌≡◌};
 ghost use Rattle.bc_judge.specs.Conflicts.{is_relevant_at, is_write as write_test, is_conflict as conflict_test};
 
-use bc_mir::{GoodTypes, is_mutable};
+use bc_mir::{Typed, is_mutable};
 use bc_points::{
     Access, AccessKind, Depth, Loan, PlaceRef, is_prefix, is_shallow_prefix, supports,
 };
-use bc_syntax::Ty;
 
 /// Whether an access to a place reaches a loan of a path: the path is a prefix of the place, or the place is a
 /// prefix of the path, which must be shallow for a shallow access and supporting for a deep one.
-fn is_relevant(
-    types: &GoodTypes,
-    locals: &[Ty],
-    depth: Depth,
-    place: &PlaceRef<'_>,
-    path: &PlaceRef<'_>,
-) -> bool
-    ensures { result ≡ is_relevant_at types.now locals.now depth place.now path.now }
+fn is_relevant(typed: &Typed, depth: Depth, place: &PlaceRef<'_>, path: &PlaceRef<'_>) -> bool
+    ensures { result ≡ is_relevant_at typed.now depth place.now path.now }
 {
     match depth {
         Depth::Shallow => is_prefix(path, place) || is_shallow_prefix(place, path),
-        Depth::Deep => is_prefix(path, place) || supports(types, locals, place, path),
+        Depth::Deep => is_prefix(path, place) || supports(typed, place, path),
     }
 }
 
@@ -33,14 +26,9 @@ fn is_write(kind: AccessKind) -> bool
 
 /// Whether an access conflicts with a loan that is in scope: it reaches the loan's path, and the access writes or
 /// the loan is mutable.
-pub(crate) fn is_conflict(
-    types: &GoodTypes,
-    locals: &[Ty],
-    access: &Access<'_>,
-    loan: &Loan<'_>,
-) -> bool
-    ensures { result ≡ conflict_test types.now locals.now access.now loan.now }
+pub(crate) fn is_conflict(typed: &Typed, access: &Access<'_>, loan: &Loan<'_>) -> bool
+    ensures { result ≡ conflict_test typed.now access.now loan.now }
 {
     (is_write(access.kind) || is_mutable(loan.mutability))
-        && is_relevant(types, locals, access.depth, &access.place, &loan.path)
+        && is_relevant(typed, access.depth, &access.place, &loan.path)
 }

@@ -9,9 +9,9 @@ use Rattle.bc_syntax.specs.declared.syntax.Place.{Place}
 use Rattle.bc_syntax.specs.declared.syntax.Operand.{Operand}
 use Rattle.bc_syntax.specs.declared.syntax.Operand.TheVariants.{Copy, Move, Number}
 use Rattle.bc_syntax.specs.declared.syntax.Rvalue.{Rvalue}
-use Rattle.bc_syntax.specs.declared.syntax.Rvalue.TheVariants.{Use, Borrow, Aggregate, Calc}
+use Rattle.bc_syntax.specs.declared.syntax.Rvalue.TheVariants.{Use, Borrow, Aggregate, Closure, Calc}
 use Rattle.bc_syntax.specs.declared.syntax.Statement.TheVariants.{Assign, Dead, Drop, Nop}
-use Rattle.bc_syntax.specs.declared.syntax.Terminator.TheVariants.{Goto, If, Call, Return, Stop}
+use Rattle.bc_syntax.specs.declared.syntax.Terminator.TheVariants.{Goto, If, Call, Invoke, Return, Stop}
 use Rattle.bc_mir.specs.declared.mir.Step.{Step}
 use Rattle.bc_mir.specs.declared.mir.Instruction.{Instruction}
 use Rattle.bc_mir.specs.declared.mir.Instruction.TheVariants.{Statement, Terminator}
@@ -60,6 +60,8 @@ rvalue_below universals count (Borrow borrow) fits =
     below_one count borrow.place.local (place_below count borrow.place (and_parts _ (place_fits count borrow.place) fits).1)
 rvalue_below universals count (Aggregate aggregate) fits =
     operands_below count aggregate.operands (and_parts _ (operands_fit count aggregate.operands) fits).1
+rvalue_below universals count (Closure creation) fits =
+    operands_below count creation.operands (and_parts _ (operands_fit count creation.operands) fits).1
 rvalue_below universals count (Calc operands) fits = operands_below count operands fits
 
 target_within : (count : ℕ) (target : Place) → target.local < count → Below count (target_uses target)
@@ -86,7 +88,7 @@ uses_within mir (Statement (Assign assignment)) some fits =
     (target_within (length mir.locals) assignment.target (place_below (length mir.locals) assignment.target parts.0))
 uses_within mir (Statement (Dead local)) some fits = below_none (length mir.locals)
 uses_within mir (Statement (Drop place)) some fits =
-    dropped_within (length mir.locals) (runs_drop mir.types mir.locals place) place (place_below (length mir.locals) place fits)
+    dropped_within (length mir.locals) (runs_drop mir place) place (place_below (length mir.locals) place fits)
 uses_within mir (Statement Nop) some fits = below_none (length mir.locals)
 uses_within mir (Terminator (Goto label)) some fits = below_none (length mir.locals)
 uses_within mir (Terminator (If condition)) some fits =
@@ -98,6 +100,16 @@ uses_within mir (Terminator (Call call)) some fits =
     below_both (length mir.locals) (flat_map operand_uses call.operands) (target_uses call.destination)
     (operands_below (length mir.locals) call.operands second.1)
     (target_within (length mir.locals) call.destination (place_below (length mir.locals) call.destination third.0))
+uses_within mir (Terminator (Invoke invocation)) some fits =
+    let first = and_parts _ _ fits in
+    let second = and_parts _ _ first.0 in
+    let third = and_parts _ _ second.0 in
+    let places = and_parts (place_fits (length mir.locals) invocation.destination) (place_fits (length mir.locals) invocation.closure) third.0 in
+    below_both (length mir.locals) (invocation.closure.local ∷ []) (flat_map operand_uses invocation.operands ++ target_uses invocation.destination)
+    (below_one (length mir.locals) invocation.closure.local (place_below (length mir.locals) invocation.closure places.1))
+    (below_both (length mir.locals) (flat_map operand_uses invocation.operands) (target_uses invocation.destination)
+    (operands_below (length mir.locals) invocation.operands second.1)
+    (target_within (length mir.locals) invocation.destination (place_below (length mir.locals) invocation.destination places.0)))
 uses_within mir (Terminator Return) some fits = below_one (length mir.locals) 0 (omega (arith, some))
 uses_within mir (Terminator Stop) some fits = below_none (length mir.locals)
 
@@ -112,6 +124,10 @@ definitions_within mir (Terminator (If condition)) fits = below_none (length mir
 definitions_within mir (Terminator (Call call)) fits =
     let third = and_parts _ _ (and_parts _ _ (and_parts _ _ fits).0).0 in
     defined_within (length mir.locals) call.destination (place_below (length mir.locals) call.destination third.0)
+definitions_within mir (Terminator (Invoke invocation)) fits =
+    let third = and_parts _ _ (and_parts _ _ (and_parts _ _ fits).0).0 in
+    let places = and_parts (place_fits (length mir.locals) invocation.destination) (place_fits (length mir.locals) invocation.closure) third.0 in
+    defined_within (length mir.locals) invocation.destination (place_below (length mir.locals) invocation.destination places.0)
 definitions_within mir (Terminator Return) fits = below_none (length mir.locals)
 definitions_within mir (Terminator Stop) fits = below_none (length mir.locals)
 

@@ -21,6 +21,9 @@ fn kills(path: &PlaceRef<'_>, instruction: &Instruction) -> bool
         Instruction::Terminator(Terminator::Call(call)) => {
             is_prefix(&PlaceRef::of(&call.destination), path)
         }
+        Instruction::Terminator(Terminator::Invoke(invocation)) => {
+            is_prefix(&PlaceRef::of(&invocation.destination), path)
+        }
         Instruction::Statement(Statement::Drop(_) | Statement::Nop)
         | Instruction::Terminator(
             Terminator::Goto(_) | Terminator::If(_) | Terminator::Return | Terminator::Stop,

@@ -1,12 +1,13 @@
 -- What the typing rules ask of a type does not change where its regions are blanked.
-use Rattle.std.proofs.Common.{◌≡◌, ℕ, zero, suc, Bool, true, false, ◌&&◌, ◌==◌, Option, Some, None, option_and_then, List, [], ◌∷◌, map, length, refl, sym, ap, ◌∙◌}
+use Rattle.std.proofs.Common.{◌≡◌, ℕ, zero, suc, Bool, true, false, not, ◌&&◌, ◌==◌, is_some, Option, Some, None, option_and_then, List, [], ◌∷◌, map, length, refl, sym, ap, ◌∙◌}
 use Rattle.std.proofs.lemmas.List.{length-map}
 use Rattle.std.specs.Option.{option_map}
 use Rattle.bc_syntax.specs.declared.syntax.Region.{Region}
 use Rattle.bc_syntax.specs.declared.syntax.Region.TheVariants.{Universal, Variable}
 use Rattle.bc_syntax.specs.declared.syntax.Base.{Base}
-use Rattle.bc_syntax.specs.declared.syntax.Base.TheVariants.{Int, Struct}
+use Rattle.bc_syntax.specs.declared.syntax.Base.TheVariants.{Int, Struct, Closure}
 use Rattle.bc_syntax.specs.declared.syntax.Instance.{Instance}
+use Rattle.bc_syntax.specs.declared.syntax.ClosureInstance.{ClosureInstance}
 use Rattle.bc_syntax.specs.declared.syntax.Ty.{Ty}
 use Rattle.bc_syntax.specs.declared.syntax.Reference.{Reference}
 use Rattle.bc_syntax.specs.declared.syntax.Projection.{Projection}
@@ -17,7 +18,8 @@ use Rattle.bc_types.specs.Declarations.{same_name}
 use Rattle.bc_types.specs.Replaced.{replaced_region, replaced_reference, replaced_base, replaced_ty, declared_field}
 use Rattle.bc_types.specs.Shapes.{blanked, alike_bases, alike_types, one_shape, is_copyable_type}
 use Rattle.bc_mir.specs.PlaceTypes.{type_behind}
-use Rattle.bc_mir.specs.Rules.{allowed, has_shape, of_one_shape, type_referenced}
+use Rattle.bc_mir.specs.Children.{closure_behind, closure_of}
+use Rattle.bc_mir.specs.Rules.{allowed, has_shape, of_one_shape, type_referenced, unless_closure}
 
 blank-region : (region : Region) → replaced_region [] region ≡ Universal 0
 blank-region (Universal zero) = refl
@@ -38,6 +40,8 @@ base-again : (arguments : List Region) (base : Base) → replaced_base [] (repla
 base-again arguments Int = refl
 base-again arguments (Struct instance) =
     ap (λ (regions : List Region). Struct (record { name = instance.name; regions = regions })) (map-again (replaced_region []) (replaced_region arguments) (region-again arguments) instance.regions)
+base-again arguments (Closure closure) =
+    ap (λ (regions : List Region). Closure (record { number = closure.number; regions = regions })) (map-again (replaced_region []) (replaced_region arguments) (region-again arguments) closure.regions)
 
 -- regions that are replaced and then blanked are blanked
 blanked-replaced : (arguments : List Region) (ty : Ty) → blanked (replaced_ty arguments ty) ≡ blanked ty
@@ -55,6 +59,7 @@ behind-replaced types arguments (Deref ∷ projections) [] base = refl
 behind-replaced types arguments (Deref ∷ projections) (reference ∷ references) base = behind-replaced types arguments projections references base
 behind-replaced types arguments (Field k ∷ projections) (reference ∷ references) base = refl
 behind-replaced types arguments (Field k ∷ projections) [] Int = refl
+behind-replaced types arguments (Field k ∷ projections) [] (Closure closure) = refl
 behind-replaced types arguments (Field k ∷ projections) [] (Struct instance) =
     by (declared_field types instance.name k) (λ ty. behind-replaced types (map (replaced_region arguments) instance.regions) projections ty.references ty.base ∙ sym (behind-replaced types instance.regions projections ty.references ty.base))
   where
@@ -67,13 +72,24 @@ behind-replaced types arguments (Field k ∷ projections) [] (Struct instance) =
 bases-left : (base other : Base) → alike_bases (replaced_base [] base) other ≡ alike_bases base other
 bases-left Int other = refl
 bases-left (Struct instance) Int = refl
+bases-left (Struct instance) (Closure closure) = refl
+bases-left (Closure closure) Int = refl
+bases-left (Closure closure) (Struct instance) = refl
+bases-left (Closure closure) (Closure other) =
+    ap (λ n. closure.number == other.number && n == length other.regions) (length-map closure.regions (replaced_region []))
 bases-left (Struct instance) (Struct other) =
     ap (λ n. same_name instance.name other.name && n == length other.regions) (length-map instance.regions (replaced_region []))
 
 bases-right : (base other : Base) → alike_bases base (replaced_base [] other) ≡ alike_bases base other
 bases-right Int Int = refl
 bases-right Int (Struct other) = refl
+bases-right Int (Closure other) = refl
 bases-right (Struct instance) Int = refl
+bases-right (Struct instance) (Closure closure) = refl
+bases-right (Closure closure) Int = refl
+bases-right (Closure closure) (Struct instance) = refl
+bases-right (Closure closure) (Closure other) =
+    ap (λ n. closure.number == other.number && length closure.regions == n) (length-map other.regions (replaced_region []))
 bases-right (Struct instance) (Struct other) =
     ap (λ n. same_name instance.name other.name && length instance.regions == n) (length-map other.regions (replaced_region []))
 
@@ -104,6 +120,7 @@ one_shape-both first second = one_shape-left first (blanked second) ∙ one_shap
 copyable-blanked : (references : List Reference) (base : Base) → is_copyable_type (blanked (record { references = references; base = base })) ≡ is_copyable_type (record { references = references; base = base })
 copyable-blanked [] Int = refl
 copyable-blanked [] (Struct instance) = refl
+copyable-blanked [] (Closure closure) = refl
 copyable-blanked (reference ∷ references) base = refl
 
 is_copyable-blanked : (ty : Ty) → is_copyable_type (blanked ty) ≡ is_copyable_type ty
@@ -160,3 +177,35 @@ referenced-left reference ty expected = by expected.references
 pub borrow-blanked : (reference : Reference) (expected : Ty) (found : Option Ty) → has_shape expected (option_map (type_referenced reference) (option_map blanked found)) ≡ has_shape expected (option_map (type_referenced reference) found)
 borrow-blanked reference expected None = refl
 borrow-blanked reference expected (Some ty) = referenced-left reference ty expected
+
+-- ---- closures
+
+abbrev number_behind : List Reference → Base → Option ℕ
+number_behind references base = option_map (λ (closure : ClosureInstance). closure.number) (closure_behind references base)
+
+number-blanked : (references : List Reference) (base : Base) → number_behind (map (replaced_reference []) references) (replaced_base [] base) ≡ number_behind references base
+number-blanked [] Int = refl
+number-blanked [] (Struct instance) = refl
+number-blanked [] (Closure closure) = refl
+number-blanked (reference ∷ references) base = refl
+
+abbrev number_found : Option Ty → Option ℕ
+number_found found = option_map (λ (closure : ClosureInstance). closure.number) (option_and_then closure_of found)
+
+-- the number of a closure is that of its shape
+pub number_found-blanked : (found : Option Ty) → number_found (option_map blanked found) ≡ number_found found
+number_found-blanked None = refl
+number_found-blanked (Some ty) = number-blanked ty.references ty.base
+
+is_closure-blanked : (references : List Reference) (base : Base) → is_some (closure_behind (map (replaced_reference []) references) (replaced_base [] base)) ≡ is_some (closure_behind references base)
+is_closure-blanked [] Int = refl
+is_closure-blanked [] (Struct instance) = refl
+is_closure-blanked [] (Closure closure) = refl
+is_closure-blanked (reference ∷ references) base = refl
+
+-- a type is refused as a closure where its shape is
+pub unless_closure-blanked : (found : Option Ty) → unless_closure (option_map blanked found) ≡ option_map blanked (unless_closure found)
+unless_closure-blanked None = refl
+unless_closure-blanked (Some ty) =
+    ap (λ holds. allowed (not holds) (Some (blanked ty))) (is_closure-blanked ty.references ty.base)
+    ∙ sym (allowed-blanked (not (is_some (closure_of ty))) (Some ty))

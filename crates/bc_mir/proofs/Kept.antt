@@ -9,11 +9,15 @@ use Rattle.bc_syntax.specs.declared.syntax.Declaration.{Declaration}
 use Rattle.bc_syntax.specs.declared.syntax.Block.{Block}
 use Rattle.bc_syntax.specs.declared.syntax.Statement.{Statement as Simple}
 use Rattle.bc_syntax.specs.declared.syntax.Terminator.{Terminator as Ending}
-use Rattle.bc_syntax.specs.declared.syntax.Terminator.TheVariants.{Goto, If, Call, Return, Stop}
+use Rattle.bc_syntax.specs.declared.syntax.Terminator.TheVariants.{Goto, If, Call, Invoke, Return, Stop}
 use Rattle.bc_syntax.proofs.Signatures.{signature_parts}
+use Rattle.bc_syntax.specs.declared.syntax.UnitKind.{UnitKind}
+use Rattle.bc_syntax.specs.declared.syntax.UnitKind.TheVariants.{Function, Closure}
+use Rattle.bc_syntax.specs.declared.syntax.Ty.{Ty}
 use Rattle.bc_syntax.specs.Locals.{locals_of}
-use Rattle.bc_syntax.specs.Fits.{Fits as Sized, universal_count, point_count, clause_fits, ty_fits, statement_fits, terminator_fits, block_fits}
+use Rattle.bc_syntax.specs.Fits.{Fits as Sized, universal_count, point_count, clause_fits, kind_fits, signature_fits, ty_fits, let_fits, statement_fits, terminator_fits, block_fits}
 use Rattle.bc_flow.specs.declared.graph.Edge.{Edge}
+use Rattle.bc_mir.specs.declared.children.Child.{Child}
 use Rattle.bc_mir.specs.declared.mir.Step.{Step}
 use Rattle.bc_flow.specs.Graph.{AreWithin}
 use Rattle.bc_mir.specs.declared.mir.Instruction.{Instruction}
@@ -24,7 +28,7 @@ use Rattle.bc_mir.specs.Typing.{fits_at, first_unfit, Fits}
 use Rattle.bc_mir.specs.Typed.{instruction_fits, steps_fit, IsTyped}
 use Rattle.bc_mir.proofs.Mirs.{length-block_steps}
 use Rattle.bc_mir.proofs.Fitting.{test_passed, no_unfit}
-use Rattle.bc_mir.proofs.Wider.{ty-wider, types-wider}
+use Rattle.bc_mir.proofs.Wider.{let-wider, types-wider}
 
 -- blocks have as many points as they have statements and terminators
 pub length-steps_from : (n : ℕ) (blocks : List Block) → length (steps_from n blocks) ≡ point_count blocks
@@ -76,7 +80,7 @@ terminator-within mir p (Goto label) entered below fits =
     let joined : IsWithin (length mir.steps) (edge_to mir p label) = (below, entered label (ltb-true label (length mir.entries) fits)) in
     All-cons (IsWithin (length mir.steps)) (edge_to mir p label) [] joined (All-nil (IsWithin (length mir.steps)))
 terminator-within mir p (If condition) entered below fits =
-    let labels = (and_parts (is_operand_int mir.types mir.locals condition.operand) _ fits).1 in
+    let labels = (and_parts (is_operand_int mir condition.operand) _ fits).1 in
     let both = and_parts (ltb condition.then (length mir.entries)) (ltb condition.otherwise (length mir.entries)) labels in
     let first : IsWithin (length mir.steps) (edge_to mir p condition.then) = (below, entered condition.then (ltb-true condition.then (length mir.entries) both.0)) in
     let second : IsWithin (length mir.steps) (edge_to mir p condition.otherwise) = (below, entered condition.otherwise (ltb-true condition.otherwise (length mir.entries) both.1)) in
@@ -85,6 +89,10 @@ terminator-within mir p (Call call) entered below fits =
     let label = (and_parts (ltb call.target (length mir.entries)) _ fits).0 in
     let joined : IsWithin (length mir.steps) (edge_to mir p call.target) = (below, entered call.target (ltb-true call.target (length mir.entries) label)) in
     All-cons (IsWithin (length mir.steps)) (edge_to mir p call.target) [] joined (All-nil (IsWithin (length mir.steps)))
+terminator-within mir p (Invoke invocation) entered below fits =
+    let label = (and_parts (ltb invocation.target (length mir.entries)) _ fits).0 in
+    let joined : IsWithin (length mir.steps) (edge_to mir p invocation.target) = (below, entered invocation.target (ltb-true invocation.target (length mir.entries) label)) in
+    All-cons (IsWithin (length mir.steps)) (edge_to mir p invocation.target) [] joined (All-nil (IsWithin (length mir.steps)))
 terminator-within mir p Return entered below fits = All-nil (IsWithin (length mir.steps))
 terminator-within mir p Stop entered below fits = All-nil (IsWithin (length mir.steps))
 
@@ -120,25 +128,42 @@ some-point : (blocks : List Block) → 1 ≤ length blocks → 1 ≤ length (ste
 some-point [] some = absurd (omega arith)
 some-point (block ∷ blocks) some = omega (arith, length-append (block_steps 0 0 block.statements block.terminator) (steps_from 1 blocks), length-block_steps 0 0 block.statements block.terminator)
 
+header-parts : (body : Body) → Sized body → (kind_fits (universal_count body.header.signature) body.header.kind body.header.captures ≡ true) × (signature_fits 15 body.header.signature ≡ true)
+header-parts body sized = and_parts (kind_fits (universal_count body.header.signature) body.header.kind body.header.captures) (signature_fits 15 body.header.signature) sized.header
+
+-- a unit has at most 16 universal regions
+pub few-universals : (body : Body) → Sized body → universal_count body.header.signature ≤ 16
+few-universals body sized = omega (arith, (signature_parts 15 body.header.signature (header-parts body sized).1).few)
+
+captures-fit : (n : ℕ) (kind : UnitKind) (captures : List Ty) → kind_fits n kind captures ≡ true → list_all (let_fits n) captures ≡ true
+captures-fit n Function [] fits = refl
+captures-fit n Function (capture ∷ captures) fits = absurd cc
+captures-fit n Closure captures fits = types-wider n captures (and_parts (list_all (ty_fits false n) captures) _ fits).0
+
 -- the types of the locals name regions that may be named
-types-fit : (body : Body) → Sized body → list_all (ty_fits true (universal_count body.header.signature)) (locals_of body) ≡ true
+types-fit : (body : Body) → Sized body → list_all (let_fits (universal_count body.header.signature)) (locals_of body) ≡ true
 types-fit body sized =
     let n = universal_count body.header.signature in
-    let signature = signature_parts 15 body.header.signature sized.header in
+    let header = header-parts body sized in
+    let signature = signature_parts 15 body.header.signature header.1 in
+    let captures = captures-fit n body.header.kind body.header.captures header.0 in
     let parameters = (and_parts (list_all (ty_fits false n) body.header.signature.parameters) _ signature.parameters).0 in
-    and_from _ _ (ty-wider n body.header.signature.result signature.result)
-    (list_all-append (ty_fits true n) body.header.signature.parameters body.lets ∙ and_from _ _ (types-wider n body.header.signature.parameters parameters) sized.lets)
+    and_from _ _ (let-wider n body.header.signature.result signature.result)
+    (list_all-append (let_fits n) (body.header.captures ++ body.header.signature.parameters) body.lets
+    ∙ and_from _ _
+    (list_all-append (let_fits n) body.header.captures body.header.signature.parameters ∙ and_from _ _ captures (types-wider n body.header.signature.parameters parameters))
+    sized.lets)
 
 -- a unit that fits is typed
-pub typed : (types : List Declaration) (body : Body) → Sized body → Fits (mir_of types body) → IsTyped (mir_of types body)
-typed types body sized fits =
-    let mir = mir_of types body in
-    let signature = signature_parts 15 body.header.signature sized.header in
+pub typed : (types : List Declaration) (children : List Child) (body : Body) → Sized body → Fits (mir_of types children body) → IsTyped (mir_of types children body)
+typed types children body sized fits =
+    let mir = mir_of types children body in
+    let signature = signature_parts 15 body.header.signature (header-parts body sized).1 in
     let count : length mir.steps ≡ point_count body.blocks = length-steps_from 0 body.blocks in
     record {
       fits = fits;
       some_universal = omega arith;
-      universals = omega (arith, signature.few);
+      universals = few-universals body sized;
       clauses = (and_parts (list_all (clause_fits (universal_count body.header.signature)) body.header.signature.clauses) _ signature.clauses).0;
       some_local = omega arith;
       locals = sized.locals;
@@ -150,8 +175,8 @@ typed types body sized fits =
     }
 
 -- every edge of a body that fits joins two of its points
-pub edges-join : (types : List Declaration) (body : Body) → Fits (mir_of types body) → AreWithin (edges_of (mir_of types body)) (length (mir_of types body).steps)
-edges-join types body fits =
-    let mir = mir_of types body in
+pub edges-join : (types : List Declaration) (children : List Child) (body : Body) → Fits (mir_of types children body) → AreWithin (edges_of (mir_of types children body)) (length (mir_of types children body).steps)
+edges-join types children body fits =
+    let mir = mir_of types children body in
     let count : length mir.steps ≡ point_count body.blocks = length-steps_from 0 body.blocks in
     edges-within mir 0 mir.steps (λ label below. omega (arith, count, entries-within 0 label body.blocks below)) (omega arith) (steps-go-on 0 body.blocks) (no_unfit mir fits)

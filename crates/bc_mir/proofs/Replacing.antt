@@ -3,7 +3,7 @@ use Rattle.std.proofs.Common.{◌≡◌, true, ◌&&◌, slice_get, Option, Some
 use Rattle.std.specs.Option.{option_map, option_map_or}
 use Rattle.bc_syntax.specs.declared.syntax.Region.{Region}
 use Rattle.bc_syntax.specs.declared.syntax.Base.{Base}
-use Rattle.bc_syntax.specs.declared.syntax.Base.TheVariants.{Int, Struct}
+use Rattle.bc_syntax.specs.declared.syntax.Base.TheVariants.{Int, Struct, Closure}
 use Rattle.bc_syntax.specs.declared.syntax.Place.{Place}
 use Rattle.bc_syntax.specs.declared.syntax.Ty.{Ty}
 use Rattle.bc_syntax.specs.declared.syntax.Reference.{Reference}
@@ -12,6 +12,7 @@ use Rattle.bc_syntax.specs.declared.syntax.Projection.TheVariants.{Deref, Field}
 use Rattle.bc_syntax.specs.declared.syntax.Declaration.{Declaration}
 use Rattle.bc_types.specs.Mutabilities.{is_mutable}
 use Rattle.bc_mir.specs.Places.{are_mutable}
+use Rattle.bc_mir.specs.Mir.{Mir}
 use Rattle.bc_types.specs.Replaced.{replaced_region, replaced_reference, replaced_base, replaced_ty, declared_field}
 use Rattle.bc_mir.specs.PlaceTypes.{references_behind, references_of_place, leads_mutable, mutable_behind, mutable_on_way}
 
@@ -22,6 +23,7 @@ mutable_replaced types arguments (Deref ∷ projections) (reference ∷ referenc
     ap (λ b. is_mutable reference.mutability && b) (mutable_replaced types arguments projections references base)
 mutable_replaced types arguments (Field k ∷ projections) (reference ∷ references) base = refl
 mutable_replaced types arguments (Field k ∷ projections) [] Int = refl
+mutable_replaced types arguments (Field k ∷ projections) [] (Closure closure) = refl
 mutable_replaced types arguments (Field k ∷ projections) [] (Struct instance) =
     by (declared_field types instance.name k) (λ ty. mutable_replaced types (map (replaced_region arguments) instance.regions) projections ty.references ty.base ∙ sym (mutable_replaced types instance.regions projections ty.references ty.base))
   where
@@ -39,6 +41,7 @@ mutable_tells types (Deref ∷ projections) (reference ∷ references) base =
     ap (λ b. is_mutable reference.mutability && b) (mutable_tells types projections references base)
 mutable_tells types (Field k ∷ projections) (reference ∷ references) base = refl
 mutable_tells types (Field k ∷ projections) [] Int = refl
+mutable_tells types (Field k ∷ projections) [] (Closure closure) = refl
 mutable_tells types (Field k ∷ projections) [] (Struct instance) =
     by (declared_field types instance.name k) (λ ty. mutable_tells types projections ty.references ty.base ∙ sym (mutable_replaced types instance.regions projections ty.references ty.base))
   where
@@ -48,10 +51,10 @@ mutable_tells types (Field k ∷ projections) [] (Struct instance) =
     by None same = refl
     by (Some ty) same = same ty
 
-pub on_way_tells : (types : List Declaration) (locals : List Ty) (place : Place) → mutable_on_way types locals place ≡ are_mutable (references_of_place types locals place)
-on_way_tells types locals place = by (slice_get locals place.local)
+pub on_way_tells : (mir : Mir) (place : Place) → mutable_on_way mir place ≡ are_mutable (references_of_place mir place)
+on_way_tells mir place = by (slice_get mir.locals place.local)
   where
-    by : (found : Option Ty) → option_map_or (λ (local : Ty). mutable_behind types place.projections local.references local.base) found true
-        ≡ are_mutable (option_map_or (λ (local : Ty). references_behind types place.projections local.references local.base) found [])
+    by : (found : Option Ty) → option_map_or (λ (local : Ty). mutable_behind mir.types place.projections local.references local.base) found true
+        ≡ are_mutable (option_map_or (λ (local : Ty). references_behind mir.types place.projections local.references local.base) found [])
     by None = refl
-    by (Some local) = mutable_tells types place.projections local.references local.base
+    by (Some local) = mutable_tells mir.types place.projections local.references local.base

@@ -1,3 +1,6 @@
+pub mod Mentions
+pub mod Externals
+pub mod Children
 pub mod Mir
 pub mod Places
 pub mod Typing
@@ -6,3 +9,4 @@ pub mod Laws
 pub mod Lines
 pub mod PlaceTypes
 pub mod Rules
+pub mod Drops

@@ -4,23 +4,30 @@ use Rattle.std.specs.List.{flat_map, enumerate_from}
 use Rattle.bc_syntax.specs.declared.syntax.Body.{Body}
 use Rattle.bc_syntax.specs.declared.syntax.Block.{Block}
 use Rattle.bc_syntax.specs.declared.syntax.Ty.{Ty}
+use Rattle.bc_syntax.specs.declared.syntax.UnitKind.{UnitKind}
 use Rattle.bc_syntax.specs.declared.syntax.Outlives.{Outlives}
 use Rattle.bc_syntax.specs.declared.syntax.Declaration.{Declaration}
 use Rattle.bc_syntax.specs.declared.syntax.Statement.{Statement as Simple}
 use Rattle.bc_syntax.specs.declared.syntax.Terminator.{Terminator as Ending}
-use Rattle.bc_syntax.specs.declared.syntax.Terminator.TheVariants.{Goto, If, Call, Return, Stop}
+use Rattle.bc_syntax.specs.declared.syntax.Terminator.TheVariants.{Goto, If, Call, Invoke, Return, Stop}
 use Rattle.bc_syntax.specs.Fits.{universal_count}
 use Rattle.bc_syntax.specs.Locals.{locals_of}
 use Rattle.bc_flow.specs.declared.graph.Edge.{Edge}
+use Rattle.bc_mir.specs.declared.children.Child.{Child}
 use Rattle.bc_mir.specs.declared.mir.Step.{Step}
 use Rattle.bc_mir.specs.declared.mir.Instruction.{Instruction}
 use Rattle.bc_mir.specs.declared.mir.Instruction.TheVariants.{Statement, Terminator}
+use Rattle.bc_mir.specs.Externals.{external_regions}
 
--- the declarations, how many universal regions there are, the clauses between them, the types of the locals, the points with
--- what happens at each, and for each block its first point. A point is its number in the list of all points
+-- the declarations, the headers of the children, what the unit is, how many universal regions there are, which of them are
+-- external, the clauses between them, the types of the locals, the points with what happens at each, and for each block its
+-- first point. A point is its number in the list of all points
 pub record Mir : Type 0 where
   pub types : List Declaration
+  pub children : List Child
+  pub kind : UnitKind
   pub universals : ℕ
+  pub externals : List ℕ
   pub clauses : List Outlives
   pub locals : List Ty
   pub steps : List Step
@@ -46,10 +53,13 @@ abbrev pub entries_from : ℕ → List Block → List ℕ
 entries_from first [] = []
 entries_from first (block ∷ blocks) = first ∷ entries_from (first + length block.statements + 1) blocks
 
-abbrev pub mir_of : List Declaration → Body → Mir
-mir_of types body = record {
+abbrev pub mir_of : List Declaration → List Child → Body → Mir
+mir_of types children body = record {
   types = types;
+  children = children;
+  kind = body.header.kind;
   universals = universal_count body.header.signature;
+  externals = external_regions body.header;
   clauses = body.header.signature.clauses;
   locals = locals_of body;
   steps = steps_from 0 body.blocks;
@@ -60,6 +70,7 @@ abbrev pub labels_of : Ending → List ℕ
 labels_of (Goto label) = label ∷ []
 labels_of (If condition) = condition.then ∷ condition.otherwise ∷ []
 labels_of (Call call) = call.target ∷ []
+labels_of (Invoke invocation) = invocation.target ∷ []
 labels_of Return = []
 labels_of Stop = []
 

@@ -1,5 +1,5 @@
--- The typing rules over declarations. A type that exists is one for which the rules of its form hold.
-use Rattle.std.specs.Prelude.{ℕ, Bool, true, false, ◌&&◌, ◌==◌, nat_lt, if◌then◌else◌, Option, Some, None, option_and_then, is_some, List, [], ◌∷◌, length, reverse}
+-- The typing rules. A type that exists is one for which the rules of its form hold.
+use Rattle.std.specs.Prelude.{ℕ, Bool, true, false, not, ◌&&◌, ◌==◌, nat_lt, if◌then◌else◌, Option, Some, None, option_and_then, is_some, List, [], ◌∷◌, length, reverse}
 use Rattle.std.specs.List.{list_all}
 use Rattle.std.specs.Option.{option_map, option_map_or}
 use Rattle.bc_syntax.specs.declared.syntax.Base.TheVariants as bases
@@ -11,19 +11,24 @@ use Rattle.bc_syntax.specs.declared.syntax.Mutability.TheVariants.{Shared, Mutab
 use Rattle.bc_syntax.specs.declared.syntax.Place.{Place}
 use Rattle.bc_syntax.specs.declared.syntax.Operand.{Operand}
 use Rattle.bc_syntax.specs.declared.syntax.Operand.TheVariants.{Copy, Move, Number}
-use Rattle.bc_syntax.specs.declared.syntax.Aggregate.{Aggregate as Creation}
+use Rattle.bc_syntax.specs.declared.syntax.Aggregate.{Aggregate as Making}
+use Rattle.bc_syntax.specs.declared.syntax.Creation.{Creation}
 use Rattle.bc_syntax.specs.declared.syntax.Call.{Call as Calling}
+use Rattle.bc_syntax.specs.declared.syntax.Invocation.{Invocation}
+use Rattle.bc_syntax.specs.declared.syntax.ClosureInstance.{ClosureInstance}
+use Rattle.bc_syntax.specs.declared.syntax.Header.{Header}
 use Rattle.bc_syntax.specs.declared.syntax.Rvalue.{Rvalue}
-use Rattle.bc_syntax.specs.declared.syntax.Rvalue.TheVariants.{Use, Borrow, Aggregate, Calc}
+use Rattle.bc_syntax.specs.declared.syntax.Rvalue.TheVariants.{Use, Borrow, Aggregate, Closure, Calc}
 use Rattle.bc_syntax.specs.declared.syntax.Statement.{Statement as Simple}
 use Rattle.bc_syntax.specs.declared.syntax.Statement.TheVariants.{Assign, Dead, Drop, Nop}
 use Rattle.bc_syntax.specs.declared.syntax.Terminator.{Terminator as Ending}
-use Rattle.bc_syntax.specs.declared.syntax.Terminator.TheVariants.{Goto, If, Call, Return, Stop}
+use Rattle.bc_syntax.specs.declared.syntax.Terminator.TheVariants.{Goto, If, Call, Invoke, Return, Stop}
 use Rattle.bc_syntax.specs.declared.syntax.StructDeclaration.{StructDeclaration}
 use Rattle.bc_syntax.specs.declared.syntax.ExternDeclaration.{ExternDeclaration}
-use Rattle.bc_syntax.specs.declared.syntax.Declaration.{Declaration}
 use Rattle.bc_types.specs.Declarations.{takes_regions, has_declared_base, struct_of, extern_of}
 use Rattle.bc_mir.specs.Places.{are_mutable, has_no_deref}
+use Rattle.bc_mir.specs.Mir.{Mir}
+use Rattle.bc_mir.specs.Children.{child_of, closure_of, closure_type, takes_externals, takes_locals, is_known}
 use Rattle.bc_mir.specs.PlaceTypes.{type_of_place, references_of_place}
 use Rattle.bc_types.specs.Shapes.{one_shape, is_int_type, is_copyable_type}
 
@@ -35,11 +40,11 @@ abbrev pub int_type : Ty
 int_type = record { references = []; base = bases.Int }
 
 -- the type of an operand: `copy` takes what may be copied, `move` takes a place without `.*`, and a number is `int`
-abbrev pub type_of_operand : List Declaration → List Ty → Operand → Option Ty
-type_of_operand types locals (Copy place) =
-    option_and_then (λ ty. allowed (is_copyable_type ty) (Some ty)) (type_of_place types locals place)
-type_of_operand types locals (Move place) = allowed (has_no_deref place) (type_of_place types locals place)
-type_of_operand types locals (Number n) = Some int_type
+abbrev pub type_of_operand : Mir → Operand → Option Ty
+type_of_operand mir (Copy place) =
+    option_and_then (λ ty. allowed (is_copyable_type ty) (Some ty)) (type_of_place mir place)
+type_of_operand mir (Move place) = allowed (has_no_deref place) (type_of_place mir place)
+type_of_operand mir (Number n) = Some int_type
 
 -- the type exists and has a shape
 abbrev pub has_shape : Ty → Option Ty → Bool
@@ -48,26 +53,34 @@ has_shape expected found = option_map_or (λ ty. one_shape ty expected) found fa
 abbrev pub is_int_found : Option Ty → Bool
 is_int_found found = option_map_or is_int_type found false
 
-abbrev pub is_operand_int : List Declaration → List Ty → Operand → Bool
-is_operand_int types locals operand = is_int_found (type_of_operand types locals operand)
+abbrev pub is_operand_int : Mir → Operand → Bool
+is_operand_int mir operand = is_int_found (type_of_operand mir operand)
 
 -- as many operands as expected, and each has the shape of what is expected in its place
-abbrev pub have_shapes : List Declaration → List Ty → List Operand → List Ty → Bool
-have_shapes types locals [] [] = true
-have_shapes types locals [] (ty ∷ expected) = false
-have_shapes types locals (operand ∷ operands) [] = false
-have_shapes types locals (operand ∷ operands) (ty ∷ expected) =
-    has_shape ty (type_of_operand types locals operand) && have_shapes types locals operands expected
+abbrev pub have_shapes : Mir → List Operand → List Ty → Bool
+have_shapes mir [] [] = true
+have_shapes mir [] (ty ∷ expected) = false
+have_shapes mir (operand ∷ operands) [] = false
+have_shapes mir (operand ∷ operands) (ty ∷ expected) =
+    has_shape ty (type_of_operand mir operand) && have_shapes mir operands expected
 
 -- the type of a place that may be written: no shared reference is dereferenced on the way to it
-abbrev pub type_to_write : List Declaration → List Ty → Place → Option Ty
-type_to_write types locals place =
-    allowed (are_mutable (references_of_place types locals place)) (type_of_place types locals place)
+abbrev pub type_to_write : Mir → Place → Option Ty
+type_to_write mir place =
+    allowed (are_mutable (references_of_place mir place)) (type_of_place mir place)
 
--- the type of a place that may be borrowed: for a mutable borrow it may be written
-abbrev pub type_to_borrow : List Declaration → List Ty → Mutability → Place → Option Ty
-type_to_borrow types locals Shared place = type_of_place types locals place
-type_to_borrow types locals Mutable place = type_to_write types locals place
+-- a type that is no closure
+abbrev pub unless_closure : Option Ty → Option Ty
+unless_closure found = option_and_then (λ ty. allowed (not (is_some (closure_of ty))) (Some ty)) found
+
+-- the type of a place, which for a mutable borrow may be written
+abbrev pub type_reached : Mir → Mutability → Place → Option Ty
+type_reached mir Shared place = type_of_place mir place
+type_reached mir Mutable place = type_to_write mir place
+
+-- the type of a place that may be borrowed: it is no closure
+abbrev pub type_to_borrow : Mir → Mutability → Place → Option Ty
+type_to_borrow mir mutability place = unless_closure (type_reached mir mutability place)
 
 abbrev pub type_referenced : Reference → Ty → Ty
 type_referenced reference ty = record { references = reference ∷ ty.references; base = ty.base }
@@ -76,21 +89,31 @@ abbrev pub struct_type : Instance → Ty
 struct_type instance = record { references = []; base = bases.Struct instance }
 
 -- a struct is declared, the numbers of its regions and operands are its own, and each operand has the shape of its field
-abbrev pub can_create : List Declaration → List Ty → Creation → Bool
-can_create types locals aggregate =
+abbrev pub can_create : Mir → Making → Bool
+can_create mir aggregate =
     option_map_or
-    (λ (d : StructDeclaration). takes_regions aggregate.instance d && have_shapes types locals aggregate.operands d.fields)
-    (struct_of types aggregate.instance.name)
+    (λ (d : StructDeclaration). takes_regions aggregate.instance d && have_shapes mir aggregate.operands d.fields)
+    (struct_of mir.types aggregate.instance.name)
+    false
+
+-- a closure is a child, the numbers of its regions and operands are those of the child's external regions and captures, and
+-- each operand has the shape of its capture
+abbrev pub can_capture : Mir → Creation → Bool
+can_capture mir creation =
+    option_map_or
+    (λ (header : Header). takes_externals creation.closure header && have_shapes mir creation.operands header.captures)
+    (child_of mir.children creation.closure.number)
     false
 
 -- the type of an rvalue: a borrow is a reference to what it borrows, and `calc` computes an `int` from `int`s
-abbrev pub type_of_rvalue : List Declaration → List Ty → Rvalue → Option Ty
-type_of_rvalue types locals (Use operand) = type_of_operand types locals operand
-type_of_rvalue types locals (Borrow borrow) =
-    option_map (type_referenced borrow.reference) (type_to_borrow types locals borrow.reference.mutability borrow.place)
-type_of_rvalue types locals (Aggregate aggregate) =
-    allowed (can_create types locals aggregate) (Some (struct_type aggregate.instance))
-type_of_rvalue types locals (Calc operands) = allowed (list_all (is_operand_int types locals) operands) (Some int_type)
+abbrev pub type_of_rvalue : Mir → Rvalue → Option Ty
+type_of_rvalue mir (Use operand) = type_of_operand mir operand
+type_of_rvalue mir (Borrow borrow) =
+    option_map (type_referenced borrow.reference) (type_to_borrow mir borrow.reference.mutability borrow.place)
+type_of_rvalue mir (Aggregate aggregate) =
+    allowed (can_create mir aggregate) (Some (struct_type aggregate.instance))
+type_of_rvalue mir (Closure creation) = allowed (can_capture mir creation) (Some (closure_type creation.closure))
+type_of_rvalue mir (Calc operands) = allowed (list_all (is_operand_int mir) operands) (Some int_type)
 
 -- both types exist and have one shape
 abbrev pub of_one_shape : Option Ty → Option Ty → Bool
@@ -98,35 +121,59 @@ of_one_shape None value = false
 of_one_shape (Some target) value = has_shape target value
 
 -- a place that may be dropped: it has a type, and no `.*`
-abbrev pub can_drop : List Declaration → List Ty → Place → Bool
-can_drop types locals place = has_no_deref place && is_some (type_of_place types locals place)
+abbrev pub can_drop : Mir → Place → Bool
+can_drop mir place = has_no_deref place && is_some (type_of_place mir place)
 
 -- an assignment fits if its target may be written and has the shape of the rvalue; a local that dies exists
-abbrev pub statement_keeps_rules : List Declaration → List Ty → Simple → Bool
-statement_keeps_rules types locals (Assign assignment) =
-    of_one_shape (type_to_write types locals assignment.target) (type_of_rvalue types locals assignment.value)
-statement_keeps_rules types locals (Dead local) = nat_lt local (length locals)
-statement_keeps_rules types locals (Drop place) = can_drop types locals place
-statement_keeps_rules types locals Nop = true
+abbrev pub statement_keeps_rules : Mir → Simple → Bool
+statement_keeps_rules mir (Assign assignment) =
+    of_one_shape (type_to_write mir assignment.target) (type_of_rvalue mir assignment.value)
+statement_keeps_rules mir (Dead local) = nat_lt local (length mir.locals)
+statement_keeps_rules mir (Drop place) = can_drop mir place
+statement_keeps_rules mir Nop = true
 
 -- a call: the numbers of its regions and operands are those of the function, each operand has the shape of its parameter,
 -- and the result has the shape of the destination
-abbrev pub can_call : List Declaration → List Ty → Calling → ExternDeclaration → Bool
-can_call types locals call d =
+abbrev pub can_call : Mir → Calling → ExternDeclaration → Bool
+can_call mir call d =
     length d.signature.regions == length call.function.regions
-    && (have_shapes types locals call.operands d.signature.parameters
-    && of_one_shape (type_to_write types locals call.destination) (Some d.signature.result))
+    && (have_shapes mir call.operands d.signature.parameters
+    && of_one_shape (type_to_write mir call.destination) (Some d.signature.result))
 
--- a terminator fits if each of its labels is a block, what it tests is an `int`, and what it calls is declared
-abbrev pub terminator_keeps_rules : List Declaration → List Ty → ℕ → Ending → Bool
-terminator_keeps_rules types locals blocks (Goto label) = nat_lt label blocks
-terminator_keeps_rules types locals blocks (If condition) =
-    is_operand_int types locals condition.operand && (nat_lt condition.then blocks && nat_lt condition.otherwise blocks)
-terminator_keeps_rules types locals blocks (Call call) =
-    nat_lt call.target blocks && option_map_or (can_call types locals call) (extern_of types call.function.name) false
-terminator_keeps_rules types locals blocks Return = true
-terminator_keeps_rules types locals blocks Stop = true
+-- the closure in a place that may be invoked: the place has no `.*`, and its type is a closure
+abbrev pub closure_in : Mir → Place → Option ClosureInstance
+closure_in mir place = allowed (has_no_deref place) (option_and_then closure_of (type_of_place mir place))
 
--- no header rule fails: each struct that a local's type mentions is declared and has its number of regions
-abbrev pub header_keeps_rules : List Declaration → List Ty → Bool
-header_keeps_rules types locals = list_all (has_declared_base (reverse types)) locals
+abbrev pub number_in : Mir → Place → Option ℕ
+number_in mir place = option_map (λ (closure : ClosureInstance). closure.number) (closure_in mir place)
+
+-- the header of the child whose closure is in a place
+abbrev pub child_in : Mir → Place → Option Header
+child_in mir place = option_and_then (child_of mir.children) (number_in mir place)
+
+-- a closure is invoked: the numbers of the regions and operands are those of the child's local regions and parameters, each
+-- operand has the shape of its parameter, and the result has the shape of the destination
+abbrev pub can_invoke : Mir → Invocation → Header → Bool
+can_invoke mir invocation header =
+    takes_locals invocation.regions header
+    && (have_shapes mir invocation.operands header.signature.parameters
+    && of_one_shape (type_to_write mir invocation.destination) (Some header.signature.result))
+
+-- a terminator fits if each of its labels is a block, what it tests is an `int`, what it calls is declared, and what it
+-- invokes is a child
+abbrev pub terminator_keeps_rules : Mir → Ending → Bool
+terminator_keeps_rules mir (Goto label) = nat_lt label (length mir.entries)
+terminator_keeps_rules mir (If condition) =
+    is_operand_int mir condition.operand && (nat_lt condition.then (length mir.entries) && nat_lt condition.otherwise (length mir.entries))
+terminator_keeps_rules mir (Call call) =
+    nat_lt call.target (length mir.entries) && option_map_or (can_call mir call) (extern_of mir.types call.function.name) false
+terminator_keeps_rules mir (Invoke invocation) =
+    nat_lt invocation.target (length mir.entries) && option_map_or (can_invoke mir invocation) (child_in mir invocation.closure) false
+terminator_keeps_rules mir Return = true
+terminator_keeps_rules mir Stop = true
+
+-- no header rule fails: each struct that a local's type mentions is declared and has its number of regions, and each closure
+-- is a child and has as many regions as that has external ones
+abbrev pub header_keeps_rules : Mir → Bool
+header_keeps_rules mir =
+    list_all (has_declared_base (reverse mir.types)) mir.locals && list_all (is_known mir.children) mir.locals

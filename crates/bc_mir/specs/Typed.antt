@@ -1,7 +1,7 @@
 -- What every typed unit keeps.
 use Rattle.std.specs.Prelude.{◌≡◌, ℕ, ◌≤◌, Bool, true, List, length}
 use Rattle.std.specs.List.{list_all}
-use Rattle.bc_syntax.specs.Fits.{clause_fits, ty_fits, statement_fits, terminator_fits}
+use Rattle.bc_syntax.specs.Fits.{clause_fits, let_fits, statement_fits, terminator_fits}
 use Rattle.bc_flow.specs.Graph.{AreWithin}
 use Rattle.bc_mir.specs.declared.mir.Step.{Step}
 use Rattle.bc_mir.specs.declared.mir.Instruction.{Instruction}
@@ -25,7 +25,7 @@ pub record IsTyped (mir : Mir) : Type 0 where
   pub clauses : list_all (clause_fits mir.universals) mir.clauses ≡ true
   pub some_local : 1 ≤ length mir.locals
   pub locals : length mir.locals ≤ 256
-  pub types : list_all (ty_fits true mir.universals) mir.locals ≡ true
+  pub types : list_all (let_fits mir.universals) mir.locals ≡ true
   pub some_point : 1 ≤ length mir.steps
   pub points : length mir.steps ≤ 4096
   pub instructions : steps_fit mir.universals (length mir.locals) mir.steps ≡ true

@@ -12,12 +12,12 @@ use Rattle.bc_mir.specs.Rules.{statement_keeps_rules, terminator_keeps_rules, he
 
 -- no rule fails at a point where this happens
 abbrev pub fits_at : Mir → Instruction → Bool
-fits_at mir (Statement statement) = statement_keeps_rules mir.types mir.locals statement
-fits_at mir (Terminator terminator) = terminator_keeps_rules mir.types mir.locals (length mir.entries) terminator
+fits_at mir (Statement statement) = statement_keeps_rules mir statement
+fits_at mir (Terminator terminator) = terminator_keeps_rules mir terminator
 
 -- no header rule fails
 abbrev pub header_fits : Mir → Bool
-header_fits mir = header_keeps_rules mir.types mir.locals
+header_fits mir = header_keeps_rules mir
 
 -- the first point at which a rule fails
 abbrev pub first_unfit : Mir → List Step → Option Point

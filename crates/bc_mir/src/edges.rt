@@ -9,8 +9,7 @@ ghost use Rattle.bc_mir.specs.Typing.{fits_at};
 use crate::mir::{Draft, Instruction};
 use crate::typed::Typed;
 use bc_flow::Edge;
-use bc_syntax::{Terminator, Ty};
-use bc_types::GoodTypes;
+use bc_syntax::Terminator;
 use std::alloc::{AllocError, Global};
 
 /// Appends the edge to the first point of a block.
@@ -32,16 +31,15 @@ fn push_edge(
 
 fn push_terminator_edges(
     edges: &mut Vec<Edge>,
-    types: &GoodTypes,
-    locals: &[Ty],
-    entries: &[usize],
+    draft: &Draft,
     point: usize,
     terminator: &Terminator,
 ) -> Result<(), AllocError>
-    requires { terminator_keeps_rules types.now locals.now (length entries.now) terminator.now ≡ true }
+    requires { terminator_keeps_rules draft.now terminator.now ≡ true }
     ensures { OnOk result (edges.new.items
-        ≡ edges.old.items ++ map (λ q. record { from = point; to = q }) (map (slice_index entries.now) (labels_of terminator.now))) }
+        ≡ edges.old.items ++ map (λ q. record { from = point; to = q }) (map (slice_index draft.now.entries) (labels_of terminator.now))) }
 {
+    let entries = draft.entries.as_slice();
     match terminator {
         Terminator::Goto(label) => push_edge(edges, entries, point, *label),
         Terminator::If(condition) => {
@@ -49,6 +47,7 @@ fn push_terminator_edges(
             push_edge(edges, entries, point, condition.otherwise)
         }
         Terminator::Call(call) => push_edge(edges, entries, point, call.target),
+        Terminator::Invoke(invocation) => push_edge(edges, entries, point, invocation.target),
         Terminator::Return | Terminator::Stop => Ok(()),
     }
 }
@@ -74,14 +73,9 @@ impl Draft {
                 })?;
                 Ok(())
             }
-            Instruction::Terminator(terminator) => push_terminator_edges(
-                edges,
-                &self.types,
-                self.locals.as_slice(),
-                self.entries.as_slice(),
-                point,
-                terminator,
-            ),
+            Instruction::Terminator(terminator) => {
+                push_terminator_edges(edges, self, point, terminator)
+            }
         }
     }
 }

@@ -1,10 +1,15 @@
 //! The points of a unit in one list.
-ghost use Rattle.std.specs.Prelude.{◌≡◌, ◌≤◌, ◌++◌, IfOk, OnOk};
+ghost use Rattle.std.specs.Prelude.{◌≡◌, ◌≤◌, ◌++◌, nat_lt, length, slice_get, IfOk, OnOk};
 ghost use Rattle.std.specs.Arc.{arc_value};
+ghost use Rattle.std.specs.Option.{option_copied};
 ghost use Rattle.bc_syntax.specs.Fits.{universal_count};
+ghost use Rattle.bc_mir.specs.Children.{child_of as child_there};
+ghost use Rattle.bc_mir.specs.Externals.{external_regions};
 ghost use Rattle.bc_mir.specs.Mir.{block_steps, mir_of};
 
-use bc_syntax::{Block, Body, Outlives, Sequence, Statement, Terminator, Ty};
+use crate::children::{Child, KidHeader, child_of, copy_children};
+use crate::externals::push_externals;
+use bc_syntax::{Block, Body, Header, Outlives, Sequence, Statement, Terminator, Ty, UnitKind};
 use bc_types::{GoodTypes, copy_clauses};
 use std::alloc::{AllocError, Global};
 use std::marker::Model;
@@ -38,7 +43,10 @@ pub struct Step {
 #[derive(Drop)]
 pub(crate) struct Draft {
     pub(crate) types: Arc<GoodTypes, Global>,
+    pub(crate) children: Vec<Child>,
+    pub(crate) kind: UnitKind,
     pub(crate) universals: u8,
+    pub(crate) externals: Vec<usize>,
     pub(crate) clauses: Sequence<Outlives>,
     pub(crate) locals: Vec<Ty>,
     pub(crate) steps: Vec<Step>,
@@ -53,7 +61,10 @@ impl Model for Draft {
 
     ghost view = { λ d. record {
       types = arc_value d.types;
+      children = d.children.items;
+      kind = d.kind;
       universals = d.universals;
+      externals = d.externals.items;
       clauses = d.clauses;
       locals = d.locals.items;
       steps = d.steps.items;
@@ -110,15 +121,26 @@ fn push_block(steps: &mut Vec<Step>, number: usize, block: &Block) -> Result<(),
     Ok(())
 }
 
+/// The numbers of the external regions of a header.
+fn externals_of(alloc: Global, header: &Header) -> Result<Vec<usize>, AllocError>
+    ensures { IfOk result (λ numbers. numbers.items ≡ external_regions header.now) }
+{
+    let mut numbers = Vec::new(alloc);
+    let names = header.signature.regions.as_slice();
+    push_externals(&mut numbers, header.captures.as_slice(), 0, names)?;
+    Ok(numbers)
+}
+
 impl Draft {
-    /// Lists the points of a body.
+    /// Lists the points of a body, over declarations and the headers of its children.
     pub(crate) fn of(
         alloc: Global,
         types: Arc<GoodTypes, Global>,
+        kids: &[KidHeader<'_>],
         body: &Body,
     ) -> Result<Draft, AllocError>
         requires { universal_count body.now.header.signature ≤ 16 }
-        ensures { IfOk result (λ draft. draft ≡ mir_of (arc_value types) body.now) }
+        ensures { IfOk result (λ draft. draft ≡ mir_of (arc_value types) kids.now body.now) }
     {
         let signature = &body.header.signature;
         let mut steps = Vec::with_capacity(alloc, point_count(body))?;
@@ -129,11 +151,42 @@ impl Draft {
         }
         Ok(Draft {
             types,
+            children: copy_children(alloc, kids)?,
+            kind: body.header.kind,
             universals: (signature.regions.len() + 1) as u8,
+            externals: externals_of(alloc, &body.header)?,
             clauses: copy_clauses(&signature.clauses)?,
             locals: body.local_types(alloc)?,
             steps,
             entries,
         })
+    }
+
+    /// The type of a local, or `None` where it is not declared.
+    pub(crate) fn local(&self, number: u8) -> Option<&Ty>
+        ensures { option_copied result ≡ slice_get self.now.locals number }
+    {
+        self.locals.as_slice().get(usize::from(number))
+    }
+
+    /// The declarations over which the unit is.
+    pub(crate) fn types(&self) -> &GoodTypes
+        ensures { result.now ≡ self.now.types }
+    {
+        &self.types
+    }
+
+    /// The header of the child of a number.
+    pub(crate) fn child(&self, number: u8) -> Option<&Header>
+        ensures { option_copied result ≡ child_there self.now.children number }
+    {
+        child_of(self.children.as_slice(), number)
+    }
+
+    /// Whether a label is a block of the unit.
+    pub(crate) fn has_block(&self, label: u8) -> bool
+        ensures { result ≡ nat_lt label (length self.now.entries) }
+    {
+        usize::from(label) < self.entries.len()
     }
 }

@@ -3,11 +3,12 @@ ghost use Rattle.std.specs.Prelude.{◌≡◌};
 ghost use Rattle.std.specs.Option.{option_map};
 ghost use Rattle.bc_types.specs.Shapes.{blanked};
 ghost use Rattle.bc_mir.specs.PlaceTypes.{type_behind, type_of_place};
-ghost use Rattle.bc_mir.specs.Rules.{type_to_write, type_to_borrow};
+ghost use Rattle.bc_mir.specs.Rules.{type_to_write, type_reached, type_to_borrow, unless_closure as closure_refused};
 
+use crate::mir::Draft;
 use crate::place_types::goes_only_mutable;
 use crate::shape::Shape;
-use bc_syntax::{Base, Mutability, Place, Projection, Reference, Ty};
+use bc_syntax::{Base, Mutability, Place, Projection, Reference};
 use bc_types::GoodTypes;
 
 /// The shape behind projections in turn.
@@ -27,7 +28,7 @@ fn shape_behind<'a>(
         },
         [Projection::Field(field), rest @ ..] => match references {
             [] => match base {
-                Base::Int => None,
+                Base::Int | Base::Closure(_) => None,
                 Base::Struct(instance) => match types.declared_field(&instance.name, *field) {
                     Some(ty) => shape_behind(types, rest, ty.references.as_slice(), &ty.base),
                     None => None,
@@ -39,16 +40,12 @@ fn shape_behind<'a>(
 }
 
 /// The shape of a place, or `None` where it has no type.
-pub(crate) fn shape_of_place<'a>(
-    types: &'a GoodTypes,
-    locals: &'a [Ty],
-    place: &Place,
-) -> Option<Shape<'a>>
-    ensures { result ≡ option_map blanked (type_of_place types.now locals.now place.now) }
+pub(crate) fn shape_of_place<'a>(draft: &'a Draft, place: &Place) -> Option<Shape<'a>>
+    ensures { result ≡ option_map blanked (type_of_place draft.now place.now) }
 {
-    match locals.get(usize::from(place.local)) {
+    match draft.local(place.local) {
         Some(local) => shape_behind(
-            types,
+            draft.types(),
             place.projections.as_slice(),
             local.references.as_slice(),
             &local.base,
@@ -58,31 +55,45 @@ pub(crate) fn shape_of_place<'a>(
 }
 
 /// The shape of a place that may be written.
-pub(crate) fn shape_to_write<'a>(
-    types: &'a GoodTypes,
-    locals: &'a [Ty],
-    place: &Place,
-) -> Option<Shape<'a>>
-    ensures { result ≡ option_map blanked (type_to_write types.now locals.now place.now) }
+pub(crate) fn shape_to_write<'a>(draft: &'a Draft, place: &Place) -> Option<Shape<'a>>
+    ensures { result ≡ option_map blanked (type_to_write draft.now place.now) }
 {
-    if goes_only_mutable(types, locals, place) {
-        shape_of_place(types, locals, place)
+    if goes_only_mutable(draft, place) {
+        shape_of_place(draft, place)
     } else {
         None
     }
 }
 
+/// What is no closure.
+fn unless_closure(found: Option<Shape<'_>>) -> Option<Shape<'_>>
+    ensures { result ≡ closure_refused found.entry }
+{
+    let shape = found?;
+    if shape.closure().is_some() {
+        None
+    } else {
+        Some(shape)
+    }
+}
+
+/// The shape of a place, which for a mutable borrow may be written.
+fn shape_reached<'a>(draft: &'a Draft, mutability: Mutability, place: &Place) -> Option<Shape<'a>>
+    ensures { result ≡ option_map blanked (type_reached draft.now mutability place.now) }
+{
+    match mutability {
+        Mutability::Shared => shape_of_place(draft, place),
+        Mutability::Mutable => shape_to_write(draft, place),
+    }
+}
+
 /// The shape of a place that may be borrowed.
 pub(crate) fn shape_to_borrow<'a>(
-    types: &'a GoodTypes,
-    locals: &'a [Ty],
+    draft: &'a Draft,
     mutability: Mutability,
     place: &Place,
 ) -> Option<Shape<'a>>
-    ensures { result ≡ option_map blanked (type_to_borrow types.now locals.now mutability place.now) }
+    ensures { result ≡ option_map blanked (type_to_borrow draft.now mutability place.now) }
 {
-    match mutability {
-        Mutability::Shared => shape_of_place(types, locals, place),
-        Mutability::Mutable => shape_to_write(types, locals, place),
-    }
+    unless_closure(shape_reached(draft, mutability, place))
 }

@@ -4,6 +4,7 @@ ghost use Rattle.bc_syntax.specs.declared.syntax.Declaration.{Declaration};
 ghost use Rattle.bc_mir.specs.Places.{are_mutable};
 ghost use Rattle.bc_mir.specs.PlaceTypes.{field_of as field_there, type_behind as behind, type_of_place as place_there, references_behind as dereferenced_behind, references_of_place as dereferenced_there, mutable_behind, mutable_on_way};
 
+use crate::mir::Draft;
 use bc_syntax::{Base, Place, Projection, Reference, ShortSequence, Ty};
 use bc_types::{GoodTypes, TyRef, is_mutable};
 use std::alloc::{AllocError, Global};
@@ -18,7 +19,7 @@ fn field_of(
     ensures { IfOk result (λ ty. ty ≡ field_there types.now base.now field) }
 {
     match base {
-        Base::Int => Ok(None),
+        Base::Int | Base::Closure(_) => Ok(None),
         Base::Struct(instance) => types.field_type(alloc, instance, field),
     }
 }
@@ -79,21 +80,18 @@ fn type_behind(
     }
 }
 
-/// The type of a place, or `None` where it has none: its local is not declared, or a projection does not belong to the
-/// type before it. The error is want of memory alone.
-/// (RFC 2094, "The MIR".)
-pub fn type_of_place(
+/// The type of a place, or `None` where it has none.
+pub(crate) fn type_of_place(
     alloc: Global,
-    types: &GoodTypes,
-    locals: &[Ty],
+    draft: &Draft,
     place: &Place,
 ) -> Result<Option<Ty>, AllocError>
-    ensures { IfOk result (λ ty. ty ≡ place_there types.now locals.now place.now) }
+    ensures { IfOk result (λ ty. ty ≡ place_there draft.now place.now) }
 {
-    match locals.get(usize::from(place.local)) {
+    match draft.local(place.local) {
         Some(local) => type_behind(
             alloc,
-            types,
+            draft.types(),
             place.projections.as_slice(),
             local.references.as_slice(),
             &local.base,
@@ -120,12 +118,11 @@ fn lent_behind<'a>(
     }
 }
 
-/// The type of a place that has one and goes through no field, as it stands in the type of its local; `None` for any other. It
-/// takes no memory. (RFC 2094, "The MIR".)
-pub fn lent_type_of_place<'a>(locals: &'a [Ty], place: &Place) -> Option<TyRef<'a>>
-    ensures { MatchOption result ⊤ (λ ty. (types : List Declaration) → place_there types locals.now place.now ≡ Some ty) }
+/// The type of a place that has one and goes through no field, as it stands in the type of its local.
+pub(crate) fn lent_type_of_place<'a>(draft: &'a Draft, place: &Place) -> Option<TyRef<'a>>
+    ensures { MatchOption result ⊤ (λ ty. place_there draft.now place.now ≡ Some ty) }
 {
-    match locals.get(usize::from(place.local)) {
+    match draft.local(place.local) {
         Some(local) => lent_behind(
             place.projections.as_slice(),
             local.references.as_slice(),
@@ -172,23 +169,20 @@ fn push_references_behind(
     }
 }
 
-/// Appends the references that a place dereferences, the first dereference first; none for a local that is not declared. The
-/// error is want of memory alone.
-/// (RFC 2094, "Reborrow constraints".)
-pub fn push_references_of_place(
+/// Appends the references that a place dereferences.
+pub(crate) fn push_references_of_place(
     alloc: Global,
     out: &mut Vec<Reference>,
-    types: &GoodTypes,
-    locals: &[Ty],
+    draft: &Draft,
     place: &Place,
 ) -> Result<(), AllocError>
-    ensures { OnOk result (out.new.items ≡ out.old.items ++ dereferenced_there types.now locals.now place.now) }
+    ensures { OnOk result (out.new.items ≡ out.old.items ++ dereferenced_there draft.now place.now) }
 {
-    match locals.get(usize::from(place.local)) {
+    match draft.local(place.local) {
         Some(local) => push_references_behind(
             alloc,
             out,
-            types,
+            draft.types(),
             place.projections.as_slice(),
             local.references.as_slice(),
             &local.base,
@@ -218,7 +212,7 @@ pub fn passes_only_mutable(
         },
         [Projection::Field(field), rest @ ..] => match references {
             [] => match base {
-                Base::Int => true,
+                Base::Int | Base::Closure(_) => true,
                 Base::Struct(instance) => match types.declared_field(&instance.name, *field) {
                     Some(ty) => {
                         passes_only_mutable(types, rest, ty.references.as_slice(), &ty.base)
@@ -232,18 +226,18 @@ pub fn passes_only_mutable(
 }
 
 /// Whether no shared reference is dereferenced on the way to a place.
-pub(crate) fn goes_only_mutable(types: &GoodTypes, locals: &[Ty], place: &Place) -> bool
-    ensures { result ≡ are_mutable (dereferenced_there types.now locals.now place.now) }
+pub(crate) fn goes_only_mutable(draft: &Draft, place: &Place) -> bool
+    ensures { result ≡ are_mutable (dereferenced_there draft.now place.now) }
 {
-    is_mutable_on_way(types, locals, place)
+    is_mutable_on_way(draft, place)
 }
 
-fn is_mutable_on_way(types: &GoodTypes, locals: &[Ty], place: &Place) -> bool
-    ensures { result ≡ mutable_on_way types.now locals.now place.now }
+fn is_mutable_on_way(draft: &Draft, place: &Place) -> bool
+    ensures { result ≡ mutable_on_way draft.now place.now }
 {
-    match locals.get(usize::from(place.local)) {
+    match draft.local(place.local) {
         Some(local) => passes_only_mutable(
-            types,
+            draft.types(),
             place.projections.as_slice(),
             local.references.as_slice(),
             &local.base,

@@ -1,10 +1,16 @@
 //! Types that are lent, told by all but their regions.
 ghost use Rattle.std.specs.Prelude.{◌≡◌};
+ghost use Rattle.std.specs.Option.{option_map};
 ghost use Rattle.bc_types.specs.Shapes.{blanked, one_shape, is_int_type, is_copyable_type};
+ghost use Rattle.bc_mir.specs.Children.{closure_of, closure_type};
 ghost use Rattle.bc_mir.specs.Rules.{struct_type, type_referenced};
 
-use bc_syntax::{Base, Instance, Reference, Ty};
-use bc_types::{are_alike, are_alike_types, is_copyable_behind, is_int_behind, is_same_mutability};
+use crate::children::closure_behind;
+use bc_syntax::{Base, ClosureInstance, Instance, Reference, Ty};
+use bc_types::{
+    are_alike, are_alike_closures, are_alike_types, is_copyable_behind, is_int_behind,
+    is_same_mutability,
+};
 use std::marker::Model;
 
 /// A type that is lent: its references, the outermost first, and what they lead to. Contracts see it with its regions blanked,
@@ -55,8 +61,31 @@ impl<'a> Shape<'a> {
     {
         match self.references {
             [] => match self.base {
-                Base::Int => false,
+                Base::Int | Base::Closure(_) => false,
                 Base::Struct(own) => are_alike(instance, own),
+            },
+            [_, ..] => false,
+        }
+    }
+
+    /// The number of the closure that it is, if it is one.
+    pub(crate) fn closure(&self) -> Option<u8>
+        ensures { result ≡ option_map (λ closure. closure.number) (closure_of self.now) }
+    {
+        match closure_behind(self.references, self.base) {
+            Some(closure) => Some(closure.number),
+            None => None,
+        }
+    }
+
+    /// Whether a closure has it.
+    pub(crate) fn is_closure(&self, closure: &ClosureInstance) -> bool
+        ensures { result ≡ one_shape (closure_type closure.now) self.now }
+    {
+        match self.references {
+            [] => match self.base {
+                Base::Int | Base::Struct(_) => false,
+                Base::Closure(own) => are_alike_closures(closure, own),
             },
             [_, ..] => false,
         }

@@ -1,18 +1,20 @@
 //! Units that keep every typing rule.
-ghost use Rattle.std.specs.Prelude.{◌≡◌, ◌≤◌, true, length, IfOk, OnOk};
+ghost use Rattle.std.specs.Prelude.{◌≡◌, ◌≤◌, true, length, map, IfOk, OnOk};
 ghost use Rattle.std.specs.List.{list_all};
 ghost use Rattle.std.specs.Arc.{arc_value};
-ghost use Rattle.bc_syntax.specs.Fits.{clause_fits, ty_fits};
+ghost use Rattle.std.specs.Option.{option_copied};
+ghost use Rattle.bc_syntax.specs.Children.{children_of};
+ghost use Rattle.bc_syntax.specs.Fits.{clause_fits, let_fits};
+ghost use Rattle.bc_mir.specs.Children.{child_of};
 ghost use Rattle.bc_mir.specs.Mir.{mir_of};
-ghost use Rattle.bc_mir.specs.PlaceTypes.{type_of_place as place_type};
 ghost use Rattle.bc_mir.specs.Typing.{first_unfit as first_misfit, misfit as misfit_of, Fits};
 ghost use Rattle.bc_mir.specs.Typed.{IsTyped, steps_fit};
 ghost use Rattle.bc_mir.specs.declared.typed.Where.{Where};
 
+use crate::children::{Child, KidHeader};
 use crate::mir::{Draft, Point, Step};
-use crate::place_types::type_of_place;
 use crate::typing::{fits_at, fits_header};
-use bc_syntax::{Header, Outlives, Place, Ty, Unit};
+use bc_syntax::{Header, Outlives, Ty, Unit, UnitKind};
 use bc_types::GoodTypes;
 use std::alloc::{AllocError, Global};
 use std::marker::Model;
@@ -104,6 +106,38 @@ impl Typed {
         &self.draft.types
     }
 
+    /// The headers of the children, ascending by their numbers.
+    /// (Own.)
+    pub fn children(&self) -> &[Child]
+        ensures { result.now ≡ self.now.children }
+    {
+        self.draft.children.as_slice()
+    }
+
+    /// The header of the child of a number, or `None` where it is no child.
+    /// (Own.)
+    pub fn child(&self, number: u8) -> Option<&Header>
+        ensures { option_copied result ≡ child_of self.now.children number }
+    {
+        self.draft.child(number)
+    }
+
+    /// Whether the unit is a function or a closure.
+    /// (Own.)
+    pub fn kind(&self) -> UnitKind
+        ensures { result ≡ self.now.kind }
+    {
+        self.draft.kind
+    }
+
+    /// The external regions of a closure, by number, ascending: the declared ones that stand in the type of a capture.
+    /// (Own.)
+    pub fn externals(&self) -> &[usize]
+        ensures { result.now ≡ self.now.externals }
+    {
+        self.draft.externals.as_slice()
+    }
+
     /// The `where` clauses, between universal regions.
     /// (Own.)
     pub fn clauses(&self) -> &[Outlives]
@@ -119,22 +153,9 @@ impl Typed {
         ensures value { result.now ≡ self.now.locals }
         ensures some { 1 ≤ length result.now }
         ensures few { length result.now ≤ 256 }
-        ensures declared { list_all (ty_fits true self.now.universals) result.now ≡ true }
+        ensures declared { list_all (let_fits self.now.universals) result.now ≡ true }
     {
         self.draft.locals.as_slice()
-    }
-
-    /// The type of a place: that of its local, behind each projection in turn; `None` where it has none. The error is want of
-    /// memory alone. (RFC 2094, "The MIR".)
-    pub fn place_type(&self, alloc: Global, place: &Place) -> Result<Option<Ty>, AllocError>
-        ensures { IfOk result (λ ty. ty ≡ place_type self.now.types self.now.locals place.now) }
-    {
-        type_of_place(
-            alloc,
-            &self.draft.types,
-            self.draft.locals.as_slice(),
-            place,
-        )
     }
 
     /// The points in order, 1 to 4,096, each with what happens there. No rule fails at any of them.
@@ -157,30 +178,23 @@ fn share(types: &Arc<GoodTypes, Global>) -> Result<Arc<GoodTypes, Global>, Alloc
     Arc::try_clone(types)
 }
 
-/// The number of a child, and the header of its unit: what typing has to know of a closure.
-/// (Own.)
-#[derive(Clone, Copy)]
-pub struct KidHeader<'a> {
-    pub number: u8,
-    pub header: &'a Header,
-}
-
-/// Types a unit over declarations and the headers of its children, of which there are none until closures are read (the rules
-/// are own, over the language of RFC 2094, "The MIR"). It answers `Ill` with the place of the first misfit where a rule fails:
-/// the header if a header rule fails, else the least point at which a rule fails; and `NoMemory` only where memory was refused.
+/// Types a unit over declarations and the headers of its children, one for each closure that the unit names, ascending (the
+/// rules are own, over the language of RFC 2094, "The MIR"). It answers `Ill` with the place of the first misfit where a rule
+/// fails: the header if a header rule fails, else the least point at which a rule fails; and `NoMemory` only where memory was
+/// refused.
 pub fn type_unit(
     alloc: Global,
     types: &Arc<GoodTypes, Global>,
     unit: &Unit,
-    _kids: &[KidHeader<'_>],
+    kids: &[KidHeader<'_>],
 ) -> Result<Typed, IllFault>
-    requires kids { length _kids.now ≡ 0 }
-    ensures ok { IfOk result (λ typed. typed ≡ mir_of (arc_value types.now) unit.now) }
-    ensures fits { OnOk result (Fits (mir_of (arc_value types.now) unit.now)) }
-    ensures ill { (place : Where) → result ≡ Err (IllFault.Ill place) → misfit_of (mir_of (arc_value types.now) unit.now) ≡ Some place }
+    requires kids { map (λ kid. kid.number) kids.now ≡ children_of unit.now }
+    ensures ok { IfOk result (λ typed. typed ≡ mir_of (arc_value types.now) kids.now unit.now) }
+    ensures fits { OnOk result (Fits (mir_of (arc_value types.now) kids.now unit.now)) }
+    ensures ill { (place : Where) → result ≡ Err (IllFault.Ill place) → misfit_of (mir_of (arc_value types.now) kids.now unit.now) ≡ Some place }
 {
     let shared = share(types)?;
-    let draft = Draft::of(alloc, shared, unit.body())?;
+    let draft = Draft::of(alloc, shared, kids, unit.body())?;
     match misfit(&draft) {
         None => Ok(Typed { draft }),
         Some(place) => Err(IllFault::Ill(place)),

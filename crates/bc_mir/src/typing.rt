@@ -5,23 +5,20 @@ ghost use Rattle.bc_mir.specs.Typing.{fits_at as step_fits, header_fits};
 use crate::mir::{Draft, Instruction};
 use crate::rules::{header_keeps_rules, statement_keeps_rules, terminator_keeps_rules};
 
-/// Whether no header rule fails: each struct in the type of a local is declared with its number of regions.
+/// Whether no header rule fails: each struct in the type of a local is declared with its number of regions, and each closure is
+/// a child with its number of regions.
 pub(crate) fn fits_header(draft: &Draft) -> bool
     ensures { result ≡ header_fits draft.now }
 {
-    header_keeps_rules(&draft.types, draft.locals.as_slice())
+    header_keeps_rules(draft)
 }
 
 /// Whether no rule fails at a point.
 pub(crate) fn fits_at(draft: &Draft, instruction: &Instruction) -> bool
     ensures { result ≡ step_fits draft.now instruction.now }
 {
-    let types = &*draft.types;
-    let locals = draft.locals.as_slice();
     match instruction {
-        Instruction::Statement(statement) => statement_keeps_rules(types, locals, statement),
-        Instruction::Terminator(terminator) => {
-            terminator_keeps_rules(types, locals, draft.entries.len(), terminator)
-        }
+        Instruction::Statement(statement) => statement_keeps_rules(draft, statement),
+        Instruction::Terminator(terminator) => terminator_keeps_rules(draft, terminator),
     }
 }

@@ -1,15 +1,18 @@
 //! Types of operands and rvalues (own, over the language of RFC 2094, "The MIR").
-ghost use Rattle.std.specs.Prelude.{◌≡◌, ⊤, List, Some, IfOk, MatchOption};
-ghost use Rattle.bc_syntax.specs.declared.syntax.Declaration.{Declaration};
-ghost use Rattle.bc_mir.specs.Rules.{int_type as type_int, type_of_operand as operand_there, type_to_write as written_there, type_to_borrow as borrowed_there, type_referenced as referenced, struct_type as type_struct, type_of_rvalue as rvalue_there};
+ghost use Rattle.std.specs.Prelude.{◌≡◌, ⊤, Some, IfOk, MatchOption};
+ghost use Rattle.bc_mir.specs.Children.{closure_type as type_closure};
+ghost use Rattle.bc_mir.specs.Rules.{int_type as type_int, type_of_operand as operand_there, type_to_write as written_there, type_reached as reached_there, type_to_borrow as borrowed_there, unless_closure as closure_refused, closure_in as closure_there, type_referenced as referenced, struct_type as type_struct, type_of_rvalue as rvalue_there};
 
+use crate::children::closure_behind;
+use crate::mir::Draft;
 use crate::place_types::{goes_only_mutable, lent_type_of_place, push_references, type_of_place};
 use crate::places::has_no_deref;
-use crate::rules::{are_operands_int, can_create};
+use crate::rules::{are_operands_int, can_capture, can_create};
 use bc_syntax::{
-    Base, Borrow, Instance, Mutability, Operand, Place, Reference, Rvalue, ShortSequence, Ty,
+    Base, Borrow, ClosureInstance, Instance, Mutability, Operand, Place, Reference, Rvalue,
+    ShortSequence, Ty,
 };
-use bc_types::{GoodTypes, TyRef, is_copyable_type};
+use bc_types::{TyRef, is_copyable_type};
 use std::alloc::{AllocError, Global};
 
 fn int_type(alloc: Global) -> Ty
@@ -21,18 +24,16 @@ fn int_type(alloc: Global) -> Ty
     }
 }
 
-/// The type of an operand, or `None` where it breaks a rule. The error is want of memory alone.
-/// (Own.)
-pub fn type_of_operand(
+/// The type of an operand, or `None` where it breaks a rule.
+pub(crate) fn type_of_operand(
     alloc: Global,
-    types: &GoodTypes,
-    locals: &[Ty],
+    draft: &Draft,
     operand: &Operand,
 ) -> Result<Option<Ty>, AllocError>
-    ensures { IfOk result (λ ty. ty ≡ operand_there types.now locals.now operand.now) }
+    ensures { IfOk result (λ ty. ty ≡ operand_there draft.now operand.now) }
 {
     match operand {
-        Operand::Copy(place) => match type_of_place(alloc, types, locals, place)? {
+        Operand::Copy(place) => match type_of_place(alloc, draft, place)? {
             Some(ty) => {
                 if is_copyable_type(&ty) {
                     Ok(Some(ty))
@@ -44,7 +45,7 @@ pub fn type_of_operand(
         },
         Operand::Move(place) => {
             if has_no_deref(place) {
-                type_of_place(alloc, types, locals, place)
+                type_of_place(alloc, draft, place)
             } else {
                 Ok(None)
             }
@@ -53,40 +54,45 @@ pub fn type_of_operand(
     }
 }
 
-/// The type of an operand that copies or moves a place which goes through no field, as it stands in the type of its local; `None`
-/// for any other, and where it breaks a rule. It takes no memory. (Own.)
-pub fn lent_type_of_operand<'a>(locals: &'a [Ty], operand: &Operand) -> Option<TyRef<'a>>
-    ensures { MatchOption result ⊤ (λ ty. (types : List Declaration) → operand_there types locals.now operand.now ≡ Some ty) }
+/// The type of an operand that copies or moves a place which goes through no field, as it stands in the type of its local.
+pub(crate) fn lent_type_of_operand<'a>(draft: &'a Draft, operand: &Operand) -> Option<TyRef<'a>>
+    ensures { MatchOption result ⊤ (λ ty. operand_there draft.now operand.now ≡ Some ty) }
 {
     match operand {
         Operand::Copy(place) => {
-            let ty = lent_type_of_place(locals, place)?;
+            let ty = lent_type_of_place(draft, place)?;
             if ty.is_copyable() { Some(ty) } else { None }
         }
         Operand::Move(place) => {
             if !has_no_deref(place) {
                 return None;
             }
-            lent_type_of_place(locals, place)
+            lent_type_of_place(draft, place)
         }
         Operand::Number(_) => None,
     }
 }
 
-/// The type of a place that is borrowed, where it goes through no field, as it stands in the type of its local; `None` for any
-/// other, and where the borrow breaks a rule. It takes no memory. (Own.)
-pub fn lent_type_to_borrow<'a>(
-    types: &GoodTypes,
-    locals: &'a [Ty],
-    borrow: &Borrow,
-) -> Option<TyRef<'a>>
-    ensures { MatchOption result ⊤ (λ ty. borrowed_there types.now locals.now borrow.now.reference.mutability borrow.now.place ≡ Some ty) }
+/// What is no closure, lent.
+fn lent_unless_closure(ty: TyRef<'_>) -> Option<TyRef<'_>>
+    ensures { result ≡ closure_refused (Some ty.entry) }
+{
+    if closure_behind(ty.references(), ty.base()).is_some() {
+        None
+    } else {
+        Some(ty)
+    }
+}
+
+/// The type of a place that is borrowed, where it goes through no field, as it stands in the type of its local.
+pub(crate) fn lent_type_to_borrow<'a>(draft: &'a Draft, borrow: &Borrow) -> Option<TyRef<'a>>
+    ensures { MatchOption result ⊤ (λ ty. borrowed_there draft.now borrow.now.reference.mutability borrow.now.place ≡ Some ty) }
 {
     match borrow.reference.mutability {
-        Mutability::Shared => lent_type_of_place(locals, &borrow.place),
+        Mutability::Shared => lent_unless_closure(lent_type_of_place(draft, &borrow.place)?),
         Mutability::Mutable => {
-            if goes_only_mutable(types, locals, &borrow.place) {
-                lent_type_of_place(locals, &borrow.place)
+            if goes_only_mutable(draft, &borrow.place) {
+                lent_unless_closure(lent_type_of_place(draft, &borrow.place)?)
             } else {
                 None
             }
@@ -95,34 +101,49 @@ pub fn lent_type_to_borrow<'a>(
 }
 
 /// The type of a place that may be written.
-fn type_to_write(
-    alloc: Global,
-    types: &GoodTypes,
-    locals: &[Ty],
-    place: &Place,
-) -> Result<Option<Ty>, AllocError>
-    ensures { IfOk result (λ ty. ty ≡ written_there types.now locals.now place.now) }
+fn type_to_write(alloc: Global, draft: &Draft, place: &Place) -> Result<Option<Ty>, AllocError>
+    ensures { IfOk result (λ ty. ty ≡ written_there draft.now place.now) }
 {
-    if goes_only_mutable(types, locals, place) {
-        type_of_place(alloc, types, locals, place)
+    if goes_only_mutable(draft, place) {
+        type_of_place(alloc, draft, place)
     } else {
         Ok(None)
+    }
+}
+
+/// The type of a place, which for a mutable borrow may be written.
+fn type_reached(
+    alloc: Global,
+    draft: &Draft,
+    mutability: Mutability,
+    place: &Place,
+) -> Result<Option<Ty>, AllocError>
+    ensures { IfOk result (λ ty. ty ≡ reached_there draft.now mutability place.now) }
+{
+    match mutability {
+        Mutability::Shared => type_of_place(alloc, draft, place),
+        Mutability::Mutable => type_to_write(alloc, draft, place),
     }
 }
 
 /// The type of a place that may be borrowed.
 fn type_to_borrow(
     alloc: Global,
-    types: &GoodTypes,
-    locals: &[Ty],
+    draft: &Draft,
     mutability: Mutability,
     place: &Place,
 ) -> Result<Option<Ty>, AllocError>
-    ensures { IfOk result (λ ty. ty ≡ borrowed_there types.now locals.now mutability place.now) }
+    ensures { IfOk result (λ ty. ty ≡ borrowed_there draft.now mutability place.now) }
 {
-    match mutability {
-        Mutability::Shared => type_of_place(alloc, types, locals, place),
-        Mutability::Mutable => type_to_write(alloc, types, locals, place),
+    match type_reached(alloc, draft, mutability, place)? {
+        Some(ty) => {
+            if closure_behind(ty.references.as_slice(), &ty.base).is_some() {
+                Ok(None)
+            } else {
+                Ok(Some(ty))
+            }
+        }
+        None => Ok(None),
     }
 }
 
@@ -139,17 +160,16 @@ fn type_referenced(alloc: Global, reference: Reference, ty: Ty) -> Result<Ty, Al
     })
 }
 
-/// The type of a borrow, or `None` where it breaks a rule. The error is want of memory alone. (Own.)
-pub fn type_of_borrow(
+/// The type of a borrow, or `None` where it breaks a rule.
+pub(crate) fn type_of_borrow(
     alloc: Global,
-    types: &GoodTypes,
-    locals: &[Ty],
+    draft: &Draft,
     borrow: &Borrow,
 ) -> Result<Option<Ty>, AllocError>
-    ensures { IfOk result (λ ty. ty ≡ rvalue_there types.now locals.now (Rvalue.Borrow borrow.now)) }
+    ensures { IfOk result (λ ty. ty ≡ rvalue_there draft.now (Rvalue.Borrow borrow.now)) }
 {
     let reference = borrow.reference;
-    match type_to_borrow(alloc, types, locals, reference.mutability, &borrow.place)? {
+    match type_to_borrow(alloc, draft, reference.mutability, &borrow.place)? {
         Some(ty) => Ok(Some(type_referenced(alloc, reference, ty)?)),
         None => Ok(None),
     }
@@ -170,28 +190,68 @@ fn struct_type(alloc: Global, instance: &Instance) -> Result<Ty, AllocError>
     })
 }
 
-/// The type of an rvalue, or `None` where it breaks a rule. The error is want of memory alone.
-/// (Own.)
-pub fn type_of_rvalue(
+fn copy_closure(closure: &ClosureInstance) -> Result<ClosureInstance, AllocError>
+    ensures { IfOk result (λ copy. copy ≡ closure.now) }
+{
+    closure.clone()
+}
+
+fn closure_type(alloc: Global, closure: &ClosureInstance) -> Result<Ty, AllocError>
+    ensures { IfOk result (λ ty. ty ≡ type_closure closure.now) }
+{
+    Ok(Ty {
+        references: ShortSequence::new(alloc),
+        base: Base::Closure(copy_closure(closure)?),
+    })
+}
+
+/// The closure in a place that may be invoked, or `None` where there is none.
+pub(crate) fn closure_in(
     alloc: Global,
-    types: &GoodTypes,
-    locals: &[Ty],
+    draft: &Draft,
+    place: &Place,
+) -> Result<Option<ClosureInstance>, AllocError>
+    ensures { IfOk result (λ closure. closure ≡ closure_there draft.now place.now) }
+{
+    if !has_no_deref(place) {
+        return Ok(None);
+    }
+    match type_of_place(alloc, draft, place)? {
+        Some(ty) => match closure_behind(ty.references.as_slice(), &ty.base) {
+            Some(closure) => Ok(Some(copy_closure(closure)?)),
+            None => Ok(None),
+        },
+        None => Ok(None),
+    }
+}
+
+/// The type of an rvalue, or `None` where it breaks a rule.
+pub(crate) fn type_of_rvalue(
+    alloc: Global,
+    draft: &Draft,
     rvalue: &Rvalue,
 ) -> Result<Option<Ty>, AllocError>
-    ensures { IfOk result (λ ty. ty ≡ rvalue_there types.now locals.now rvalue.now) }
+    ensures { IfOk result (λ ty. ty ≡ rvalue_there draft.now rvalue.now) }
 {
     match rvalue {
-        Rvalue::Use(operand) => type_of_operand(alloc, types, locals, operand),
-        Rvalue::Borrow(borrow) => type_of_borrow(alloc, types, locals, borrow),
+        Rvalue::Use(operand) => type_of_operand(alloc, draft, operand),
+        Rvalue::Borrow(borrow) => type_of_borrow(alloc, draft, borrow),
         Rvalue::Aggregate(aggregate) => {
-            if can_create(types, locals, aggregate) {
+            if can_create(draft, aggregate) {
                 Ok(Some(struct_type(alloc, &aggregate.instance)?))
             } else {
                 Ok(None)
             }
         }
+        Rvalue::Closure(creation) => {
+            if can_capture(draft, creation) {
+                Ok(Some(closure_type(alloc, &creation.closure)?))
+            } else {
+                Ok(None)
+            }
+        }
         Rvalue::Calc(operands) => {
-            if are_operands_int(types, locals, operands.as_slice()) {
+            if are_operands_int(draft, operands.as_slice()) {
                 Ok(Some(int_type(alloc)))
             } else {
                 Ok(None)

@@ -3,7 +3,7 @@ use Rattle.std.proofs.Common.{◌≡◌, Bool, false, Option, Some, None, option
 use Rattle.std.specs.Option.{option_map, option_map_or}
 use Rattle.bc_syntax.specs.declared.syntax.Region.{Region}
 use Rattle.bc_syntax.specs.declared.syntax.Base.{Base}
-use Rattle.bc_syntax.specs.declared.syntax.Base.TheVariants.{Int, Struct}
+use Rattle.bc_syntax.specs.declared.syntax.Base.TheVariants.{Int, Struct, Closure}
 use Rattle.bc_syntax.specs.declared.syntax.Ty.{Ty}
 use Rattle.bc_syntax.specs.declared.syntax.Place.{Place}
 use Rattle.bc_syntax.specs.declared.syntax.Reference.{Reference}
@@ -11,6 +11,7 @@ use Rattle.bc_syntax.specs.declared.syntax.Projection.{Projection}
 use Rattle.bc_syntax.specs.declared.syntax.Projection.TheVariants.{Deref, Field}
 use Rattle.bc_syntax.specs.declared.syntax.Declaration.{Declaration}
 use Rattle.bc_types.specs.Replaced.{replaced_region, replaced_reference, replaced_base, replaced_ty, declared_field}
+use Rattle.bc_mir.specs.Mir.{Mir}
 use Rattle.bc_mir.specs.PlaceTypes.{type_behind, leads_mutable}
 use Rattle.bc_points.specs.Supports.{goes_on_mutable, supports_behind, supports_from}
 use Rattle.bc_mir.proofs.Replacing.{mutable_replaced, mutable_tells}
@@ -27,6 +28,7 @@ leads_replaced types arguments (Deref ∷ projections) rest (reference ∷ refer
     leads_replaced types arguments projections rest references base
 leads_replaced types arguments (Field k ∷ projections) rest (reference ∷ references) base = refl
 leads_replaced types arguments (Field k ∷ projections) rest [] Int = refl
+leads_replaced types arguments (Field k ∷ projections) rest [] (Closure closure) = refl
 leads_replaced types arguments (Field k ∷ projections) rest [] (Struct instance) =
     by (declared_field types instance.name k) (λ ty. leads_replaced types (map (replaced_region arguments) instance.regions) projections rest ty.references ty.base ∙ sym (leads_replaced types instance.regions projections rest ty.references ty.base))
   where
@@ -42,6 +44,7 @@ supports_tells types (Deref ∷ projections) rest [] base = refl
 supports_tells types (Deref ∷ projections) rest (reference ∷ references) base = supports_tells types projections rest references base
 supports_tells types (Field k ∷ projections) rest (reference ∷ references) base = refl
 supports_tells types (Field k ∷ projections) rest [] Int = refl
+supports_tells types (Field k ∷ projections) rest [] (Closure closure) = refl
 supports_tells types (Field k ∷ projections) rest [] (Struct instance) =
     by (declared_field types instance.name k) (λ ty. supports_tells types projections rest ty.references ty.base ∙ sym (leads_replaced types instance.regions projections rest ty.references ty.base))
   where
@@ -51,10 +54,10 @@ supports_tells types (Field k ∷ projections) rest [] (Struct instance) =
     by None same = refl
     by (Some ty) same = same ty
 
-pub from_tells : (types : List Declaration) (locals : List Ty) (prefix : Place) (rest : List Projection) → supports_from types locals prefix rest ≡ goes_on_mutable types locals prefix rest
-from_tells types locals prefix rest = by (slice_get locals prefix.local)
+pub from_tells : (mir : Mir) (prefix : Place) (rest : List Projection) → supports_from mir prefix rest ≡ goes_on_mutable mir prefix rest
+from_tells mir prefix rest = by (slice_get mir.locals prefix.local)
   where
-    by : (found : Option Ty) → option_map_or (λ (local : Ty). supports_behind types prefix.projections rest local.references local.base) found false
-        ≡ option_map_or (leads_mutable types rest) (option_and_then (λ (local : Ty). type_behind types prefix.projections local.references local.base) found) false
+    by : (found : Option Ty) → option_map_or (λ (local : Ty). supports_behind mir.types prefix.projections rest local.references local.base) found false
+        ≡ option_map_or (leads_mutable mir.types rest) (option_and_then (λ (local : Ty). type_behind mir.types prefix.projections local.references local.base) found) false
     by None = refl
-    by (Some local) = supports_tells types prefix.projections rest local.references local.base
+    by (Some local) = supports_tells mir.types prefix.projections rest local.references local.base

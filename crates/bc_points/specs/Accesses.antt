@@ -5,17 +5,15 @@ use Rattle.std.specs.Option.{option_map_or}
 use Rattle.bc_syntax.specs.declared.syntax.Mutability.{Mutability}
 use Rattle.bc_syntax.specs.declared.syntax.Mutability.TheVariants.{Shared, Mutable}
 use Rattle.bc_syntax.specs.declared.syntax.Projection.{Projection}
-use Rattle.bc_syntax.specs.declared.syntax.Ty.{Ty}
-use Rattle.bc_syntax.specs.declared.syntax.Declaration.{Declaration}
 use Rattle.bc_syntax.specs.declared.syntax.Place.{Place}
 use Rattle.bc_syntax.specs.declared.syntax.Operand.{Operand}
 use Rattle.bc_syntax.specs.declared.syntax.Operand.TheVariants.{Copy, Move, Number}
 use Rattle.bc_syntax.specs.declared.syntax.Rvalue.{Rvalue}
-use Rattle.bc_syntax.specs.declared.syntax.Rvalue.TheVariants.{Use, Borrow, Aggregate, Calc}
+use Rattle.bc_syntax.specs.declared.syntax.Rvalue.TheVariants.{Use, Borrow, Aggregate, Closure, Calc}
 use Rattle.bc_syntax.specs.declared.syntax.Statement.{Statement as Simple}
 use Rattle.bc_syntax.specs.declared.syntax.Statement.TheVariants.{Assign, Dead, Drop, Nop}
 use Rattle.bc_syntax.specs.declared.syntax.Terminator.{Terminator as Ending}
-use Rattle.bc_syntax.specs.declared.syntax.Terminator.TheVariants.{Goto, If, Call, Return, Stop}
+use Rattle.bc_syntax.specs.declared.syntax.Terminator.TheVariants.{Goto, If, Call, Invoke, Return, Stop}
 use Rattle.bc_mir.specs.declared.mir.Instruction.{Instruction}
 use Rattle.bc_mir.specs.declared.mir.Instruction.TheVariants.{Statement, Terminator}
 use Rattle.bc_points.specs.declared.access.Access.{Access}
@@ -24,7 +22,7 @@ use Rattle.bc_points.specs.declared.access.Depth.TheVariants.{Shallow, Deep}
 use Rattle.bc_points.specs.declared.access.AccessKind.{AccessKind}
 use Rattle.bc_points.specs.declared.access.AccessKind.TheVariants.{Read, Write}
 use Rattle.bc_mir.specs.Mir.{Mir}
-use Rattle.bc_types.specs.Drops.{holds_drop}
+use Rattle.bc_mir.specs.Drops.{type_holds_drop}
 use Rattle.bc_mir.specs.PlaceTypes.{type_of_place}
 
 -- a local alone, as a place
@@ -49,28 +47,29 @@ abbrev pub rvalue_accesses : Rvalue → List Access
 rvalue_accesses (Use operand) = operand_accesses operand
 rvalue_accesses (Borrow borrow) = access_of Deep (borrow_access borrow.reference.mutability) borrow.place ∷ []
 rvalue_accesses (Aggregate aggregate) = flat_map operand_accesses aggregate.operands
+rvalue_accesses (Closure creation) = flat_map operand_accesses creation.operands
 rvalue_accesses (Calc operands) = flat_map operand_accesses operands
 
 -- the type of a place holds a drop
-abbrev pub runs_drop : List Declaration → List Ty → Place → Bool
-runs_drop types locals place = option_map_or (holds_drop types) (type_of_place types locals place) false
+abbrev pub runs_drop : Mir → Place → Bool
+runs_drop mir place = option_map_or (type_holds_drop mir) (type_of_place mir place) false
 
 -- where the type holds a drop, dropping the place writes what is behind it too
-abbrev pub drop_access : List Declaration → List Ty → Place → Access
-drop_access types locals place =
-    if runs_drop types locals place then access_of Deep Write place else access_of Shallow Write place
+abbrev pub drop_access : Mir → Place → Access
+drop_access mir place =
+    if runs_drop mir place then access_of Deep Write place else access_of Shallow Write place
 
 -- where the type holds a drop, dropping the place uses its local
-abbrev pub drop_uses : List Declaration → List Ty → Place → List ℕ
-drop_uses types locals place = if runs_drop types locals place then place.local ∷ [] else []
+abbrev pub drop_uses : Mir → Place → List ℕ
+drop_uses mir place = if runs_drop mir place then place.local ∷ [] else []
 
 -- the access of a target is the last of its point
-abbrev pub statement_accesses : List Declaration → List Ty → Simple → List Access
-statement_accesses types locals (Assign assignment) =
+abbrev pub statement_accesses : Mir → Simple → List Access
+statement_accesses mir (Assign assignment) =
     rvalue_accesses assignment.value ++ access_of Shallow Write assignment.target ∷ []
-statement_accesses types locals (Dead local) = access_of Shallow Write (local_place local) ∷ []
-statement_accesses types locals (Drop place) = drop_access types locals place ∷ []
-statement_accesses types locals Nop = []
+statement_accesses mir (Dead local) = access_of Shallow Write (local_place local) ∷ []
+statement_accesses mir (Drop place) = drop_access mir place ∷ []
+statement_accesses mir Nop = []
 
 -- `return` writes every local in order
 abbrev pub return_accesses : ℕ → List Access
@@ -81,12 +80,15 @@ terminator_accesses locals (Goto label) = []
 terminator_accesses locals (If condition) = operand_accesses condition.operand
 terminator_accesses locals (Call call) =
     flat_map operand_accesses call.operands ++ access_of Shallow Write call.destination ∷ []
+terminator_accesses locals (Invoke invocation) =
+    access_of Deep Write invocation.closure
+    ∷ (flat_map operand_accesses invocation.operands ++ access_of Shallow Write invocation.destination ∷ [])
 terminator_accesses locals Return = return_accesses locals
 terminator_accesses locals Stop = []
 
 -- the accesses of a point in order, where this happens
 abbrev pub accesses_of : Mir → Instruction → List Access
-accesses_of mir (Statement statement) = statement_accesses mir.types mir.locals statement
+accesses_of mir (Statement statement) = statement_accesses mir statement
 accesses_of mir (Terminator terminator) = terminator_accesses (length mir.locals) terminator
 
 -- the place that a point overwrites
@@ -98,6 +100,7 @@ overwritten (Statement Nop) = None
 overwritten (Terminator (Goto label)) = None
 overwritten (Terminator (If condition)) = None
 overwritten (Terminator (Call call)) = Some call.destination
+overwritten (Terminator (Invoke invocation)) = Some invocation.destination
 overwritten (Terminator Return) = None
 overwritten (Terminator Stop) = None
 
@@ -111,6 +114,7 @@ abbrev pub rvalue_uses : Rvalue → List ℕ
 rvalue_uses (Use operand) = operand_uses operand
 rvalue_uses (Borrow borrow) = borrow.place.local ∷ []
 rvalue_uses (Aggregate aggregate) = flat_map operand_uses aggregate.operands
+rvalue_uses (Closure creation) = flat_map operand_uses creation.operands
 rvalue_uses (Calc operands) = flat_map operand_uses operands
 
 -- a place without projections
@@ -132,11 +136,13 @@ target_defines place = if is_local place then Some place.local else None
 abbrev pub uses_of : Mir → Instruction → List ℕ
 uses_of mir (Statement (Assign assignment)) = rvalue_uses assignment.value ++ target_uses assignment.target
 uses_of mir (Statement (Dead local)) = []
-uses_of mir (Statement (Drop place)) = drop_uses mir.types mir.locals place
+uses_of mir (Statement (Drop place)) = drop_uses mir place
 uses_of mir (Statement Nop) = []
 uses_of mir (Terminator (Goto label)) = []
 uses_of mir (Terminator (If condition)) = operand_uses condition.operand
 uses_of mir (Terminator (Call call)) = flat_map operand_uses call.operands ++ target_uses call.destination
+uses_of mir (Terminator (Invoke invocation)) =
+    invocation.closure.local ∷ (flat_map operand_uses invocation.operands ++ target_uses invocation.destination)
 uses_of mir (Terminator Return) = 0 ∷ []
 uses_of mir (Terminator Stop) = []
 
@@ -149,5 +155,6 @@ defines_of (Statement Nop) = None
 defines_of (Terminator (Goto label)) = None
 defines_of (Terminator (If condition)) = None
 defines_of (Terminator (Call call)) = target_defines call.destination
+defines_of (Terminator (Invoke invocation)) = target_defines invocation.destination
 defines_of (Terminator Return) = None
 defines_of (Terminator Stop) = None

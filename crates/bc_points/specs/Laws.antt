@@ -4,11 +4,11 @@ use Rattle.std.specs.List.{Contains, flat_map}
 use Rattle.std.specs.Option.{option_to_list}
 use Rattle.bc_syntax.specs.declared.syntax.Ty.{Ty}
 use Rattle.bc_syntax.specs.declared.syntax.Place.{Place}
+use Rattle.bc_mir.specs.Mir.{Mir}
 use Rattle.bc_mir.specs.PlaceTypes.{type_of_place, references_of_place}
 use Rattle.bc_points.specs.Prefixes.{from_last_shared, is_prefix}
 use Rattle.bc_points.specs.Supports.{supports}
 use Rattle.bc_points.specs.Supporters.{last_taken, supporters}
-use Rattle.bc_syntax.specs.declared.syntax.Declaration.{Declaration}
 
 -- a prefix of a prefix is a prefix
 abbrev pub PrefixesChain : Type 0
@@ -19,13 +19,13 @@ PrefixesChain =
 -- last shared one on
 abbrev pub TakenReferences : Type 0
 TakenReferences =
-    (types : List Declaration) (locals : List Ty) (place : Place) →
-    reverse (flat_map (λ prefix. option_to_list (last_taken types locals prefix)) (supporters types locals place))
-    ≡ from_last_shared (references_of_place types locals place)
+    (mir : Mir) (place : Place) →
+    reverse (flat_map (λ prefix. option_to_list (last_taken mir prefix)) (supporters mir place))
+    ≡ from_last_shared (references_of_place mir place)
 
 -- through the fields of structs, the prefixes that the test calls supporting are those that taking away last projections
 -- finds
 abbrev pub SupportersAreFound : Type 0
 SupportersAreFound =
-    (types : List Declaration) (locals : List Ty) (prefix place : Place) (ty : Ty) → type_of_place types locals place ≡ Some ty →
-    (supports types locals prefix place ≡ true) ↔ Contains (supporters types locals place) prefix
+    (mir : Mir) (prefix place : Place) (ty : Ty) → type_of_place mir place ≡ Some ty →
+    (supports mir prefix place ≡ true) ↔ Contains (supporters mir place) prefix

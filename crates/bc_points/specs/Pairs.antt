@@ -1,5 +1,5 @@
 -- What each point demands of regions, beside reborrows.
-use Rattle.std.specs.Prelude.{Option, Some, List, [], ◌∷◌, ◌++◌, map}
+use Rattle.std.specs.Prelude.{Bool, not, Option, Some, List, [], ◌∷◌, ◌++◌, map, filter}
 use Rattle.std.specs.Option.{option_map_or}
 use Rattle.bc_syntax.specs.declared.syntax.Region.{Region}
 use Rattle.bc_syntax.specs.declared.syntax.Region.TheVariants.{Universal}
@@ -7,18 +7,24 @@ use Rattle.bc_syntax.specs.declared.syntax.Ty.{Ty}
 use Rattle.bc_syntax.specs.declared.syntax.Place.{Place}
 use Rattle.bc_syntax.specs.declared.syntax.Operand.{Operand}
 use Rattle.bc_syntax.specs.declared.syntax.Outlives.{Outlives}
+use Rattle.bc_syntax.specs.declared.syntax.ClosureInstance.{ClosureInstance}
+use Rattle.bc_syntax.specs.declared.syntax.Header.{Header}
+use Rattle.bc_syntax.specs.declared.syntax.Creation.{Creation}
+use Rattle.bc_syntax.specs.declared.syntax.Invocation.{Invocation}
 use Rattle.bc_syntax.specs.declared.syntax.Call.{Call as Calling}
 use Rattle.bc_syntax.specs.declared.syntax.Assignment.{Assignment}
 use Rattle.bc_syntax.specs.declared.syntax.Rvalue.{Rvalue}
-use Rattle.bc_syntax.specs.declared.syntax.Rvalue.TheVariants.{Use, Borrow, Aggregate, Calc}
+use Rattle.bc_syntax.specs.declared.syntax.Rvalue.TheVariants.{Use, Borrow, Aggregate, Closure, Calc}
 use Rattle.bc_syntax.specs.declared.syntax.StructDeclaration.{StructDeclaration}
 use Rattle.bc_syntax.specs.declared.syntax.ExternDeclaration.{ExternDeclaration}
 use Rattle.bc_syntax.specs.declared.syntax.Declaration.{Declaration}
 use Rattle.bc_types.specs.declared.subtype.Constraint.{Constraint}
 use Rattle.bc_types.specs.Declarations.{struct_of, extern_of}
+use Rattle.bc_mir.specs.Mir.{Mir}
 use Rattle.bc_mir.specs.PlaceTypes.{type_of_place}
+use Rattle.bc_mir.specs.Children.{child_of, arguments_of, is_outer_clause}
 use Rattle.bc_types.specs.Replaced.{replaced_region, replaced_ty}
-use Rattle.bc_mir.specs.Rules.{type_of_operand, type_of_rvalue}
+use Rattle.bc_mir.specs.Rules.{type_of_operand, type_of_rvalue, closure_in}
 use Rattle.bc_types.specs.Subtype.{outlives}
 use Rattle.bc_types.specs.Subtyping.{sub}
 
@@ -26,49 +32,85 @@ use Rattle.bc_types.specs.Subtyping.{sub}
 abbrev pub sub_found : List Declaration → Option Ty → Ty → List Constraint
 sub_found types value target = option_map_or (λ ty. sub types ty target) value []
 
-abbrev pub sub_place : List Declaration → List Ty → Option Ty → Place → List Constraint
-sub_place types locals value place = option_map_or (λ target. sub_found types value target) (type_of_place types locals place) []
+abbrev pub sub_place : Mir → Option Ty → Place → List Constraint
+sub_place mir value place = option_map_or (λ target. sub_found mir.types value target) (type_of_place mir place) []
 
-abbrev pub operand_pair : List Declaration → List Ty → List Region → Operand → Ty → List Constraint
-operand_pair types locals arguments operand expected =
-    sub_found types (type_of_operand types locals operand) (replaced_ty arguments expected)
+abbrev pub operand_pair : Mir → List Region → Operand → Ty → List Constraint
+operand_pair mir arguments operand expected =
+    sub_found mir.types (type_of_operand mir operand) (replaced_ty arguments expected)
 
 -- each operand is a subtype of what is expected in its place, with the declared regions replaced by arguments
-abbrev pub operand_pairs : List Declaration → List Ty → List Region → List Operand → List Ty → List Constraint
-operand_pairs types locals arguments [] expected = []
-operand_pairs types locals arguments (operand ∷ operands) [] = []
-operand_pairs types locals arguments (operand ∷ operands) (ty ∷ expected) =
-    operand_pair types locals arguments operand ty ++ operand_pairs types locals arguments operands expected
+abbrev pub operand_pairs : Mir → List Region → List Operand → List Ty → List Constraint
+operand_pairs mir arguments [] expected = []
+operand_pairs mir arguments (operand ∷ operands) [] = []
+operand_pairs mir arguments (operand ∷ operands) (ty ∷ expected) =
+    operand_pair mir arguments operand ty ++ operand_pairs mir arguments operands expected
 
 -- a clause of a declaration, with its regions replaced
 abbrev pub replaced_clause : List Region → Outlives → Constraint
 replaced_clause arguments clause =
     outlives (replaced_region arguments (Universal clause.longer)) (replaced_region arguments (Universal clause.shorter))
 
--- the fields of a struct that is made
-abbrev pub field_pairs : List Declaration → List Ty → Rvalue → List Constraint
-field_pairs types locals (Use operand) = []
-field_pairs types locals (Borrow borrow) = []
-field_pairs types locals (Aggregate aggregate) =
-    option_map_or
-    (λ (d : StructDeclaration). operand_pairs types locals aggregate.instance.regions aggregate.operands d.fields)
-    (struct_of types aggregate.instance.name)
-    []
-field_pairs types locals (Calc operands) = []
+-- those of the clauses that pass a test
+abbrev pub clauses_where : (Outlives → Bool) → List Region → List Outlives → List Constraint
+clauses_where test arguments clauses = map (replaced_clause arguments) (filter test clauses)
 
--- the fields of a struct that is made, and the value is a subtype of the target
-abbrev pub assignment_pairs : List Declaration → List Ty → Assignment → List Constraint
-assignment_pairs types locals assignment =
-    field_pairs types locals assignment.value
-    ++ sub_place types locals (type_of_rvalue types locals assignment.value) assignment.target
+-- the operands are subtypes of the captures, and the clauses hold that are between external regions and `'static` alone,
+-- with the external regions replaced by those of the closure
+abbrev pub captured_pairs : Mir → Creation → Header → List Constraint
+captured_pairs mir creation header =
+    operand_pairs mir (arguments_of header creation.closure.regions []) creation.operands header.captures
+    ++ clauses_where (is_outer_clause header.captures) (arguments_of header creation.closure.regions []) header.signature.clauses
+
+-- the fields of a struct that is made, or the captures of a closure
+abbrev pub field_pairs : Mir → Rvalue → List Constraint
+field_pairs mir (Use operand) = []
+field_pairs mir (Borrow borrow) = []
+field_pairs mir (Aggregate aggregate) =
+    option_map_or
+    (λ (d : StructDeclaration). operand_pairs mir aggregate.instance.regions aggregate.operands d.fields)
+    (struct_of mir.types aggregate.instance.name)
+    []
+field_pairs mir (Closure creation) =
+    option_map_or (captured_pairs mir creation) (child_of mir.children creation.closure.number) []
+field_pairs mir (Calc operands) = []
+
+-- the fields of a struct that is made or the captures of a closure, and the value is a subtype of the target
+abbrev pub assignment_pairs : Mir → Assignment → List Constraint
+assignment_pairs mir assignment =
+    field_pairs mir assignment.value
+    ++ sub_place mir (type_of_rvalue mir assignment.value) assignment.target
 
 -- the operands are subtypes of the parameters, the clauses hold, and the result is a subtype of the destination, with the
 -- function's regions replaced
-abbrev pub called_pairs : List Declaration → List Ty → Calling → ExternDeclaration → List Constraint
-called_pairs types locals call d =
-    operand_pairs types locals call.function.regions call.operands d.signature.parameters
+abbrev pub called_pairs : Mir → Calling → ExternDeclaration → List Constraint
+called_pairs mir call d =
+    operand_pairs mir call.function.regions call.operands d.signature.parameters
     ++ (map (replaced_clause call.function.regions) d.signature.clauses
-    ++ sub_place types locals (Some (replaced_ty call.function.regions d.signature.result)) call.destination)
+    ++ sub_place mir (Some (replaced_ty call.function.regions d.signature.result)) call.destination)
 
-abbrev pub call_pairs : List Declaration → List Ty → Calling → List Constraint
-call_pairs types locals call = option_map_or (called_pairs types locals call) (extern_of types call.function.name) []
+abbrev pub call_pairs : Mir → Calling → List Constraint
+call_pairs mir call = option_map_or (called_pairs mir call) (extern_of mir.types call.function.name) []
+
+-- what the creation of a closure leaves to its calls
+abbrev pub is_inner_clause : Header → Outlives → Bool
+is_inner_clause header clause = not (is_outer_clause header.captures clause)
+
+-- the operands are subtypes of the parameters, the clauses hold that did not at the creation, and the result is a subtype
+-- of the destination, with a child's regions replaced by arguments
+abbrev pub passed_pairs : Mir → List Region → Invocation → Header → List Constraint
+passed_pairs mir arguments invocation header =
+    operand_pairs mir arguments invocation.operands header.signature.parameters
+    ++ (clauses_where (is_inner_clause header) arguments header.signature.clauses
+    ++ sub_place mir (Some (replaced_ty arguments header.signature.result)) invocation.destination)
+
+-- the external regions are those of the closure, and the local ones those of the call
+abbrev pub invoked_pairs : Mir → Invocation → ClosureInstance → List Constraint
+invoked_pairs mir invocation closure =
+    option_map_or
+    (λ (header : Header). passed_pairs mir (arguments_of header closure.regions invocation.regions) invocation header)
+    (child_of mir.children closure.number)
+    []
+
+abbrev pub invocation_pairs : Mir → Invocation → List Constraint
+invocation_pairs mir invocation = option_map_or (invoked_pairs mir invocation) (closure_in mir invocation.closure) []

@@ -3,7 +3,7 @@ use Rattle.std.specs.Prelude.{◌≡◌, ℕ, Bool, false, IsTrue, MatchOption, 
 use Rattle.std.specs.List.{Contains}
 use Rattle.std.specs.Option.{option_map_or}
 use Rattle.bc_syntax.specs.declared.syntax.Place.{Place}
-use Rattle.bc_syntax.specs.declared.syntax.Rvalue.TheVariants.{Use, Borrow, Aggregate, Calc}
+use Rattle.bc_syntax.specs.declared.syntax.Rvalue.TheVariants.{Use, Borrow, Aggregate, Closure, Calc}
 use Rattle.bc_syntax.specs.declared.syntax.Statement.TheVariants.{Assign, Dead, Drop, Nop}
 use Rattle.bc_mir.specs.declared.mir.Instruction.{Instruction}
 use Rattle.bc_mir.specs.declared.mir.Instruction.TheVariants.{Statement, Terminator}
@@ -30,6 +30,7 @@ loan_of_rvalue (Use operand) = None
 loan_of_rvalue (Borrow borrow) =
     Some (record { region = borrow.reference.region; mutability = borrow.reference.mutability; path = borrow.place })
 loan_of_rvalue (Aggregate aggregate) = None
+loan_of_rvalue (Closure creation) = None
 loan_of_rvalue (Calc operands) = None
 
 -- the loan that a point makes: each borrow is a loan

@@ -5,8 +5,8 @@ use Rattle.bc_syntax.specs.declared.syntax.Place.{Place}
 use Rattle.bc_syntax.specs.declared.syntax.Reference.{Reference}
 use Rattle.bc_syntax.specs.declared.syntax.Projection.{Projection}
 use Rattle.bc_syntax.specs.declared.syntax.Projection.TheVariants.{Deref, Field}
-use Rattle.bc_syntax.specs.declared.syntax.Declaration.{Declaration}
 use Rattle.bc_types.specs.Mutabilities.{is_mutable}
+use Rattle.bc_mir.specs.Mir.{Mir}
 use Rattle.bc_mir.specs.PlaceTypes.{type_of_place}
 
 -- a place, by its local and its projections, the last one first
@@ -28,22 +28,22 @@ abbrev pub reference_taken : Projection → Ty → Option Reference
 reference_taken projection ty = referenced projection ty.references
 
 -- the reference that the last projection of a place dereferences, the projections being given last first
-abbrev pub last_taken_of : List Declaration → List Ty → ℕ → List Projection → Option Reference
-last_taken_of types locals local [] = None
-last_taken_of types locals local (last ∷ before) =
-    option_and_then (reference_taken last) (type_of_place types locals (place_of local before))
+abbrev pub last_taken_of : Mir → ℕ → List Projection → Option Reference
+last_taken_of mir local [] = None
+last_taken_of mir local (last ∷ before) =
+    option_and_then (reference_taken last) (type_of_place mir (place_of local before))
 
-abbrev pub last_taken : List Declaration → List Ty → Place → Option Reference
-last_taken types locals place = last_taken_of types locals place.local (reverse place.projections)
+abbrev pub last_taken : Mir → Place → Option Reference
+last_taken mir place = last_taken_of mir place.local (reverse place.projections)
 
 -- take away fields and dereferences, the last projection first; stop at a place whose last projection dereferences a
 -- shared reference, which is included
-abbrev pub supporters_from : List Declaration → List Ty → ℕ → List Projection → List Place
-supporters_from types locals local [] = place_of local [] ∷ []
-supporters_from types locals local (last ∷ before) =
+abbrev pub supporters_from : Mir → ℕ → List Projection → List Place
+supporters_from mir local [] = place_of local [] ∷ []
+supporters_from mir local (last ∷ before) =
     place_of local (last ∷ before)
-    ∷ (if is_shared (last_taken_of types locals local (last ∷ before)) then [] else supporters_from types locals local before)
+    ∷ (if is_shared (last_taken_of mir local (last ∷ before)) then [] else supporters_from mir local before)
 
 -- the supporting prefixes of a place, the place itself first
-abbrev pub supporters : List Declaration → List Ty → Place → List Place
-supporters types locals place = supporters_from types locals place.local (reverse place.projections)
+abbrev pub supporters : Mir → Place → List Place
+supporters mir place = supporters_from mir place.local (reverse place.projections)

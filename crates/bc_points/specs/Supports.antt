@@ -2,7 +2,7 @@
 use Rattle.std.specs.Prelude.{Bool, false, List, [], ◌∷◌, slice_get}
 use Rattle.std.specs.Option.{option_map_or}
 use Rattle.bc_syntax.specs.declared.syntax.Base.{Base}
-use Rattle.bc_syntax.specs.declared.syntax.Base.TheVariants.{Int, Struct}
+use Rattle.bc_syntax.specs.declared.syntax.Base.TheVariants.{Int, Struct, Closure}
 use Rattle.bc_syntax.specs.declared.syntax.Ty.{Ty}
 use Rattle.bc_syntax.specs.declared.syntax.Place.{Place}
 use Rattle.bc_syntax.specs.declared.syntax.Reference.{Reference}
@@ -11,15 +11,16 @@ use Rattle.bc_syntax.specs.declared.syntax.Projection.TheVariants.{Deref, Field}
 use Rattle.bc_syntax.specs.declared.syntax.Declaration.{Declaration}
 use Rattle.bc_points.specs.Prefixes.{rest_of}
 use Rattle.bc_types.specs.Replaced.{declared_field}
+use Rattle.bc_mir.specs.Mir.{Mir}
 use Rattle.bc_mir.specs.PlaceTypes.{type_of_place, leads_mutable, mutable_behind}
 
 -- from a place on, projections dereference no shared reference
-abbrev pub goes_on_mutable : List Declaration → List Ty → Place → List Projection → Bool
-goes_on_mutable types locals prefix rest = option_map_or (leads_mutable types rest) (type_of_place types locals prefix) false
+abbrev pub goes_on_mutable : Mir → Place → List Projection → Bool
+goes_on_mutable mir prefix rest = option_map_or (leads_mutable mir.types rest) (type_of_place mir prefix) false
 
 -- a prefix for which no dereference of a shared reference was taken away
-abbrev pub supports : List Declaration → List Ty → Place → Place → Bool
-supports types locals prefix place = option_map_or (goes_on_mutable types locals prefix) (rest_of prefix place) false
+abbrev pub supports : Mir → Place → Place → Bool
+supports mir prefix place = option_map_or (goes_on_mutable mir prefix) (rest_of prefix place) false
 
 -- behind the first projections is a type from which the rest dereference no shared reference, each field being taken as
 -- its struct declares it
@@ -30,9 +31,10 @@ supports_behind types (Deref ∷ projections) rest (reference ∷ references) ba
     supports_behind types projections rest references base
 supports_behind types (Field k ∷ projections) rest (reference ∷ references) base = false
 supports_behind types (Field k ∷ projections) rest [] Int = false
+supports_behind types (Field k ∷ projections) rest [] (Closure closure) = false
 supports_behind types (Field k ∷ projections) rest [] (Struct instance) =
     option_map_or (λ (ty : Ty). supports_behind types projections rest ty.references ty.base) (declared_field types instance.name k) false
 
-abbrev pub supports_from : List Declaration → List Ty → Place → List Projection → Bool
-supports_from types locals prefix rest =
-    option_map_or (λ (local : Ty). supports_behind types prefix.projections rest local.references local.base) (slice_get locals prefix.local) false
+abbrev pub supports_from : Mir → Place → List Projection → Bool
+supports_from mir prefix rest =
+    option_map_or (λ (local : Ty). supports_behind mir.types prefix.projections rest local.references local.base) (slice_get mir.locals prefix.local) false

@@ -4,9 +4,8 @@ ghost use Rattle.std.specs.List.{flat_map};
 ghost use Rattle.bc_points.specs.Accesses.{access_of, operand_accesses, borrow_access as kind_of_borrow, rvalue_accesses, runs_drop as drop_run, drop_access, statement_accesses, return_accesses, terminator_accesses, accesses_of};
 
 use crate::place_ref::PlaceRef;
-use bc_mir::{Instruction, Typed, type_of_place};
-use bc_syntax::{Mutability, Operand, Place, Rvalue, Statement, Terminator, Ty};
-use bc_types::GoodTypes;
+use bc_mir::{Instruction, Typed};
+use bc_syntax::{Mutability, Operand, Place, Rvalue, Statement, Terminator};
 use std::alloc::{AllocError, Global};
 
 /// Whether an access reaches what is behind the place too (RFC 2094, "Borrow checker phase 2").
@@ -96,6 +95,7 @@ fn push_rvalue<'a>(accesses: &mut Vec<Access<'a>>, rvalue: &'a Rvalue) -> Result
             push_access(accesses, Depth::Deep, kind, PlaceRef::of(&borrow.place))
         }
         Rvalue::Aggregate(aggregate) => push_operands(accesses, aggregate.operands.as_slice()),
+        Rvalue::Closure(creation) => push_operands(accesses, creation.operands.as_slice()),
         Rvalue::Calc(operands) => push_operands(accesses, operands.as_slice()),
     }
 }
@@ -108,16 +108,11 @@ fn push_write<'a>(accesses: &mut Vec<Access<'a>>, place: PlaceRef<'a>) -> Result
 }
 
 /// Whether the type of a place holds a drop.
-pub(crate) fn runs_drop(
-    alloc: Global,
-    types: &GoodTypes,
-    locals: &[Ty],
-    place: &Place,
-) -> Result<bool, AllocError>
-    ensures { IfOk result (λ runs. runs ≡ drop_run types.now locals.now place.now) }
+pub(crate) fn runs_drop(alloc: Global, typed: &Typed, place: &Place) -> Result<bool, AllocError>
+    ensures { IfOk result (λ runs. runs ≡ drop_run typed.now place.now) }
 {
-    match type_of_place(alloc, types, locals, place)? {
-        Some(ty) => Ok(types.holds_drop(&ty)),
+    match typed.place_type(alloc, place)? {
+        Some(ty) => Ok(typed.holds_drop(&ty)),
         None => Ok(false),
     }
 }
@@ -126,13 +121,12 @@ pub(crate) fn runs_drop(
 fn push_drop<'a>(
     alloc: Global,
     accesses: &mut Vec<Access<'a>>,
-    types: &GoodTypes,
-    locals: &[Ty],
+    typed: &Typed,
     place: &'a Place,
 ) -> Result<(), AllocError>
-    ensures { OnOk result (accesses.new.items ≡ accesses.old.items ++ drop_access types.now locals.now place.now ∷ []) }
+    ensures { OnOk result (accesses.new.items ≡ accesses.old.items ++ drop_access typed.now place.now ∷ []) }
 {
-    let depth = if runs_drop(alloc, types, locals, place)? {
+    let depth = if runs_drop(alloc, typed, place)? {
         Depth::Deep
     } else {
         Depth::Shallow
@@ -148,11 +142,10 @@ fn push_drop<'a>(
 fn push_statement<'a>(
     alloc: Global,
     accesses: &mut Vec<Access<'a>>,
-    types: &GoodTypes,
-    locals: &[Ty],
+    typed: &Typed,
     statement: &'a Statement,
 ) -> Result<(), AllocError>
-    ensures { OnOk result (accesses.new.items ≡ accesses.old.items ++ statement_accesses types.now locals.now statement.now) }
+    ensures { OnOk result (accesses.new.items ≡ accesses.old.items ++ statement_accesses typed.now statement.now) }
 {
     match statement {
         Statement::Assign(assignment) => {
@@ -160,7 +153,7 @@ fn push_statement<'a>(
             push_write(accesses, PlaceRef::of(&assignment.target))
         }
         Statement::Dead(local) => push_write(accesses, PlaceRef::of_local(*local)),
-        Statement::Drop(place) => push_drop(alloc, accesses, types, locals, place),
+        Statement::Drop(place) => push_drop(alloc, accesses, typed, place),
         Statement::Nop => Ok(()),
     }
 }
@@ -189,6 +182,12 @@ fn push_terminator<'a>(
             push_operands(accesses, call.operands.as_slice())?;
             push_write(accesses, PlaceRef::of(&call.destination))
         }
+        Terminator::Invoke(invocation) => {
+            let closure = PlaceRef::of(&invocation.closure);
+            push_access(accesses, Depth::Deep, AccessKind::Write, closure)?;
+            push_operands(accesses, invocation.operands.as_slice())?;
+            push_write(accesses, PlaceRef::of(&invocation.destination))
+        }
         Terminator::Return => push_locals(accesses, locals),
         Terminator::Goto(_) | Terminator::Stop => Ok(()),
     }
@@ -206,9 +205,7 @@ pub fn push_accesses<'a>(
     ensures { OnOk result (accesses.new.items ≡ accesses.old.items ++ accesses_of typed.now instruction.now) }
 {
     match instruction {
-        Instruction::Statement(statement) => {
-            push_statement(alloc, accesses, typed.types(), typed.locals(), statement)
-        }
+        Instruction::Statement(statement) => { push_statement(alloc, accesses, typed, statement) }
         Instruction::Terminator(terminator) => {
             push_terminator(accesses, typed.locals().len(), terminator)
         }

@@ -5,8 +5,7 @@ ghost use Rattle.bc_points.specs.Accesses.{operand_uses, rvalue_uses, is_local a
 
 use crate::access::runs_drop;
 use bc_mir::{Instruction, Typed};
-use bc_syntax::{Operand, Place, Rvalue, Statement, Terminator, Ty};
-use bc_types::GoodTypes;
+use bc_syntax::{Operand, Place, Rvalue, Statement, Terminator};
 use std::alloc::{AllocError, Global};
 
 fn push_operand(locals: &mut Vec<u8>, operand: &Operand) -> Result<(), AllocError>
@@ -38,6 +37,7 @@ fn push_rvalue(locals: &mut Vec<u8>, rvalue: &Rvalue) -> Result<(), AllocError>
             Ok(())
         }
         Rvalue::Aggregate(aggregate) => push_operands(locals, aggregate.operands.as_slice()),
+        Rvalue::Closure(creation) => push_operands(locals, creation.operands.as_slice()),
         Rvalue::Calc(operands) => push_operands(locals, operands.as_slice()),
     }
 }
@@ -61,13 +61,12 @@ fn push_target(locals: &mut Vec<u8>, place: &Place) -> Result<(), AllocError>
 fn push_drop(
     alloc: Global,
     used: &mut Vec<u8>,
-    types: &GoodTypes,
-    locals: &[Ty],
+    typed: &Typed,
     place: &Place,
 ) -> Result<(), AllocError>
-    ensures { OnOk result (used.new.items ≡ used.old.items ++ drop_uses types.now locals.now place.now) }
+    ensures { OnOk result (used.new.items ≡ used.old.items ++ drop_uses typed.now place.now) }
 {
-    if runs_drop(alloc, types, locals, place)? {
+    if runs_drop(alloc, typed, place)? {
         used.push(place.local)?;
     }
     Ok(())
@@ -89,15 +88,18 @@ pub fn push_uses(
             push_rvalue(used, &assignment.value)?;
             push_target(used, &assignment.target)
         }
-        Instruction::Statement(Statement::Drop(place)) => {
-            push_drop(alloc, used, typed.types(), typed.locals(), place)
-        }
+        Instruction::Statement(Statement::Drop(place)) => { push_drop(alloc, used, typed, place) }
         Instruction::Terminator(Terminator::If(condition)) => {
             push_operand(used, &condition.operand)
         }
         Instruction::Terminator(Terminator::Call(call)) => {
             push_operands(used, call.operands.as_slice())?;
             push_target(used, &call.destination)
+        }
+        Instruction::Terminator(Terminator::Invoke(invocation)) => {
+            used.push(invocation.closure.local)?;
+            push_operands(used, invocation.operands.as_slice())?;
+            push_target(used, &invocation.destination)
         }
         Instruction::Terminator(Terminator::Return) => {
             used.push(0)?;
@@ -127,6 +129,9 @@ pub fn defines(instruction: &Instruction) -> Option<u8>
         Instruction::Statement(Statement::Assign(assignment)) => { defined_by(&assignment.target) }
         Instruction::Statement(Statement::Dead(local)) => Some(*local),
         Instruction::Terminator(Terminator::Call(call)) => defined_by(&call.destination),
+        Instruction::Terminator(Terminator::Invoke(invocation)) => {
+            defined_by(&invocation.destination)
+        }
         Instruction::Statement(Statement::Drop(_) | Statement::Nop)
         | Instruction::Terminator(
             Terminator::Goto(_) | Terminator::If(_) | Terminator::Return | Terminator::Stop,

@@ -27,7 +27,7 @@ pub fn loan_of(instruction: &Instruction) -> Option<Loan<'_>>
                 mutability: borrow.reference.mutability,
                 path: PlaceRef::of(&borrow.place),
             }),
-            Rvalue::Use(_) | Rvalue::Aggregate(_) | Rvalue::Calc(_) => None,
+            Rvalue::Use(_) | Rvalue::Aggregate(_) | Rvalue::Closure(_) | Rvalue::Calc(_) => None,
         },
         Instruction::Statement(Statement::Dead(_) | Statement::Drop(_) | Statement::Nop)
         | Instruction::Terminator(_) => None,

@@ -2,19 +2,16 @@
 ghost use Rattle.std.specs.Prelude.{◌≡◌, ◌++◌, ◌∷◌, [], Some, map, OnOk};
 ghost use Rattle.bc_mir.specs.Rules.{type_referenced, type_of_operand as operand_type, type_of_rvalue as rvalue_type};
 ghost use Rattle.bc_types.specs.Replaced.{replaced_ty};
-ghost use Rattle.bc_points.specs.Pairs.{sub_found, sub_place, operand_pair, operand_pairs, replaced_clause, field_pairs, assignment_pairs, called_pairs, call_pairs};
+ghost use Rattle.bc_mir.specs.Children.{is_outer_clause as outer_clause};
+ghost use Rattle.bc_points.specs.Pairs.{sub_found, sub_place, operand_pair, operand_pairs, replaced_clause, clauses_where, captured_pairs, field_pairs, assignment_pairs, called_pairs, call_pairs, is_inner_clause, passed_pairs, invoked_pairs, invocation_pairs};
 
-use bc_mir::{
-    lent_type_of_operand, lent_type_of_place, lent_type_to_borrow, type_of_borrow, type_of_operand,
-    type_of_place, type_of_rvalue,
-};
+use bc_mir::{Typed, arguments, is_outer_clause};
 use bc_syntax::{
-    Assignment, Borrow, Call, ExternDeclaration, Operand, Outlives, Place, Reference, Region,
-    Rvalue, Ty,
+    Assignment, Borrow, Call, ClosureInstance, Creation, ExternDeclaration, Header, Invocation,
+    Operand, Outlives, Place, Reference, Region, Rvalue, Ty,
 };
 use bc_types::{
-    Constraint, GoodTypes, TyRef, push_outlives, push_sub, push_sub_reference, replace_region,
-    replace_ty,
+    Constraint, TyRef, push_outlives, push_sub, push_sub_reference, replace_region, replace_ty,
 };
 use std::alloc::{AllocError, Global};
 
@@ -22,17 +19,16 @@ use std::alloc::{AllocError, Global};
 fn push_sub_place(
     alloc: Global,
     constraints: &mut Vec<Constraint>,
-    types: &GoodTypes,
-    locals: &[Ty],
+    typed: &Typed,
     value: &TyRef<'_>,
     place: &Place,
 ) -> Result<(), AllocError>
-    ensures { OnOk result (constraints.new.items ≡ constraints.old.items ++ sub_place types.now locals.now (Some value.now) place.now) }
+    ensures { OnOk result (constraints.new.items ≡ constraints.old.items ++ sub_place typed.now (Some value.now) place.now) }
 {
-    match lent_type_of_place(locals, place) {
-        Some(target) => push_sub(constraints, types, value, &target),
-        None => match type_of_place(alloc, types, locals, place)? {
-            Some(target) => push_sub(constraints, types, value, &TyRef::of(&target)),
+    match typed.lent_type_of_place(place) {
+        Some(target) => push_sub(constraints, typed.types(), value, &target),
+        None => match typed.place_type(alloc, place)? {
+            Some(target) => push_sub(constraints, typed.types(), value, &TyRef::of(&target)),
             None => Ok(()),
         },
     }
@@ -42,20 +38,25 @@ fn push_sub_place(
 fn push_sub_place_reference(
     alloc: Global,
     constraints: &mut Vec<Constraint>,
-    types: &GoodTypes,
-    locals: &[Ty],
+    typed: &Typed,
     reference: Reference,
     pointee: &TyRef<'_>,
     place: &Place,
 ) -> Result<(), AllocError>
     ensures { OnOk result (constraints.new.items
-        ≡ constraints.old.items ++ sub_place types.now locals.now (Some (type_referenced reference pointee.now)) place.now) }
+        ≡ constraints.old.items ++ sub_place typed.now (Some (type_referenced reference pointee.now)) place.now) }
 {
-    match lent_type_of_place(locals, place) {
-        Some(target) => push_sub_reference(constraints, types, reference, pointee, &target),
-        None => match type_of_place(alloc, types, locals, place)? {
+    match typed.lent_type_of_place(place) {
+        Some(target) => push_sub_reference(constraints, typed.types(), reference, pointee, &target),
+        None => match typed.place_type(alloc, place)? {
             Some(target) => {
-                push_sub_reference(constraints, types, reference, pointee, &TyRef::of(&target))
+                push_sub_reference(
+                    constraints,
+                    typed.types(),
+                    reference,
+                    pointee,
+                    &TyRef::of(&target),
+                )
             }
             None => Ok(()),
         },
@@ -66,15 +67,14 @@ fn push_sub_place_reference(
 fn push_sub_place_found(
     alloc: Global,
     constraints: &mut Vec<Constraint>,
-    types: &GoodTypes,
-    locals: &[Ty],
+    typed: &Typed,
     value: &Option<Ty>,
     place: &Place,
 ) -> Result<(), AllocError>
-    ensures { OnOk result (constraints.new.items ≡ constraints.old.items ++ sub_place types.now locals.now value.now place.now) }
+    ensures { OnOk result (constraints.new.items ≡ constraints.old.items ++ sub_place typed.now value.now place.now) }
 {
     match value {
-        Some(ty) => push_sub_place(alloc, constraints, types, locals, &TyRef::of(ty), place),
+        Some(ty) => push_sub_place(alloc, constraints, typed, &TyRef::of(ty), place),
         None => Ok(()),
     }
 }
@@ -83,19 +83,18 @@ fn push_sub_place_found(
 fn push_sub_place_operand(
     alloc: Global,
     constraints: &mut Vec<Constraint>,
-    types: &GoodTypes,
-    locals: &[Ty],
+    typed: &Typed,
     operand: &Operand,
     place: &Place,
 ) -> Result<(), AllocError>
     ensures { OnOk result (constraints.new.items
-        ≡ constraints.old.items ++ sub_place types.now locals.now (operand_type types.now locals.now operand.now) place.now) }
+        ≡ constraints.old.items ++ sub_place typed.now (operand_type typed.now operand.now) place.now) }
 {
-    match lent_type_of_operand(locals, operand) {
-        Some(value) => push_sub_place(alloc, constraints, types, locals, &value, place),
+    match typed.lent_type_of_operand(operand) {
+        Some(value) => push_sub_place(alloc, constraints, typed, &value, place),
         None => {
-            let value = type_of_operand(alloc, types, locals, operand)?;
-            push_sub_place_found(alloc, constraints, types, locals, &value, place)
+            let value = typed.type_of_operand(alloc, operand)?;
+            push_sub_place_found(alloc, constraints, typed, &value, place)
         }
     }
 }
@@ -104,28 +103,26 @@ fn push_sub_place_operand(
 fn push_sub_place_borrow(
     alloc: Global,
     constraints: &mut Vec<Constraint>,
-    types: &GoodTypes,
-    locals: &[Ty],
+    typed: &Typed,
     borrow: &Borrow,
     place: &Place,
 ) -> Result<(), AllocError>
     ensures { OnOk result (constraints.new.items
-        ≡ constraints.old.items ++ sub_place types.now locals.now (rvalue_type types.now locals.now (Rvalue.Borrow borrow.now)) place.now) }
+        ≡ constraints.old.items ++ sub_place typed.now (rvalue_type typed.now (Rvalue.Borrow borrow.now)) place.now) }
 {
     let reference = borrow.reference;
-    match lent_type_to_borrow(types, locals, borrow) {
+    match typed.lent_type_to_borrow(borrow) {
         Some(pointee) => push_sub_place_reference(
             alloc,
             constraints,
-            types,
-            locals,
+            typed,
             reference,
             &pointee,
             place,
         ),
         None => {
-            let value = type_of_borrow(alloc, types, locals, borrow)?;
-            push_sub_place_found(alloc, constraints, types, locals, &value, place)
+            let value = typed.type_of_borrow(alloc, borrow)?;
+            push_sub_place_found(alloc, constraints, typed, &value, place)
         }
     }
 }
@@ -134,24 +131,23 @@ fn push_sub_place_borrow(
 fn push_sub_place_rvalue(
     alloc: Global,
     constraints: &mut Vec<Constraint>,
-    types: &GoodTypes,
-    locals: &[Ty],
+    typed: &Typed,
     rvalue: &Rvalue,
     place: &Place,
 ) -> Result<(), AllocError>
     ensures { OnOk result (constraints.new.items
-        ≡ constraints.old.items ++ sub_place types.now locals.now (rvalue_type types.now locals.now rvalue.now) place.now) }
+        ≡ constraints.old.items ++ sub_place typed.now (rvalue_type typed.now rvalue.now) place.now) }
 {
     match rvalue {
         Rvalue::Use(operand) => {
-            push_sub_place_operand(alloc, constraints, types, locals, operand, place)
+            push_sub_place_operand(alloc, constraints, typed, operand, place)
         }
         Rvalue::Borrow(borrow) => {
-            push_sub_place_borrow(alloc, constraints, types, locals, borrow, place)
+            push_sub_place_borrow(alloc, constraints, typed, borrow, place)
         }
-        Rvalue::Aggregate(_) | Rvalue::Calc(_) => {
-            let value = type_of_rvalue(alloc, types, locals, rvalue)?;
-            push_sub_place_found(alloc, constraints, types, locals, &value, place)
+        Rvalue::Aggregate(_) | Rvalue::Closure(_) | Rvalue::Calc(_) => {
+            let value = typed.type_of_rvalue(alloc, rvalue)?;
+            push_sub_place_found(alloc, constraints, typed, &value, place)
         }
     }
 }
@@ -160,18 +156,17 @@ fn push_sub_place_rvalue(
 fn push_sub_operand(
     alloc: Global,
     constraints: &mut Vec<Constraint>,
-    types: &GoodTypes,
-    locals: &[Ty],
+    typed: &Typed,
     operand: &Operand,
     target: &TyRef<'_>,
 ) -> Result<(), AllocError>
     ensures { OnOk result (constraints.new.items
-        ≡ constraints.old.items ++ sub_found types.now (operand_type types.now locals.now operand.now) target.now) }
+        ≡ constraints.old.items ++ sub_found typed.now.types (operand_type typed.now operand.now) target.now) }
 {
-    match lent_type_of_operand(locals, operand) {
-        Some(value) => push_sub(constraints, types, &value, target),
-        None => match type_of_operand(alloc, types, locals, operand)? {
-            Some(value) => push_sub(constraints, types, &TyRef::of(&value), target),
+    match typed.lent_type_of_operand(operand) {
+        Some(value) => push_sub(constraints, typed.types(), &value, target),
+        None => match typed.type_of_operand(alloc, operand)? {
+            Some(value) => push_sub(constraints, typed.types(), &TyRef::of(&value), target),
             None => Ok(()),
         },
     }
@@ -181,45 +176,36 @@ fn push_sub_operand(
 fn push_operand_pair(
     alloc: Global,
     constraints: &mut Vec<Constraint>,
-    types: &GoodTypes,
-    locals: &[Ty],
+    typed: &Typed,
     arguments: &[Region],
     operand: &Operand,
     expected: &Ty,
 ) -> Result<(), AllocError>
     ensures { OnOk result (constraints.new.items
-        ≡ constraints.old.items ++ operand_pair types.now locals.now arguments.now operand.now expected.now) }
+        ≡ constraints.old.items ++ operand_pair typed.now arguments.now operand.now expected.now) }
 {
     let target = replace_ty(alloc, arguments, expected)?;
-    push_sub_operand(
-        alloc,
-        constraints,
-        types,
-        locals,
-        operand,
-        &TyRef::of(&target),
-    )
+    push_sub_operand(alloc, constraints, typed, operand, &TyRef::of(&target))
 }
 
 fn push_operand_pairs(
     alloc: Global,
     constraints: &mut Vec<Constraint>,
-    types: &GoodTypes,
-    locals: &[Ty],
+    typed: &Typed,
     arguments: &[Region],
     operands: &[Operand],
     expected: &[Ty],
 ) -> Result<(), AllocError>
     ensures { OnOk result (constraints.new.items
-        ≡ constraints.old.items ++ operand_pairs types.now locals.now arguments.now operands.now expected.now) }
+        ≡ constraints.old.items ++ operand_pairs typed.now arguments.now operands.now expected.now) }
 {
     match operands {
         [] => Ok(()),
         [operand, more @ ..] => match expected {
             [] => Ok(()),
             [ty, rest @ ..] => {
-                push_operand_pair(alloc, constraints, types, locals, arguments, operand, ty)?;
-                push_operand_pairs(alloc, constraints, types, locals, arguments, more, rest)
+                push_operand_pair(alloc, constraints, typed, arguments, operand, ty)?;
+                push_operand_pairs(alloc, constraints, typed, arguments, more, rest)
             }
         },
     }
@@ -250,23 +236,82 @@ fn push_clauses(
     Ok(())
 }
 
+/// Appends the clauses of a child that are known where its closure is created.
+fn push_outer_clauses(
+    constraints: &mut Vec<Constraint>,
+    captures: &[Ty],
+    arguments: &[Region],
+    clauses: &[Outlives],
+) -> Result<(), AllocError>
+    ensures { OnOk result (constraints.new.items
+        ≡ constraints.old.items ++ clauses_where (outer_clause captures.now) arguments.now clauses.now) }
+{
+    for clause in clauses {
+        if is_outer_clause(captures, *clause) {
+            push_clause(constraints, arguments, *clause)?;
+        }
+    }
+    Ok(())
+}
+
+/// Appends the others, which each call of the closure is to keep.
+fn push_inner_clauses(
+    constraints: &mut Vec<Constraint>,
+    header: &Header,
+    arguments: &[Region],
+    clauses: &[Outlives],
+) -> Result<(), AllocError>
+    ensures { OnOk result (constraints.new.items
+        ≡ constraints.old.items ++ clauses_where (is_inner_clause header.now) arguments.now clauses.now) }
+{
+    for clause in clauses {
+        if !is_outer_clause(header.captures.as_slice(), *clause) {
+            push_clause(constraints, arguments, *clause)?;
+        }
+    }
+    Ok(())
+}
+
+fn push_captured_pairs(
+    alloc: Global,
+    constraints: &mut Vec<Constraint>,
+    typed: &Typed,
+    creation: &Creation,
+    header: &Header,
+) -> Result<(), AllocError>
+    ensures { OnOk result (constraints.new.items ≡ constraints.old.items ++ captured_pairs typed.now creation.now header.now) }
+{
+    let given = arguments(alloc, header, creation.closure.regions.as_slice(), &[])?;
+    let captures = header.captures.as_slice();
+    let operands = creation.operands.as_slice();
+    push_operand_pairs(alloc, constraints, typed, &given, operands, captures)?;
+    push_outer_clauses(
+        constraints,
+        captures,
+        &given,
+        header.signature.clauses.as_slice(),
+    )
+}
+
 fn push_field_pairs(
     alloc: Global,
     constraints: &mut Vec<Constraint>,
-    types: &GoodTypes,
-    locals: &[Ty],
+    typed: &Typed,
     rvalue: &Rvalue,
 ) -> Result<(), AllocError>
-    ensures { OnOk result (constraints.new.items ≡ constraints.old.items ++ field_pairs types.now locals.now rvalue.now) }
+    ensures { OnOk result (constraints.new.items ≡ constraints.old.items ++ field_pairs typed.now rvalue.now) }
 {
     match rvalue {
         Rvalue::Use(_) | Rvalue::Borrow(_) | Rvalue::Calc(_) => Ok(()),
-        Rvalue::Aggregate(aggregate) => match types.struct_of(&aggregate.instance.name) {
+        Rvalue::Closure(creation) => match typed.child(creation.closure.number) {
+            Some(header) => push_captured_pairs(alloc, constraints, typed, creation, header),
+            None => Ok(()),
+        },
+        Rvalue::Aggregate(aggregate) => match typed.types().struct_of(&aggregate.instance.name) {
             Some(declaration) => push_operand_pairs(
                 alloc,
                 constraints,
-                types,
-                locals,
+                typed,
                 aggregate.instance.regions.as_slice(),
                 aggregate.operands.as_slice(),
                 declaration.fields.as_slice(),
@@ -276,24 +321,22 @@ fn push_field_pairs(
     }
 }
 
-/// Appends what an assignment demands, beside what its reborrow does: the fields of a struct that is made, and that the
-/// value is a subtype of the target. The error is want of memory alone.
+/// Appends what an assignment demands, beside what its reborrow does: the fields of a struct that is made or the captures of a
+/// closure, and that the value is a subtype of the target. The error is want of memory alone.
 /// (RFC 2094, "Subtyping".)
 pub fn push_assignment_pairs(
     alloc: Global,
     constraints: &mut Vec<Constraint>,
-    types: &GoodTypes,
-    locals: &[Ty],
+    typed: &Typed,
     assignment: &Assignment,
 ) -> Result<(), AllocError>
-    ensures { OnOk result (constraints.new.items ≡ constraints.old.items ++ assignment_pairs types.now locals.now assignment.now) }
+    ensures { OnOk result (constraints.new.items ≡ constraints.old.items ++ assignment_pairs typed.now assignment.now) }
 {
-    push_field_pairs(alloc, constraints, types, locals, &assignment.value)?;
+    push_field_pairs(alloc, constraints, typed, &assignment.value)?;
     push_sub_place_rvalue(
         alloc,
         constraints,
-        types,
-        locals,
+        typed,
         &assignment.value,
         &assignment.target,
     )
@@ -303,55 +346,37 @@ pub fn push_assignment_pairs(
 fn push_returned_pairs(
     alloc: Global,
     constraints: &mut Vec<Constraint>,
-    types: &GoodTypes,
-    locals: &[Ty],
+    typed: &Typed,
     arguments: &[Region],
     declared: &Ty,
     place: &Place,
 ) -> Result<(), AllocError>
     ensures { OnOk result (constraints.new.items
-        ≡ constraints.old.items ++ sub_place types.now locals.now (Some (replaced_ty arguments.now declared.now)) place.now) }
+        ≡ constraints.old.items ++ sub_place typed.now (Some (replaced_ty arguments.now declared.now)) place.now) }
 {
     let returned = replace_ty(alloc, arguments, declared)?;
-    push_sub_place(
-        alloc,
-        constraints,
-        types,
-        locals,
-        &TyRef::of(&returned),
-        place,
-    )
+    push_sub_place(alloc, constraints, typed, &TyRef::of(&returned), place)
 }
 
 fn push_called_pairs(
     alloc: Global,
     constraints: &mut Vec<Constraint>,
-    types: &GoodTypes,
-    locals: &[Ty],
+    typed: &Typed,
     call: &Call,
     declaration: &ExternDeclaration,
 ) -> Result<(), AllocError>
-    ensures { OnOk result (constraints.new.items ≡ constraints.old.items ++ called_pairs types.now locals.now call.now declaration.now) }
+    ensures { OnOk result (constraints.new.items ≡ constraints.old.items ++ called_pairs typed.now call.now declaration.now) }
 {
     let arguments = call.function.regions.as_slice();
     let signature = &declaration.signature;
     let operands = call.operands.as_slice();
     let parameters = signature.parameters.as_slice();
-    push_operand_pairs(
-        alloc,
-        constraints,
-        types,
-        locals,
-        arguments,
-        operands,
-        parameters,
-    )?;
+    push_operand_pairs(alloc, constraints, typed, arguments, operands, parameters)?;
     push_clauses(constraints, arguments, signature.clauses.as_slice())?;
     push_returned_pairs(
         alloc,
         constraints,
-        types,
-        locals,
+        typed,
         arguments,
         &signature.result,
         &call.destination,
@@ -364,16 +389,76 @@ fn push_called_pairs(
 pub fn push_call_pairs(
     alloc: Global,
     constraints: &mut Vec<Constraint>,
-    types: &GoodTypes,
-    locals: &[Ty],
+    typed: &Typed,
     call: &Call,
 ) -> Result<(), AllocError>
-    ensures { OnOk result (constraints.new.items ≡ constraints.old.items ++ call_pairs types.now locals.now call.now) }
+    ensures { OnOk result (constraints.new.items ≡ constraints.old.items ++ call_pairs typed.now call.now) }
 {
-    match types.extern_of(&call.function.name) {
-        Some(declaration) => {
-            push_called_pairs(alloc, constraints, types, locals, call, declaration)
+    match typed.types().extern_of(&call.function.name) {
+        Some(declaration) => { push_called_pairs(alloc, constraints, typed, call, declaration) }
+        None => Ok(()),
+    }
+}
+
+/// Appends what a call of a child demands, with the child's regions replaced by arguments.
+fn push_passed_pairs(
+    alloc: Global,
+    constraints: &mut Vec<Constraint>,
+    typed: &Typed,
+    arguments: &[Region],
+    invocation: &Invocation,
+    header: &Header,
+) -> Result<(), AllocError>
+    ensures { OnOk result (constraints.new.items
+        ≡ constraints.old.items ++ passed_pairs typed.now arguments.now invocation.now header.now) }
+{
+    let signature = &header.signature;
+    let operands = invocation.operands.as_slice();
+    let parameters = signature.parameters.as_slice();
+    push_operand_pairs(alloc, constraints, typed, arguments, operands, parameters)?;
+    push_inner_clauses(constraints, header, arguments, signature.clauses.as_slice())?;
+    push_returned_pairs(
+        alloc,
+        constraints,
+        typed,
+        arguments,
+        &signature.result,
+        &invocation.destination,
+    )
+}
+
+fn push_invoked_pairs(
+    alloc: Global,
+    constraints: &mut Vec<Constraint>,
+    typed: &Typed,
+    invocation: &Invocation,
+    closure: &ClosureInstance,
+) -> Result<(), AllocError>
+    ensures { OnOk result (constraints.new.items ≡ constraints.old.items ++ invoked_pairs typed.now invocation.now closure.now) }
+{
+    match typed.child(closure.number) {
+        Some(header) => {
+            let external = closure.regions.as_slice();
+            let given = arguments(alloc, header, external, invocation.regions.as_slice())?;
+            push_passed_pairs(alloc, constraints, typed, &given, invocation, header)
         }
+        None => Ok(()),
+    }
+}
+
+/// Appends what the call of a closure demands: the operands are subtypes of the parameters, the clauses of the closure hold that
+/// its creation does not demand, and the result is a subtype of the destination. The error is want of memory alone.
+/// (RFC 2094, "Subtyping"; rustc-dev-guide, "Propagating closure constraints".)
+pub fn push_invocation_pairs(
+    alloc: Global,
+    constraints: &mut Vec<Constraint>,
+    typed: &Typed,
+    invocation: &Invocation,
+) -> Result<(), AllocError>
+    ensures { OnOk result (constraints.new.items ≡ constraints.old.items ++ invocation_pairs typed.now invocation.now) }
+{
+    match typed.closure_in(alloc, &invocation.closure)? {
+        Some(closure) => push_invoked_pairs(alloc, constraints, typed, invocation, &closure),
         None => Ok(()),
     }
 }

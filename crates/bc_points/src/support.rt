@@ -4,8 +4,8 @@ ghost use Rattle.bc_points.specs.Supports.{goes_on_mutable as going_on, supports
 
 use crate::place_ref::PlaceRef;
 use crate::prefix::rest_of;
-use bc_mir::passes_only_mutable;
-use bc_syntax::{Base, Projection, Reference, Ty};
+use bc_mir::{Typed, passes_only_mutable};
+use bc_syntax::{Base, Projection, Reference};
 use bc_types::GoodTypes;
 
 /// Whether behind projections is a type from which the rest dereference mutable references alone. Regions do not tell, so
@@ -27,7 +27,7 @@ fn supports_behind(
         },
         [Projection::Field(field), later @ ..] => match references {
             [] => match base {
-                Base::Int => false,
+                Base::Int | Base::Closure(_) => false,
                 Base::Struct(instance) => match types.declared_field(&instance.name, *field) {
                     Some(ty) => {
                         supports_behind(types, later, rest, ty.references.as_slice(), &ty.base)
@@ -40,17 +40,12 @@ fn supports_behind(
     }
 }
 
-fn supports_from(
-    types: &GoodTypes,
-    locals: &[Ty],
-    prefix: &PlaceRef<'_>,
-    rest: &[Projection],
-) -> bool
-    ensures { result ≡ support_from types.now locals.now prefix.now rest.now }
+fn supports_from(typed: &Typed, prefix: &PlaceRef<'_>, rest: &[Projection]) -> bool
+    ensures { result ≡ support_from typed.now prefix.now rest.now }
 {
-    match locals.get(usize::from(prefix.local())) {
+    match typed.locals().get(usize::from(prefix.local())) {
         Some(local) => supports_behind(
-            types,
+            typed.types(),
             prefix.projections(),
             rest,
             local.references.as_slice(),
@@ -60,29 +55,19 @@ fn supports_from(
     }
 }
 
-fn goes_on_mutable(
-    types: &GoodTypes,
-    locals: &[Ty],
-    prefix: &PlaceRef<'_>,
-    rest: &[Projection],
-) -> bool
-    ensures { result ≡ going_on types.now locals.now prefix.now rest.now }
+fn goes_on_mutable(typed: &Typed, prefix: &PlaceRef<'_>, rest: &[Projection]) -> bool
+    ensures { result ≡ going_on typed.now prefix.now rest.now }
 {
-    supports_from(types, locals, prefix, rest)
+    supports_from(typed, prefix, rest)
 }
 
 /// Whether the first place is a prefix of the second for which no dereference of a shared reference was taken away.
 /// (RFC 2094, "Reborrow constraints".)
-pub fn supports(
-    types: &GoodTypes,
-    locals: &[Ty],
-    prefix: &PlaceRef<'_>,
-    place: &PlaceRef<'_>,
-) -> bool
-    ensures { result ≡ support types.now locals.now prefix.now place.now }
+pub fn supports(typed: &Typed, prefix: &PlaceRef<'_>, place: &PlaceRef<'_>) -> bool
+    ensures { result ≡ support typed.now prefix.now place.now }
 {
     match rest_of(prefix, place) {
-        Some(rest) => goes_on_mutable(types, locals, prefix, rest),
+        Some(rest) => goes_on_mutable(typed, prefix, rest),
         None => false,
     }
 }

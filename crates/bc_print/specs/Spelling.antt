@@ -12,6 +12,7 @@ use Rattle.bc_syntax.specs.declared.syntax.Instance.{Instance}
 use Rattle.bc_syntax.specs.declared.syntax.Mutability.{Mutability}
 use Rattle.bc_syntax.specs.declared.syntax.Mutability.TheVariants.{Shared, Mutable}
 use Rattle.bc_syntax.specs.declared.syntax.Reference.{Reference}
+use Rattle.bc_syntax.specs.declared.syntax.ClosureInstance.{ClosureInstance}
 use Rattle.bc_syntax.specs.declared.syntax.Base.{Base}
 use Rattle.bc_syntax.specs.declared.syntax.Base.TheVariants as bases
 use Rattle.bc_syntax.specs.declared.syntax.Ty.{Ty}
@@ -22,6 +23,7 @@ use Rattle.bc_syntax.specs.declared.syntax.Operand.{Operand}
 use Rattle.bc_syntax.specs.declared.syntax.Operand.TheVariants as operand_kinds
 use Rattle.bc_syntax.specs.declared.syntax.Borrow.{Borrow}
 use Rattle.bc_syntax.specs.declared.syntax.Aggregate.{Aggregate}
+use Rattle.bc_syntax.specs.declared.syntax.Creation.{Creation}
 use Rattle.bc_syntax.specs.declared.syntax.Rvalue.{Rvalue}
 use Rattle.bc_syntax.specs.declared.syntax.Rvalue.TheVariants as rvalue_kinds
 use Rattle.bc_syntax.specs.declared.syntax.Assignment.{Assignment}
@@ -29,10 +31,13 @@ use Rattle.bc_syntax.specs.declared.syntax.Statement.{Statement}
 use Rattle.bc_syntax.specs.declared.syntax.Statement.TheVariants as statement_kinds
 use Rattle.bc_syntax.specs.declared.syntax.Condition.{Condition}
 use Rattle.bc_syntax.specs.declared.syntax.Call.{Call}
+use Rattle.bc_syntax.specs.declared.syntax.Invocation.{Invocation}
 use Rattle.bc_syntax.specs.declared.syntax.Terminator.{Terminator}
 use Rattle.bc_syntax.specs.declared.syntax.Terminator.TheVariants as terminator_kinds
 use Rattle.bc_syntax.specs.declared.syntax.Block.{Block}
 use Rattle.bc_syntax.specs.declared.syntax.Outlives.{Outlives}
+use Rattle.bc_syntax.specs.declared.syntax.UnitKind.{UnitKind}
+use Rattle.bc_syntax.specs.declared.syntax.UnitKind.TheVariants as kinds
 use Rattle.bc_syntax.specs.declared.syntax.Signature.{Signature}
 use Rattle.bc_syntax.specs.declared.syntax.Header.{Header}
 use Rattle.bc_syntax.specs.declared.syntax.Body.{Body}
@@ -79,6 +84,13 @@ item_name name = Word name.bytes ∷ []
 abbrev pub instance : List RegionName → Instance → List Token
 instance regions i = item_name i.name ++ angled (region regions) i.regions
 
+-- a closure of the unit with regions for its own, and what stands behind its word
+abbrev pub closure_number : List RegionName → ClosureInstance → List Token
+closure_number regions c = Numbered n.Number c.number ∷ angled (region regions) c.regions
+
+abbrev pub closure_instance : List RegionName → ClosureInstance → List Token
+closure_instance regions c = symbol s.Closure ++ closure_number regions c
+
 abbrev pub region_name : RegionName → List Token
 region_name name = Named name.bytes ∷ []
 
@@ -104,6 +116,7 @@ behind regions r = symbol s.Ampersand ++ reference regions r
 abbrev pub base : List RegionName → Base → List Token
 base regions bases.Int = symbol s.Int
 base regions (bases.Struct i) = instance regions i
+base regions (bases.Closure c) = closure_instance regions c
 
 abbrev pub ty : List RegionName → Ty → List Token
 ty regions t = flat_map (behind regions) t.references ++ base regions t.base
@@ -136,10 +149,14 @@ borrow regions b = reference regions b.reference ++ place b.place
 abbrev pub aggregate : List RegionName → Aggregate → List Token
 aggregate regions a = instance regions a.instance ++ operands a.operands
 
+abbrev pub creation : List RegionName → Creation → List Token
+creation regions c = closure_instance regions c.closure ++ operands c.operands
+
 abbrev pub rvalue : List RegionName → Rvalue → List Token
 rvalue regions (rvalue_kinds.Use o) = operand o
 rvalue regions (rvalue_kinds.Borrow b) = symbol s.Ampersand ++ borrow regions b
 rvalue regions (rvalue_kinds.Aggregate a) = aggregate regions a
+rvalue regions (rvalue_kinds.Closure c) = creation regions c
 rvalue regions (rvalue_kinds.Calc os) = symbol s.Calc ++ operands os
 
 abbrev pub assignment : List RegionName → Assignment → List Token
@@ -167,10 +184,18 @@ called regions c = instance regions c.function ++ (operands c.operands ++ label 
 abbrev pub call : List RegionName → Call → List Token
 call regions c = place c.destination ++ (symbol s.Equals ++ (symbol s.Call ++ called regions c))
 
+-- which closure is called, and where it returns to
+abbrev pub invoked : List RegionName → Invocation → List Token
+invoked regions i = place i.closure ++ (angled (region regions) i.regions ++ (operands i.operands ++ label i.target))
+
+abbrev pub invocation : List RegionName → Invocation → List Token
+invocation regions i = place i.destination ++ (symbol s.Equals ++ (symbol s.Invoke ++ invoked regions i))
+
 abbrev pub terminator : List RegionName → Terminator → List Token
 terminator regions (terminator_kinds.Goto number) = symbol s.Goto ++ label number
 terminator regions (terminator_kinds.If c) = symbol s.If ++ condition c
 terminator regions (terminator_kinds.Call c) = call regions c
+terminator regions (terminator_kinds.Invoke i) = invocation regions i
 terminator regions terminator_kinds.Return = symbol s.Return
 terminator regions terminator_kinds.Stop = symbol s.Stop
 
@@ -206,12 +231,37 @@ parameters regions ts = symbol s.OpenParen ++ (commas (ty regions) ts ++ symbol 
 abbrev pub function_ty : Signature → List Token
 function_ty f = parameters f.regions f.parameters ++ (symbol s.Arrow ++ ty f.regions f.result)
 
--- what stands behind the name of an extern function or the word `fn`
+-- a signature, with these tokens before what it takes
+abbrev pub signature_with : List Token → Signature → List Token
+signature_with found f = angled region_name f.regions ++ (clauses f.regions f.clauses ++ (found ++ function_ty f))
+
+-- what stands behind the name of an extern function
 abbrev pub signature : Signature → List Token
-signature f = angled region_name f.regions ++ (clauses f.regions f.clauses ++ function_ty f)
+signature f = signature_with [] f
+
+-- the first word of a unit
+abbrev pub kind_word : UnitKind → Symbol
+kind_word kinds.Function = s.Fn
+kind_word kinds.Closure = s.Closure
+
+-- the types that a closure captures
+abbrev pub bracketed : List RegionName → List Ty → List Token
+bracketed regions ts = symbol s.OpenBracket ++ (commas (ty regions) ts ++ symbol s.CloseBracket)
+
+-- what a unit of a kind says of them: a function says nothing
+abbrev pub captures_of : UnitKind → List RegionName → List Ty → List Token
+captures_of kinds.Function regions ts = []
+captures_of kinds.Closure regions ts = bracketed regions ts
+
+abbrev pub captures : Header → List Token
+captures h = captures_of h.kind h.signature.regions h.captures
+
+-- what stands behind the first word of a unit, up to its body
+abbrev pub header_rest : Header → List Token
+header_rest h = signature_with (captures h) h.signature
 
 abbrev pub header : Header → List Token
-header h = symbol s.Fn ++ signature h.signature
+header h = symbol (kind_word h.kind) ++ header_rest h
 
 -- what stands behind a header
 abbrev pub body : Body → List Token

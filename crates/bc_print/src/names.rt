@@ -10,7 +10,8 @@ ghost use Rattle.bc_print.specs.Universals.{universal_names};
 use crate::numbering::Numbering;
 use crate::tokens::{Spelled, write_angled, write_named, write_numbered, write_symbol, write_word};
 use bc_syntax::{
-    Base, Instance, ItemName, Mutability, Outlives, Reference, Region, RegionName, Symbol, Ty,
+    Base, ClosureInstance, Instance, ItemName, Mutability, Outlives, Reference, Region, RegionName,
+    Symbol, Ty,
 };
 use std::io;
 use std::io::Write;
@@ -90,6 +91,30 @@ pub fn write_instance<W: Write>(
     write_angled(regions, instance.regions.as_slice(), out)
 }
 
+/// Writes the number of a closure with regions for its own.
+fn write_closure_number<W: Write>(
+    regions: &[RegionName],
+    closure: &ClosureInstance,
+    out: &mut W,
+) -> io::Result<()>
+    ensures { OnOk result (Writes (W.contents out.old) (W.contents out.new) (spell.closure_number regions.now closure.now)) }
+{
+    write_numbered(Numbering::Number, u64::from(closure.number), out)?;
+    write_angled(regions, closure.regions.as_slice(), out)
+}
+
+/// Writes a closure of the unit with regions for its own. Own.
+pub fn write_closure_instance<W: Write>(
+    regions: &[RegionName],
+    closure: &ClosureInstance,
+    out: &mut W,
+) -> io::Result<()>
+    ensures { OnOk result (Writes (W.contents out.old) (W.contents out.new) (spell.closure_instance regions.now closure.now)) }
+{
+    write_symbol(Symbol::Closure, out)?;
+    write_closure_number(regions, closure, out)
+}
+
 fn write_mutability<W: Write>(mutability: Mutability, out: &mut W) -> io::Result<()>
     ensures { OnOk result (Writes (W.contents out.old) (W.contents out.new) (spell.mutability mutability)) }
 {
@@ -131,6 +156,7 @@ fn write_base<W: Write>(regions: &[RegionName], base: &Base, out: &mut W) -> io:
     match base {
         Base::Int => write_symbol(Symbol::Int, out),
         Base::Struct(instance) => write_instance(regions, instance, out),
+        Base::Closure(closure) => write_closure_instance(regions, closure, out),
     }
 }
 

@@ -6,12 +6,12 @@ ghost use Rattle.std.specs.List.{flat_map};
 ghost use Rattle.bc_print.specs.Printing.{Writes};
 ghost use Rattle.bc_print.specs.Spelling as spell;
 
-use crate::names::{write_instance, write_reference};
+use crate::names::{write_closure_instance, write_instance, write_reference};
 use crate::numbering::Numbering;
-use crate::tokens::{Spelled, write_commas, write_numbered, write_symbol};
+use crate::tokens::{Spelled, write_angled, write_commas, write_numbered, write_symbol};
 use bc_syntax::{
-    Aggregate, Assignment, Block, Borrow, Call, Condition, Operand, Place, Projection, RegionName,
-    Rvalue, Statement, Symbol, Terminator,
+    Aggregate, Assignment, Block, Borrow, Call, Condition, Creation, Invocation, Operand, Place,
+    Projection, RegionName, Rvalue, Statement, Symbol, Terminator,
 };
 use std::io;
 use std::io::Write;
@@ -92,6 +92,17 @@ fn write_aggregate<W: Write>(
     write_operands(aggregate.operands.as_slice(), out)
 }
 
+fn write_creation<W: Write>(
+    regions: &[RegionName],
+    creation: &Creation,
+    out: &mut W,
+) -> io::Result<()>
+    ensures { OnOk result (Writes (W.contents out.old) (W.contents out.new) (spell.creation regions.now creation.now)) }
+{
+    write_closure_instance(regions, &creation.closure, out)?;
+    write_operands(creation.operands.as_slice(), out)
+}
+
 fn write_rvalue<W: Write>(regions: &[RegionName], rvalue: &Rvalue, out: &mut W) -> io::Result<()>
     ensures { OnOk result (Writes (W.contents out.old) (W.contents out.new) (spell.rvalue regions.now rvalue.now)) }
 {
@@ -102,6 +113,7 @@ fn write_rvalue<W: Write>(regions: &[RegionName], rvalue: &Rvalue, out: &mut W) 
             write_borrow(regions, borrow, out)
         }
         Rvalue::Aggregate(aggregate) => write_aggregate(regions, aggregate, out),
+        Rvalue::Closure(creation) => write_creation(regions, creation, out),
         Rvalue::Calc(operands) => {
             write_symbol(Symbol::Calc, out)?;
             write_operands(operands.as_slice(), out)
@@ -188,6 +200,33 @@ fn write_call<W: Write>(regions: &[RegionName], call: &Call, out: &mut W) -> io:
     write_called(regions, call, out)
 }
 
+/// Writes which closure is called, and where it returns to.
+fn write_invoked<W: Write>(
+    regions: &[RegionName],
+    invocation: &Invocation,
+    out: &mut W,
+) -> io::Result<()>
+    ensures { OnOk result (Writes (W.contents out.old) (W.contents out.new) (spell.invoked regions.now invocation.now)) }
+{
+    write_place(&invocation.closure, out)?;
+    write_angled(regions, invocation.regions.as_slice(), out)?;
+    write_operands(invocation.operands.as_slice(), out)?;
+    write_label(invocation.target, out)
+}
+
+fn write_invocation<W: Write>(
+    regions: &[RegionName],
+    invocation: &Invocation,
+    out: &mut W,
+) -> io::Result<()>
+    ensures { OnOk result (Writes (W.contents out.old) (W.contents out.new) (spell.invocation regions.now invocation.now)) }
+{
+    write_place(&invocation.destination, out)?;
+    write_symbol(Symbol::Equals, out)?;
+    write_symbol(Symbol::Invoke, out)?;
+    write_invoked(regions, invocation, out)
+}
+
 fn write_terminator<W: Write>(
     regions: &[RegionName],
     terminator: &Terminator,
@@ -205,6 +244,7 @@ fn write_terminator<W: Write>(
             write_condition(condition, out)
         }
         Terminator::Call(call) => write_call(regions, call, out),
+        Terminator::Invoke(invocation) => write_invocation(regions, invocation, out),
         Terminator::Return => write_symbol(Symbol::Return, out),
         Terminator::Stop => write_symbol(Symbol::Stop, out),
     }

@@ -11,7 +11,7 @@ use crate::names::write_ty;
 use crate::numbering::Numbering;
 use crate::points::write_blocks;
 use crate::tokens::{write_angled, write_commas, write_numbered, write_symbol};
-use bc_syntax::{Body, Outlives, RegionName, Signature, Symbol, Ty, Unit};
+use bc_syntax::{Body, Header, Outlives, RegionName, Signature, Symbol, Ty, Unit, UnitKind};
 use std::io;
 use std::io::Write;
 
@@ -53,13 +53,57 @@ fn write_function_ty<W: Write>(signature: &Signature, out: &mut W) -> io::Result
     write_ty(regions, &signature.result, out)
 }
 
-/// Writes what stands behind the name of an extern function or the word `fn`. Own.
+/// Writes an extern function behind its name. Own.
 pub fn write_signature<W: Write>(signature: &Signature, out: &mut W) -> io::Result<()>
     ensures { OnOk result (Writes (W.contents out.old) (W.contents out.new) (spell.signature signature.now)) }
 {
     let regions = signature.regions.as_slice();
     write_angled(regions, regions, out)?;
     write_clauses(regions, signature.clauses.as_slice(), out)?;
+    write_function_ty(signature, out)
+}
+
+fn kind_word(kind: UnitKind) -> Symbol
+    ensures { result ≡ spell.kind_word kind }
+{
+    match kind {
+        UnitKind::Function => Symbol::Fn,
+        UnitKind::Closure => Symbol::Closure,
+    }
+}
+
+/// Writes the types that a closure captures, with their brackets.
+fn write_bracketed<W: Write>(regions: &[RegionName], captures: &[Ty], out: &mut W) -> io::Result<()>
+    ensures { OnOk result (Writes (W.contents out.old) (W.contents out.new) (spell.bracketed regions.now captures.now)) }
+{
+    write_symbol(Symbol::OpenBracket, out)?;
+    write_commas(regions, captures, out)?;
+    write_symbol(Symbol::CloseBracket, out)
+}
+
+/// Writes what a closure captures, and nothing for a function.
+fn write_captures<W: Write>(header: &Header, out: &mut W) -> io::Result<()>
+    ensures { OnOk result (Writes (W.contents out.old) (W.contents out.new) (spell.captures header.now)) }
+{
+    match header.kind {
+        UnitKind::Function => Ok(()),
+        UnitKind::Closure => {
+            let regions = header.signature.regions.as_slice();
+            write_bracketed(regions, header.captures.as_slice(), out)
+        }
+    }
+}
+
+/// Writes what stands behind the first word of a unit, up to its body.
+fn write_header_rest<W: Write>(header: &Header, out: &mut W) -> io::Result<()>
+    ensures { OnOk result (Writes (W.contents out.old) (W.contents out.new) (spell.header_rest header.now)) }
+{
+    let signature = &header.signature;
+    let regions = signature.regions.as_slice();
+    write_angled(regions, regions, out)?;
+    let clauses = signature.clauses.as_slice();
+    write_clauses(regions, clauses, out)?;
+    write_captures(header, out)?;
     write_function_ty(signature, out)
 }
 
@@ -108,8 +152,8 @@ pub fn print_unit<W: Write>(unit: &Unit, out: &mut W) -> io::Result<()>
     ensures { OnOk result (Appends (W.contents out.old) (W.contents out.new) (printed (spell.unit unit.now))) }
 {
     let body = unit.body();
-    out.write_all(Symbol::Fn.text())?;
-    write_signature(&body.header.signature, out)?;
+    out.write_all(kind_word(body.header.kind).text())?;
+    write_header_rest(&body.header, out)?;
     write_body(body, out)?;
     out.write_all(b"\n")
 }

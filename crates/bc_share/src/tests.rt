@@ -69,7 +69,7 @@ fn found_by(outcome: &Outcome) -> Found {
     match outcome {
         Outcome::NoBody => Found::NoBody,
         Outcome::BadTypes(index) => Found::BadTypes(*index),
-        Outcome::Ill(_, _) => Found::Other,
+        Outcome::Missing(_) | Outcome::Ill(_, _) => Found::Other,
         Outcome::Report(bodies) => match bodies.as_slice() {
             [body] => Found::Errors(body.errors.len()),
             _ => Found::Other,

@@ -11,6 +11,7 @@ use Rattle.bc_syntax.specs.declared.syntax.Mutability.TheVariants as mutabilitie
 use Rattle.bc_syntax.specs.declared.syntax.Reference.{Reference}
 use Rattle.bc_syntax.specs.declared.syntax.ItemName.{ItemName}
 use Rattle.bc_syntax.specs.declared.syntax.Instance.{Instance}
+use Rattle.bc_syntax.specs.declared.syntax.ClosureInstance.{ClosureInstance}
 use Rattle.bc_syntax.specs.declared.syntax.Base.{Base}
 use Rattle.bc_syntax.specs.declared.syntax.Base.TheVariants as bases
 use Rattle.bc_syntax.specs.declared.syntax.Ty.{Ty}
@@ -21,6 +22,7 @@ use Rattle.bc_syntax.specs.declared.syntax.Operand.{Operand}
 use Rattle.bc_syntax.specs.declared.syntax.Operand.TheVariants as operands
 use Rattle.bc_syntax.specs.declared.syntax.Borrow.{Borrow}
 use Rattle.bc_syntax.specs.declared.syntax.Aggregate.{Aggregate}
+use Rattle.bc_syntax.specs.declared.syntax.Creation.{Creation}
 use Rattle.bc_syntax.specs.declared.syntax.Rvalue.{Rvalue}
 use Rattle.bc_syntax.specs.declared.syntax.Rvalue.TheVariants as rvalues
 use Rattle.bc_syntax.specs.declared.syntax.Assignment.{Assignment}
@@ -28,6 +30,7 @@ use Rattle.bc_syntax.specs.declared.syntax.Statement.{Statement}
 use Rattle.bc_syntax.specs.declared.syntax.Statement.TheVariants as statements
 use Rattle.bc_syntax.specs.declared.syntax.Condition.{Condition}
 use Rattle.bc_syntax.specs.declared.syntax.Call.{Call}
+use Rattle.bc_syntax.specs.declared.syntax.Invocation.{Invocation}
 use Rattle.bc_syntax.specs.declared.syntax.Terminator.{Terminator}
 use Rattle.bc_syntax.specs.declared.syntax.Terminator.TheVariants as terminators
 use Rattle.bc_syntax.specs.declared.syntax.Block.{Block}
@@ -49,6 +52,7 @@ use Rattle.bc_syntax.specs.contracts.syntax.MutabilityPartialEq.TheImpl as mutab
 use Rattle.bc_syntax.specs.contracts.syntax.ReferencePartialEq.TheImpl as reference_impl
 use Rattle.bc_syntax.specs.contracts.syntax.ItemNamePartialEq.TheImpl as item_name_impl
 use Rattle.bc_syntax.specs.contracts.syntax.InstancePartialEq.TheImpl as instance_impl
+use Rattle.bc_syntax.specs.contracts.syntax.ClosureInstancePartialEq.TheImpl as closure_instance_impl
 use Rattle.bc_syntax.specs.contracts.syntax.BasePartialEq.TheImpl as base_impl
 use Rattle.bc_syntax.specs.contracts.syntax.TyPartialEq.TheImpl as ty_impl
 use Rattle.bc_syntax.specs.contracts.syntax.ProjectionPartialEq.TheImpl as projection_impl
@@ -56,11 +60,13 @@ use Rattle.bc_syntax.specs.contracts.syntax.PlacePartialEq.TheImpl as place_impl
 use Rattle.bc_syntax.specs.contracts.syntax.OperandPartialEq.TheImpl as operand_impl
 use Rattle.bc_syntax.specs.contracts.syntax.BorrowPartialEq.TheImpl as borrow_impl
 use Rattle.bc_syntax.specs.contracts.syntax.AggregatePartialEq.TheImpl as aggregate_impl
+use Rattle.bc_syntax.specs.contracts.syntax.CreationPartialEq.TheImpl as creation_impl
 use Rattle.bc_syntax.specs.contracts.syntax.RvaluePartialEq.TheImpl as rvalue_impl
 use Rattle.bc_syntax.specs.contracts.syntax.AssignmentPartialEq.TheImpl as assignment_impl
 use Rattle.bc_syntax.specs.contracts.syntax.StatementPartialEq.TheImpl as statement_impl
 use Rattle.bc_syntax.specs.contracts.syntax.ConditionPartialEq.TheImpl as condition_impl
 use Rattle.bc_syntax.specs.contracts.syntax.CallPartialEq.TheImpl as call_impl
+use Rattle.bc_syntax.specs.contracts.syntax.InvocationPartialEq.TheImpl as invocation_impl
 use Rattle.bc_syntax.specs.contracts.syntax.TerminatorPartialEq.TheImpl as terminator_impl
 use Rattle.bc_syntax.specs.contracts.syntax.BlockPartialEq.TheImpl as block_impl
 use Rattle.bc_syntax.specs.contracts.syntax.OutlivesPartialEq.TheImpl as outlives_impl
@@ -104,11 +110,21 @@ instance a b =
     Decides-like _ (λ p i. record { name = p.0 i; regions = p.1 i }) (λ e. (ap (λ (r : Instance). r.name) e, ap (λ (r : Instance). r.regions) e))
     (Decides-and _ _ (item_name a.name b.name) (slice_eq-Decides region a.regions b.regions _ refl))
 
+pub closure_instance : (a b : ClosureInstance) → Decides ((closure_instance_impl.ghosts).eq a b) (a ≡ b)
+closure_instance a b =
+    Decides-like _ (λ p i. record { number = p.0 i; regions = p.1 i }) (λ e. (ap (λ (r : ClosureInstance). r.number) e, ap (λ (r : ClosureInstance). r.regions) e))
+    (Decides-and _ _ (Decides-eqb a.number b.number) (slice_eq-Decides region a.regions b.regions _ refl))
+
 pub base : (a b : Base) → Decides ((base_impl.ghosts).eq a b) (a ≡ b)
 base bases.Int bases.Int = (λ _. refl, λ _. refl)
 base bases.Int (bases.Struct y) = apart (λ e. absurd (cc))
+base bases.Int (bases.Closure y) = apart (λ e. absurd (cc))
 base (bases.Struct x) bases.Int = apart (λ e. absurd (cc))
 base (bases.Struct x) (bases.Struct y) = Decides-like _ (λ e. ap (λ k. bases.Struct k) e) (λ e. cc) (instance x y)
+base (bases.Struct x) (bases.Closure y) = apart (λ e. absurd (cc))
+base (bases.Closure x) bases.Int = apart (λ e. absurd (cc))
+base (bases.Closure x) (bases.Struct y) = apart (λ e. absurd (cc))
+base (bases.Closure x) (bases.Closure y) = Decides-like _ (λ e. ap (λ k. bases.Closure k) e) (λ e. cc) (closure_instance x y)
 
 pub ty : (a b : Ty) → Decides ((ty_impl.ghosts).eq a b) (a ≡ b)
 ty a b =
@@ -147,22 +163,36 @@ aggregate a b =
     Decides-like _ (λ p i. record { instance = p.0 i; operands = p.1 i }) (λ e. (ap (λ (r : Aggregate). r.instance) e, ap (λ (r : Aggregate). r.operands) e))
     (Decides-and _ _ (instance a.instance b.instance) (slice_eq-Decides operand a.operands b.operands _ refl))
 
+pub creation : (a b : Creation) → Decides ((creation_impl.ghosts).eq a b) (a ≡ b)
+creation a b =
+    Decides-like _ (λ p i. record { closure = p.0 i; operands = p.1 i }) (λ e. (ap (λ (r : Creation). r.closure) e, ap (λ (r : Creation). r.operands) e))
+    (Decides-and _ _ (closure_instance a.closure b.closure) (slice_eq-Decides operand a.operands b.operands _ refl))
+
 pub rvalue : (a b : Rvalue) → Decides ((rvalue_impl.ghosts).eq a b) (a ≡ b)
 rvalue (rvalues.Use x) (rvalues.Use y) = Decides-like _ (λ e. ap (λ k. rvalues.Use k) e) (λ e. cc) (operand x y)
 rvalue (rvalues.Use x) (rvalues.Borrow y) = apart (λ e. absurd (cc))
 rvalue (rvalues.Use x) (rvalues.Aggregate y) = apart (λ e. absurd (cc))
+rvalue (rvalues.Use x) (rvalues.Closure y) = apart (λ e. absurd (cc))
 rvalue (rvalues.Use x) (rvalues.Calc y) = apart (λ e. absurd (cc))
 rvalue (rvalues.Borrow x) (rvalues.Use y) = apart (λ e. absurd (cc))
 rvalue (rvalues.Borrow x) (rvalues.Borrow y) = Decides-like _ (λ e. ap (λ k. rvalues.Borrow k) e) (λ e. cc) (borrow x y)
 rvalue (rvalues.Borrow x) (rvalues.Aggregate y) = apart (λ e. absurd (cc))
+rvalue (rvalues.Borrow x) (rvalues.Closure y) = apart (λ e. absurd (cc))
 rvalue (rvalues.Borrow x) (rvalues.Calc y) = apart (λ e. absurd (cc))
 rvalue (rvalues.Aggregate x) (rvalues.Use y) = apart (λ e. absurd (cc))
 rvalue (rvalues.Aggregate x) (rvalues.Borrow y) = apart (λ e. absurd (cc))
 rvalue (rvalues.Aggregate x) (rvalues.Aggregate y) = Decides-like _ (λ e. ap (λ k. rvalues.Aggregate k) e) (λ e. cc) (aggregate x y)
+rvalue (rvalues.Aggregate x) (rvalues.Closure y) = apart (λ e. absurd (cc))
 rvalue (rvalues.Aggregate x) (rvalues.Calc y) = apart (λ e. absurd (cc))
+rvalue (rvalues.Closure x) (rvalues.Use y) = apart (λ e. absurd (cc))
+rvalue (rvalues.Closure x) (rvalues.Borrow y) = apart (λ e. absurd (cc))
+rvalue (rvalues.Closure x) (rvalues.Aggregate y) = apart (λ e. absurd (cc))
+rvalue (rvalues.Closure x) (rvalues.Closure y) = Decides-like _ (λ e. ap (λ k. rvalues.Closure k) e) (λ e. cc) (creation x y)
+rvalue (rvalues.Closure x) (rvalues.Calc y) = apart (λ e. absurd (cc))
 rvalue (rvalues.Calc x) (rvalues.Use y) = apart (λ e. absurd (cc))
 rvalue (rvalues.Calc x) (rvalues.Borrow y) = apart (λ e. absurd (cc))
 rvalue (rvalues.Calc x) (rvalues.Aggregate y) = apart (λ e. absurd (cc))
+rvalue (rvalues.Calc x) (rvalues.Closure y) = apart (λ e. absurd (cc))
 rvalue (rvalues.Calc x) (rvalues.Calc y) = Decides-like _ (λ e. ap (λ k. rvalues.Calc k) e) (λ e. cc) (slice_eq-Decides operand x y _ refl)
 
 pub assignment : (a b : Assignment) → Decides ((assignment_impl.ghosts).eq a b) (a ≡ b)
@@ -198,30 +228,46 @@ call a b =
     Decides-like _ (λ p i. record { destination = p.0 i; function = p.1.0 i; operands = p.1.1.0 i; target = p.1.1.1 i }) (λ e. (ap (λ (r : Call). r.destination) e, (ap (λ (r : Call). r.function) e, (ap (λ (r : Call). r.operands) e, ap (λ (r : Call). r.target) e))))
     (Decides-and _ _ (place a.destination b.destination) (Decides-and _ _ (instance a.function b.function) (Decides-and _ _ (slice_eq-Decides operand a.operands b.operands _ refl) (Decides-eqb a.target b.target))))
 
+pub invocation : (a b : Invocation) → Decides ((invocation_impl.ghosts).eq a b) (a ≡ b)
+invocation a b =
+    Decides-like _ (λ p i. record { destination = p.0 i; closure = p.1.0 i; regions = p.1.1.0 i; operands = p.1.1.1.0 i; target = p.1.1.1.1 i }) (λ e. (ap (λ (r : Invocation). r.destination) e, (ap (λ (r : Invocation). r.closure) e, (ap (λ (r : Invocation). r.regions) e, (ap (λ (r : Invocation). r.operands) e, ap (λ (r : Invocation). r.target) e)))))
+    (Decides-and _ _ (place a.destination b.destination) (Decides-and _ _ (place a.closure b.closure) (Decides-and _ _ (slice_eq-Decides region a.regions b.regions _ refl) (Decides-and _ _ (slice_eq-Decides operand a.operands b.operands _ refl) (Decides-eqb a.target b.target)))))
+
 pub terminator : (a b : Terminator) → Decides ((terminator_impl.ghosts).eq a b) (a ≡ b)
 terminator (terminators.Goto x) (terminators.Goto y) = Decides-like _ (λ e. ap (λ k. terminators.Goto k) e) (λ e. cc) (Decides-eqb x y)
 terminator (terminators.Goto x) (terminators.If y) = apart (λ e. absurd (cc))
 terminator (terminators.Goto x) (terminators.Call y) = apart (λ e. absurd (cc))
+terminator (terminators.Goto x) (terminators.Invoke y) = apart (λ e. absurd (cc))
 terminator (terminators.Goto x) terminators.Return = apart (λ e. absurd (cc))
 terminator (terminators.Goto x) terminators.Stop = apart (λ e. absurd (cc))
 terminator (terminators.If x) (terminators.Goto y) = apart (λ e. absurd (cc))
 terminator (terminators.If x) (terminators.If y) = Decides-like _ (λ e. ap (λ k. terminators.If k) e) (λ e. cc) (condition x y)
 terminator (terminators.If x) (terminators.Call y) = apart (λ e. absurd (cc))
+terminator (terminators.If x) (terminators.Invoke y) = apart (λ e. absurd (cc))
 terminator (terminators.If x) terminators.Return = apart (λ e. absurd (cc))
 terminator (terminators.If x) terminators.Stop = apart (λ e. absurd (cc))
 terminator (terminators.Call x) (terminators.Goto y) = apart (λ e. absurd (cc))
 terminator (terminators.Call x) (terminators.If y) = apart (λ e. absurd (cc))
 terminator (terminators.Call x) (terminators.Call y) = Decides-like _ (λ e. ap (λ k. terminators.Call k) e) (λ e. cc) (call x y)
+terminator (terminators.Call x) (terminators.Invoke y) = apart (λ e. absurd (cc))
 terminator (terminators.Call x) terminators.Return = apart (λ e. absurd (cc))
 terminator (terminators.Call x) terminators.Stop = apart (λ e. absurd (cc))
+terminator (terminators.Invoke x) (terminators.Goto y) = apart (λ e. absurd (cc))
+terminator (terminators.Invoke x) (terminators.If y) = apart (λ e. absurd (cc))
+terminator (terminators.Invoke x) (terminators.Call y) = apart (λ e. absurd (cc))
+terminator (terminators.Invoke x) (terminators.Invoke y) = Decides-like _ (λ e. ap (λ k. terminators.Invoke k) e) (λ e. cc) (invocation x y)
+terminator (terminators.Invoke x) terminators.Return = apart (λ e. absurd (cc))
+terminator (terminators.Invoke x) terminators.Stop = apart (λ e. absurd (cc))
 terminator terminators.Return (terminators.Goto y) = apart (λ e. absurd (cc))
 terminator terminators.Return (terminators.If y) = apart (λ e. absurd (cc))
 terminator terminators.Return (terminators.Call y) = apart (λ e. absurd (cc))
+terminator terminators.Return (terminators.Invoke y) = apart (λ e. absurd (cc))
 terminator terminators.Return terminators.Return = (λ _. refl, λ _. refl)
 terminator terminators.Return terminators.Stop = apart (λ e. absurd (cc))
 terminator terminators.Stop (terminators.Goto y) = apart (λ e. absurd (cc))
 terminator terminators.Stop (terminators.If y) = apart (λ e. absurd (cc))
 terminator terminators.Stop (terminators.Call y) = apart (λ e. absurd (cc))
+terminator terminators.Stop (terminators.Invoke y) = apart (λ e. absurd (cc))
 terminator terminators.Stop terminators.Return = apart (λ e. absurd (cc))
 terminator terminators.Stop terminators.Stop = (λ _. refl, λ _. refl)
 
@@ -242,6 +288,9 @@ region_name a b =
 
 pub unit_kind : (a b : UnitKind) → Decides ((unit_kind_impl.ghosts).eq a b) (a ≡ b)
 unit_kind unit_kinds.Function unit_kinds.Function = (λ _. refl, λ _. refl)
+unit_kind unit_kinds.Function unit_kinds.Closure = apart (λ e. absurd (cc))
+unit_kind unit_kinds.Closure unit_kinds.Function = apart (λ e. absurd (cc))
+unit_kind unit_kinds.Closure unit_kinds.Closure = (λ _. refl, λ _. refl)
 
 pub signature : (a b : Signature) → Decides ((signature_impl.ghosts).eq a b) (a ≡ b)
 signature a b =
@@ -250,8 +299,8 @@ signature a b =
 
 pub header : (a b : Header) → Decides ((header_impl.ghosts).eq a b) (a ≡ b)
 header a b =
-    Decides-like _ (λ p i. record { kind = p.0 i; signature = p.1 i }) (λ e. (ap (λ (r : Header). r.kind) e, ap (λ (r : Header). r.signature) e))
-    (Decides-and _ _ (unit_kind a.kind b.kind) (signature a.signature b.signature))
+    Decides-like _ (λ p i. record { kind = p.0 i; captures = p.1.0 i; signature = p.1.1 i }) (λ e. (ap (λ (r : Header). r.kind) e, (ap (λ (r : Header). r.captures) e, ap (λ (r : Header). r.signature) e)))
+    (Decides-and _ _ (unit_kind a.kind b.kind) (Decides-and _ _ (slice_eq-Decides ty a.captures b.captures _ refl) (signature a.signature b.signature)))
 
 pub body : (a b : Body) → Decides ((body_impl.ghosts).eq a b) (a ≡ b)
 body a b =

@@ -2,3 +2,4 @@ pub mod Keywords
 pub mod Fronts
 pub mod Equality
 pub mod Signatures
+pub mod Marks

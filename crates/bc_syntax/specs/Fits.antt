@@ -1,5 +1,5 @@
 -- What every unit keeps, so that it has a spelling and all its numbers are within their limits.
-use Rattle.std.specs.Prelude.{◌≡◌, ℕ, ◌+◌, ◌≤◌, Bool, true, false, not, ◌&&◌, nat_lt, nat_le, List, [], ◌∷◌, ◌++◌, length, sum_by, ◌==◌, codes}
+use Rattle.std.specs.Prelude.{◌≡◌, ℕ, ◌+◌, ◌≤◌, Bool, true, false, not, ◌&&◌, ◌||◌, nat_lt, nat_le, List, [], ◌∷◌, ◌++◌, length, sum_by, ◌==◌, codes}
 use Rattle.std.specs.List.{list_all, list_any, filter}
 use Rattle.std.specs.Str.{bytes_eq}
 use Rattle.bc_syntax.specs.declared.syntax.Region.{Region}
@@ -8,6 +8,7 @@ use Rattle.bc_syntax.specs.declared.syntax.RegionName.{RegionName}
 use Rattle.bc_syntax.specs.declared.syntax.ItemName.{ItemName}
 use Rattle.bc_syntax.specs.declared.syntax.Instance.{Instance}
 use Rattle.bc_syntax.specs.declared.syntax.Reference.{Reference}
+use Rattle.bc_syntax.specs.declared.syntax.ClosureInstance.{ClosureInstance}
 use Rattle.bc_syntax.specs.declared.syntax.Base.{Base}
 use Rattle.bc_syntax.specs.declared.syntax.Base.TheVariants as bases
 use Rattle.bc_syntax.specs.declared.syntax.Ty.{Ty}
@@ -18,6 +19,7 @@ use Rattle.bc_syntax.specs.declared.syntax.Operand.{Operand}
 use Rattle.bc_syntax.specs.declared.syntax.Operand.TheVariants as operands
 use Rattle.bc_syntax.specs.declared.syntax.Borrow.{Borrow}
 use Rattle.bc_syntax.specs.declared.syntax.Aggregate.{Aggregate}
+use Rattle.bc_syntax.specs.declared.syntax.Creation.{Creation}
 use Rattle.bc_syntax.specs.declared.syntax.Rvalue.{Rvalue}
 use Rattle.bc_syntax.specs.declared.syntax.Rvalue.TheVariants as rvalues
 use Rattle.bc_syntax.specs.declared.syntax.Assignment.{Assignment}
@@ -25,10 +27,13 @@ use Rattle.bc_syntax.specs.declared.syntax.Statement.{Statement}
 use Rattle.bc_syntax.specs.declared.syntax.Statement.TheVariants as statements
 use Rattle.bc_syntax.specs.declared.syntax.Condition.{Condition}
 use Rattle.bc_syntax.specs.declared.syntax.Call.{Call}
+use Rattle.bc_syntax.specs.declared.syntax.Invocation.{Invocation}
 use Rattle.bc_syntax.specs.declared.syntax.Terminator.{Terminator}
 use Rattle.bc_syntax.specs.declared.syntax.Terminator.TheVariants as terminators
 use Rattle.bc_syntax.specs.declared.syntax.Block.{Block}
 use Rattle.bc_syntax.specs.declared.syntax.Outlives.{Outlives}
+use Rattle.bc_syntax.specs.declared.syntax.UnitKind.{UnitKind}
+use Rattle.bc_syntax.specs.declared.syntax.UnitKind.TheVariants.{Function, Closure}
 use Rattle.bc_syntax.specs.declared.syntax.Signature.{Signature}
 use Rattle.bc_syntax.specs.declared.syntax.Header.{Header}
 use Rattle.bc_syntax.specs.declared.syntax.Body.{Body}
@@ -73,6 +78,10 @@ regions_fit variables universals regions = list_all (region_fits variables unive
 abbrev pub instance_fits : Bool → ℕ → Instance → Bool
 instance_fits variables universals instance = item_fits instance.name && regions_fit variables universals instance.regions
 
+-- a closure of the unit with regions for its own
+abbrev pub closure_fits : Bool → ℕ → ClosureInstance → Bool
+closure_fits variables universals closure = nat_le closure.number 63 && regions_fit variables universals closure.regions
+
 -- a clause between universal regions
 abbrev pub clause_fits : ℕ → Outlives → Bool
 clause_fits universals clause = nat_lt clause.longer universals && nat_lt clause.shorter universals
@@ -82,12 +91,25 @@ clause_fits universals clause = nat_lt clause.longer universals && nat_lt clause
 abbrev pub reference_fits : Bool → ℕ → Reference → Bool
 reference_fits variables universals reference = region_fits variables universals reference.region
 
+-- an `int` or a struct: a closure is no part of a type
 abbrev pub base_fits : Bool → ℕ → Base → Bool
 base_fits variables universals bases.Int = true
 base_fits variables universals (bases.Struct instance) = instance_fits variables universals instance
+base_fits variables universals (bases.Closure closure) = false
 
 abbrev pub ty_fits : Bool → ℕ → Ty → Bool
 ty_fits variables universals ty = list_all (reference_fits variables universals) ty.references && nat_le (length ty.references) 7 && base_fits variables universals ty.base
+
+-- a closure behind no reference
+abbrev pub whole_closure_fits : ℕ → List Reference → Base → Bool
+whole_closure_fits universals [] bases.Int = false
+whole_closure_fits universals [] (bases.Struct instance) = false
+whole_closure_fits universals [] (bases.Closure closure) = closure_fits true universals closure
+whole_closure_fits universals (reference ∷ references) base = false
+
+-- the type of a `let` local: one as it may stand anywhere in a body, or a whole closure
+abbrev pub let_fits : ℕ → Ty → Bool
+let_fits universals ty = ty_fits true universals ty || whole_closure_fits universals ty.references ty.base
 
 -- ---- places and operands
 
@@ -114,10 +136,14 @@ borrow_fits universals locals borrow = reference_fits true universals borrow.ref
 abbrev pub aggregate_fits : ℕ → ℕ → Aggregate → Bool
 aggregate_fits universals locals aggregate = instance_fits true universals aggregate.instance && operands_fit locals aggregate.operands
 
+abbrev pub creation_fits : ℕ → ℕ → Creation → Bool
+creation_fits universals locals creation = closure_fits true universals creation.closure && operands_fit locals creation.operands
+
 abbrev pub rvalue_fits : (universals locals : ℕ) → Rvalue → Bool
 rvalue_fits universals locals (rvalues.Use operand) = operand_fits locals operand
 rvalue_fits universals locals (rvalues.Borrow borrow) = borrow_fits universals locals borrow
 rvalue_fits universals locals (rvalues.Aggregate aggregate) = aggregate_fits universals locals aggregate
+rvalue_fits universals locals (rvalues.Closure creation) = creation_fits universals locals creation
 rvalue_fits universals locals (rvalues.Calc os) = operands_fit locals os
 
 abbrev pub assignment_fits : ℕ → ℕ → Assignment → Bool
@@ -135,10 +161,14 @@ condition_fits locals condition = operand_fits locals condition.operand && nat_l
 abbrev pub call_fits : ℕ → ℕ → Call → Bool
 call_fits universals locals call = place_fits locals call.destination && instance_fits true universals call.function && operands_fit locals call.operands && nat_le call.target 255
 
+abbrev pub invocation_fits : ℕ → ℕ → Invocation → Bool
+invocation_fits universals locals invocation = place_fits locals invocation.destination && place_fits locals invocation.closure && regions_fit true universals invocation.regions && operands_fit locals invocation.operands && nat_le invocation.target 255
+
 abbrev pub terminator_fits : ℕ → ℕ → Terminator → Bool
 terminator_fits universals locals (terminators.Goto label) = nat_le label 255
 terminator_fits universals locals (terminators.If condition) = condition_fits locals condition
 terminator_fits universals locals (terminators.Call call) = call_fits universals locals call
+terminator_fits universals locals (terminators.Invoke invocation) = invocation_fits universals locals invocation
 terminator_fits universals locals terminators.Return = true
 terminator_fits universals locals terminators.Stop = true
 
@@ -157,9 +187,15 @@ parameters_fit universals parameters = list_all (ty_fits false universals) param
 abbrev pub signature_fits : ℕ → Signature → Bool
 signature_fits limit s = are_new [] s.regions && nat_le (length s.regions) limit && clauses_fit (universal_count s) s.clauses && parameters_fit (universal_count s) s.parameters && ty_fits false (universal_count s) s.result
 
+-- what a unit of a kind captures: a function captures nothing, a closure as many types as it may have parameters
+abbrev pub kind_fits : ℕ → UnitKind → List Ty → Bool
+kind_fits universals Function [] = true
+kind_fits universals Function (capture ∷ captures) = false
+kind_fits universals Closure captures = parameters_fit universals captures
+
 -- what stands before a body
 abbrev pub header_fits : Header → Bool
-header_fits header = signature_fits 15 header.signature
+header_fits header = kind_fits (universal_count header.signature) header.kind header.captures && signature_fits 15 header.signature
 
 -- ---- declarations
 
@@ -187,7 +223,7 @@ pub record TypesFit (ds : List Declaration) : Type 0 where
 
 pub record Fits (body : Body) : Type 0 where
   pub header : header_fits body.header ≡ true
-  pub lets : list_all (ty_fits true (universal_count body.header.signature)) body.lets ≡ true
+  pub lets : list_all (let_fits (universal_count body.header.signature)) body.lets ≡ true
   pub locals : length (locals_of body) ≤ 256
   pub some_block : 1 ≤ length body.blocks
   pub few_blocks : length body.blocks ≤ 256

@@ -3,4 +3,5 @@ pub mod Symbol
 pub mod Likely
 pub mod Words
 pub mod Locals
+pub mod Children
 pub mod Fits

@@ -4,9 +4,9 @@ use Rattle.bc_syntax.specs.declared.syntax.Ty.{Ty}
 use Rattle.bc_syntax.specs.declared.syntax.Header.{Header}
 use Rattle.bc_syntax.specs.declared.syntax.Body.{Body}
 
--- the types of the locals that a header declares: the result, the parameters
+-- the types of the locals that a header declares: the result, the captures, the parameters
 abbrev pub declared_locals : Header → List Ty
-declared_locals header = header.signature.result ∷ header.signature.parameters
+declared_locals header = header.signature.result ∷ (header.captures ++ header.signature.parameters)
 
 -- the number of the first `let` local
 abbrev pub first_let : Header → ℕ

@@ -1,5 +1,5 @@
 //! Whether the numbers of a body are within their limits, its regions and locals declared, and its names words.
-ghost use Rattle.std.specs.Prelude.{◌≡◌, ◌+◌, ◌≤◌, ◌<◌, ◌&&◌, ◌↔◌, ◌++◌, [], IsTrue, nat_le, true, length, sum_by, take, drop, ℕ};
+ghost use Rattle.std.specs.Prelude.{◌≡◌, ◌+◌, ◌≤◌, ◌<◌, ◌&&◌, ◌↔◌, ◌++◌, [], IsTrue, nat_le, true, false, length, sum_by, take, drop, ℕ};
 ghost use Rattle.std.specs.List.{list_all, list_any};
 ghost use Rattle.std.specs.Str.{bytes_eq};
 ghost use Rattle.bc_syntax.specs.Fits as spec;
@@ -8,9 +8,9 @@ ghost use Rattle.bc_syntax.specs.Locals.{locals_of};
 ghost use Rattle.bc_syntax.specs.declared.syntax.RegionName.{RegionName};
 
 use crate::syntax::{
-    Aggregate, Assignment, Base, Block, Body, Borrow, Call, Condition, Header, Instance, ItemName,
-    Operand, Outlives, Place, Projection, Reference, Region, RegionName, Rvalue, Signature,
-    Statement, Terminator, Ty,
+    Aggregate, Assignment, Base, Block, Body, Borrow, Call, ClosureInstance, Condition, Creation,
+    Header, Instance, Invocation, ItemName, Operand, Outlives, Place, Projection, Reference,
+    Region, RegionName, Rvalue, Signature, Statement, Terminator, Ty, UnitKind,
 };
 use crate::words::{is_region_name, is_word};
 
@@ -87,6 +87,12 @@ fn instance_fits(limits: Limits, instance: &Instance) -> bool
     item_fits(&instance.name) && regions_fit(limits, instance.regions.as_slice())
 }
 
+fn closure_fits(limits: Limits, closure: &ClosureInstance) -> bool
+    ensures { result ≡ spec.closure_fits limits.variables limits.universals closure.now }
+{
+    closure.number <= 63 && regions_fit(limits, closure.regions.as_slice())
+}
+
 fn clause_fits(universals: usize, clause: Outlives) -> bool
     ensures { result ≡ spec.clause_fits universals clause }
 {
@@ -120,6 +126,7 @@ fn base_fits(limits: Limits, base: &Base) -> bool
     match base {
         Base::Int => true,
         Base::Struct(instance) => instance_fits(limits, instance),
+        Base::Closure(_) => false,
     }
 }
 
@@ -145,6 +152,35 @@ pub fn tys_fit(limits: Limits, tys: &[Ty]) -> bool
     ensures { result ≡ list_all (spec.ty_fits limits.variables limits.universals) tys.now }
 {
     tys.iter().all(|ty| ty_fits(limits, ty))
+}
+
+/// Whether a type is a closure behind no reference.
+fn whole_closure_fits(limits: Limits, ty: &Ty) -> bool
+    requires { limits.variables ≡ true }
+    ensures { result ≡ spec.whole_closure_fits limits.universals ty.now.references ty.now.base }
+{
+    match ty.references.as_slice() {
+        [] => match &ty.base {
+            Base::Int => false,
+            Base::Struct(_) => false,
+            Base::Closure(closure) => closure_fits(limits, closure),
+        },
+        [_, ..] => false,
+    }
+}
+
+fn let_fits(limits: Limits, ty: &Ty) -> bool
+    requires { limits.variables ≡ true }
+    ensures { result ≡ spec.let_fits limits.universals ty.now }
+{
+    ty_fits(limits, ty) || whole_closure_fits(limits, ty)
+}
+
+fn lets_fit(limits: Limits, lets: &[Ty]) -> bool
+    requires { limits.variables ≡ true }
+    ensures { result ≡ list_all (spec.let_fits limits.universals) lets.now }
+{
+    lets.iter().all(|ty| let_fits(limits, ty))
 }
 
 fn projection_fits(projection: Projection) -> bool
@@ -210,6 +246,13 @@ fn aggregate_fits(limits: Limits, aggregate: &Aggregate) -> bool
         && operands_fit(limits, aggregate.operands.as_slice())
 }
 
+fn creation_fits(limits: Limits, creation: &Creation) -> bool
+    requires { limits.variables ≡ true }
+    ensures { result ≡ spec.creation_fits limits.universals limits.locals creation.now }
+{
+    closure_fits(limits, &creation.closure) && operands_fit(limits, creation.operands.as_slice())
+}
+
 fn rvalue_fits(limits: Limits, rvalue: &Rvalue) -> bool
     requires { limits.variables ≡ true }
     ensures { result ≡ spec.rvalue_fits limits.universals limits.locals rvalue.now }
@@ -218,6 +261,7 @@ fn rvalue_fits(limits: Limits, rvalue: &Rvalue) -> bool
         Rvalue::Use(operand) => operand_fits(limits, operand),
         Rvalue::Borrow(borrow) => borrow_fits(limits, borrow),
         Rvalue::Aggregate(aggregate) => aggregate_fits(limits, aggregate),
+        Rvalue::Closure(creation) => creation_fits(limits, creation),
         Rvalue::Calc(operands) => operands_fit(limits, operands.as_slice()),
     }
 }
@@ -259,6 +303,17 @@ fn call_fits(limits: Limits, call: &Call) -> bool
         && call.target <= u8::MAX
 }
 
+fn invocation_fits(limits: Limits, invocation: &Invocation) -> bool
+    requires { limits.variables ≡ true }
+    ensures { result ≡ spec.invocation_fits limits.universals limits.locals invocation.now }
+{
+    place_fits(limits, &invocation.destination)
+        && place_fits(limits, &invocation.closure)
+        && regions_fit(limits, invocation.regions.as_slice())
+        && operands_fit(limits, invocation.operands.as_slice())
+        && invocation.target <= u8::MAX
+}
+
 fn terminator_fits(limits: Limits, terminator: &Terminator) -> bool
     requires { limits.variables ≡ true }
     ensures { result ≡ spec.terminator_fits limits.universals limits.locals terminator.now }
@@ -267,6 +322,7 @@ fn terminator_fits(limits: Limits, terminator: &Terminator) -> bool
         Terminator::Goto(label) => *label <= u8::MAX,
         Terminator::If(condition) => condition_fits(limits, condition),
         Terminator::Call(call) => call_fits(limits, call),
+        Terminator::Invoke(invocation) => invocation_fits(limits, invocation),
         Terminator::Return => true,
         Terminator::Stop => true,
     }
@@ -311,6 +367,27 @@ fn has_few_points(blocks: &[Block]) -> bool
     true
 }
 
+/// Whether these are at most 16 types that may stand in a header.
+fn parameters_fit(limits: Limits, parameters: &[Ty]) -> bool
+    requires { limits.variables ≡ false }
+    ensures { result ≡ spec.parameters_fit limits.universals parameters.now }
+{
+    tys_fit(limits, parameters) && parameters.len() <= 16
+}
+
+/// What may be named in a header that declares so many regions.
+fn header_limits(regions: &[RegionName]) -> Limits
+    requires { length regions.now ≤ 15 }
+    ensures variables { result.variables ≡ false }
+    ensures universals { result.universals ≡ length regions.now + 1 }
+{
+    Limits {
+        variables: false,
+        universals: regions.len() + 1,
+        locals: 0,
+    }
+}
+
 /// Whether a signature has a spelling where it may declare at most so many regions.
 pub(crate) fn signature_fits(signature: &Signature, limit: usize) -> bool
     requires { limit ≤ 15 }
@@ -320,24 +397,39 @@ pub(crate) fn signature_fits(signature: &Signature, limit: usize) -> bool
     if regions.len() > limit {
         return false;
     }
-    let limits = Limits {
-        variables: false,
-        universals: regions.len() + 1,
-        locals: 0,
-    };
-    let parameters = signature.parameters.as_slice();
+    let limits = header_limits(regions);
     are_new(regions)
         && clauses_fit(limits.universals, signature.clauses.as_slice())
-        && tys_fit(limits, parameters)
-        && parameters.len() <= 16
+        && parameters_fit(limits, signature.parameters.as_slice())
         && ty_fits(limits, &signature.result)
+}
+
+/// Whether a unit of a kind may capture these types: a function captures nothing.
+fn kind_fits(limits: Limits, kind: UnitKind, captures: &[Ty]) -> bool
+    requires { limits.variables ≡ false }
+    ensures { result ≡ spec.kind_fits limits.universals kind captures.now }
+{
+    match kind {
+        UnitKind::Function => match captures {
+            [] => true,
+            [_, ..] => false,
+        },
+        UnitKind::Closure => parameters_fit(limits, captures),
+    }
 }
 
 /// Whether a unit's header has a spelling.
 fn header_fits(header: &Header) -> bool
     ensures { result ≡ spec.header_fits header.now }
 {
-    signature_fits(&header.signature, 15)
+    let regions = header.signature.regions.as_slice();
+    regions.len() <= 15
+        && kind_fits(
+            header_limits(regions),
+            header.kind,
+            header.captures.as_slice(),
+        )
+        && signature_fits(&header.signature, 15)
 }
 
 /// Whether a body has a spelling: its numbers are within their limits, its regions and locals are declared, and its
@@ -357,7 +449,7 @@ pub fn fits(body: &Body) -> bool
     limits.locals <= 256
         && 1 <= blocks.len()
         && blocks.len() <= 256
-        && tys_fit(limits, body.lets.as_slice())
+        && lets_fit(limits, body.lets.as_slice())
         && has_few_points(blocks)
         && blocks_fit(limits, blocks)
 }

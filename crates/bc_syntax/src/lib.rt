@@ -3,6 +3,7 @@
 #![tactic(auto)]
 
 mod bytes;
+mod closures;
 mod declarations;
 mod fits;
 mod locals;
@@ -18,10 +19,10 @@ pub use fits::is_new;
 pub use sequence::{Sequence, ShortSequence};
 pub use symbol::{Symbol, same};
 pub use syntax::{
-    Aggregate, Assignment, Base, Block, Body, Borrow, Call, Condition, Declaration,
-    ExternDeclaration, Header, Instance, ItemName, Mutability, Operand, Outlives, Place,
-    Projection, Reference, Region, RegionName, Rvalue, Signature, Statement, StructDeclaration,
-    Terminator, Ty, UnitKind, Variance,
+    Aggregate, Assignment, Base, Block, Body, Borrow, Call, ClosureInstance, Condition, Creation,
+    Declaration, ExternDeclaration, Header, Instance, Invocation, ItemName, Mutability, Operand,
+    Outlives, Place, Projection, Reference, Region, RegionName, Rvalue, Signature, Statement,
+    StructDeclaration, Terminator, Ty, UnitKind, Variance,
 };
 pub use unit::Unit;
 pub use words::{

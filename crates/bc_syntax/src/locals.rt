@@ -21,24 +21,25 @@ fn push_types(types: &mut Vec<Ty>, more: &[Ty]) -> Result<(), AllocError>
 }
 
 impl Header {
-    /// The number of the first `let` local, which is how many locals the header declares: the result and the parameters.
-    /// (rustc-dev-guide, "The MIR".)
+    /// The number of the first `let` local, which is how many locals the header declares: the result, the captures and the
+    /// parameters. (rustc-dev-guide, "The MIR".)
     pub fn first_let(&self) -> usize
         ensures { result ≡ first_let self.now }
     {
-        1 + self.signature.parameters.as_slice().len()
+        1 + self.captures.as_slice().len() + self.signature.parameters.as_slice().len()
     }
 }
 
 impl Body {
-    /// The types of the locals in order: the result, the parameters, the `let` locals. `AllocError` only where memory was
-    /// refused. (rustc-dev-guide, "The MIR".)
+    /// The types of the locals in order: the result, the captures, the parameters, the `let` locals. `AllocError` only where
+    /// memory was refused. (rustc-dev-guide, "The MIR".)
     pub fn local_types(&self, alloc: Global) -> Result<Vec<Ty>, AllocError>
         ensures { IfOk result (λ types. types.items ≡ locals_of self.now) }
     {
         let count = self.header.first_let().saturating_add(self.lets.len());
         let mut types = Vec::with_capacity(alloc, count)?;
         types.push(copy_type(&self.header.signature.result)?)?;
+        push_types(&mut types, self.header.captures.as_slice())?;
         push_types(&mut types, self.header.signature.parameters.as_slice())?;
         push_types(&mut types, self.lets.as_slice())?;
         Ok(types)

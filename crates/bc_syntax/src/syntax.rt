@@ -48,11 +48,19 @@ pub struct Instance {
     pub regions: ShortSequence<Region, 4>,
 }
 
+/// A closure of the unit, by its number, with regions for its external ones, in their order. Own.
+#[derive(Clone, Drop, PartialEq)]
+pub struct ClosureInstance {
+    pub number: u8,
+    pub regions: ShortSequence<Region, 4>,
+}
+
 /// What stands behind all references of a type. Own.
 #[derive(Clone, Drop, PartialEq)]
 pub enum Base {
     Int,
     Struct(Instance),
+    Closure(ClosureInstance),
 }
 
 /// A type: its references, the outermost first, and what they lead to. Own.
@@ -110,12 +118,20 @@ pub struct Aggregate {
     pub operands: ShortSequence<Operand, 2>,
 }
 
+/// A closure made from what it captures, in the order of its captures. Own.
+#[derive(Clone, Drop, PartialEq)]
+pub struct Creation {
+    pub closure: ClosureInstance,
+    pub operands: ShortSequence<Operand, 2>,
+}
+
 /// What an assignment computes. (rustc-dev-guide, "The MIR".)
 #[derive(Clone, Drop, PartialEq)]
 pub enum Rvalue {
     Use(Operand),
     Borrow(Borrow),
     Aggregate(Aggregate),
+    Closure(Creation),
     Calc(ShortSequence<Operand, 2>),
 }
 
@@ -152,12 +168,24 @@ pub struct Call {
     pub target: u8,
 }
 
+/// `destination = invoke closure<regions>(operands) target`: the closure in a place is called, with regions for its local
+/// ones in their order, and used up. The target is a label. Own.
+#[derive(Clone, Drop, PartialEq)]
+pub struct Invocation {
+    pub destination: Place,
+    pub closure: Place,
+    pub regions: ShortSequence<Region, 4>,
+    pub operands: ShortSequence<Operand, 2>,
+    pub target: u8,
+}
+
 /// The last point of a block. Labels are numbers of blocks. (rustc-dev-guide, "The MIR".)
 #[derive(Clone, Drop, PartialEq)]
 pub enum Terminator {
     Goto(u8),
     If(Condition),
     Call(Call),
+    Invoke(Invocation),
     Return,
     Stop,
 }
@@ -186,6 +214,7 @@ pub struct RegionName {
 #[derive(Clone, Copy, Debug, PartialEq, Eq)]
 pub enum UnitKind {
     Function,
+    Closure,
 }
 
 /// The regions and clauses that a unit or an extern function declares, what it takes and what it returns. The regions'
@@ -198,14 +227,15 @@ pub struct Signature {
     pub result: Ty,
 }
 
-/// What stands before a unit's body. Own.
+/// What stands before a unit's body. A function has no captures. Own.
 #[derive(Clone, Drop, PartialEq)]
 pub struct Header {
     pub kind: UnitKind,
+    pub captures: Sequence<Ty>,
     pub signature: Signature,
 }
 
-/// A header with its body. Local 0 has the result's type; then come the parameters, then the `let` locals.
+/// A header with its body. Local 0 has the result's type; then come the captures, the parameters and the `let` locals.
 /// (rustc-dev-guide, "The MIR".)
 #[derive(Clone, Drop, PartialEq)]
 pub struct Body {

@@ -7,8 +7,9 @@ use crate::syntax::Body;
 use std::marker::Model;
 
 /// A body that has a spelling: its numbers are within their limits (at most 256 locals, 256 blocks and one at least,
-/// 4,096 points, 15 declared regions, 32 clauses, 16 parameters and operands in a list, region variables up to 1,023),
-/// its regions and locals are declared, and its names are words. Own.
+/// 4,096 points, 15 declared regions, 32 clauses, 16 captures, parameters and operands in a list, closures up to 63,
+/// region variables up to 1,023), its regions and locals are declared, and its names are words. A function captures
+/// nothing, and closure types are those of whole `let` locals alone. Own.
 #[derive(Drop, PartialEq)]
 pub struct Unit {
     body: Body,

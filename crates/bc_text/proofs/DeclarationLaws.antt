@@ -1,5 +1,5 @@
 -- Declarations that are read are those that were spelled, and what was spelled is read again.
-use Rattle.std.proofs.Common.{◌≡◌, ℕ, zero, suc, ◌+◌, ◌-◌, ◌<◌, ◌≤◌, Bool, true, false, cond, ◌&&◌, List, [], ◌∷◌, ◌++◌, length, Ok, Err, refl, sym, ap, ◌∙◌, subst, inl, inr, append_assoc, ltb, arith}
+use Rattle.std.proofs.Common.{◌≡◌, ℕ, zero, suc, ◌+◌, ◌-◌, ◌<◌, ◌≤◌, Bool, true, false, cond, ◌&&◌, List, [], ◌∷◌, ◌++◌, length, nat_le, Ok, Err, refl, sym, ap, ◌∙◌, subst, inl, inr, append_assoc, ltb, arith}
 use Rattle.std.specs.Prelude.{Result}
 use Rattle.std.specs.List.{flat_map, list_all, zip}
 use Rattle.std.proofs.lemmas.List.{append-nil, length-append, length-map}
@@ -22,7 +22,7 @@ use Rattle.bc_syntax.specs.declared.syntax.ExternDeclaration.{ExternDeclaration}
 use Rattle.bc_syntax.specs.declared.syntax.Declaration.{Declaration}
 use Rattle.bc_syntax.specs.declared.syntax.Declaration.TheVariants as declarations
 use Rattle.bc_syntax.specs.Symbol.{same}
-use Rattle.bc_syntax.specs.Fits.{is_new, are_new, item_fits, ty_fits, struct_fits, signature_fits, extern_fits, declaration_fits, is_struct, TypesFit}
+use Rattle.bc_syntax.specs.Fits.{is_new, are_new, item_fits, reference_fits, base_fits, ty_fits, struct_fits, signature_fits, extern_fits, declaration_fits, is_struct, TypesFit}
 use Rattle.bc_print.specs.Token.{Token, Fixed, Word, End}
 use Rattle.bc_tokens.specs.Token.{Tokens, tokens}
 use Rattle.bc_tokens.specs.Parser.{Parser, Reads, and_then, sees, after, at_end, expect, pure, declared_list}
@@ -123,19 +123,21 @@ begins_one (t ∷ ts) token x rest b = (b.0, refl)
 
 -- ---- fields
 
-first_of_ty : (regions : List RegionName) (rs : List Reference) (x : Base) (l : List Token) (ts rest : Tokens) → Begins ts ((flat_map (spell.behind regions) rs ++ spell.base regions x) ++ l) rest → read.begins_ty ts ≡ true
+first_of_ty : (regions : List RegionName) (variables : Bool) (count : ℕ) (rs : List Reference) (x : Base) (l : List Token) (ts rest : Tokens) → base_fits variables count x ≡ true → Begins ts ((flat_map (spell.behind regions) rs ++ spell.base regions x) ++ l) rest → read.begins_ty ts ≡ true
 unfolding same
-first_of_ty regions [] bases.Int l ts rest b =
+first_of_ty regions variables count [] bases.Int l ts rest fits b =
     rw (sees_none s.Ampersand ts (Fixed s.Int) l rest b refl, (sees_again s.Int ts (after ts) (begins_one ts (Fixed s.Int) l rest b)).0) refl
-first_of_ty regions [] (bases.Struct i) l ts rest b =
+first_of_ty regions variables count [] (bases.Closure c) l ts rest fits b = absurd cc
+first_of_ty regions variables count [] (bases.Struct i) l ts rest fits b =
     let tail = spell.angled (spell.region regions) i.regions ++ l in
     rw (sees_none s.Ampersand ts (Word i.name.bytes) tail rest b refl, sees_none s.Int ts (Word i.name.bytes) tail rest b refl, sees_word_same ts i.name.bytes tail rest b) refl
-first_of_ty regions (r ∷ rs) x l ts rest b =
+first_of_ty regions variables count (r ∷ rs) x l ts rest fits b =
     rw (sees_again s.Ampersand ts (after ts) (begins_one ts (Fixed s.Ampersand) (((spell.reference regions r ++ flat_map (spell.behind regions) rs) ++ spell.base regions x) ++ l) rest b)).0 refl
 
 -- a word, `int` or `&` begins a type
-ty_begins : (regions : List RegionName) (t : Ty) (l : List Token) (ts rest : Tokens) → Begins ts (spell.ty regions t ++ l) rest → read.begins_ty ts ≡ true
-ty_begins regions t l ts rest b = first_of_ty regions t.references t.base l ts rest b
+ty_begins : (regions : List RegionName) (variables : Bool) (count : ℕ) (t : Ty) (l : List Token) (ts rest : Tokens) → ty_fits variables count t ≡ true → Begins ts (spell.ty regions t ++ l) rest → read.begins_ty ts ≡ true
+ty_begins regions variables count t l ts rest fits b =
+    first_of_ty regions variables count t.references t.base l ts rest (and_parts (list_all (reference_fits variables count) t.references && nat_le (length t.references) 7) (base_fits variables count t.base) fits).1 b
 
 no_ty : (ts rest : Tokens) (x : List Token) → Begins ts (Fixed s.CloseBrace ∷ x) rest → read.begins_ty ts ≡ false
 unfolding same
@@ -185,7 +187,7 @@ module _ (regions : List RegionName) (declares : Declares regions) where
       let c = split ts (spell.ty regions t) (spell.symbol s.Semicolon) a.0 a.1 in
       let parts = and_parts (ty_fits false (length regions + 1) t) _ fits in
       let le2 : length more ≤ room = omega arith in
-      rw (ty_begins regions t (spell.symbol s.Semicolon) ts a.0 a.1, ty_again false regions declares ts t c.0 c.1 parts.0 (sees_none s.Less c.0 (Fixed s.Semicolon) [] a.0 c.2 refl), expect_again s.Semicolon c.0 a.0 c.2)
+      rw (ty_begins regions false (length regions + 1) t (spell.symbol s.Semicolon) ts a.0 parts.0 a.1, ty_again false regions declares ts t c.0 c.1 parts.0 (sees_none s.Less c.0 (Fixed s.Semicolon) [] a.0 c.2 refl), expect_again s.Semicolon c.0 a.0 c.2)
       (fields_again room (found ++ t ∷ []) more a.0 rest a.2 parts.1 le2 other ∙ rw (append_assoc found (t ∷ []) more) refl)
 
   abbrev pub braced : List Ty → List Token

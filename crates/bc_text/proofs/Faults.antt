@@ -14,11 +14,11 @@ use Rattle.bc_text.specs.Reading.{answer_of, read_whole}
 use Rattle.bc_text.specs.Laws.{TellsToken, place_of, reach, FaultsAreLocal}
 use Rattle.bc_text.proofs.Begins.{chosen}
 use Rattle.bc_text.proofs.Ends.{IsText, tokens_are_text}
-use Rattle.bc_text.proofs.Local.{Parses, Any, Filled, Begun, Stands, is_taken, IsTaken, IsFaultOf, with_rest, kinds}
+use Rattle.bc_text.proofs.Local.{Parses, Filled, Begun, Stands, is_taken, IsTaken, IsFaultOf, with_rest, kinds}
 use Rattle.bc_text.proofs.Agree.{agree_from_take, tokens_agree}
 
 -- the token at which a text is refused, whatever comes behind it
-pub record Stopped {A : Type 0} (p : Parser A) (spell : A → List Token) (bytes : List ℕ) (fault : ReadFault) : Type 0 where
+pub record Stopped {A : Type 0} (P : A → Type 0) (p : Parser A) (spell : A → List Token) (bytes : List ℕ) (fault : ReadFault) : Type 0 where
   pub before : Tokens
   pub bad : Placed
   pub later : Tokens
@@ -26,7 +26,7 @@ pub record Stopped {A : Type 0} (p : Parser A) (spell : A → List Token) (bytes
   pub refusal : Refusal
   pub told : fault ≡ read_fault refusal
   pub stands : IsFaultOf refusal bad
-  pub begun : Filled Any spell (kinds before)
+  pub begun : Filled P spell (kinds before)
   pub same : (other : Tokens) → p (before ++ bad ∷ other) ≡ Err refusal
 
 no_end : (t : Placed) (ts : Tokens) → IsTaken t → IsText (t ∷ ts) → IsText ts
@@ -38,8 +38,8 @@ behind_text : (taken rest : Tokens) → All IsTaken taken → IsText (taken ++ r
 behind_text [] rest good text = text
 behind_text (t ∷ taken) rest good text = behind_text taken rest (λ k d h. good (suc k) d (omega (arith, h))) (no_end t (taken ++ rest) (good 0 t (omega arith)) text)
 
-stopped_at : {A : Type 0} (p : Parser A) (spell : A → List Token) (bytes : List ℕ) (fault : ReadFault) (taken rest : Tokens) → tokens 0 0 bytes ≡ taken ++ rest → IsText rest → (answer : Result A Refusal)
-    → ((other : Tokens) → first other ≡ first rest → p (taken ++ other) ≡ with_rest answer other) → Stands answer (first rest) → Begun Any spell (kinds taken) answer → answer_of (p (tokens 0 0 bytes)) ≡ Err fault → Stopped p spell bytes fault
+stopped_at : {A : Type 0} {P : A → Type 0} (p : Parser A) (spell : A → List Token) (bytes : List ℕ) (fault : ReadFault) (taken rest : Tokens) → tokens 0 0 bytes ≡ taken ++ rest → IsText rest → (answer : Result A Refusal)
+    → ((other : Tokens) → first other ≡ first rest → p (taken ++ other) ≡ with_rest answer other) → Stands answer (first rest) → Begun P spell (kinds taken) answer → answer_of (p (tokens 0 0 bytes)) ≡ Err fault → Stopped P p spell bytes fault
 stopped_at p spell bytes fault taken [] is text answer same stands begun e = absurd text
 stopped_at p spell bytes fault taken (t ∷ rest) is text (Ok x) same stands begun e = let reads : answer_of (p (tokens 0 0 bytes)) ≡ Ok x = ap (λ (l : Tokens). answer_of (p l)) is ∙ ap answer_of (same (t ∷ rest) refl) in absurd cc
 stopped_at p spell bytes fault taken (t ∷ rest) is text (Err d) same stands begun e =
@@ -47,7 +47,7 @@ stopped_at p spell bytes fault taken (t ∷ rest) is text (Err d) same stands be
     let told : fault ≡ read_fault d = cc in
     record { before = taken; bad = t; later = rest; is = is; refusal = d; told = told; stands = stands; begun = begun; same = λ other. same (t ∷ other) refl }
 
-pub stopped : {A : Type 0} (p : Parser A) (spell : A → List Token) → Parses Any p [] spell → (bytes : List ℕ) (fault : ReadFault) → read_whole p bytes ≡ Err fault → fault ≢ faults.TooLong → Stopped p spell bytes fault
+pub stopped : {A : Type 0} {P : A → Type 0} (p : Parser A) (spell : A → List Token) → Parses P p [] spell → (bytes : List ℕ) (fault : ReadFault) → read_whole p bytes ≡ Err fault → fault ≢ faults.TooLong → Stopped P p spell bytes fault
 unfolding read_whole
 stopped p spell law bytes fault e short =
     elim (chosen (ltb 1048576 (length bytes)) (Err faults.TooLong) (answer_of (p (tokens 0 0 bytes))) (Err fault) e) [
@@ -74,7 +74,7 @@ tells : (refusal : Refusal) (bad : Placed) → IsFaultOf refusal bad → TellsTo
 tells refusal bad (inl e) = subst (λ (d : Refusal). TellsToken (read_fault d) bad) (sym e) (own_fault bad.token bad.at)
 tells refusal bad (inr e) = subst (λ (d : Refusal). TellsToken (read_fault d) bad) (sym e.0) (limit_fault bad.token bad.at e.1)
 
-pub tells_bad : {A : Type 0} {p : Parser A} {spell : A → List Token} {bytes : List ℕ} {fault : ReadFault} (s : Stopped p spell bytes fault) → TellsToken fault s.bad
+pub tells_bad : {A : Type 0} {P : A → Type 0} {p : Parser A} {spell : A → List Token} {bytes : List ℕ} {fault : ReadFault} (s : Stopped P p spell bytes fault) → TellsToken fault s.bad
 tells_bad s = subst (λ (f : ReadFault). TellsToken f s.bad) (sym s.told) (tells s.refusal s.bad s.stands)
 
 place_is : (fault : ReadFault) (bad : Placed) (at : ℕ) → TellsToken fault bad → place_of fault ≡ Some at → bad.at ≡ at
@@ -99,7 +99,7 @@ pub go_on : (before : Tokens) (bad : Placed) (later : List Token) → map (λ (t
 go_on [] bad later = ap (λ (l : List Token). bad.token ∷ l) (unplaced later)
 go_on (t ∷ before) bad later = ap (λ (l : List Token). t.token ∷ l) (go_on before bad later)
 
-pub still_refused : {A : Type 0} {p : Parser A} {spell : A → List Token} {bytes : List ℕ} {fault : ReadFault} (s : Stopped p spell bytes fault) (later : List Token) (y : A × Tokens) → p (going_on s.before s.bad later) ≡ Ok y → ⊥
+pub still_refused : {A : Type 0} {P : A → Type 0} {p : Parser A} {spell : A → List Token} {bytes : List ℕ} {fault : ReadFault} (s : Stopped P p spell bytes fault) (later : List Token) (y : A × Tokens) → p (going_on s.before s.bad later) ≡ Ok y → ⊥
 still_refused s later y e = let bad = s.same (map (λ k. placed k 0) later) in cc
 
 -- ---- the bytes of other texts
@@ -107,7 +107,7 @@ still_refused s later y e = let bad = s.same (map (λ k. placed k 0) later) in c
 has_place : (fault : ReadFault) (at : ℕ) → place_of fault ≡ Some at → fault ≢ faults.TooLong
 has_place fault at e h = let none = ap place_of (sym h) ∙ e in cc
 
-pub faults_are_local : {A : Type 0} (p : Parser A) (spell : A → List Token) → Parses Any p [] spell → FaultsAreLocal (read_whole p)
+pub faults_are_local : {A : Type 0} {P : A → Type 0} (p : Parser A) (spell : A → List Token) → Parses P p [] spell → FaultsAreLocal (read_whole p)
 unfolding read_whole
 faults_are_local p spell law bytes other fault at e place short agree =
     let s = stopped p spell law bytes fault e (has_place fault at place) in

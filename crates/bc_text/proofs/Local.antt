@@ -148,19 +148,25 @@ refuses {P = P} {before = before} {spell = spell} some = record { steps = λ ts.
 pub moved : {A : Type 0} {P : A → Type 0} {p : Parser A} {before : List Token} {spell : A → List Token} {after : List Token} → before ≡ after → Parses P p before spell → Parses P p after spell
 moved {P = P} {p = p} {spell = spell} e l = subst (λ (b : List Token). Parses P p b spell) e l
 
-behind_begun : {A : Type 0} {P : A → Type 0} (S : A → List Token) {U : A → List Token} (before taken : List Token) (answer : Result A Refusal) → ((x : A) → P x → U x ≡ before ++ S x) → Begun P S taken answer → Begun Any U (before ++ taken) answer
-behind_begun S before taken (Ok x) is b = (tt, is x b.0 ∙ ap (λ (l : List Token). before ++ l) b.1)
-behind_begun S before taken (Err e) is b = (b.0, tt, b.2, is b.0 b.1 ∙ ap (λ (l : List Token). before ++ l) b.3 ∙ sym (append_assoc before taken b.2))
+behind_begun : {A : Type 0} {P Q : A → Type 0} (S : A → List Token) {U : A → List Token} (before taken : List Token) (answer : Result A Refusal) → ((x : A) → P x → Q x) → ((x : A) → P x → U x ≡ before ++ S x) → Begun P S taken answer → Begun Q U (before ++ taken) answer
+behind_begun S before taken (Ok x) so is b = (so x b.0, is x b.0 ∙ ap (λ (l : List Token). before ++ l) b.1)
+behind_begun S before taken (Err e) so is b = (b.0, so b.0 b.1, b.2, is b.0 b.1 ∙ ap (λ (l : List Token). before ++ l) b.3 ∙ sym (append_assoc before taken b.2))
 
--- behind some tokens a value is spelled in another way
-pub behind : {A : Type 0} {P : A → Type 0} {p : Parser A} {before : List Token} {S U : A → List Token} → Parses P p [] S → ((x : A) → P x → U x ≡ before ++ S x) → Parses Any p before U
-behind {before = before} {S = S} l is = record {
-  steps = λ ts. let s = l.steps ts in record { taken = s.taken; rest = s.rest; is = s.is; good = s.good; answer = s.answer; same = s.same; stands = s.stands; begun = behind_begun S before (kinds s.taken) s.answer is s.begun };
+-- behind some tokens a value is spelled in another way, and something else is told of it
+pub behind_so : {A : Type 0} {P Q : A → Type 0} {p : Parser A} {before : List Token} {S U : A → List Token} → Parses P p [] S → ((x : A) → P x → Q x) → ((x : A) → P x → U x ≡ before ++ S x) → Parses Q p before U
+behind_so {before = before} {S = S} l so is = record {
+  steps = λ ts. let s = l.steps ts in record { taken = s.taken; rest = s.rest; is = s.is; good = s.good; answer = s.answer; same = s.same; stands = s.stands; begun = behind_begun S before (kinds s.taken) s.answer so is s.begun };
 }
+
+pub behind : {A : Type 0} {P : A → Type 0} {p : Parser A} {before : List Token} {S U : A → List Token} → Parses P p [] S → ((x : A) → P x → U x ≡ before ++ S x) → Parses Any p before U
+behind l is = behind_so l (λ x h. tt) is
 
 -- what is read, and what is made of it
 pub made : {A B : Type 0} {P : A → Type 0} {p : Parser A} {before : List Token} {S : A → List Token} {U : B → List Token} (f : A → B) → Parses P p [] S → ((x : A) → P x → U (f x) ≡ before ++ S x) → Parses Any (f <$> p) before U
 made f one is = then one (λ x h. gives (f x) tt (is x h))
+
+pub made_so : {A B : Type 0} {P : A → Type 0} {Q : B → Type 0} {p : Parser A} {before : List Token} {S : A → List Token} {U : B → List Token} (f : A → B) → Parses P p [] S → ((x : A) → P x → Q (f x)) → ((x : A) → P x → U (f x) ≡ before ++ S x) → Parses Q (f <$> p) before U
+made_so f one so is = then one (λ x h. gives (f x) (so x h) (is x h))
 
 pub either_steps : {A : Type 0} {P : A → Type 0} {p q : Parser A} {before : List Token} {spell : A → List Token} {ts : Tokens} (b : Bool) → Steps P p before spell ts → Steps P q before spell ts → Steps P (λ l. cond b (p l) (q l)) before spell ts
 either_steps true s r = s
@@ -358,13 +364,13 @@ pub one_parses : {A : Type 0} {p : Parser A} {spell : A → List Token} → Take
 one_parses one = record { steps = λ ts. one_steps one ts (one.read (first ts)) refl }
 
 -- Behind a token that began at this place the parser goes on, or it fails there.
-pub data Checked {A : Type 0} (p : Parser A) (at : ℕ) (before : List Token) (spell : A → List Token) : Type 0 where
-  goes_on : Parses Any p before spell → Checked p at before spell
-  fails : ((ts : Tokens) → p ts ≡ Err (faults.Grammar at)) → Checked p at before spell
+pub data Checked {A : Type 0} (Q : A → Type 0) (p : Parser A) (at : ℕ) (before : List Token) (spell : A → List Token) : Type 0 where
+  goes_on : Parses Q p before spell → Checked Q p at before spell
+  fails : ((ts : Tokens) → p ts ≡ Err (faults.Grammar at)) → Checked Q p at before spell
 
-checked_steps : {A B : Type 0} {p : Parser A} {S : A → List Token} {U : B → List Token} (some : B) (q : ℕ → A → Parser B) (one : TakesOne p S) (ts : Tokens) (r : Result A Refusal) → one.read (first ts) ≡ r → ((at : ℕ) (x : A) → Checked (q at x) at (S x) U)
-    → Steps Any (λ l. and_then (p l) (q (position l))) [] U ts
-checked_steps {U = U} some q one ts (Err e) is next = record {
+checked_steps : {A B : Type 0} {Q : B → Type 0} {p : Parser A} {S : A → List Token} {U : B → List Token} (some : (x : B) × Q x) (q : ℕ → A → Parser B) (one : TakesOne p S) (ts : Tokens) (r : Result A Refusal) → one.read (first ts) ≡ r → ((at : ℕ) (x : A) → Checked Q (q at x) at (S x) U)
+    → Steps Q (λ l. and_then (p l) (q (position l))) [] U ts
+checked_steps {Q = Q} {U = U} some q one ts (Err e) is next = record {
   taken = [];
   rest = ts;
   is = refl;
@@ -372,10 +378,10 @@ checked_steps {U = U} some q one ts (Err e) is next = record {
   answer = Err e;
   same = λ other h. ap (λ o. and_then o (q (position other))) (read_again one ts (Err e) is other h);
   stands = subst (λ o. Stands o (first ts)) is (one.stands (first ts));
-  begun = (some, tt, U some, refl);
+  begun = (some.0, some.1, U some.0, refl);
 }
 checked_steps some q one [] (Ok x) is next = absurd (nothing_read one x is)
-checked_steps {U = U} some q one (t ∷ ts) (Ok x) is next =
+checked_steps {Q = Q} {U = U} some q one (t ∷ ts) (Ok x) is next =
     elim (next t.at x) [
       | goes_on good ↦ let s = good.steps ts in record {
         taken = t ∷ s.taken;
@@ -385,7 +391,7 @@ checked_steps {U = U} some q one (t ∷ ts) (Ok x) is next =
         answer = s.answer;
         same = λ other h. ap (λ o. and_then o (q t.at)) (read_again one (t ∷ ts) (Ok x) is (t ∷ (s.taken ++ other)) refl) ∙ s.same other h;
         stands = s.stands;
-        begun = subst (λ (l : List Token). Begun Any U (l ++ kinds s.taken) s.answer) (one.spells t x is) s.begun;
+        begun = subst (λ (l : List Token). Begun Q U (l ++ kinds s.taken) s.answer) (one.spells t x is) s.begun;
       }
       | fails bad ↦ record {
         taken = [];
@@ -398,16 +404,16 @@ checked_steps {U = U} some q one (t ∷ ts) (Ok x) is next =
             ∙ ap (λ (u : Placed). q u.at x (after other)) h
             ∙ bad (after other);
         stands = inl (sym (grammar_at t.token t.at (one.takes t x is)));
-        begun = (some, tt, U some, refl);
+        begun = (some.0, some.1, U some.0, refl);
       }
     ]
 
 -- what is read of one token is tried, and the parser goes on or fails at that token
-pub checked : {A B : Type 0} {p : Parser A} {q : ℕ → A → Parser B} {S : A → List Token} {U : B → List Token} (some : B) → TakesOne p S → ((at : ℕ) (x : A) → Checked (q at x) at (S x) U) → Parses Any (λ ts. and_then (p ts) (q (position ts))) [] U
+pub checked : {A B : Type 0} {Q : B → Type 0} {p : Parser A} {q : ℕ → A → Parser B} {S : A → List Token} {U : B → List Token} (some : (x : B) × Q x) → TakesOne p S → ((at : ℕ) (x : A) → Checked Q (q at x) at (S x) U) → Parses Q (λ ts. and_then (p ts) (q (position ts))) [] U
 checked {q = q} some one next = record { steps = λ ts. checked_steps some q one ts (one.read (first ts)) refl next }
 
 -- a side condition
-pub tried : {A : Type 0} {p : Parser A} {before : List Token} {spell : A → List Token} (at : ℕ) (b : Bool) → (b ≡ true → Parses Any p before spell) → Checked (cond b p (fail at)) at before spell
+pub tried : {A : Type 0} {Q : A → Type 0} {p : Parser A} {before : List Token} {spell : A → List Token} (at : ℕ) (b : Bool) → (b ≡ true → Parses Q p before spell) → Checked Q (cond b p (fail at)) at before spell
 tried at true l = goes_on (l refl)
 tried at false l = fails (λ ts. refl)
 
@@ -616,40 +622,47 @@ has_item : {A : Type 0} (xs : List A) (x : A) → HasItem (xs ++ x ∷ [])
 has_item [] x = (x, [], refl)
 has_item (y ∷ xs) x = (y, xs ++ x ∷ [], refl)
 
-module _ {A : Type 0} {begins : Tokens → Bool} (looks : Looks begins) {spell : A → List Token} where
-  module _ {item : List A → Parser A} (items : (found : List A) → Parses Any (item found) [] spell) where
-    pub separated : (room : ℕ) (found : List A) → Parses HasItem (declared_from begins item room found) (lead spell found) (commas spell)
+-- a list with an item, where this is so of each
+abbrev pub Listed : {A : Type 0} → (A → Type 0) → List A → Type 0
+Listed P xs = HasItem xs × All P xs
+
+pub all_and : {A : Type 0} (P : A → Type 0) (xs : List A) (x : A) → All P xs → P x → All P (xs ++ x ∷ [])
+all_and P xs x all one = All-append P xs (x ∷ []) all (All-cons P x [] one (All-nil P))
+
+module _ {A : Type 0} {begins : Tokens → Bool} (looks : Looks begins) {spell : A → List Token} {P : A → Type 0} where
+  module _ {item : List A → Parser A} (items : (found : List A) → Parses P (item found) [] spell) where
+    pub separated : (room : ℕ) (found : List A) → All P found → Parses (Listed P) (declared_from begins item room found) (lead spell found) (commas spell)
     unfolding declared_from declared_turn
-    separated zero found =
-        let x = (filled (items found)).0 in
-        let some : Filled HasItem (commas spell) (lead spell found) = (found ++ x ∷ [], has_item found x, spell x, commas_more spell found x) in
+    separated zero found all =
+        let one = filled (items found) in
+        let some : Filled (Listed P) (commas spell) (lead spell found) = (found ++ one.0 ∷ [], (has_item found one.0, all_and P found one.0 all one.1), spell one.0, commas_more spell found one.0) in
         if_past looks some (refuses some)
-    separated (suc room) found =
-        then (items found) (λ x _. optional Comma (moved (lead_more spell found x) (separated room (found ++ x ∷ []))) (gives (found ++ x ∷ []) (has_item found x) (commas_more spell found x)))
+    separated (suc room) found all =
+        then (items found) (λ x h. optional Comma (moved (lead_more spell found x) (separated room (found ++ x ∷ []) (all_and P found x all h))) (gives (found ++ x ∷ []) (has_item found x, all_and P found x all h) (commas_more spell found x)))
 
-    pub closed : (limit : ℕ) (close : Symbol) → Parses HasItem (declared_until begins item limit close) [] (λ xs. commas spell xs ++ Fixed close ∷ [])
-    closed limit close = then (separated limit []) (λ xs h. then (expects close) (λ _ _. gives xs h refl))
+    pub closed : (limit : ℕ) (close : Symbol) → Parses (Listed P) (declared_until begins item limit close) [] (λ xs. commas spell xs ++ Fixed close ∷ [])
+    closed limit close = then (separated limit [] (All-nil P)) (λ xs h. then (expects close) (λ _ _. gives xs h refl))
 
-    angled_is : (xs : List A) → HasItem xs → angled spell xs ≡ Fixed Less ∷ (commas spell xs ++ Fixed Greater ∷ [])
-    angled_is [] h = let none = h.2 in absurd cc
+    angled_is : (xs : List A) → Listed P xs → angled spell xs ≡ Fixed Less ∷ (commas spell xs ++ Fixed Greater ∷ [])
+    angled_is [] h = let none = h.0.2 in absurd cc
     angled_is (x ∷ xs) h = refl
 
     pub in_angles : (limit : ℕ) → Parses Any (declared_list begins item limit) [] (angled spell)
     unfolding declared_list
     in_angles limit = optional Less (behind (closed limit Greater) angled_is) (gives [] tt refl)
 
-  module _ {item : Parser A} (law : Parses Any item [] spell) where
-    items_alike : (found : List A) → Parses Any (alike item found) [] spell
+  module _ {item : Parser A} (law : Parses P item [] spell) where
+    items_alike : (found : List A) → Parses P (alike item found) [] spell
     unfolding alike
     items_alike found = law
 
     pub alike_in_angles : (limit : ℕ) → Parses Any (declared_list begins (alike item) limit) [] (angled spell)
     alike_in_angles limit = in_angles items_alike limit
 
-    pub alike_closed : (limit : ℕ) (close : Symbol) → Parses Any (closed_list begins item limit close) [] (λ xs. commas spell xs ++ Fixed close ∷ [])
+    pub alike_closed : (limit : ℕ) (close : Symbol) → Parses (All P) (closed_list begins item limit close) [] (λ xs. commas spell xs ++ Fixed close ∷ [])
     unfolding closed_list
-    alike_closed limit close = optional close (gives [] tt refl) (behind (closed items_alike limit close) (λ xs h. refl))
+    alike_closed limit close = optional close (gives [] (All-nil P) refl) (behind_so (closed items_alike limit close) (λ xs h. h.1) (λ xs h. refl))
 
     pub alike_opened : (limit : ℕ) (opening : Symbol) (U : List A → List Token) → U [] ≡ [] → ((x : A) (xs : List A) → U (x ∷ xs) ≡ Fixed opening ∷ commas spell (x ∷ xs)) → Parses Any (opened_list begins item limit opening) [] U
     unfolding opened_list
-    alike_opened limit opening U none some = optional opening (behind (separated items_alike limit []) (λ xs h. ap U h.2 ∙ some h.0 h.1 ∙ ap (λ (l : List A). Fixed opening ∷ commas spell l) (sym h.2))) (gives [] tt none)
+    alike_opened limit opening U none some = optional opening (behind (separated items_alike limit [] (All-nil P)) (λ xs h. ap U h.0.2 ∙ some h.0.0 h.0.1 ∙ ap (λ (l : List A). Fixed opening ∷ commas spell l) (sym h.0.2))) (gives [] tt none)

@@ -9,9 +9,10 @@ use Rattle.bc_syntax.specs.declared.syntax.Region.TheVariants.{Universal, Variab
 use Rattle.bc_syntax.specs.declared.syntax.RegionName.{RegionName}
 use Rattle.bc_syntax.specs.declared.syntax.ItemName.{ItemName}
 use Rattle.bc_syntax.specs.declared.syntax.Instance.{Instance}
+use Rattle.bc_syntax.specs.declared.syntax.ClosureInstance.{ClosureInstance}
 use Rattle.bc_syntax.specs.Symbol.{same}
 use Rattle.bc_syntax.specs.Words.{is_word}
-use Rattle.bc_syntax.specs.Fits.{is_new, are_new, region_fits, item_fits, instance_fits}
+use Rattle.bc_syntax.specs.Fits.{is_new, are_new, region_fits, regions_fit, item_fits, instance_fits, closure_fits}
 use Rattle.std.specs.List.{list_all}
 use Rattle.bc_print.specs.Token.{Token, Numbered}
 use Rattle.bc_tokens.specs.Token.{Tokens}
@@ -133,25 +134,51 @@ regions_close regions = record {
   item_apart = region_apart regions;
 }
 
+-- regions in `<` and `>`
+pub arguments_take : (variables : Bool) (regions : List RegionName) (ts : Tokens) (y : List Region × Tokens) → Declares regions → angled_list (read.begins_region variables) (read.region variables regions) 15 ts ≡ Ok y
+    → Begins ts (spell.angled (spell.region regions) y.0) y.1 × (regions_fit variables (length regions + 1) y.0 ≡ true)
+arguments_take variables regions ts y declares e =
+    let list = angled_takes (region_law variables regions declares) (read.begins_region variables) 15 ts y e in
+    (list.0, and_from (list_all (region_fits variables (length regions + 1)) y.0) _ list.1.0 (le-leb (length y.0) 15 list.1.1))
+
+pub arguments_again : (variables : Bool) (regions : List RegionName) (ts : Tokens) (rs : List Region) (rest : Tokens) → Declares regions → Begins ts (spell.angled (spell.region regions) rs) rest → regions_fit variables (length regions + 1) rs ≡ true → NoLess rest
+    → angled_list (read.begins_region variables) (read.region variables regions) 15 ts ≡ Ok (rs, rest)
+arguments_again variables regions ts rs rest declares p fits other =
+    let list = and_parts (list_all (region_fits variables (length regions + 1)) rs) _ fits in
+    angled_again (region_law variables regions declares) (read.begins_region variables) 15 (regions_close regions) ts rs rest p (list.0, leb-true (length rs) 15 list.1) other
+
 pub instance_takes : (variables : Bool) (regions : List RegionName) (ts : Tokens) (y : Instance × Tokens) → Declares regions → read.instance variables regions ts ≡ Ok y → Begins ts (spell.instance regions y.0) y.1 × (instance_fits variables (length regions + 1) y.0 ≡ true)
 unfolding read.instance
 instance_takes variables regions ts y declares e =
-    let fits = region_fits variables (length regions + 1) in
     let b = bind_ok (read.item_name ts) (λ name rest. and_then (angled_list (read.begins_region variables) (read.region variables regions) 15 rest) (λ rs last. Ok (record { name = name; regions = rs }, last))) y e in
     let c = bind_ok (angled_list (read.begins_region variables) (read.region variables regions) 15 b.0.1) (λ rs last. Ok (record { name = b.0.0; regions = rs }, last)) y b.2 in
     let name = item_name_takes ts b.0 b.1 in
-    let list = angled_takes (region_law variables regions declares) (read.begins_region variables) 15 b.0.1 c.0 c.1 in
+    let list = arguments_take variables regions b.0.1 c.0 declares c.1 in
     subst (λ (q : Instance × Tokens). Begins ts (spell.instance regions q.0) q.1 × (instance_fits variables (length regions + 1) q.0 ≡ true)) (ok_is (record { name = b.0.0; regions = c.0.0 }, c.0.1) y c.2)
-    (join ts (spell.item_name b.0.0) b.0.1 (spell.angled (spell.region regions) c.0.0) c.0.1 name.0 list.0, and_from (item_fits b.0.0) _ name.1 (and_from (list_all fits c.0.0) _ list.1.0 (le-leb (length c.0.0) 15 list.1.1)))
+    (join ts (spell.item_name b.0.0) b.0.1 (spell.angled (spell.region regions) c.0.0) c.0.1 name.0 list.0, and_from (item_fits b.0.0) (regions_fit variables (length regions + 1) c.0.0) name.1 list.1)
 
 pub instance_again : (variables : Bool) (regions : List RegionName) (ts : Tokens) (i : Instance) (rest : Tokens) → Declares regions → Begins ts (spell.instance regions i) rest → instance_fits variables (length regions + 1) i ≡ true → NoLess rest → read.instance variables regions ts ≡ Ok (i, rest)
 unfolding read.instance
 instance_again variables regions ts i rest declares p fits other =
-    let test = region_fits variables (length regions + 1) in
-    let parts = and_parts (item_fits i.name) _ fits in
-    let list = and_parts (list_all test i.regions) _ parts.1 in
+    let parts = and_parts (item_fits i.name) (regions_fit variables (length regions + 1) i.regions) fits in
     let a = split ts (spell.item_name i.name) (spell.angled (spell.region regions) i.regions) rest p in
-    rw (
-      item_name_again ts i.name a.0 a.1 parts.0,
-      angled_again (region_law variables regions declares) (read.begins_region variables) 15 (regions_close regions) a.0 i.regions rest a.2 (list.0, leb-true (length i.regions) 15 list.1) other,
-    ) refl
+    rw (item_name_again ts i.name a.0 a.1 parts.0, arguments_again variables regions a.0 i.regions rest declares a.2 parts.1 other) refl
+
+-- ---- closures
+
+pub closure_takes : (regions : List RegionName) (ts : Tokens) (y : ClosureInstance × Tokens) → Declares regions → read.closure_instance regions ts ≡ Ok y → Begins ts (spell.closure_number regions y.0) y.1 × (closure_fits true (length regions + 1) y.0 ≡ true)
+unfolding read.closure_instance
+closure_takes regions ts y declares e =
+    let b = bind_ok (numbered n.Number 63 ts) (λ k rest. and_then (angled_list (read.begins_region true) (read.region true regions) 15 rest) (λ rs last. Ok (record { number = k; regions = rs }, last))) y e in
+    let c = bind_ok (angled_list (read.begins_region true) (read.region true regions) 15 b.0.1) (λ rs last. Ok (record { number = b.0.0; regions = rs }, last)) y b.2 in
+    let k = numbered_takes n.Number 63 ts b.0 b.1 in
+    let list = arguments_take true regions b.0.1 c.0 declares c.1 in
+    subst (λ (q : ClosureInstance × Tokens). Begins ts (spell.closure_number regions q.0) q.1 × (closure_fits true (length regions + 1) q.0 ≡ true)) (ok_is (record { number = b.0.0; regions = c.0.0 }, c.0.1) y c.2)
+    (join ts (Numbered n.Number b.0.0 ∷ []) b.0.1 (spell.angled (spell.region regions) c.0.0) c.0.1 k.0 list.0, and_from _ (regions_fit true (length regions + 1) c.0.0) (le-leb b.0.0 63 k.1) list.1)
+
+pub closure_again : (regions : List RegionName) (ts : Tokens) (c : ClosureInstance) (rest : Tokens) → Declares regions → Begins ts (spell.closure_number regions c) rest → closure_fits true (length regions + 1) c ≡ true → NoLess rest → read.closure_instance regions ts ≡ Ok (c, rest)
+unfolding read.closure_instance
+closure_again regions ts c rest declares p fits other =
+    let parts = and_parts _ (regions_fit true (length regions + 1) c.regions) fits in
+    let a = split ts (Numbered n.Number c.number ∷ []) (spell.angled (spell.region regions) c.regions) rest p in
+    rw (numbered_again n.Number 63 ts c.number a.0 a.1 (leb-true c.number 63 parts.0), arguments_again true regions a.0 c.regions rest declares a.2 parts.1 other) refl

@@ -9,12 +9,14 @@ use Rattle.bc_syntax.specs.declared.symbol.Symbol.TheVariants as s
 use Rattle.bc_print.specs.declared.numbering.Numbering.TheVariants as n
 use Rattle.bc_text.specs.declared.points.Point.{Point}
 use Rattle.bc_text.specs.declared.points.Point.TheVariants as point_kinds
+use Rattle.bc_syntax.specs.declared.syntax.Region.{Region}
 use Rattle.bc_syntax.specs.declared.syntax.RegionName.{RegionName}
 use Rattle.bc_syntax.specs.declared.syntax.Place.{Place}
 use Rattle.bc_syntax.specs.declared.syntax.Operand.{Operand}
 use Rattle.bc_syntax.specs.declared.syntax.Operand.TheVariants as o
 use Rattle.bc_syntax.specs.declared.syntax.Borrow.{Borrow}
 use Rattle.bc_syntax.specs.declared.syntax.Aggregate.{Aggregate}
+use Rattle.bc_syntax.specs.declared.syntax.Creation.{Creation}
 use Rattle.bc_syntax.specs.declared.syntax.Rvalue.{Rvalue}
 use Rattle.bc_syntax.specs.declared.syntax.Rvalue.TheVariants as r
 use Rattle.bc_syntax.specs.declared.syntax.Assignment.{Assignment}
@@ -22,17 +24,18 @@ use Rattle.bc_syntax.specs.declared.syntax.Statement.{Statement}
 use Rattle.bc_syntax.specs.declared.syntax.Statement.TheVariants as st
 use Rattle.bc_syntax.specs.declared.syntax.Condition.{Condition}
 use Rattle.bc_syntax.specs.declared.syntax.Call.{Call}
+use Rattle.bc_syntax.specs.declared.syntax.Invocation.{Invocation}
 use Rattle.bc_syntax.specs.declared.syntax.Terminator.{Terminator}
 use Rattle.bc_syntax.specs.declared.syntax.Terminator.TheVariants as t
 use Rattle.bc_syntax.specs.Symbol.{same}
-use Rattle.bc_syntax.specs.Fits.{instance_fits, reference_fits, place_fits, operand_fits, operands_fit, borrow_fits, aggregate_fits, rvalue_fits, statement_fits, condition_fits, call_fits, terminator_fits}
+use Rattle.bc_syntax.specs.Fits.{instance_fits, closure_fits, regions_fit, reference_fits, place_fits, operand_fits, operands_fit, borrow_fits, aggregate_fits, creation_fits, rvalue_fits, statement_fits, condition_fits, call_fits, invocation_fits, terminator_fits}
 use Rattle.bc_print.specs.Token.{Token, Fixed, Numbered, Word}
 use Rattle.bc_tokens.specs.Token.{Tokens}
-use Rattle.bc_tokens.specs.Parser.{and_then, sees, sees_word, is_fixed, after, expect, pure}
+use Rattle.bc_tokens.specs.Parser.{Outcome, and_then, sees, sees_word, is_fixed, after, expect, pure, angled_list}
 use Rattle.bc_text.specs.Reading as read
 use Rattle.bc_print.specs.Spelling as spell
 use Rattle.bc_text.proofs.Begins.{Begins, join, split, bind_ok, ok_is, chosen, eaten, eat_again, eat_other, expect_takes, expect_again, numbered_takes, numbered_again, sees_none, sees_word_same, sees_word_none}
-use Rattle.bc_text.proofs.NameLaws.{Declares, NoLess, instance_takes, instance_again}
+use Rattle.bc_text.proofs.NameLaws.{Declares, NoLess, arguments_take, arguments_again, instance_takes, instance_again, closure_takes, closure_again}
 use Rattle.bc_text.proofs.TypeLaws.{reference_takes, reference_again}
 use Rattle.bc_text.proofs.PlaceLaws.{NoDot, local_takes, local_again, place_takes, place_again, operand_takes, operand_again, operands_take, operands_again}
 
@@ -62,6 +65,14 @@ operand_no_word : (x : Operand) (ts rest : Tokens) → Begins ts (spell.operand 
 operand_no_word (o.Copy p) ts rest b = sees_word_none ts (Fixed s.Copy) (spell.place p) rest b refl
 operand_no_word (o.Move p) ts rest b = sees_word_none ts (Fixed s.Move) (spell.place p) rest b refl
 operand_no_word (o.Number k) ts rest b = sees_word_none ts (Numbered n.Number k) [] rest b refl
+
+-- a word that begins no rvalue
+record BeginsNone (word : Symbol) : Type 0 where
+  copies : is_fixed word (Fixed s.Copy) ≡ false
+  moves : is_fixed word (Fixed s.Move) ≡ false
+  borrows : is_fixed word (Fixed s.Ampersand) ≡ false
+  closes : is_fixed word (Fixed s.Closure) ≡ false
+  calculates : is_fixed word (Fixed s.Calc) ≡ false
 
 module _ (regions : List RegionName) (declares : Declares regions) (locals : ℕ) (few : locals ≤ 256) where
   abbrev count : ℕ
@@ -110,19 +121,52 @@ module _ (regions : List RegionName) (declares : Declares regions) (locals : ℕ
       let no_less = sees_none s.Less a.0 (Fixed s.OpenParen) (spell.commas spell.operand x.operands ++ spell.symbol s.CloseParen) rest a.2 refl in
       rw (instance_again true regions ts x.instance a.0 declares a.1 parts.0 no_less, operands_again locals few a.0 x.operands rest a.2 parts.1) refl
 
+  -- a closure made, behind its word
+  abbrev made_of : Creation → List Token
+  made_of x = spell.closure_number regions x.closure ++ spell.operands x.operands
+
+  creation_takes : (ts : Tokens) (y : Creation × Tokens) → read.creation regions locals ts ≡ Ok y → Begins ts (made_of y.0) y.1 × (creation_fits count locals y.0 ≡ true)
+  unfolding read.creation
+  creation_takes ts y e =
+      let b = bind_ok (read.closure_instance regions ts) (λ c rest. and_then (read.operands locals rest) (λ os last. Ok (record { closure = c; operands = os }, last))) y e in
+      let c = bind_ok (read.operands locals b.0.1) (λ os last. Ok (record { closure = b.0.0; operands = os }, last)) y b.2 in
+      let x = closure_takes regions ts b.0 declares b.1 in
+      let os = operands_take locals few b.0.1 c.0 c.1 in
+      subst (λ (q : Creation × Tokens). Begins ts (made_of q.0) q.1 × (creation_fits count locals q.0 ≡ true)) (ok_is (record { closure = b.0.0; operands = c.0.0 }, c.0.1) y c.2)
+      (join ts (spell.closure_number regions b.0.0) b.0.1 (spell.operands c.0.0) c.0.1 x.0 os.0, and_from (closure_fits true count b.0.0) (operands_fit locals c.0.0) x.1 os.1)
+
+  creation_again : (ts : Tokens) (x : Creation) (rest : Tokens) → Begins ts (made_of x) rest → creation_fits count locals x ≡ true → read.creation regions locals ts ≡ Ok (x, rest)
+  unfolding read.creation same
+  creation_again ts x rest b fits =
+      let a = split ts (spell.closure_number regions x.closure) (spell.operands x.operands) rest b in
+      let parts = and_parts (closure_fits true count x.closure) (operands_fit locals x.operands) fits in
+      let no_less = sees_none s.Less a.0 (Fixed s.OpenParen) (spell.commas spell.operand x.operands ++ spell.symbol s.CloseParen) rest a.2 refl in
+      rw (closure_again regions ts x.closure a.0 declares a.1 parts.0 no_less, operands_again locals few a.0 x.operands rest a.2 parts.1) refl
+
   abbrev IsRvalue : Tokens → Rvalue × Tokens → Type 0
   IsRvalue ts q = Begins ts (spell.rvalue regions q.0) q.1 × (rvalue_fits count locals q.0 ≡ true)
+
+  captured_takes : (ts : Tokens) (y : Rvalue × Tokens) → read.captured regions locals ts ≡ Ok y → IsRvalue ts y
+  unfolding read.captured
+  captured_takes ts y e =
+      elim (eaten s.Closure (λ rest. and_then (read.creation regions locals rest) (λ c last. Ok (r.Closure c, last))) (λ rest. and_then (read.operand locals rest) (λ x last. Ok (r.Use x, last))) ts y e) [
+        | inl p ↦
+            let b = bind_ok (read.creation regions locals (after ts)) (λ c last. Ok (r.Closure c, last)) y p.1 in
+            let c = creation_takes (after ts) b.0 b.1 in
+            subst (IsRvalue ts) (ok_is (r.Closure b.0.0, b.0.1) y b.2) (join ts (spell.symbol s.Closure) (after ts) (made_of b.0.0) b.0.1 p.0 c.0, c.1)
+        | inr p ↦
+            let b = bind_ok (read.operand locals ts) (λ x last. Ok (r.Use x, last)) y p.1 in
+            subst (IsRvalue ts) (ok_is (r.Use b.0.0, b.0.1) y b.2) (operand_takes locals few ts b.0 b.1)
+      ]
 
   created_takes : (ts : Tokens) (y : Rvalue × Tokens) → read.created regions locals ts ≡ Ok y → IsRvalue ts y
   unfolding read.created
   created_takes ts y e =
-      elim (chosen (sees_word ts) (and_then (read.aggregate regions locals ts) (λ a last. Ok (r.Aggregate a, last))) (and_then (read.operand locals ts) (λ x last. Ok (r.Use x, last))) (Ok y) e) [
+      elim (chosen (sees_word ts) (and_then (read.aggregate regions locals ts) (λ a last. Ok (r.Aggregate a, last))) (read.captured regions locals ts) (Ok y) e) [
         | inl p ↦
             let b = bind_ok (read.aggregate regions locals ts) (λ a last. Ok (r.Aggregate a, last)) y p.1 in
             subst (IsRvalue ts) (ok_is (r.Aggregate b.0.0, b.0.1) y b.2) (aggregate_takes ts b.0 b.1)
-        | inr p ↦
-            let b = bind_ok (read.operand locals ts) (λ x last. Ok (r.Use x, last)) y p.1 in
-            subst (IsRvalue ts) (ok_is (r.Use b.0.0, b.0.1) y b.2) (operand_takes locals few ts b.0 b.1)
+        | inr p ↦ captured_takes ts y p.1
       ]
 
   computed_takes : (ts : Tokens) (y : Rvalue × Tokens) → read.computed regions locals ts ≡ Ok y → IsRvalue ts y
@@ -148,12 +192,12 @@ module _ (regions : List RegionName) (declares : Declares regions) (locals : ℕ
       ]
 
   rvalue_again : (ts : Tokens) (v : Rvalue) (rest : Tokens) → Begins ts (spell.rvalue regions v) rest → rvalue_fits count locals v ≡ true → NoDot rest → read.rvalue regions locals ts ≡ Ok (v, rest)
-  unfolding read.rvalue read.computed read.created same
+  unfolding read.rvalue read.computed read.created read.captured same
   rvalue_again ts (r.Use x) rest b fits other =
       let text : Begins ts (spell.operand x ++ []) rest = subst (λ (l : List Token). Begins ts l rest) (sym (append-nil (spell.operand x))) b in
       eat_other s.Ampersand _ (read.computed regions locals) ts (operand_apart s.Ampersand refl refl x [] ts rest text)
       ∙ eat_other s.Calc _ (read.created regions locals) ts (operand_apart s.Calc refl refl x [] ts rest text)
-      ∙ rw (operand_no_word x ts rest b, operand_again locals few ts x rest b fits other) refl
+      ∙ rw (operand_no_word x ts rest b) (eat_other s.Closure _ _ ts (operand_apart s.Closure refl refl x [] ts rest text) ∙ rw (operand_again locals few ts x rest b fits other) refl)
   rvalue_again ts (r.Borrow x) rest b fits other =
       let a = split ts (Fixed s.Ampersand ∷ []) (spell.borrow regions x) rest b in
       eat_again s.Ampersand _ (read.computed regions locals) ts a.0 a.1 ∙ rw (borrow_again a.0 x rest a.2 fits other) refl
@@ -162,18 +206,31 @@ module _ (regions : List RegionName) (declares : Declares regions) (locals : ℕ
       eat_other s.Ampersand _ (read.computed regions locals) ts (sees_none s.Ampersand ts (Word x.instance.name.bytes) tail rest b refl)
       ∙ eat_other s.Calc _ (read.created regions locals) ts (sees_none s.Calc ts (Word x.instance.name.bytes) tail rest b refl)
       ∙ rw (sees_word_same ts x.instance.name.bytes tail rest b, aggregate_again ts x rest b fits) refl
+  rvalue_again ts (r.Closure x) rest b fits other =
+      let a = split ts (spell.symbol s.Closure) (made_of x) rest b in
+      eat_other s.Ampersand _ (read.computed regions locals) ts (sees_none s.Ampersand ts (Fixed s.Closure) (made_of x) rest b refl)
+      ∙ eat_other s.Calc _ (read.created regions locals) ts (sees_none s.Calc ts (Fixed s.Closure) (made_of x) rest b refl)
+      ∙ rw (sees_word_none ts (Fixed s.Closure) (made_of x) rest b refl) (eat_again s.Closure _ _ ts a.0 a.1 ∙ rw (creation_again a.0 x rest a.2 fits) refl)
   rvalue_again ts (r.Calc os) rest b fits other =
       let a = split ts (Fixed s.Calc ∷ []) (spell.operands os) rest b in
       eat_other s.Ampersand _ (read.computed regions locals) ts (sees_none s.Ampersand ts (Fixed s.Calc) (spell.operands os) rest b refl)
       ∙ eat_again s.Calc _ (read.created regions locals) ts a.0 a.1 ∙ rw (operands_again locals few a.0 os rest a.2 fits) refl
 
+  no_word : (word : Symbol) → BeginsNone word → (v : Rvalue) (ts rest : Tokens) → Begins ts (spell.rvalue regions v) rest → sees word ts ≡ false
+  no_word word none (r.Use x) ts rest b = operand_apart word none.copies none.moves x [] ts rest (subst (λ (l : List Token). Begins ts l rest) (sym (append-nil (spell.operand x))) b)
+  no_word word none (r.Borrow x) ts rest b = sees_none word ts (Fixed s.Ampersand) (spell.borrow regions x) rest b none.borrows
+  no_word word none (r.Aggregate x) ts rest b = sees_none word ts (Word x.instance.name.bytes) (spell.angled (spell.region regions) x.instance.regions ++ spell.operands x.operands) rest b refl
+  no_word word none (r.Closure x) ts rest b = sees_none word ts (Fixed s.Closure) (made_of x) rest b none.closes
+  no_word word none (r.Calc os) ts rest b = sees_none word ts (Fixed s.Calc) (spell.operands os) rest b none.calculates
+
   -- what is computed is no call
   no_call : (v : Rvalue) (ts rest : Tokens) → Begins ts (spell.rvalue regions v) rest → sees s.Call ts ≡ false
   unfolding same
-  no_call (r.Use x) ts rest b = operand_apart s.Call refl refl x [] ts rest (subst (λ (l : List Token). Begins ts l rest) (sym (append-nil (spell.operand x))) b)
-  no_call (r.Borrow x) ts rest b = sees_none s.Call ts (Fixed s.Ampersand) (spell.borrow regions x) rest b refl
-  no_call (r.Aggregate x) ts rest b = sees_none s.Call ts (Word x.instance.name.bytes) (spell.angled (spell.region regions) x.instance.regions ++ spell.operands x.operands) rest b refl
-  no_call (r.Calc os) ts rest b = sees_none s.Call ts (Fixed s.Calc) (spell.operands os) rest b refl
+  no_call v ts rest b = no_word s.Call (record { copies = refl; moves = refl; borrows = refl; closes = refl; calculates = refl }) v ts rest b
+
+  no_invoke : (v : Rvalue) (ts rest : Tokens) → Begins ts (spell.rvalue regions v) rest → sees s.Invoke ts ≡ false
+  unfolding same
+  no_invoke v ts rest b = no_word s.Invoke (record { copies = refl; moves = refl; borrows = refl; closes = refl; calculates = refl }) v ts rest b
 
   -- ---- calls
 
@@ -198,6 +255,50 @@ module _ (regions : List RegionName) (declares : Declares regions) (locals : ℕ
       let c = split a.0 (spell.operands x.operands) (spell.label x.target) rest a.2 in
       rw (instance_again true regions ts x.function a.0 declares a.1 i (open_paren x.operands (spell.label x.target) a.0 rest a.2), operands_again locals few a.0 x.operands c.0 c.1 os, label_again c.0 x.target rest c.2 l) refl
 
+  -- ---- calls of closures
+
+  abbrev list : Tokens → Outcome (List Region)
+  list ts = angled_list (read.begins_region true) (read.region true regions) 15 ts
+
+  invoked_takes : (p : Place) (ts : Tokens) (y : Invocation × Tokens) → read.invoked regions locals p ts ≡ Ok y
+      → (y.0.destination ≡ p) × Begins ts (spell.invoked regions y.0) y.1 × (place_fits locals y.0.closure ≡ true) × (regions_fit true count y.0.regions ≡ true) × (operands_fit locals y.0.operands ≡ true) × (y.0.target ≤ 255)
+  unfolding read.invoked
+  invoked_takes p ts y e =
+      let b = bind_ok (read.place locals ts) (λ q rest. and_then (list rest) (λ rs mid. and_then (read.operands locals mid) (λ os late. and_then (read.label late) (λ l last. Ok (record { destination = p; closure = q; regions = rs; operands = os; target = l }, last))))) y e in
+      let c = bind_ok (list b.0.1) (λ rs mid. and_then (read.operands locals mid) (λ os late. and_then (read.label late) (λ l last. Ok (record { destination = p; closure = b.0.0; regions = rs; operands = os; target = l }, last)))) y b.2 in
+      let d = bind_ok (read.operands locals c.0.1) (λ os late. and_then (read.label late) (λ l last. Ok (record { destination = p; closure = b.0.0; regions = c.0.0; operands = os; target = l }, last))) y c.2 in
+      let f = bind_ok (read.label d.0.1) (λ l last. Ok (record { destination = p; closure = b.0.0; regions = c.0.0; operands = d.0.0; target = l }, last)) y d.2 in
+      let q = place_takes locals few ts b.0 b.1 in
+      let rs = arguments_take true regions b.0.1 c.0 declares c.1 in
+      let os = operands_take locals few c.0.1 d.0 d.1 in
+      let l = label_takes d.0.1 f.0 f.1 in
+      let t2 = join c.0.1 (spell.operands d.0.0) d.0.1 (spell.label f.0.0) f.0.1 os.0 l.0 in
+      let t1 = join b.0.1 (spell.angled (spell.region regions) c.0.0) c.0.1 (spell.operands d.0.0 ++ spell.label f.0.0) f.0.1 rs.0 t2 in
+      subst (λ (z : Invocation × Tokens). (z.0.destination ≡ p) × Begins ts (spell.invoked regions z.0) z.1 × (place_fits locals z.0.closure ≡ true) × (regions_fit true count z.0.regions ≡ true) × (operands_fit locals z.0.operands ≡ true) × (z.0.target ≤ 255))
+      (ok_is (record { destination = p; closure = b.0.0; regions = c.0.0; operands = d.0.0; target = f.0.0 }, f.0.1) y f.2)
+      (refl, join ts (spell.place b.0.0) b.0.1 (spell.angled (spell.region regions) c.0.0 ++ (spell.operands d.0.0 ++ spell.label f.0.0)) f.0.1 q.0 t1, q.1, rs.1, os.1, l.1)
+
+  -- no `.` follows the place of a closure
+  no_dot : (rs : List Region) (os : List Operand) (x : List Token) (ts rest : Tokens) → Begins ts (spell.angled (spell.region regions) rs ++ (spell.operands os ++ x)) rest → NoDot ts
+  unfolding same
+  no_dot [] os x ts rest b = sees_none s.Dot ts (Fixed s.OpenParen) ((spell.commas spell.operand os ++ spell.symbol s.CloseParen) ++ x) rest b refl
+  no_dot (k ∷ rs) os x ts rest b = sees_none s.Dot ts (Fixed s.Less) ((spell.commas (spell.region regions) (k ∷ rs) ++ spell.symbol s.Greater) ++ (spell.operands os ++ x)) rest b refl
+
+  invoked_again : (ts : Tokens) (x : Invocation) (rest : Tokens) → Begins ts (spell.invoked regions x) rest → place_fits locals x.closure ≡ true → regions_fit true count x.regions ≡ true → operands_fit locals x.operands ≡ true → x.target ≤ 255
+      → read.invoked regions locals x.destination ts ≡ Ok (x, rest)
+  unfolding read.invoked
+  invoked_again ts x rest b q rs os l =
+      let tail = spell.operands x.operands ++ spell.label x.target in
+      let a = split ts (spell.place x.closure) (spell.angled (spell.region regions) x.regions ++ tail) rest b in
+      let c = split a.0 (spell.angled (spell.region regions) x.regions) tail rest a.2 in
+      let d = split c.0 (spell.operands x.operands) (spell.label x.target) rest c.2 in
+      rw (
+        place_again locals few ts x.closure a.0 a.1 q (no_dot x.regions x.operands (spell.label x.target) a.0 rest a.2),
+        arguments_again true regions a.0 x.regions c.0 declares c.1 rs (open_paren x.operands (spell.label x.target) c.0 rest c.2),
+        operands_again locals few c.0 x.operands d.0 d.1 os,
+        label_again d.0 x.target rest d.2 l,
+      ) refl
+
   -- ---- points
 
   abbrev pub tokens_of : Point → List Token
@@ -211,6 +312,30 @@ module _ (regions : List RegionName) (declares : Declares regions) (locals : ℕ
   abbrev pub IsPoint : Tokens → Point × Tokens → Type 0
   IsPoint ts q = Begins ts (tokens_of q.0) q.1 × (point_fits q.0 ≡ true)
 
+  -- what stands behind `P =` and is no call of a function
+  invoking_takes : (ts mid late : Tokens) (p : Place) (y : Point × Tokens) → Begins ts (spell.place p) mid → place_fits locals p ≡ true → Begins mid (spell.symbol s.Equals) late → read.invoking regions locals p late ≡ Ok y → IsPoint ts y
+  unfolding read.invoking
+  invoking_takes ts mid late p y place_text place_fit equals e =
+      elim (eaten s.Invoke (λ rest. and_then (read.invoked regions locals p rest) (λ x last. Ok (read.ending (t.Invoke x), last))) (λ rest. and_then (read.rvalue regions locals rest) (λ v last. Ok (read.assigned p v, last))) late y e) [
+        | inl q ↦
+            let d = bind_ok (read.invoked regions locals p (after late)) (λ x last. Ok (read.ending (t.Invoke x), last)) y q.1 in
+            let x = invoked_takes p (after late) d.0 d.1 in
+            let invoked = join late (spell.symbol s.Invoke) (after late) (spell.invoked regions d.0.0) d.0.1 q.0 x.1 in
+            let value = join mid (spell.symbol s.Equals) late (spell.symbol s.Invoke ++ spell.invoked regions d.0.0) d.0.1 equals invoked in
+            let text : Begins ts (spell.place d.0.0.destination) mid = subst (λ (l : Place). Begins ts (spell.place l) mid) (sym x.0) place_text in
+            let fit : place_fits locals d.0.0.destination ≡ true = subst (λ (l : Place). place_fits locals l ≡ true) (sym x.0) place_fit in
+            subst (IsPoint ts) (ok_is (read.ending (t.Invoke d.0.0), d.0.1) y d.2) (
+              join ts (spell.place d.0.0.destination) mid (spell.symbol s.Equals ++ (spell.symbol s.Invoke ++ spell.invoked regions d.0.0)) d.0.1 text value,
+              and_from _ _ (and_from _ _ (and_from _ _ (and_from (place_fits locals d.0.0.destination) (place_fits locals d.0.0.closure) fit x.2) x.3) x.4) (le-leb d.0.0.target 255 x.5),
+            )
+        | inr q ↦
+            let d = bind_ok (read.rvalue regions locals late) (λ v last. Ok (read.assigned p v, last)) y q.1 in
+            let v = rvalue_takes late d.0 d.1 in
+            let value = join mid (spell.symbol s.Equals) late (spell.rvalue regions d.0.0) d.0.1 equals v.0 in
+            subst (IsPoint ts) (ok_is (read.assigned p d.0.0, d.0.1) y d.2)
+            (join ts (spell.place p) mid (spell.symbol s.Equals ++ spell.rvalue regions d.0.0) d.0.1 place_text value, and_from (place_fits locals p) (rvalue_fits count locals d.0.0) place_fit v.1)
+      ]
+
   assignment_takes : (ts : Tokens) (y : Point × Tokens) → read.assignment regions locals ts ≡ Ok y → IsPoint ts y
   unfolding read.assignment read.value_of
   assignment_takes ts y e =
@@ -218,7 +343,7 @@ module _ (regions : List RegionName) (declares : Declares regions) (locals : ℕ
       let c = bind_ok (expect s.Equals b.0.1) (λ _ mid. read.value_of regions locals b.0.0 mid) y b.2 in
       let p = place_takes locals few ts b.0 b.1 in
       let equals = expect_takes s.Equals b.0.1 c.0 c.1 in
-      elim (eaten s.Call (λ rest. and_then (read.called regions locals b.0.0 rest) (λ x last. Ok (read.ending (t.Call x), last))) (λ rest. and_then (read.rvalue regions locals rest) (λ v last. Ok (read.assigned b.0.0 v, last))) c.0.1 y c.2) [
+      elim (eaten s.Call (λ rest. and_then (read.called regions locals b.0.0 rest) (λ x last. Ok (read.ending (t.Call x), last))) (read.invoking regions locals b.0.0) c.0.1 y c.2) [
         | inl q ↦
             let d = bind_ok (read.called regions locals b.0.0 (after c.0.1)) (λ x last. Ok (read.ending (t.Call x), last)) y q.1 in
             let x = called_takes b.0.0 (after c.0.1) d.0 d.1 in
@@ -230,12 +355,7 @@ module _ (regions : List RegionName) (declares : Declares regions) (locals : ℕ
               join ts (spell.place d.0.0.destination) b.0.1 (spell.symbol s.Equals ++ (spell.symbol s.Call ++ spell.called regions d.0.0)) d.0.1 place_text value,
               and_from _ _ (and_from _ _ (and_from (place_fits locals d.0.0.destination) (instance_fits true count d.0.0.function) place_fit x.2) x.3) (le-leb d.0.0.target 255 x.4),
             )
-        | inr q ↦
-            let d = bind_ok (read.rvalue regions locals c.0.1) (λ v last. Ok (read.assigned b.0.0 v, last)) y q.1 in
-            let v = rvalue_takes c.0.1 d.0 d.1 in
-            let value = join b.0.1 (spell.symbol s.Equals) c.0.1 (spell.rvalue regions d.0.0) d.0.1 equals v.0 in
-            subst (IsPoint ts) (ok_is (read.assigned b.0.0 d.0.0, d.0.1) y d.2)
-            (join ts (spell.place b.0.0) b.0.1 (spell.symbol s.Equals ++ spell.rvalue regions d.0.0) d.0.1 p.0 value, and_from (place_fits locals b.0.0) (rvalue_fits count locals d.0.0) p.1 v.1)
+        | inr q ↦ invoking_takes ts b.0.1 c.0.1 b.0.0 y p.0 p.1 equals q.1
       ]
 
   active_takes : (ts : Tokens) (y : Point × Tokens) → read.active regions locals ts ≡ Ok y → IsPoint ts y
@@ -354,7 +474,7 @@ module _ (regions : List RegionName) (declares : Declares regions) (locals : ℕ
 
   assign_again : (ts : Tokens) (a : Assignment) (rest : Tokens) → Begins ts (spell.assignment regions a) rest → place_fits locals a.target ≡ true → rvalue_fits count locals a.value ≡ true → NoDot rest
       → read.point regions locals ts ≡ Ok (read.assigned a.target a.value, rest)
-  unfolding read.assignment read.value_of same
+  unfolding read.assignment read.value_of read.invoking same
   assign_again ts a rest b place_fit value_fit other =
       let c = split ts (spell.place a.target) (spell.symbol s.Equals ++ spell.rvalue regions a.value) rest b in
       let d = split c.0 (spell.symbol s.Equals) (spell.rvalue regions a.value) rest c.2 in
@@ -362,7 +482,8 @@ module _ (regions : List RegionName) (declares : Declares regions) (locals : ℕ
       to_assignment ts a.target.local (flat_map spell.step a.target.projections ++ (spell.symbol s.Equals ++ spell.rvalue regions a.value)) rest b
       ∙ ap (λ q. and_then q (λ p mid. and_then (expect s.Equals mid) (λ _ late. read.value_of regions locals p late))) (place_again locals few ts a.target c.0 c.1 place_fit dot)
       ∙ ap (λ q. and_then q (λ _ late. read.value_of regions locals a.target late)) (expect_again s.Equals c.0 d.0 d.1)
-      ∙ eat_other s.Call _ _ d.0 (no_call a.value d.0 rest d.2)
+      ∙ eat_other s.Call _ (read.invoking regions locals a.target) d.0 (no_call a.value d.0 rest d.2)
+      ∙ eat_other s.Invoke _ _ d.0 (no_invoke a.value d.0 rest d.2)
       ∙ rw (rvalue_again d.0 a.value rest d.2 value_fit other) refl
 
   call_again : (ts : Tokens) (x : Call) (rest : Tokens) → Begins ts (spell.call regions x) rest → call_fits count locals x ≡ true → read.point regions locals ts ≡ Ok (read.ending (t.Call x), rest)
@@ -380,6 +501,25 @@ module _ (regions : List RegionName) (declares : Declares regions) (locals : ℕ
       ∙ ap (λ q. and_then q (λ _ late. read.value_of regions locals x.destination late)) (expect_again s.Equals c.0 d.0 d.1)
       ∙ eat_again s.Call _ _ d.0 f.0 f.1
       ∙ rw (called_again f.0 x rest f.2 p1.1 p2.1 (leb-true x.target 255 p3.1)) refl
+
+  invocation_again : (ts : Tokens) (x : Invocation) (rest : Tokens) → Begins ts (spell.invocation regions x) rest → invocation_fits count locals x ≡ true → read.point regions locals ts ≡ Ok (read.ending (t.Invoke x), rest)
+  unfolding read.assignment read.value_of read.invoking same
+  invocation_again ts x rest b fits =
+      let p4 = and_parts _ _ fits in
+      let p3 = and_parts _ (operands_fit locals x.operands) p4.0 in
+      let p2 = and_parts _ (regions_fit true count x.regions) p3.0 in
+      let p1 = and_parts (place_fits locals x.destination) (place_fits locals x.closure) p2.0 in
+      let tail = spell.symbol s.Invoke ++ spell.invoked regions x in
+      let c = split ts (spell.place x.destination) (spell.symbol s.Equals ++ tail) rest b in
+      let d = split c.0 (spell.symbol s.Equals) tail rest c.2 in
+      let f = split d.0 (spell.symbol s.Invoke) (spell.invoked regions x) rest d.2 in
+      let dot = sees_none s.Dot c.0 (Fixed s.Equals) tail rest c.2 refl in
+      to_assignment ts x.destination.local (flat_map spell.step x.destination.projections ++ (spell.symbol s.Equals ++ tail)) rest b
+      ∙ ap (λ q. and_then q (λ p mid. and_then (expect s.Equals mid) (λ _ late. read.value_of regions locals p late))) (place_again locals few ts x.destination c.0 c.1 p1.0 dot)
+      ∙ ap (λ q. and_then q (λ _ late. read.value_of regions locals x.destination late)) (expect_again s.Equals c.0 d.0 d.1)
+      ∙ eat_other s.Call _ (read.invoking regions locals x.destination) d.0 (sees_none s.Call d.0 (Fixed s.Invoke) (spell.invoked regions x) rest d.2 refl)
+      ∙ eat_again s.Invoke _ _ d.0 f.0 f.1
+      ∙ rw (invoked_again f.0 x rest f.2 p1.1 p2.1 p3.1 (leb-true x.target 255 p4.1)) refl
 
   pub statement_again : (ts : Tokens) (x : Statement) (rest : Tokens) → Begins ts (spell.statement regions x) rest → statement_fits count locals x ≡ true → NoDot rest → read.point regions locals ts ≡ Ok (point_kinds.Statement x, rest)
   unfolding read.dying read.dropping read.active same
@@ -424,6 +564,7 @@ module _ (regions : List RegionName) (declares : Declares regions) (locals : ℕ
       ∙ eat_other s.Goto _ (read.branching regions locals) ts (sees_none s.Goto ts (Fixed s.If) (spell.condition x) rest b refl)
       ∙ eat_again s.If _ (read.dying regions locals) ts a.0 a.1 ∙ rw (condition_again a.0 x rest a.2 fits) refl
   terminator_again ts (t.Call x) rest b fits = call_again ts x rest b fits
+  terminator_again ts (t.Invoke x) rest b fits = invocation_again ts x rest b fits
   terminator_again ts t.Return rest b fits = eat_again s.Return (pure (read.ending t.Return)) (read.stopping regions locals) ts rest b
   terminator_again ts t.Stop rest b fits =
       eat_other s.Return (pure (read.ending t.Return)) (read.stopping regions locals) ts (sees_none s.Return ts (Fixed s.Stop) [] rest b refl)

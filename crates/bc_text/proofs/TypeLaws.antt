@@ -1,8 +1,9 @@
 -- A type that is read is the one that was spelled, and what was spelled is read again.
 use Rattle.std.proofs.Common.{◌≡◌, ℕ, zero, suc, ◌+◌, ◌≤◌, Bool, true, false, List, [], ◌∷◌, ◌++◌, length, Ok, refl, sym, ap, ◌∙◌, subst, inl, inr, append_assoc, arith}
 use Rattle.std.specs.List.{flat_map, list_all}
-use Rattle.std.proofs.lemmas.Bool.{and_from, and_parts, leb-true, le-leb}
+use Rattle.std.proofs.lemmas.Bool.{cases_Bool, and_from, and_parts, leb-true, le-leb}
 use Rattle.std.proofs.lemmas.List.{append-nil}
+use Rattle.bc_syntax.specs.declared.symbol.Symbol.{Symbol}
 use Rattle.bc_syntax.specs.declared.symbol.Symbol.TheVariants as s
 use Rattle.bc_syntax.specs.declared.syntax.RegionName.{RegionName}
 use Rattle.bc_syntax.specs.declared.syntax.Mutability.{Mutability}
@@ -12,14 +13,14 @@ use Rattle.bc_syntax.specs.declared.syntax.Base.{Base}
 use Rattle.bc_syntax.specs.declared.syntax.Base.TheVariants as bases
 use Rattle.bc_syntax.specs.declared.syntax.Ty.{Ty}
 use Rattle.bc_syntax.specs.Symbol.{same}
-use Rattle.bc_syntax.specs.Fits.{reference_fits, base_fits, ty_fits, parameters_fit}
+use Rattle.bc_syntax.specs.Fits.{reference_fits, base_fits, ty_fits, whole_closure_fits, let_fits, parameters_fit}
 use Rattle.bc_print.specs.Token.{Token, Fixed, Word}
 use Rattle.bc_tokens.specs.Token.{Tokens}
-use Rattle.bc_tokens.specs.Parser.{and_then, sees, after, expect, pure, closed_list}
+use Rattle.bc_tokens.specs.Parser.{and_then, sees, is_fixed, after, expect, pure, closed_list}
 use Rattle.bc_text.specs.Reading as read
 use Rattle.bc_print.specs.Spelling as spell
 use Rattle.bc_text.proofs.Begins.{Begins, join, split, bind_ok, ok_is, eaten, eat_again, eat_other, expect_takes, expect_again, sees_none, no_value}
-use Rattle.bc_text.proofs.NameLaws.{Declares, NoLess, region_takes, region_again, instance_takes, instance_again}
+use Rattle.bc_text.proofs.NameLaws.{Declares, NoLess, region_takes, region_again, instance_takes, instance_again, closure_takes, closure_again}
 use Rattle.bc_text.proofs.Lists.{Spells, Closes, list_takes, list_again}
 
 -- ---- references
@@ -75,6 +76,7 @@ module _ (variables : Bool) (regions : List RegionName) (declares : Declares reg
   base_again ts (bases.Struct i) rest p fits other =
       eat_other s.Int (pure bases.Int) _ ts (sees_none s.Int ts (Word i.name.bytes) (spell.angled (spell.region regions) i.regions) rest p refl)
       ∙ rw (instance_again variables regions ts i rest declares p fits other) refl
+  base_again ts (bases.Closure c) rest p fits other = absurd cc
 
   -- ---- types
 
@@ -112,6 +114,7 @@ module _ (variables : Bool) (regions : List RegionName) (declares : Declares reg
   unfolding same
   no_mut [] bases.Int ts rest p = sees_none s.Mut ts (Fixed s.Int) [] rest p refl
   no_mut [] (bases.Struct i) ts rest p = sees_none s.Mut ts (Word i.name.bytes) (spell.angled (spell.region regions) i.regions) rest p refl
+  no_mut [] (bases.Closure c) ts rest p = sees_none s.Mut ts (Fixed s.Closure) (spell.closure_number regions c) rest p refl
   no_mut (r ∷ more) x ts rest p = sees_none s.Mut ts (Fixed s.Ampersand) ((spell.reference regions r ++ flat_map (spell.behind regions) more) ++ spell.base regions x) rest p refl
 
   -- no `&` begins a base
@@ -119,6 +122,7 @@ module _ (variables : Bool) (regions : List RegionName) (declares : Declares reg
   unfolding same
   no_ampersand bases.Int ts rest p = sees_none s.Ampersand ts (Fixed s.Int) [] rest p refl
   no_ampersand (bases.Struct i) ts rest p = sees_none s.Ampersand ts (Word i.name.bytes) (spell.angled (spell.region regions) i.regions) rest p refl
+  no_ampersand (bases.Closure c) ts rest p = sees_none s.Ampersand ts (Fixed s.Closure) (spell.closure_number regions c) rest p refl
 
   ty_from_again : (room : ℕ) (found more : List Reference) (x : Base) (ts rest : Tokens) → Begins ts (flat_map (spell.behind regions) more ++ spell.base regions x) rest → list_all (reference_fits variables count) more ≡ true → base_fits variables count x ≡ true
       → length more + 1 ≤ room → NoLess rest → read.ty_from variables regions room found ts ≡ Ok (record { references = found ++ more; base = x }, rest)
@@ -155,38 +159,119 @@ module _ (variables : Bool) (regions : List RegionName) (declares : Declares reg
       let few : length t.references + 1 ≤ 8 = omega (arith, leb-true (length t.references) 7 more.1) in
       ty_from_again 8 [] t.references t.base ts rest p more.0 parts.1 few other
 
--- ---- parameters
+-- ---- the types of `let` locals
+
+-- no `closure` begins a type that may stand anywhere
+no_closure : (variables : Bool) (count : ℕ) (regions : List RegionName) (rs : List Reference) (x : Base) (ts rest : Tokens) → base_fits variables count x ≡ true → Begins ts (flat_map (spell.behind regions) rs ++ spell.base regions x) rest → sees s.Closure ts ≡ false
+unfolding same
+no_closure variables count regions [] bases.Int ts rest fits p = sees_none s.Closure ts (Fixed s.Int) [] rest p refl
+no_closure variables count regions [] (bases.Struct i) ts rest fits p = sees_none s.Closure ts (Word i.name.bytes) (spell.angled (spell.region regions) i.regions) rest p refl
+no_closure variables count regions [] (bases.Closure c) ts rest fits p = absurd cc
+no_closure variables count regions (r ∷ rs) x ts rest fits p = sees_none s.Closure ts (Fixed s.Ampersand) ((spell.reference regions r ++ flat_map (spell.behind regions) rs) ++ spell.base regions x) rest p refl
+
+module _ (regions : List RegionName) (declares : Declares regions) where
+  pub let_type_takes : (ts : Tokens) (y : Ty × Tokens) → read.let_type regions ts ≡ Ok y → Begins ts (spell.ty regions y.0) y.1 × (let_fits (length regions + 1) y.0 ≡ true)
+  unfolding read.let_type
+  let_type_takes ts y e =
+      let P : Ty × Tokens → Type 0 = λ q. Begins ts (spell.ty regions q.0) q.1 × (let_fits (length regions + 1) q.0 ≡ true) in
+      elim (eaten s.Closure (λ rest. and_then (read.closure_instance regions rest) (λ c last. Ok (read.behind [] (bases.Closure c), last))) (read.ty true regions) ts y e) [
+        | inl p ↦
+            let b = bind_ok (read.closure_instance regions (after ts)) (λ c last. Ok (read.behind [] (bases.Closure c), last)) y p.1 in
+            let c = closure_takes regions (after ts) b.0 declares b.1 in
+            subst P (ok_is (read.behind [] (bases.Closure b.0.0), b.0.1) y b.2) (join ts (spell.symbol s.Closure) (after ts) (spell.closure_number regions b.0.0) b.0.1 p.0 c.0, c.1)
+        | inr p ↦ let t = ty_takes true regions declares ts y p.1 in (t.0, rw t.1 refl)
+      ]
+
+  whole_again : (rs : List Reference) (x : Base) (ts rest : Tokens) → Begins ts (flat_map (spell.behind regions) rs ++ spell.base regions x) rest → whole_closure_fits (length regions + 1) rs x ≡ true → NoLess rest
+      → read.let_type regions ts ≡ Ok (record { references = rs; base = x }, rest)
+  unfolding read.let_type
+  whole_again [] bases.Int ts rest p fits other = absurd cc
+  whole_again [] (bases.Struct i) ts rest p fits other = absurd cc
+  whole_again [] (bases.Closure c) ts rest p fits other =
+      let a = split ts (spell.symbol s.Closure) (spell.closure_number regions c) rest p in
+      eat_again s.Closure _ (read.ty true regions) ts a.0 a.1 ∙ rw (closure_again regions a.0 c rest declares a.2 fits other) refl
+  whole_again (r ∷ rs) x ts rest p fits other = absurd cc
+
+  pub let_type_again : (ts : Tokens) (t : Ty) (rest : Tokens) → Begins ts (spell.ty regions t) rest → let_fits (length regions + 1) t ≡ true → NoLess rest → read.let_type regions ts ≡ Ok (t, rest)
+  unfolding read.let_type
+  let_type_again ts t rest p fits other =
+      elim (cases_Bool (ty_fits true (length regions + 1) t)) [
+        | inl fit ↦
+            let base = (and_parts _ (base_fits true (length regions + 1) t.base) fit).1 in
+            eat_other s.Closure _ (read.ty true regions) ts (no_closure true (length regions + 1) regions t.references t.base ts rest base p) ∙ ty_again true regions declares ts t rest p fit other
+        | inr unfit ↦ whole_again t.references t.base ts rest p (rw unfit at fits) other
+      ]
+
+-- ---- lists of types
 
 ty_law : (regions : List RegionName) → Declares regions → Spells (read.ty false regions) (spell.ty regions) (ty_fits false (length regions + 1)) NoLess
 ty_law regions declares = record { takes = ty_takes false regions declares; again = ty_again false regions declares }
 
-no_close : (regions : List RegionName) (rs : List Reference) (b : Base) (l : List Token) (ts rest : Tokens) → Begins ts ((flat_map (spell.behind regions) rs ++ spell.base regions b) ++ l) rest → sees s.CloseParen ts ≡ false
-unfolding same
-no_close regions [] bases.Int l ts rest b = sees_none s.CloseParen ts (Fixed s.Int) l rest b refl
-no_close regions [] (bases.Struct i) l ts rest b = sees_none s.CloseParen ts (Word i.name.bytes) (spell.angled (spell.region regions) i.regions ++ l) rest b refl
-no_close regions (r ∷ rs) k l ts rest b = sees_none s.CloseParen ts (Fixed s.Ampersand) (((spell.reference regions r ++ flat_map (spell.behind regions) rs) ++ spell.base regions k) ++ l) rest b refl
+-- a symbol that closes a list of types
+record ClosesTys (close : Symbol) : Type 0 where
+  int : is_fixed close (Fixed s.Int) ≡ false
+  closure : is_fixed close (Fixed s.Closure) ≡ false
+  ampersand : is_fixed close (Fixed s.Ampersand) ≡ false
+  less : is_fixed s.Less (Fixed close) ≡ false
+  comma : is_fixed s.Comma (Fixed close) ≡ false
 
-tys_close : (regions : List RegionName) → Closes (spell.ty regions) NoLess s.CloseParen
+module _ (opening close : Symbol) (closes : ClosesTys close) (regions : List RegionName) where
+  no_close : (rs : List Reference) (b : Base) (l : List Token) (ts rest : Tokens) → Begins ts ((flat_map (spell.behind regions) rs ++ spell.base regions b) ++ l) rest → sees close ts ≡ false
+  no_close [] bases.Int l ts rest b = sees_none close ts (Fixed s.Int) l rest b closes.int
+  no_close [] (bases.Struct i) l ts rest b = sees_none close ts (Word i.name.bytes) (spell.angled (spell.region regions) i.regions ++ l) rest b refl
+  no_close [] (bases.Closure c) l ts rest b = sees_none close ts (Fixed s.Closure) (spell.closure_number regions c ++ l) rest b closes.closure
+  no_close (r ∷ rs) k l ts rest b = sees_none close ts (Fixed s.Ampersand) (((spell.reference regions r ++ flat_map (spell.behind regions) rs) ++ spell.base regions k) ++ l) rest b closes.ampersand
+
+  tys_close : Closes (spell.ty regions) NoLess close
+  unfolding same
+  tys_close = record {
+    follows = record { comma_ends = λ ts x rest b. sees_none s.Less ts (Fixed s.Comma) x rest b refl };
+    close_ends = λ ts x rest b. sees_none s.Less ts (Fixed close) x rest b closes.less;
+    close_apart = closes.comma;
+    item_apart = λ x l ts rest b. no_close x.references x.base l ts rest b;
+  }
+
+  abbrev enclosed : List Ty → List Token
+  enclosed tys = spell.symbol opening ++ (spell.commas (spell.ty regions) tys ++ spell.symbol close)
+
+  enclosed_take : (ts : Tokens) (y : List Ty × Tokens) → Declares regions → and_then (expect opening ts) (λ _ rest. closed_list read.begins_ty (read.ty false regions) 16 close rest) ≡ Ok y
+      → Begins ts (enclosed y.0) y.1 × (parameters_fit (length regions + 1) y.0 ≡ true)
+  enclosed_take ts y declares e =
+      let b = bind_ok (expect opening ts) (λ _ rest. closed_list read.begins_ty (read.ty false regions) 16 close rest) y e in
+      let list = list_takes (ty_law regions declares) read.begins_ty 16 close b.0.1 y b.2 in (
+        join ts (Fixed opening ∷ []) b.0.1 (spell.commas (spell.ty regions) y.0 ++ spell.symbol close) y.1 (expect_takes opening ts b.0 b.1) list.0,
+        and_from (list_all (ty_fits false (length regions + 1)) y.0) _ list.1.0 (le-leb (length y.0) 16 list.1.1),
+      )
+
+  enclosed_again : (ts : Tokens) (tys : List Ty) (rest : Tokens) → Declares regions → Begins ts (enclosed tys) rest → parameters_fit (length regions + 1) tys ≡ true
+      → and_then (expect opening ts) (λ _ late. closed_list read.begins_ty (read.ty false regions) 16 close late) ≡ Ok (tys, rest)
+  enclosed_again ts tys rest declares b fits =
+      let a = split ts (Fixed opening ∷ []) (spell.commas (spell.ty regions) tys ++ spell.symbol close) rest b in
+      let parts = and_parts (list_all (ty_fits false (length regions + 1)) tys) _ fits in
+      rw (expect_again opening ts a.0 a.1) (list_again (ty_law regions declares) read.begins_ty 16 close tys_close a.0 tys rest a.2 (parts.0, leb-true (length tys) 16 parts.1))
+
+-- ---- parameters and captures
+
+paren : ClosesTys s.CloseParen
 unfolding same
-tys_close regions = record {
-  follows = record { comma_ends = λ ts x rest b. sees_none s.Less ts (Fixed s.Comma) x rest b refl };
-  close_ends = λ ts x rest b. sees_none s.Less ts (Fixed s.CloseParen) x rest b refl;
-  close_apart = refl;
-  item_apart = λ x l ts rest b. no_close regions x.references x.base l ts rest b;
-}
+paren = record { int = refl; closure = refl; ampersand = refl; less = refl; comma = refl }
+
+bracket : ClosesTys s.CloseBracket
+unfolding same
+bracket = record { int = refl; closure = refl; ampersand = refl; less = refl; comma = refl }
 
 pub parameters_take : (regions : List RegionName) (ts : Tokens) (y : List Ty × Tokens) → Declares regions → read.parameters regions ts ≡ Ok y → Begins ts (spell.parameters regions y.0) y.1 × (parameters_fit (length regions + 1) y.0 ≡ true)
 unfolding read.parameters
-parameters_take regions ts y declares e =
-    let b = bind_ok (expect s.OpenParen ts) (λ _ rest. closed_list read.begins_ty (read.ty false regions) 16 s.CloseParen rest) y e in
-    let list = list_takes (ty_law regions declares) read.begins_ty 16 s.CloseParen b.0.1 y b.2 in (
-      join ts (Fixed s.OpenParen ∷ []) b.0.1 (spell.commas (spell.ty regions) y.0 ++ spell.symbol s.CloseParen) y.1 (expect_takes s.OpenParen ts b.0 b.1) list.0,
-      and_from (list_all (ty_fits false (length regions + 1)) y.0) _ list.1.0 (le-leb (length y.0) 16 list.1.1),
-    )
+parameters_take regions ts y declares e = enclosed_take s.OpenParen s.CloseParen paren regions ts y declares e
 
 pub parameters_again : (regions : List RegionName) (ts : Tokens) (ps : List Ty) (rest : Tokens) → Declares regions → Begins ts (spell.parameters regions ps) rest → parameters_fit (length regions + 1) ps ≡ true → read.parameters regions ts ≡ Ok (ps, rest)
 unfolding read.parameters
-parameters_again regions ts ps rest declares b fits =
-    let a = split ts (Fixed s.OpenParen ∷ []) (spell.commas (spell.ty regions) ps ++ spell.symbol s.CloseParen) rest b in
-    let parts = and_parts (list_all (ty_fits false (length regions + 1)) ps) _ fits in
-    rw (expect_again s.OpenParen ts a.0 a.1) (list_again (ty_law regions declares) read.begins_ty 16 s.CloseParen (tys_close regions) a.0 ps rest a.2 (parts.0, leb-true (length ps) 16 parts.1))
+parameters_again regions ts ps rest declares b fits = enclosed_again s.OpenParen s.CloseParen paren regions ts ps rest declares b fits
+
+pub captures_take : (regions : List RegionName) (ts : Tokens) (y : List Ty × Tokens) → Declares regions → read.captures regions ts ≡ Ok y → Begins ts (spell.bracketed regions y.0) y.1 × (parameters_fit (length regions + 1) y.0 ≡ true)
+unfolding read.captures
+captures_take regions ts y declares e = enclosed_take s.OpenBracket s.CloseBracket bracket regions ts y declares e
+
+pub captures_again : (regions : List RegionName) (ts : Tokens) (cs : List Ty) (rest : Tokens) → Declares regions → Begins ts (spell.bracketed regions cs) rest → parameters_fit (length regions + 1) cs ≡ true → read.captures regions ts ≡ Ok (cs, rest)
+unfolding read.captures
+captures_again regions ts cs rest declares b fits = enclosed_again s.OpenBracket s.CloseBracket bracket regions ts cs rest declares b fits

@@ -12,15 +12,15 @@ use Rattle.bc_syntax.specs.declared.syntax.RegionName.{RegionName}
 use Rattle.bc_syntax.specs.declared.syntax.Outlives.{Outlives}
 use Rattle.bc_syntax.specs.declared.syntax.Ty.{Ty}
 use Rattle.bc_syntax.specs.declared.syntax.UnitKind.{UnitKind}
-use Rattle.bc_syntax.specs.declared.syntax.UnitKind.TheVariants.{Function}
+use Rattle.bc_syntax.specs.declared.syntax.UnitKind.TheVariants.{Function, Closure}
 use Rattle.bc_syntax.specs.declared.syntax.Block.{Block}
 use Rattle.bc_syntax.specs.declared.syntax.Signature.{Signature}
 use Rattle.bc_syntax.specs.declared.syntax.Header.{Header}
 use Rattle.bc_syntax.specs.declared.syntax.Body.{Body}
 use Rattle.bc_syntax.specs.Symbol.{same}
 use Rattle.bc_syntax.specs.Locals.{declared_locals, first_let}
-use Rattle.bc_syntax.specs.Fits.{signature_fits, header_fits, Fits, is_new, are_new, clause_fits, clauses_fit, parameters_fit, ty_fits, block_fits}
-use Rattle.bc_syntax.proofs.Signatures.{signature_parts}
+use Rattle.bc_syntax.specs.Fits.{signature_fits, kind_fits, header_fits, Fits, is_new, are_new, clause_fits, clauses_fit, parameters_fit, ty_fits, let_fits, block_fits, universal_count}
+use Rattle.bc_syntax.proofs.Signatures.{signature_parts, header_parts}
 use Rattle.bc_print.specs.Token.{Token, Fixed, Numbered, Word, Region, NotAscii, Stray, End}
 use Rattle.bc_tokens.specs.Token.{Tokens, tokens}
 use Rattle.bc_tokens.specs.Parser.{Outcome, Reads, and_then, sees, sees_region, after, is_end, at_end, numbered, position, expect, pure, fail, fault, declared_list}
@@ -30,7 +30,7 @@ use Rattle.bc_print.specs.Spelling as spell
 use Rattle.bc_text.specs.Spells as texts
 use Rattle.bc_text.proofs.Begins.{Begins, join, split, bind_ok, ok_is, chosen, chosen_parser, eaten, eat_again, eat_other, expect_takes, expect_again, numbered_takes, numbered_again, sees_none, sees_numbered_none}
 use Rattle.bc_text.proofs.NameLaws.{Declares, Anything, NoLess, universal_takes, universal_again, new_region_takes, new_region_again}
-use Rattle.bc_text.proofs.TypeLaws.{ty_takes, ty_again, parameters_take, parameters_again}
+use Rattle.bc_text.proofs.TypeLaws.{ty_takes, ty_again, let_type_takes, let_type_again, parameters_take, parameters_again, captures_take, captures_again}
 use Rattle.bc_text.proofs.Lists.{SpellsBeside, Spells, Closes, are_fitting, declared_list_takes, declared_list_again, opened_take, opened_again, opened_none}
 use Rattle.bc_text.proofs.Ends.{IsText, tokens_are_text, within, ends_there, all_of_it, begins_whole}
 use Rattle.bc_text.proofs.BlockLaws.{blocks_take, blocks_again}
@@ -82,9 +82,9 @@ module _ (regions : List RegionName) (declares : Declares regions) where
   abbrev made : List Outlives → List Ty → Ty → Signature
   made clauses parameters result = record { regions = regions; clauses = clauses; parameters = parameters; result = result }
 
-  -- what stands behind the declared regions
-  abbrev rest_of : Signature → List Token
-  rest_of h = spell.clauses regions h.clauses ++ (spell.parameters regions h.parameters ++ (spell.symbol s.Arrow ++ spell.ty regions h.result))
+  -- what a function takes and what it returns
+  abbrev ty_of : Signature → List Token
+  ty_of h = spell.parameters regions h.parameters ++ (spell.symbol s.Arrow ++ spell.ty regions h.result)
 
   pub record RestFits (h : Signature) : Type 0 where
     pub regions_are : h.regions ≡ regions
@@ -92,40 +92,89 @@ module _ (regions : List RegionName) (declares : Declares regions) where
     pub parameters : parameters_fit count h.parameters ≡ true
     pub result : ty_fits false count h.result ≡ true
 
-  pub behind_regions_takes : (ts : Tokens) (y : Signature × Tokens) → read.behind_regions regions ts ≡ Ok y → Begins ts (rest_of y.0) y.1 × RestFits y.0
-  unfolding read.behind_regions read.function_ty
-  behind_regions_takes ts y e =
-      let b = bind_ok (read.clauses regions ts) (λ cs t1. and_then (read.parameters regions t1) (λ ps t2. and_then (expect s.Arrow t2) (λ _ t3. and_then (read.ty false regions t3) (λ r t4. Ok (made cs ps r, t4))))) y e in
-      let c = bind_ok (read.parameters regions b.0.1) (λ ps t2. and_then (expect s.Arrow t2) (λ _ t3. and_then (read.ty false regions t3) (λ r t4. Ok (made b.0.0 ps r, t4)))) y b.2 in
-      let d = bind_ok (expect s.Arrow c.0.1) (λ _ t3. and_then (read.ty false regions t3) (λ r t4. Ok (made b.0.0 c.0.0 r, t4))) y c.2 in
-      let f = bind_ok (read.ty false regions d.0.1) (λ r t4. Ok (made b.0.0 c.0.0 r, t4)) y d.2 in
-      let cs = clauses_take ts b.0 b.1 in
-      let ps = parameters_take regions b.0.1 c.0 declares c.1 in
+  function_ty_takes : (cs : List Outlives) (ts : Tokens) (y : Signature × Tokens) → clauses_fit count cs ≡ true → read.function_ty regions cs ts ≡ Ok y → Begins ts (ty_of y.0) y.1 × (y.0.clauses ≡ cs) × RestFits y.0
+  unfolding read.function_ty
+  function_ty_takes cs ts y fit e =
+      let c = bind_ok (read.parameters regions ts) (λ ps t2. and_then (expect s.Arrow t2) (λ _ t3. and_then (read.ty false regions t3) (λ r t4. Ok (made cs ps r, t4)))) y e in
+      let d = bind_ok (expect s.Arrow c.0.1) (λ _ t3. and_then (read.ty false regions t3) (λ r t4. Ok (made cs c.0.0 r, t4))) y c.2 in
+      let f = bind_ok (read.ty false regions d.0.1) (λ r t4. Ok (made cs c.0.0 r, t4)) y d.2 in
+      let ps = parameters_take regions ts c.0 declares c.1 in
       let r = ty_takes false regions declares d.0.1 f.0 f.1 in
       let t2 = join c.0.1 (spell.symbol s.Arrow) d.0.1 (spell.ty regions f.0.0) f.0.1 (expect_takes s.Arrow c.0.1 d.0 d.1) r.0 in
-      let t1 = join b.0.1 (spell.parameters regions c.0.0) c.0.1 (spell.symbol s.Arrow ++ spell.ty regions f.0.0) f.0.1 ps.0 t2 in
-      let whole = join ts (spell.clauses regions b.0.0) b.0.1 (spell.parameters regions c.0.0 ++ (spell.symbol s.Arrow ++ spell.ty regions f.0.0)) f.0.1 cs.0 t1 in
-      subst (λ (q : Signature × Tokens). Begins ts (rest_of q.0) q.1 × RestFits q.0) (ok_is (made b.0.0 c.0.0 f.0.0, f.0.1) y f.2)
-      (whole, record { regions_are = refl; clauses = cs.1; parameters = ps.1; result = r.1 })
+      let whole = join ts (spell.parameters regions c.0.0) c.0.1 (spell.symbol s.Arrow ++ spell.ty regions f.0.0) f.0.1 ps.0 t2 in
+      subst (λ (q : Signature × Tokens). Begins ts (ty_of q.0) q.1 × (q.0.clauses ≡ cs) × RestFits q.0) (ok_is (made cs c.0.0 f.0.0, f.0.1) y f.2)
+      (whole, refl, record { regions_are = refl; clauses = fit; parameters = ps.1; result = r.1 })
 
   made_is : (h : Signature) → h.regions ≡ regions → made h.clauses h.parameters h.result ≡ h
   made_is h same_regions = ap (λ (rs : List RegionName). record { regions = rs; clauses = h.clauses; parameters = h.parameters; result = h.result }) (sym same_regions)
 
-  pub behind_regions_again : (ts : Tokens) (h : Signature) (rest : Tokens) → Begins ts (rest_of h) rest → RestFits h → NoLess rest → read.behind_regions regions ts ≡ Ok (h, rest)
-  unfolding read.behind_regions read.function_ty same
-  behind_regions_again ts h rest b fits other =
-      let a = split ts (spell.clauses regions h.clauses) (spell.parameters regions h.parameters ++ (spell.symbol s.Arrow ++ spell.ty regions h.result)) rest b in
-      let c = split a.0 (spell.parameters regions h.parameters) (spell.symbol s.Arrow ++ spell.ty regions h.result) rest a.2 in
+  function_ty_again : (ts : Tokens) (h : Signature) (rest : Tokens) → Begins ts (ty_of h) rest → RestFits h → NoLess rest → read.function_ty regions h.clauses ts ≡ Ok (h, rest)
+  unfolding read.function_ty
+  function_ty_again ts h rest b fits other =
+      let c = split ts (spell.parameters regions h.parameters) (spell.symbol s.Arrow ++ spell.ty regions h.result) rest b in
       let d = split c.0 (spell.symbol s.Arrow) (spell.ty regions h.result) rest c.2 in
+      rw (parameters_again regions ts h.parameters c.0 declares c.1 fits.parameters, expect_again s.Arrow c.0 d.0 d.1, ty_again false regions declares d.0 h.result rest d.2 fits.result other)
+      (ap (λ (k : Signature). Ok (k, rest)) (made_is h fits.regions_are))
+
+  -- what stands behind the declared regions
+  abbrev rest_of : Signature → List Token
+  rest_of h = spell.clauses regions h.clauses ++ ty_of h
+
+  pub behind_regions_takes : (ts : Tokens) (y : Signature × Tokens) → read.behind_regions regions ts ≡ Ok y → Begins ts (rest_of y.0) y.1 × RestFits y.0
+  unfolding read.behind_regions
+  behind_regions_takes ts y e =
+      let b = bind_ok (read.clauses regions ts) (λ cs rest. read.function_ty regions cs rest) y e in
+      let cs = clauses_take ts b.0 b.1 in
+      let f = function_ty_takes b.0.0 b.0.1 y cs.1 b.2 in
+      let text : Begins ts (spell.clauses regions y.0.clauses) b.0.1 = subst (λ (l : List Outlives). Begins ts (spell.clauses regions l) b.0.1) (sym f.1) cs.0 in
+      (join ts (spell.clauses regions y.0.clauses) b.0.1 (ty_of y.0) y.1 text f.0, f.2)
+
+  pub behind_regions_again : (ts : Tokens) (h : Signature) (rest : Tokens) → Begins ts (rest_of h) rest → RestFits h → NoLess rest → read.behind_regions regions ts ≡ Ok (h, rest)
+  unfolding read.behind_regions same
+  behind_regions_again ts h rest b fits other =
+      let a = split ts (spell.clauses regions h.clauses) (ty_of h) rest b in
       let tail = (spell.commas (spell.ty regions) h.parameters ++ spell.symbol s.CloseParen) ++ (spell.symbol s.Arrow ++ spell.ty regions h.result) in
       let no_where = sees_none s.Where a.0 (Fixed s.OpenParen) tail rest a.2 refl in
       let no_comma = sees_none s.Comma a.0 (Fixed s.OpenParen) tail rest a.2 refl in
-      rw (
-        clauses_again ts h.clauses a.0 a.1 fits.clauses no_where no_comma,
-        parameters_again regions a.0 h.parameters c.0 declares c.1 fits.parameters,
-        expect_again s.Arrow c.0 d.0 d.1,
-        ty_again false regions declares d.0 h.result rest d.2 fits.result other,
-      ) (ap (λ (k : Signature). Ok (k, rest)) (made_is h fits.regions_are))
+      rw (clauses_again ts h.clauses a.0 a.1 fits.clauses no_where no_comma) (function_ty_again a.0 h rest a.2 fits other)
+
+  -- ---- closures
+
+  -- what stands behind the regions that a closure declares
+  abbrev closure_rest_of : List Ty → Signature → List Token
+  closure_rest_of ts h = spell.clauses regions h.clauses ++ (spell.bracketed regions ts ++ ty_of h)
+
+  pub record ClosureFits (h : Header) : Type 0 where
+    pub kind : h.kind ≡ Closure
+    pub captures : parameters_fit count h.captures ≡ true
+    pub signature : RestFits h.signature
+
+  abbrev closure_of : List Ty → Signature → Header
+  closure_of ts h = record { kind = Closure; captures = ts; signature = h }
+
+  pub closure_behind_takes : (ts : Tokens) (y : Header × Tokens) → read.closure_behind regions ts ≡ Ok y → Begins ts (closure_rest_of y.0.captures y.0.signature) y.1 × ClosureFits y.0
+  unfolding read.closure_behind
+  closure_behind_takes ts y e =
+      let b = bind_ok (read.clauses regions ts) (λ cs t1. and_then (read.captures regions t1) (λ xs t2. and_then (read.function_ty regions cs t2) (λ f t3. Ok (closure_of xs f, t3)))) y e in
+      let c = bind_ok (read.captures regions b.0.1) (λ xs t2. and_then (read.function_ty regions b.0.0 t2) (λ f t3. Ok (closure_of xs f, t3))) y b.2 in
+      let d = bind_ok (read.function_ty regions b.0.0 c.0.1) (λ f t3. Ok (closure_of c.0.0 f, t3)) y c.2 in
+      let cs = clauses_take ts b.0 b.1 in
+      let xs = captures_take regions b.0.1 c.0 declares c.1 in
+      let f = function_ty_takes b.0.0 c.0.1 d.0 cs.1 d.1 in
+      let text : Begins ts (spell.clauses regions d.0.0.clauses) b.0.1 = subst (λ (l : List Outlives). Begins ts (spell.clauses regions l) b.0.1) (sym f.1) cs.0 in
+      let tail = join b.0.1 (spell.bracketed regions c.0.0) c.0.1 (ty_of d.0.0) d.0.1 xs.0 f.0 in
+      subst (λ (q : Header × Tokens). Begins ts (closure_rest_of q.0.captures q.0.signature) q.1 × ClosureFits q.0) (ok_is (closure_of c.0.0 d.0.0, d.0.1) y d.2)
+      (join ts (spell.clauses regions d.0.0.clauses) b.0.1 (spell.bracketed regions c.0.0 ++ ty_of d.0.0) d.0.1 text tail, record { kind = refl; captures = xs.1; signature = f.2 })
+
+  pub closure_behind_again : (ts : Tokens) (xs : List Ty) (h : Signature) (rest : Tokens) → Begins ts (closure_rest_of xs h) rest → parameters_fit count xs ≡ true → RestFits h → NoLess rest → read.closure_behind regions ts ≡ Ok (closure_of xs h, rest)
+  unfolding read.closure_behind same
+  closure_behind_again ts xs h rest b captured fits other =
+      let a = split ts (spell.clauses regions h.clauses) (spell.bracketed regions xs ++ ty_of h) rest b in
+      let c = split a.0 (spell.bracketed regions xs) (ty_of h) rest a.2 in
+      let tail = (spell.commas (spell.ty regions) xs ++ spell.symbol s.CloseBracket) ++ ty_of h in
+      let no_where = sees_none s.Where a.0 (Fixed s.OpenBracket) tail rest a.2 refl in
+      let no_comma = sees_none s.Comma a.0 (Fixed s.OpenBracket) tail rest a.2 refl in
+      rw (clauses_again ts h.clauses a.0 a.1 fits.clauses no_where no_comma, captures_again regions a.0 xs c.0 declares c.1 captured, function_ty_again c.0 h rest c.2 fits other) refl
 
 -- ---- regions that are declared
 
@@ -154,6 +203,20 @@ pub record SignatureIs (limit : ℕ) (h : Signature) : Type 0 where
   pub few : length h.regions ≤ limit
   pub behind : (d : Declares h.regions) → RestFits h.regions d h
 
+signature_from : (limit : ℕ) (regions : List RegionName) (declares : Declares regions) (h : Signature) → length regions ≤ limit → RestFits regions declares h → SignatureIs limit h
+signature_from limit regions declares h few fits =
+    let is = fits.regions_are in
+    record {
+      declares = subst Declares (sym is) declares;
+      few = subst (λ (rs : List RegionName). length rs ≤ limit) (sym is) few;
+      behind = λ d. record {
+        regions_are = refl;
+        clauses = subst (λ (rs : List RegionName). clauses_fit (length rs + 1) h.clauses ≡ true) (sym is) fits.clauses;
+        parameters = subst (λ (rs : List RegionName). parameters_fit (length rs + 1) h.parameters ≡ true) (sym is) fits.parameters;
+        result = subst (λ (rs : List RegionName). ty_fits false (length rs + 1) h.result ≡ true) (sym is) fits.result;
+      };
+    }
+
 pub signature_takes : (limit : ℕ) (ts : Tokens) (y : Signature × Tokens) → read.signature limit ts ≡ Ok y → Begins ts (spell.signature y.0) y.1 × SignatureIs limit y.0
 unfolding read.signature
 signature_takes limit ts y e =
@@ -161,19 +224,9 @@ signature_takes limit ts y e =
     let list = declared_list_takes new_law sees_region limit ts b.0 b.1 in
     let declares : Declares b.0.0 = sym (fitting_is [] b.0.0) ∙ list.1.0 in
     let g = behind_regions_takes b.0.0 declares b.0.1 y b.2 in
-    let whole = join ts (spell.angled spell.region_name b.0.0) b.0.1 (rest_of b.0.0 declares y.0) y.1 list.0 g.0 in
-    let is = g.1.regions_are in (
-      subst (λ (rs : List RegionName). Begins ts (spell.angled spell.region_name rs ++ (spell.clauses rs y.0.clauses ++ (spell.parameters rs y.0.parameters ++ (spell.symbol s.Arrow ++ spell.ty rs y.0.result)))) y.1) (sym is) whole,
-      record {
-        declares = subst Declares (sym is) declares;
-        few = subst (λ (rs : List RegionName). length rs ≤ limit) (sym is) list.1.1;
-        behind = λ d. record {
-          regions_are = refl;
-          clauses = subst (λ (rs : List RegionName). clauses_fit (length rs + 1) y.0.clauses ≡ true) (sym is) g.1.clauses;
-          parameters = subst (λ (rs : List RegionName). parameters_fit (length rs + 1) y.0.parameters ≡ true) (sym is) g.1.parameters;
-          result = subst (λ (rs : List RegionName). ty_fits false (length rs + 1) y.0.result ≡ true) (sym is) g.1.result;
-        };
-      },
+    let whole = join ts (spell.angled spell.region_name b.0.0) b.0.1 (rest_of b.0.0 declares y.0) y.1 list.0 g.0 in (
+      subst (λ (rs : List RegionName). Begins ts (spell.angled spell.region_name rs ++ (spell.clauses rs y.0.clauses ++ (spell.parameters rs y.0.parameters ++ (spell.symbol s.Arrow ++ spell.ty rs y.0.result)))) y.1) (sym g.1.regions_are) whole,
+      signature_from limit b.0.0 declares y.0 list.1.1 g.1,
     )
 
 no_less_from : (regions : List RegionName) (cs : List Outlives) (ps : List Ty) (l : List Token) (ts rest : Tokens) → Begins ts (spell.clauses regions cs ++ (spell.parameters regions ps ++ l)) rest → NoLess ts
@@ -207,31 +260,90 @@ signature_is limit h fits =
 -- ---- headers
 
 abbrev function_of : Signature → Header
-function_of f = record { kind = Function; signature = f }
+function_of f = record { kind = Function; captures = []; signature = f }
 
-header_takes : (ts : Tokens) (y : Header × Tokens) → read.header ts ≡ Ok y → Begins ts (spell.header y.0) y.1 × SignatureIs 15 y.0.signature
-unfolding read.header
+-- a closure's header behind its first word
+abbrev closure_rest : List Ty → Signature → List Token
+closure_rest xs f = spell.signature_with (spell.bracketed f.regions xs) f
+
+abbrev captures_fit : List Ty → Signature → Type 0
+captures_fit xs f = parameters_fit (universal_count f) xs ≡ true
+
+closure_header_takes : (ts : Tokens) (y : Header × Tokens) → read.closure_header ts ≡ Ok y → Begins ts (closure_rest y.0.captures y.0.signature) y.1 × (y.0.kind ≡ Closure) × captures_fit y.0.captures y.0.signature × SignatureIs 15 y.0.signature
+unfolding read.closure_header
+closure_header_takes ts y e =
+    let b = bind_ok (declared_list sees_region read.new_region 15 ts) (λ rs rest. read.closure_behind rs rest) y e in
+    let list = declared_list_takes new_law sees_region 15 ts b.0 b.1 in
+    let declares : Declares b.0.0 = sym (fitting_is [] b.0.0) ∙ list.1.0 in
+    let g = closure_behind_takes b.0.0 declares b.0.1 y b.2 in
+    let f = y.0.signature in
+    let whole = join ts (spell.angled spell.region_name b.0.0) b.0.1 (closure_rest_of b.0.0 declares y.0.captures f) y.1 list.0 g.0 in
+    let is = g.1.signature.regions_are in (
+      subst (λ (rs : List RegionName). Begins ts (spell.angled spell.region_name rs ++ (spell.clauses rs f.clauses ++ (spell.bracketed rs y.0.captures ++ (spell.parameters rs f.parameters ++ (spell.symbol s.Arrow ++ spell.ty rs f.result))))) y.1) (sym is) whole,
+      g.1.kind,
+      subst (λ (rs : List RegionName). parameters_fit (length rs + 1) y.0.captures ≡ true) (sym is) g.1.captures,
+      signature_from 15 b.0.0 declares f list.1.1 g.1.signature,
+    )
+
+-- no `<` begins what stands behind the declared regions of a closure
+no_less_closure : (regions : List RegionName) (cs : List Outlives) (xs : List Ty) (l : List Token) (ts rest : Tokens) → Begins ts (spell.clauses regions cs ++ (spell.bracketed regions xs ++ l)) rest → NoLess ts
+unfolding same
+no_less_closure regions [] xs l ts rest b = sees_none s.Less ts (Fixed s.OpenBracket) ((spell.commas (spell.ty regions) xs ++ spell.symbol s.CloseBracket) ++ l) rest b refl
+no_less_closure regions (c ∷ cs) xs l ts rest b = sees_none s.Less ts (Fixed s.Where) (spell.commas (spell.clause regions) (c ∷ cs) ++ (spell.bracketed regions xs ++ l)) rest b refl
+
+closure_header_again : (ts : Tokens) (xs : List Ty) (f : Signature) (rest : Tokens) → Begins ts (closure_rest xs f) rest → captures_fit xs f → SignatureIs 15 f → NoLess rest → read.closure_header ts ≡ Ok (record { kind = Closure; captures = xs; signature = f }, rest)
+unfolding read.closure_header
+closure_header_again ts xs f rest b captured fits other =
+    let tail = spell.clauses f.regions f.clauses ++ (spell.bracketed f.regions xs ++ spell.function_ty f) in
+    let a = split ts (spell.angled spell.region_name f.regions) tail rest b in
+    rw (declared_list_again new_law sees_region 15 names_close ts f.regions a.0 a.1 (fitting_is [] f.regions ∙ fits.declares, fits.few) (no_less_closure f.regions f.clauses xs (spell.function_ty f) a.0 rest a.2))
+    (closure_behind_again f.regions fits.declares a.0 xs f rest a.2 captured (fits.behind fits.declares) other)
+
+-- how a header of this kind is spelled, and that it fits
+abbrev spelled_by : UnitKind → List Ty → Signature → List Token
+spelled_by kind xs f = spell.symbol (spell.kind_word kind) ++ spell.signature_with (spell.captures_of kind f.regions xs) f
+
+abbrev fits_by : UnitKind → List Ty → Signature → Type 0
+fits_by kind xs f = kind_fits (universal_count f) kind xs && signature_fits 15 f ≡ true
+
+header_takes : (ts : Tokens) (y : Header × Tokens) → read.header ts ≡ Ok y → Begins ts (spell.header y.0) y.1 × (header_fits y.0 ≡ true)
+unfolding read.header read.function_header
 header_takes ts y e =
-    let b = bind_ok (expect s.Fn ts) (λ _ rest. and_then (read.signature 15 rest) (λ f last. Ok (function_of f, last))) y e in
-    let c = bind_ok (read.signature 15 b.0.1) (λ f last. Ok (function_of f, last)) y b.2 in
-    let g = signature_takes 15 b.0.1 c.0 c.1 in
-    subst (λ (q : Header × Tokens). Begins ts (spell.header q.0) q.1 × SignatureIs 15 q.0.signature) (ok_is (function_of c.0.0, c.0.1) y c.2)
-    (join ts (spell.symbol s.Fn) b.0.1 (spell.signature c.0.0) c.0.1 (expect_takes s.Fn ts b.0 b.1) g.0, g.1)
+    elim (eaten s.Fn (λ rest. and_then (read.signature 15 rest) (λ f last. Ok (function_of f, last))) (λ rest. and_then (expect s.Closure rest) (λ _ last. read.closure_header last)) ts y e) [
+      | inl p ↦
+          let c = bind_ok (read.signature 15 (after ts)) (λ f last. Ok (function_of f, last)) y p.1 in
+          let g = signature_takes 15 (after ts) c.0 c.1 in
+          subst (λ (q : Header × Tokens). Begins ts (spell.header q.0) q.1 × (header_fits q.0 ≡ true)) (ok_is (function_of c.0.0, c.0.1) y c.2)
+          (join ts (spell.symbol s.Fn) (after ts) (spell.signature c.0.0) c.0.1 p.0 g.0, signature_fit 15 c.0.0 g.1)
+      | inr p ↦
+          let b = bind_ok (expect s.Closure ts) (λ _ last. read.closure_header last) y p.1 in
+          let g = closure_header_takes b.0.1 y b.2 in
+          let f = y.0.signature in
+          let text = join ts (spell.symbol s.Closure) b.0.1 (closure_rest y.0.captures f) y.1 (expect_takes s.Closure ts b.0 b.1) g.0 in
+          subst (λ (kind : UnitKind). Begins ts (spelled_by kind y.0.captures f) y.1 × fits_by kind y.0.captures f) (sym g.1) (text, and_from (parameters_fit (universal_count f) y.0.captures) (signature_fits 15 f) g.2 (signature_fit 15 f g.3))
+    ]
 
-is_function : (kind : UnitKind) → Function ≡ kind
-is_function Function = refl
+header_by : (kind : UnitKind) (xs : List Ty) (f : Signature) (ts rest : Tokens) → Begins ts (spelled_by kind xs f) rest → kind_fits (universal_count f) kind xs ≡ true → SignatureIs 15 f → NoLess rest → read.header ts ≡ Ok (record { kind = kind; captures = xs; signature = f }, rest)
+unfolding read.header read.function_header same
+header_by Function [] f ts rest b captured fits other =
+    let a = split ts (spell.symbol s.Fn) (spell.signature f) rest b in
+    eat_again s.Fn _ _ ts a.0 a.1 ∙ rw (signature_again 15 a.0 f rest a.2 fits other) refl
+header_by Function (x ∷ xs) f ts rest b captured fits other = absurd cc
+header_by Closure xs f ts rest b captured fits other =
+    let a = split ts (spell.symbol s.Closure) (closure_rest xs f) rest b in
+    eat_other s.Fn _ _ ts (sees_none s.Fn ts (Fixed s.Closure) (closure_rest xs f) rest b refl)
+    ∙ rw (expect_again s.Closure ts a.0 a.1) (closure_header_again a.0 xs f rest a.2 captured fits other)
 
-header_again : (ts : Tokens) (h : Header) (rest : Tokens) → Begins ts (spell.header h) rest → SignatureIs 15 h.signature → NoLess rest → read.header ts ≡ Ok (h, rest)
-unfolding read.header
+header_again : (ts : Tokens) (h : Header) (rest : Tokens) → Begins ts (spell.header h) rest → header_fits h ≡ true → NoLess rest → read.header ts ≡ Ok (h, rest)
 header_again ts h rest b fits other =
-    let a = split ts (spell.symbol s.Fn) (spell.signature h.signature) rest b in
-    rw (expect_again s.Fn ts a.0 a.1, signature_again 15 a.0 h.signature rest a.2 fits other) (ap (λ (kind : UnitKind). Ok (record { kind = kind; signature = h.signature }, rest)) (is_function h.kind))
+    let parts = header_parts h fits in
+    header_by h.kind h.captures h.signature ts rest b parts.kind (signature_is 15 h.signature parts.signature_fits) other
 
 -- ---- lets
 
 module _ (regions : List RegionName) (declares : Declares regions) where
   abbrev ty_is : Ty → Type 0
-  ty_is t = ty_fits true (length regions + 1) t ≡ true
+  ty_is t = let_fits (length regions + 1) t ≡ true
 
   abbrev typed : Ty → List Token
   typed t = spell.symbol s.Colon ++ (spell.ty regions t ++ spell.symbol s.Semicolon)
@@ -239,10 +351,10 @@ module _ (regions : List RegionName) (declares : Declares regions) where
   declared_takes : (ts : Tokens) (y : Ty × Tokens) → read.declared_ty regions ts ≡ Ok y → Begins ts (typed y.0) y.1 × ty_is y.0
   unfolding read.declared_ty
   declared_takes ts y e =
-      let b = bind_ok (expect s.Colon ts) (λ _ rest. and_then (read.ty true regions rest) (λ t mid. and_then (expect s.Semicolon mid) (λ _ last. Ok (t, last)))) y e in
-      let c = bind_ok (read.ty true regions b.0.1) (λ t mid. and_then (expect s.Semicolon mid) (λ _ last. Ok (t, last))) y b.2 in
+      let b = bind_ok (expect s.Colon ts) (λ _ rest. and_then (read.let_type regions rest) (λ t mid. and_then (expect s.Semicolon mid) (λ _ last. Ok (t, last)))) y e in
+      let c = bind_ok (read.let_type regions b.0.1) (λ t mid. and_then (expect s.Semicolon mid) (λ _ last. Ok (t, last))) y b.2 in
       let d = bind_ok (expect s.Semicolon c.0.1) (λ _ last. Ok (c.0.0, last)) y c.2 in
-      let t = ty_takes true regions declares b.0.1 c.0 c.1 in
+      let t = let_type_takes regions declares b.0.1 c.0 c.1 in
       let tail = join b.0.1 (spell.ty regions c.0.0) c.0.1 (spell.symbol s.Semicolon) d.0.1 t.0 (expect_takes s.Semicolon c.0.1 d.0 d.1) in
       subst (λ (q : Ty × Tokens). Begins ts (typed q.0) q.1 × ty_is q.0) (ok_is (c.0.0, d.0.1) y d.2)
       (join ts (spell.symbol s.Colon) b.0.1 (spell.ty regions c.0.0 ++ spell.symbol s.Semicolon) d.0.1 (expect_takes s.Colon ts b.0 b.1) tail, t.1)
@@ -252,7 +364,7 @@ module _ (regions : List RegionName) (declares : Declares regions) where
   declared_again ts t rest b fits =
       let a = split ts (spell.symbol s.Colon) (spell.ty regions t ++ spell.symbol s.Semicolon) rest b in
       let c = split a.0 (spell.ty regions t) (spell.symbol s.Semicolon) rest a.2 in
-      rw (expect_again s.Colon ts a.0 a.1, ty_again true regions declares a.0 t c.0 c.1 fits (sees_none s.Less c.0 (Fixed s.Semicolon) [] rest c.2 refl), expect_again s.Semicolon c.0 rest c.2) refl
+      rw (expect_again s.Colon ts a.0 a.1, let_type_again regions declares a.0 t c.0 c.1 fits (sees_none s.Less c.0 (Fixed s.Semicolon) [] rest c.2 refl), expect_again s.Semicolon c.0 rest c.2) refl
 
   let_takes : (number : ℕ) (ts : Tokens) (y : Ty × Tokens) → read.let_ty regions number ts ≡ Ok y → Begins ts (Numbered n.Local number ∷ typed y.0) y.1 × ty_is y.0 × (number ≤ 255)
   unfolding read.let_ty
@@ -275,7 +387,7 @@ module _ (regions : List RegionName) (declares : Declares regions) where
       rw (numbered_again n.Local 255 ts number a.0 a.1 le, eq-eqb number number refl) (declared_again a.0 t rest a.2 fits)
 
   abbrev LetsGoOn : ℕ → List Ty → Tokens → List Ty × Tokens → Type 0
-  LetsGoOn number found ts y = (more : List Ty) × (y.0 ≡ found ++ more) × Begins ts (spell.lets regions (number + length found) more) y.1 × (list_all (ty_fits true (length regions + 1)) more ≡ true) × (number + length found + length more ≤ 256)
+  LetsGoOn number found ts y = (more : List Ty) × (y.0 ≡ found ++ more) × Begins ts (spell.lets regions (number + length found) more) y.1 × (list_all (let_fits (length regions + 1)) more ≡ true) × (number + length found + length more ≤ 256)
 
   lets_take : (number room : ℕ) (found : List Ty) (ts : Tokens) (y : List Ty × Tokens) → number + length found ≤ 256 → read.lets_from regions number room found ts ≡ Ok y → LetsGoOn number found ts y
   unfolding read.lets_from read.lets_turn
@@ -292,14 +404,14 @@ module _ (regions : List RegionName) (declares : Declares regions) where
               b.0.0 ∷ more.0,
               more.1 ∙ append_assoc found (b.0.0 ∷ []) more.0,
               join ts (spell.declared regions (number + length found) b.0.0) b.0.1 (spell.lets regions (number + length found + 1) more.0) y.1 head rest,
-              and_from (ty_fits true (length regions + 1) b.0.0) _ t.1 more.3,
+              and_from (let_fits (length regions + 1) b.0.0) _ t.1 more.3,
               omega (arith, one_more, more.4),
             )
         | inr p ↦
             subst (λ (q : List Ty × Tokens). LetsGoOn number found ts q) (ok_is (found, ts) y p.1) ([], sym (append-nil found), refl, refl, omega arith)
       ]
 
-  lets_again : (number room : ℕ) (found more : List Ty) (ts rest : Tokens) → Begins ts (spell.lets regions (number + length found) more) rest → list_all (ty_fits true (length regions + 1)) more ≡ true → number + length found + length more ≤ 256 → length more + 1 ≤ room
+  lets_again : (number room : ℕ) (found more : List Ty) (ts rest : Tokens) → Begins ts (spell.lets regions (number + length found) more) rest → list_all (let_fits (length regions + 1)) more ≡ true → number + length found + length more ≤ 256 → length more + 1 ≤ room
       → sees s.Let rest ≡ false → read.lets_from regions number room found ts ≡ Ok (found ++ more, rest)
   unfolding read.lets_from read.lets_turn
   lets_again number zero found more ts rest b fits few le other = absurd (omega arith)
@@ -307,7 +419,7 @@ module _ (regions : List RegionName) (declares : Declares regions) where
   lets_again number (suc room) found (t ∷ more) ts rest b fits few le other =
       let a = split ts (spell.declared regions (number + length found) t) (spell.lets regions (number + length found + 1) more) rest b in
       let c = split ts (spell.symbol s.Let) (Numbered n.Local (number + length found) ∷ typed t) a.0 a.1 in
-      let parts = and_parts (ty_fits true (length regions + 1) t) _ fits in
+      let parts = and_parts (let_fits (length regions + 1) t) _ fits in
       let one_more : number + length (found ++ t ∷ []) ≡ number + length found + 1 = omega (arith, length-append found (t ∷ [])) in
       let small : number + length found ≤ 255 = omega arith in
       let text : Begins a.0 (spell.lets regions (number + length (found ++ t ∷ [])) more) rest = subst (λ k. Begins a.0 (spell.lets regions k more) rest) (sym one_more) a.2 in
@@ -366,7 +478,8 @@ locals_are h ls = omega (arith, length-append (declared_locals h) ls)
 body_takes : (h : Header) (ts : Tokens) (y : Body × Tokens) → header_fits h ≡ true → read.body_of h ts ≡ Ok y → (y.0.header ≡ h) × Begins ts (body_tokens y.0) (after y.1) × Fits y.0
 unfolding read.body_of
 body_takes h ts y fits e =
-    let parts = signature_parts 15 h.signature fits in
+    let head = header_parts h fits in
+    let parts = head.signature in
     let locals : List Ty → ℕ = λ ls. first_let h + length ls in
     let b = bind_ok (expect s.OpenBrace ts) (λ _ t2. and_then (read.lets_from h.signature.regions (first_let h) 256 [] t2) (λ ls t3. and_then (read.blocks h.signature.regions (first_let h + length ls) t3) (λ bs t4. and_then (expect s.CloseBrace t4) (λ _ t5. and_then (at_end t5) (λ _ t6. Ok (made_of h ls bs, t6)))))) y e in
     let c = bind_ok (read.lets_from h.signature.regions (first_let h) 256 [] b.0.1) (λ ls t3. and_then (read.blocks h.signature.regions (first_let h + length ls) t3) (λ bs t4. and_then (expect s.CloseBrace t4) (λ _ t5. and_then (at_end t5) (λ _ t6. Ok (made_of h ls bs, t6))))) y b.2 in
@@ -377,10 +490,12 @@ body_takes h ts y fits e =
     let g = bind_ok (at_end f.0.1) (λ _ t6. Ok (made_of h ls bs, t6)) y f.2 in
     let parameters = and_parts (list_all (ty_fits false (length h.signature.regions + 1)) h.signature.parameters) _ parts.parameters in
     let few_parameters = leb-true (length h.signature.parameters) 16 parameters.1 in
-    let few : first_let h + 0 ≤ 256 = omega (arith, few_parameters) in
+    let captures = and_parts (list_all (ty_fits false (length h.signature.regions + 1)) h.captures) _ head.captures in
+    let few_captured = leb-true (length h.captures) 16 captures.1 in
+    let few : first_let h + 0 ≤ 256 = omega (arith, few_parameters, few_captured, length-append h.captures h.signature.parameters) in
     let let_part = lets_take h.signature.regions parts.regions (first_let h) 256 [] b.0.1 c.0 few c.1 in
     let let_text : Begins b.0.1 (spell.lets h.signature.regions (first_let h) ls) c.0.1 = subst (λ (l : List Ty). Begins b.0.1 (spell.lets h.signature.regions (first_let h) l) c.0.1) (sym let_part.1) (subst (λ k. Begins b.0.1 (spell.lets h.signature.regions k let_part.0) c.0.1) (plus-zero (first_let h)) let_part.2) in
-    let let_fits : list_all (ty_fits true (length h.signature.regions + 1)) ls ≡ true = subst (λ (l : List Ty). list_all (ty_fits true (length h.signature.regions + 1)) l ≡ true) (sym let_part.1) let_part.3 in
+    let let_fits : list_all (let_fits (length h.signature.regions + 1)) ls ≡ true = subst (λ (l : List Ty). list_all (let_fits (length h.signature.regions + 1)) l ≡ true) (sym let_part.1) let_part.3 in
     let count : first_let h + length ls ≤ 256 = subst (λ (l : List Ty). first_let h + length l ≤ 256) (sym let_part.1) (omega (arith, let_part.4)) in
     let block_part = blocks_take h.signature.regions parts.regions (first_let h + length ls) count c.0.1 d.0 d.1 in
     let end = join d.0.1 (spell.symbol s.CloseBrace) f.0.1 (End ∷ []) (after g.0.1) (expect_takes s.CloseBrace d.0.1 f.0 f.1) (end_takes f.0.1 g.0 g.1) in
@@ -410,7 +525,7 @@ body_again : (ts : Tokens) (u : Body) (rest : Tokens) → Begins ts (body_tokens
 unfolding read.body_of same
 body_again ts u rest p fits =
     let h = u.header in
-    let declares = (signature_parts 15 h.signature fits.header).regions in
+    let declares = (header_parts h fits.header).signature.regions in
     let b = split ts (spell.symbol s.OpenBrace) (spell.lets h.signature.regions (first_let h) u.lets ++ (spell.blocks h.signature.regions 0 u.blocks ++ closing)) rest p in
     let c = split b.0 (spell.lets h.signature.regions (first_let h) u.lets) (spell.blocks h.signature.regions 0 u.blocks ++ closing) rest b.2 in
     let d = split c.0 (spell.blocks h.signature.regions 0 u.blocks) closing rest c.2 in
@@ -440,7 +555,7 @@ unfolding read.unit
 unit_takes ts y e =
     let a = bind_ok (read.header ts) (λ h rest. read.body_of h rest) y e in
     let head = header_takes ts a.0 a.1 in
-    let body = body_takes a.0.0 a.0.1 y (signature_fit 15 a.0.0.signature head.1) a.2 in
+    let body = body_takes a.0.0 a.0.1 y head.1 a.2 in
     let text : Begins ts (spell.header y.0.header) a.0.1 = subst (λ (h : Header). Begins ts (spell.header h) a.0.1) (sym body.0) head.0 in
     (join ts (spell.header y.0.header) a.0.1 (body_tokens y.0) (after y.1) text body.1, body.2)
 
@@ -450,7 +565,7 @@ unit_again ts u rest p fits =
     let a = split ts (spell.header u.header) (body_tokens u) rest p in
     let brace = sees_none s.Less a.0 (Fixed s.OpenBrace) (spell.lets u.header.signature.regions (first_let u.header) u.lets ++ (spell.blocks u.header.signature.regions 0 u.blocks ++ closing)) rest a.2 refl in
     let body = body_again a.0 u rest a.2 fits in
-    (body.0, rw (header_again ts u.header a.0 a.1 (signature_is 15 u.header.signature fits.header) brace) body.1)
+    (body.0, rw (header_again ts u.header a.0 a.1 fits.header brace) body.1)
 
 -- what is read has a spelling
 pub body_fits : (ts later : Tokens) (r : Result Body Refusal) (u : Body) → Reads (read.unit ts) r later → r ≡ Ok u → Fits u

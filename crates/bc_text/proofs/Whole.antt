@@ -1,9 +1,9 @@
 -- The spelling of a unit that fits is of tokens that texts have.
-use Rattle.std.proofs.Common.{◌≡◌, ℕ, zero, suc, ◌+◌, ◌^◌, ◌<◌, ◌≤◌, Bool, true, false, ◌&&◌, List, [], ◌∷◌, ◌++◌, length, map, refl, arith}
+use Rattle.std.proofs.Common.{◌≡◌, ℕ, zero, suc, ◌+◌, ◌^◌, ◌<◌, ◌≤◌, Bool, true, false, ◌&&◌, List, [], ◌∷◌, ◌++◌, length, map, refl, inl, inr, arith}
 use Rattle.std.specs.Prelude.{codes, get_or, not, ◌==◌, nat_le, nat_lt}
 use Rattle.std.specs.Str.{bytes_eq}
 use Rattle.std.specs.List.{flat_map, list_all, list_any, zip}
-use Rattle.std.proofs.lemmas.Bool.{and_parts, and_from, leb-true, ltb-true}
+use Rattle.std.proofs.lemmas.Bool.{cases_Bool, and_parts, and_from, leb-true, ltb-true}
 use Rattle.std.proofs.lemmas.List.{length-append}
 use Rattle.bc_syntax.specs.declared.symbol.Symbol.TheVariants as s
 use Rattle.bc_syntax.specs.declared.syntax.Region.{Region}
@@ -14,6 +14,7 @@ use Rattle.bc_syntax.specs.declared.syntax.Instance.{Instance}
 use Rattle.bc_syntax.specs.declared.syntax.Mutability.{Mutability}
 use Rattle.bc_syntax.specs.declared.syntax.Mutability.TheVariants.{Shared, Mutable}
 use Rattle.bc_syntax.specs.declared.syntax.Reference.{Reference}
+use Rattle.bc_syntax.specs.declared.syntax.ClosureInstance.{ClosureInstance}
 use Rattle.bc_syntax.specs.declared.syntax.Base.{Base}
 use Rattle.bc_syntax.specs.declared.syntax.Base.TheVariants as bases
 use Rattle.bc_syntax.specs.declared.syntax.Ty.{Ty}
@@ -24,6 +25,7 @@ use Rattle.bc_syntax.specs.declared.syntax.Operand.{Operand}
 use Rattle.bc_syntax.specs.declared.syntax.Operand.TheVariants as operand_kinds
 use Rattle.bc_syntax.specs.declared.syntax.Borrow.{Borrow}
 use Rattle.bc_syntax.specs.declared.syntax.Aggregate.{Aggregate}
+use Rattle.bc_syntax.specs.declared.syntax.Creation.{Creation}
 use Rattle.bc_syntax.specs.declared.syntax.Rvalue.{Rvalue}
 use Rattle.bc_syntax.specs.declared.syntax.Rvalue.TheVariants as rvalue_kinds
 use Rattle.bc_syntax.specs.declared.syntax.Assignment.{Assignment}
@@ -31,11 +33,15 @@ use Rattle.bc_syntax.specs.declared.syntax.Statement.{Statement}
 use Rattle.bc_syntax.specs.declared.syntax.Statement.TheVariants as statement_kinds
 use Rattle.bc_syntax.specs.declared.syntax.Condition.{Condition}
 use Rattle.bc_syntax.specs.declared.syntax.Call.{Call}
+use Rattle.bc_syntax.specs.declared.syntax.Invocation.{Invocation}
 use Rattle.bc_syntax.specs.declared.syntax.Terminator.{Terminator}
 use Rattle.bc_syntax.specs.declared.syntax.Terminator.TheVariants as terminator_kinds
 use Rattle.bc_syntax.specs.declared.syntax.Block.{Block}
 use Rattle.bc_syntax.specs.declared.syntax.Outlives.{Outlives}
+use Rattle.bc_syntax.specs.declared.syntax.UnitKind.{UnitKind}
+use Rattle.bc_syntax.specs.declared.syntax.UnitKind.TheVariants.{Function, Closure}
 use Rattle.bc_syntax.specs.declared.syntax.Signature.{Signature}
+use Rattle.bc_syntax.specs.declared.syntax.Header.{Header}
 use Rattle.bc_syntax.specs.declared.syntax.Body.{Body}
 use Rattle.bc_syntax.specs.Fits as fit
 use Rattle.bc_syntax.specs.declared.syntax.Variance.{Variance}
@@ -46,7 +52,7 @@ use Rattle.bc_syntax.specs.declared.syntax.Declaration.{Declaration}
 use Rattle.bc_syntax.specs.declared.syntax.Declaration.TheVariants as declarations
 use Rattle.bc_syntax.specs.Fits.{Fits, TypesFit}
 use Rattle.bc_syntax.specs.Locals.{declared_locals, first_let, locals_of}
-use Rattle.bc_syntax.proofs.Signatures.{signature_parts}
+use Rattle.bc_syntax.proofs.Signatures.{signature_parts, header_parts}
 use Rattle.bc_syntax.specs.Words.{is_region_name, is_word}
 use Rattle.bc_print.specs.Token.{Token}
 use Rattle.bc_print.specs.Universals.{universal_names}
@@ -134,11 +140,20 @@ module _ (regions : List RegionName) (new : fit.are_new [] regions ≡ true) whe
   item_name : (name : ItemName) → fit.item_fits name ≡ true → AllWhole (spell.item_name name)
   item_name name h = ((and_parts (is_word name.bytes) (nat_le (length name.bytes) 32) h).0, tt)
 
+  arguments : (variables : Bool) (rs : List Region) → fit.regions_fit variables count rs ≡ true → AllWhole (spell.angled (spell.region regions) rs)
+  arguments variables rs h =
+      let p = and_parts (list_all (fit.region_fits variables count) rs) (nat_le (length rs) 15) h in
+      angled (spell.region regions) (fit.region_fits variables count) (region variables) rs p.0
+
   instance : (variables : Bool) (i : Instance) → fit.instance_fits variables count i ≡ true → AllWhole (spell.instance regions i)
   instance variables i h =
       let p = and_parts (fit.item_fits i.name) (fit.regions_fit variables count i.regions) h in
-      let q = and_parts (list_all (fit.region_fits variables count) i.regions) (nat_le (length i.regions) 15) p.1 in
-      joined (spell.item_name i.name) (spell.angled (spell.region regions) i.regions) (item_name i.name p.0) (angled (spell.region regions) (fit.region_fits variables count) (region variables) i.regions q.0)
+      joined (spell.item_name i.name) (spell.angled (spell.region regions) i.regions) (item_name i.name p.0) (arguments variables i.regions p.1)
+
+  closure : (c : ClosureInstance) → fit.closure_fits true count c ≡ true → AllWhole (spell.closure_instance regions c)
+  closure c h =
+      let p = and_parts (nat_le c.number 63) (fit.regions_fit true count c.regions) h in
+      (tt, (at_most c.number 63 p.0 (omega arith), arguments true c.regions p.1))
 
   clause : (c : Outlives) → fit.clause_fits count c ≡ true → AllWhole (spell.clause regions c)
   clause c h =
@@ -163,6 +178,7 @@ module _ (regions : List RegionName) (new : fit.are_new [] regions ≡ true) whe
   base : (variables : Bool) (b : Base) → fit.base_fits variables count b ≡ true → AllWhole (spell.base regions b)
   base variables bases.Int h = (tt, tt)
   base variables (bases.Struct i) h = instance variables i h
+  base variables (bases.Closure c) h = absurd cc
 
   ty : (variables : Bool) (t : Ty) → fit.ty_fits variables count t ≡ true → AllWhole (spell.ty regions t)
   ty variables t h =
@@ -174,18 +190,39 @@ module _ (regions : List RegionName) (new : fit.are_new [] regions ≡ true) whe
       joined (flat_map (spell.behind regions) t.references) (spell.base regions t.base)
       (items (spell.behind regions) (fit.reference_fits variables count) (λ r g. (tt, reference variables r g)) t.references q.0) (base variables t.base p.1)
 
-  parameters : (ts : List Ty) → fit.parameters_fit count ts ≡ true → AllWhole (spell.parameters regions ts)
-  parameters ts h =
+  tys : (ts : List Ty) → fit.parameters_fit count ts ≡ true → AllWhole (spell.commas (spell.ty regions) ts)
+  tys ts h =
       let p = and_parts (list_all (fit.ty_fits false count) ts) (nat_le (length ts) 16) h in
-      (tt, joined (spell.commas (spell.ty regions) ts) (spell.symbol s.CloseParen) (commas (spell.ty regions) (fit.ty_fits false count) (ty false) ts p.0) (tt, tt))
+      commas (spell.ty regions) (fit.ty_fits false count) (ty false) ts p.0
+
+  parameters : (ts : List Ty) → fit.parameters_fit count ts ≡ true → AllWhole (spell.parameters regions ts)
+  parameters ts h = (tt, joined (spell.commas (spell.ty regions) ts) (spell.symbol s.CloseParen) (tys ts h) (tt, tt))
+
+  captures : (kind : UnitKind) (ts : List Ty) → fit.parameters_fit count ts ≡ true → AllWhole (spell.captures_of kind regions ts)
+  captures Function ts h = tt
+  captures Closure ts h = (tt, joined (spell.commas (spell.ty regions) ts) (spell.symbol s.CloseBracket) (tys ts h) (tt, tt))
+
+  -- a closure behind no reference
+  whole_closure : (rs : List Reference) (b : Base) → fit.whole_closure_fits count rs b ≡ true → AllWhole (flat_map (spell.behind regions) rs ++ spell.base regions b)
+  whole_closure [] bases.Int h = absurd cc
+  whole_closure [] (bases.Struct i) h = absurd cc
+  whole_closure [] (bases.Closure c) h = closure c h
+  whole_closure (r ∷ rs) b h = absurd cc
+
+  let_ty : (t : Ty) → fit.let_fits count t ≡ true → AllWhole (spell.ty regions t)
+  let_ty t h =
+      elim (cases_Bool (fit.ty_fits true count t)) [
+        | inl some ↦ ty true t some
+        | inr none ↦ whole_closure t.references t.base (rw none at h)
+      ]
 
   -- the types of the locals from this one on
-  lets : (k : ℕ) (ts : List Ty) → k + length ts ≤ 256 → list_all (fit.ty_fits true count) ts ≡ true → AllWhole (spell.lets regions k ts)
+  lets : (k : ℕ) (ts : List Ty) → k + length ts ≤ 256 → list_all (fit.let_fits count) ts ≡ true → AllWhole (spell.lets regions k ts)
   lets k [] few h = tt
   lets k (t ∷ ts) few h =
-      let p = and_parts (fit.ty_fits true count t) (list_all (fit.ty_fits true count) ts) h in
+      let p = and_parts (fit.let_fits count t) (list_all (fit.let_fits count) ts) h in
       let number : k < 2 ^ 64 = omega (arith, few) in
-      let one : AllWhole (spell.declared regions k t) = (tt, (number, (tt, joined (spell.ty regions t) (spell.symbol s.Semicolon) (ty true t p.0) (tt, tt)))) in
+      let one : AllWhole (spell.declared regions k t) = (tt, (number, (tt, joined (spell.ty regions t) (spell.symbol s.Semicolon) (let_ty t p.0) (tt, tt)))) in
       joined (spell.declared regions k t) (spell.lets regions (k + 1) ts) one (lets (k + 1) ts (omega (arith, few)) p.1)
 
   -- ---- places and operands
@@ -225,10 +262,16 @@ module _ (regions : List RegionName) (new : fit.are_new [] regions ≡ true) whe
         let p = and_parts (fit.instance_fits true count a.instance) (fit.operands_fit locals a.operands) h in
         joined (spell.instance regions a.instance) (spell.operands a.operands) (instance true a.instance p.0) (operands a.operands p.1)
 
+    creation : (c : Creation) → fit.creation_fits count locals c ≡ true → AllWhole (spell.creation regions c)
+    creation c h =
+        let p = and_parts (fit.closure_fits true count c.closure) (fit.operands_fit locals c.operands) h in
+        joined (spell.closure_instance regions c.closure) (spell.operands c.operands) (closure c.closure p.0) (operands c.operands p.1)
+
     rvalue : (r : Rvalue) → fit.rvalue_fits count locals r ≡ true → AllWhole (spell.rvalue regions r)
     rvalue (rvalue_kinds.Use o) h = operand o h
     rvalue (rvalue_kinds.Borrow b) h = (tt, borrow b h)
     rvalue (rvalue_kinds.Aggregate a) h = aggregate a h
+    rvalue (rvalue_kinds.Closure c) h = creation c h
     rvalue (rvalue_kinds.Calc os) h = (tt, operands os h)
 
     assignment : (a : Assignment) → fit.assignment_fits count locals a ≡ true → AllWhole (spell.assignment regions a)
@@ -269,10 +312,27 @@ module _ (regions : List RegionName) (new : fit.are_new [] regions ≡ true) whe
         let called : AllWhole (spell.called regions c) = joined (spell.instance regions c.function) (spell.operands c.operands ++ spell.label c.target) (instance true c.function r.1) (joined (spell.operands c.operands) (spell.label c.target) (operands c.operands q.1) (label c.target p.1)) in
         joined (spell.place c.destination) (spell.symbol s.Equals ++ (spell.symbol s.Call ++ spell.called regions c)) (place c.destination r.0) (tt, (tt, called))
 
+    invocation : (i : Invocation) → fit.invocation_fits count locals i ≡ true → AllWhole (spell.invocation regions i)
+    invocation i h =
+        let x = fit.place_fits locals i.destination in
+        let y = fit.place_fits locals i.closure in
+        let z = fit.regions_fit true count i.regions in
+        let v = fit.operands_fit locals i.operands in
+        let w = nat_le i.target 255 in
+        let p = and_parts (((x && y) && z) && v) w h in
+        let q = and_parts ((x && y) && z) v p.0 in
+        let r = and_parts (x && y) z q.0 in
+        let o = and_parts x y r.0 in
+        let tail = spell.operands i.operands ++ spell.label i.target in
+        let behind : AllWhole tail = joined (spell.operands i.operands) (spell.label i.target) (operands i.operands q.1) (label i.target p.1) in
+        let invoked : AllWhole (spell.invoked regions i) = joined (spell.place i.closure) (spell.angled (spell.region regions) i.regions ++ tail) (place i.closure o.1) (joined (spell.angled (spell.region regions) i.regions) tail (arguments true i.regions r.1) behind) in
+        joined (spell.place i.destination) (spell.symbol s.Equals ++ (spell.symbol s.Invoke ++ spell.invoked regions i)) (place i.destination o.0) (tt, (tt, invoked))
+
     terminator : (t : Terminator) → fit.terminator_fits count locals t ≡ true → AllWhole (spell.terminator regions t)
     terminator (terminator_kinds.Goto k) h = (tt, label k h)
     terminator (terminator_kinds.If c) h = (tt, condition c h)
     terminator (terminator_kinds.Call c) h = call c h
+    terminator (terminator_kinds.Invoke i) h = invocation i h
     terminator terminator_kinds.Return h = (tt, tt)
     terminator terminator_kinds.Stop h = (tt, tt)
 
@@ -294,19 +354,26 @@ module _ (regions : List RegionName) (new : fit.are_new [] regions ≡ true) whe
 
 -- ---- units
 
-signature : (limit : ℕ) (h : Signature) → fit.signature_fits limit h ≡ true → AllWhole (spell.signature h)
-signature limit h fits =
+-- a signature, with such tokens before what it takes
+signature_with : (limit : ℕ) (h : Signature) (found : List Token) → fit.signature_fits limit h ≡ true → AllWhole found → AllWhole (spell.signature_with found h)
+signature_with limit h found fits whole =
     let parts = signature_parts limit h fits in
     let rs = h.regions in
     let arrow = spell.symbol s.Arrow ++ spell.ty rs h.result in
     let rest = spell.parameters rs h.parameters ++ arrow in
-    joined (spell.angled spell.region_name rs) (spell.clauses rs h.clauses ++ rest) (region_names rs parts.regions)
-    (joined (spell.clauses rs h.clauses) rest (clauses rs parts.regions h.clauses parts.clauses) (joined (spell.parameters rs h.parameters) arrow (parameters rs parts.regions h.parameters parts.parameters) (tt, ty rs parts.regions false h.result parts.result)))
+    joined (spell.angled spell.region_name rs) (spell.clauses rs h.clauses ++ (found ++ rest)) (region_names rs parts.regions)
+    (joined (spell.clauses rs h.clauses) (found ++ rest) (clauses rs parts.regions h.clauses parts.clauses)
+    (joined found rest whole (joined (spell.parameters rs h.parameters) arrow (parameters rs parts.regions h.parameters parts.parameters) (tt, ty rs parts.regions false h.result parts.result))))
+
+header : (h : Header) → fit.header_fits h ≡ true → AllWhole (spell.header h)
+header h fits =
+    let parts = header_parts h fits in
+    (tt, signature_with 15 h.signature (spell.captures h) parts.signature_fits (captures h.signature.regions parts.signature.regions h.kind h.captures parts.captures))
 
 body : (u : Body) → Fits u → AllWhole (spell.body u)
 body u fits =
     let rs = u.header.signature.regions in
-    let new = (signature_parts 15 u.header.signature fits.header).regions in
+    let new = (header_parts u.header fits.header).signature.regions in
     let count = length (locals_of u) in
     let all_locals : length (locals_of u) ≡ first_let u.header + length u.lets = omega (arith, length-append (declared_locals u.header) u.lets) in
     let few : first_let u.header + length u.lets ≤ 256 = omega (arith, fits.locals, all_locals) in
@@ -315,7 +382,7 @@ body u fits =
     (tt, joined (spell.lets rs (first_let u.header) u.lets) (spell.blocks rs 0 u.blocks ++ spell.symbol s.CloseBrace) (lets rs new (first_let u.header) u.lets few fits.lets) blocks_part)
 
 pub unit_is_whole : (u : Body) → Fits u → AllWhole (spell.unit u)
-unit_is_whole u fits = (tt, joined (spell.signature u.header.signature) (spell.body u) (signature 15 u.header.signature fits.header) (body u fits))
+unit_is_whole u fits = joined (spell.header u.header) (spell.body u) (header u.header fits.header) (body u fits)
 
 -- ---- declarations
 
@@ -367,7 +434,7 @@ extern_rest : (d : ExternDeclaration) → fit.extern_fits d ≡ true → AllWhol
 extern_rest d h =
     let p = and_parts (fit.item_fits d.name) (fit.signature_fits 8 d.signature) h in
     joined (spell.item_name d.name) (spell.signature d.signature ++ spell.symbol s.Semicolon) (whole_item d.name p.0)
-    (joined (spell.signature d.signature) (spell.symbol s.Semicolon) (signature 8 d.signature p.1) (tt, tt))
+    (joined (spell.signature d.signature) (spell.symbol s.Semicolon) (signature_with 8 d.signature [] p.1 tt) (tt, tt))
 
 declaration : (d : Declaration) → fit.declaration_fits d ≡ true → AllWhole (spell.declaration d)
 declaration (declarations.Struct d) h = (tt, struct_rest d h)

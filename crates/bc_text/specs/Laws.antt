@@ -1,5 +1,6 @@
 -- What printing and reading are to each other, where faults stand, and what the order of names tells.
 use Rattle.std.specs.Prelude.{◌≡◌, ◌≢◌, ℕ, ◌+◌, ◌≤◌, List, [], ◌∷◌, ◌++◌, length, map, take, drop, Option, Some, None, Result, Ok, Err}
+use Rattle.std.specs.List.{All}
 use Rattle.std.specs.declared.cmp.Ordering.TheVariants.{Equal}
 use Rattle.bc_syntax.specs.declared.syntax.Body.{Body}
 use Rattle.bc_syntax.specs.declared.syntax.Declaration.{Declaration}
@@ -12,6 +13,7 @@ use Rattle.bc_text.specs.declared.fault.ReadFault.{ReadFault}
 use Rattle.bc_text.specs.declared.fault.ReadFault.TheVariants as faults
 use Rattle.bc_text.specs.Names.{NameParts, name_order}
 use Rattle.bc_text.specs.Spells.{Spells, SpellsTypes}
+use Rattle.bc_text.specs.Standing.{ClosuresStand, NoClosures}
 use Rattle.bc_text.specs.Reading.{read, read_types}
 
 -- two names that their order holds equal are one name
@@ -49,17 +51,17 @@ TellsToken (faults.Limit at) bad = (bad.at ≡ at) × IsProper bad.token
 TellsToken faults.TooLong bad = ⊥
 TellsToken faults.NoMemory bad = ⊥
 
--- The tokens of some unit begin with these, limits and side conditions aside.
+-- The tokens of some unit of the grammar begin with these, limits and side conditions aside.
 abbrev pub SomeUnitBegins : List Token → Type 0
-SomeUnitBegins found = (u : Body) × (later : List Token) × (unit u ≡ found ++ later)
+SomeUnitBegins found = (u : Body) × ClosuresStand u × (later : List Token) × (unit u ≡ found ++ later)
 
 -- the tokens of no unit that fits begin with these
 abbrev pub NoUnitBegins : List Token → Type 0
 NoUnitBegins found = (u : Body) → Fits u → (later : List Token) → unit u ++ End ∷ [] ≢ found ++ later
 
--- The tokens of some declarations begin with these, limits and side conditions aside.
+-- The tokens of some declarations of the grammar begin with these, limits and side conditions aside.
 abbrev pub SomeTypesBegin : List Token → Type 0
-SomeTypesBegin found = (ds : List Declaration) × (later : List Token) × (types ds ≡ found ++ later)
+SomeTypesBegin found = (ds : List Declaration) × All NoClosures ds × (later : List Token) × (types ds ≡ found ++ later)
 
 -- the tokens of no declarations that fit begin with these
 abbrev pub NoTypesBegin : List Token → Type 0

@@ -16,6 +16,7 @@ use Rattle.bc_syntax.specs.declared.syntax.Instance.{Instance}
 use Rattle.bc_syntax.specs.declared.syntax.Mutability.{Mutability}
 use Rattle.bc_syntax.specs.declared.syntax.Mutability.TheVariants.{Shared, Mutable}
 use Rattle.bc_syntax.specs.declared.syntax.Reference.{Reference}
+use Rattle.bc_syntax.specs.declared.syntax.ClosureInstance.{ClosureInstance}
 use Rattle.bc_syntax.specs.declared.syntax.Base.{Base}
 use Rattle.bc_syntax.specs.declared.syntax.Base.TheVariants as bases
 use Rattle.bc_syntax.specs.declared.syntax.Ty.{Ty}
@@ -26,18 +27,20 @@ use Rattle.bc_syntax.specs.declared.syntax.Operand.{Operand}
 use Rattle.bc_syntax.specs.declared.syntax.Operand.TheVariants as operand_kinds
 use Rattle.bc_syntax.specs.declared.syntax.Borrow.{Borrow}
 use Rattle.bc_syntax.specs.declared.syntax.Aggregate.{Aggregate}
+use Rattle.bc_syntax.specs.declared.syntax.Creation.{Creation}
 use Rattle.bc_syntax.specs.declared.syntax.Rvalue.{Rvalue}
 use Rattle.bc_syntax.specs.declared.syntax.Rvalue.TheVariants as rvalue_kinds
 use Rattle.bc_syntax.specs.declared.syntax.Statement.{Statement}
 use Rattle.bc_syntax.specs.declared.syntax.Statement.TheVariants as statement_kinds
 use Rattle.bc_syntax.specs.declared.syntax.Condition.{Condition}
 use Rattle.bc_syntax.specs.declared.syntax.Call.{Call}
+use Rattle.bc_syntax.specs.declared.syntax.Invocation.{Invocation}
 use Rattle.bc_syntax.specs.declared.syntax.Terminator.{Terminator}
 use Rattle.bc_syntax.specs.declared.syntax.Terminator.TheVariants.{Goto, If, Return, Stop}
 use Rattle.bc_syntax.specs.declared.syntax.Terminator.TheVariants as terminator_kinds
 use Rattle.bc_syntax.specs.declared.syntax.Block.{Block}
 use Rattle.bc_syntax.specs.declared.syntax.Outlives.{Outlives}
-use Rattle.bc_syntax.specs.declared.syntax.UnitKind.TheVariants.{Function}
+use Rattle.bc_syntax.specs.declared.syntax.UnitKind.TheVariants.{Function, Closure}
 use Rattle.bc_syntax.specs.declared.syntax.Signature.{Signature}
 use Rattle.bc_syntax.specs.declared.syntax.Header.{Header}
 use Rattle.bc_syntax.specs.declared.syntax.Body.{Body}
@@ -95,6 +98,13 @@ instance variables regions = do
   regions ← angled_list (begins_region variables) (region variables regions) 15
   pure (record { name = name; regions = regions })
 
+-- a closure of the unit with regions for its own, behind its word
+unfoldable pub closure_instance : List RegionName → Parser ClosureInstance
+closure_instance regions = do
+  number ← numbered n.Number 63
+  regions ← angled_list (begins_region true) (region true regions) 15
+  pure (record { number = number; regions = regions })
+
 -- ---- types
 
 unfoldable pub mutability : Parser Mutability
@@ -131,6 +141,12 @@ ty_from variables regions (suc room) found = ty_turn variables regions (ty_from 
 
 unfoldable pub ty : Bool → List RegionName → Parser Ty
 ty variables regions = ty_from variables regions 8 []
+
+-- the type of a `let` local: a closure alone, or a type as it may stand anywhere in a body
+unfoldable pub let_type : List RegionName → Parser Ty
+let_type regions = do
+  closes ← eat s.Closure
+  if closes then ((λ c. behind [] (bases.Closure c)) <$> closure_instance regions) else ty true regions
 
 -- ---- places and operands
 
@@ -190,8 +206,20 @@ aggregate regions locals = do
   os ← operands locals
   pure (record { instance = i; operands = os })
 
+-- a closure made, behind its word
+unfoldable pub creation : List RegionName → ℕ → Parser Creation
+creation regions locals = do
+  c ← closure_instance regions
+  os ← operands locals
+  pure (record { closure = c; operands = os })
+
+unfoldable pub captured : List RegionName → ℕ → Parser Rvalue
+captured regions locals = do
+  closes ← eat s.Closure
+  if closes then (rvalue_kinds.Closure <$> creation regions locals) else (rvalue_kinds.Use <$> operand locals)
+
 unfoldable pub created : List RegionName → ℕ → Parser Rvalue
-created regions locals = λ ts. if sees_word ts then (rvalue_kinds.Aggregate <$> aggregate regions locals) ts else (rvalue_kinds.Use <$> operand locals) ts
+created regions locals = λ ts. if sees_word ts then (rvalue_kinds.Aggregate <$> aggregate regions locals) ts else captured regions locals ts
 
 unfoldable pub computed : List RegionName → ℕ → Parser Rvalue
 computed regions locals = do
@@ -214,17 +242,31 @@ called regions locals destination = do
   l ← label
   pure (record { destination = destination; function = i; operands = os; target = l })
 
+-- which closure is called for a destination, and where it returns to
+unfoldable pub invoked : List RegionName → ℕ → Place → Parser Invocation
+invoked regions locals destination = do
+  p ← place locals
+  rs ← angled_list (begins_region true) (region true regions) 15
+  os ← operands locals
+  l ← label
+  pure (record { destination = destination; closure = p; regions = rs; operands = os; target = l })
+
 abbrev pub assigned : Place → Rvalue → Point
 assigned p v = point_kinds.Statement (statement_kinds.Assign (record { target = p; value = v }))
 
 abbrev pub ending : Terminator → Point
 ending t = point_kinds.Terminator t
 
+unfoldable pub invoking : List RegionName → ℕ → Place → Parser Point
+invoking regions locals p = do
+  invokes ← eat s.Invoke
+  if invokes then ((λ i. ending (terminator_kinds.Invoke i)) <$> invoked regions locals p) else (assigned p <$> rvalue regions locals)
+
 -- what stands behind `P =`
 unfoldable pub value_of : List RegionName → ℕ → Place → Parser Point
 value_of regions locals p = do
   calls ← eat s.Call
-  if calls then ((λ c. ending (terminator_kinds.Call c)) <$> called regions locals p) else (assigned p <$> rvalue regions locals)
+  if calls then ((λ c. ending (terminator_kinds.Call c)) <$> called regions locals p) else invoking regions locals p
 
 unfoldable pub assignment : List RegionName → ℕ → Parser Point
 assignment regions locals = do
@@ -355,11 +397,30 @@ behind_regions regions = clauses regions >>= function_ty regions
 unfoldable pub signature : ℕ → Parser Signature
 signature limit = declared_list sees_region new_region limit >>= behind_regions
 
+-- what a function says behind its first word: it captures nothing
+unfoldable pub function_header : Parser Header
+function_header = (λ f. record { kind = Function; captures = []; signature = f }) <$> signature 15
+
+-- the types that a closure captures
+unfoldable pub captures : List RegionName → Parser (List Ty)
+captures regions = expect s.OpenBracket >> closed_list begins_ty (ty false regions) 16 s.CloseBracket
+
+-- what stands behind the regions that a closure declares
+unfoldable pub closure_behind : List RegionName → Parser Header
+closure_behind regions = do
+  cs ← clauses regions
+  ts ← captures regions
+  f ← function_ty regions cs
+  pure (record { kind = Closure; captures = ts; signature = f })
+
+-- what a closure says behind its first word
+unfoldable pub closure_header : Parser Header
+closure_header = declared_list sees_region new_region 15 >>= closure_behind
+
 unfoldable pub header : Parser Header
 header = do
-  expect s.Fn
-  f ← signature 15
-  pure (record { kind = Function; signature = f })
+  functions ← eat s.Fn
+  if functions then function_header else (expect s.Closure >> closure_header)
 
 -- ---- units
 
@@ -367,7 +428,7 @@ header = do
 unfoldable pub declared_ty : List RegionName → Parser Ty
 declared_ty regions = do
   expect s.Colon
-  t ← ty true regions
+  t ← let_type regions
   expect s.Semicolon
   pure t
 

@@ -3,11 +3,12 @@ ghost use Rattle.std.specs.Prelude.{◌≡◌, ◌≤◌, length, []};
 ghost use Rattle.bc_tokens.specs.Parser.{Reads, separated_from, closed_list};
 ghost use Rattle.bc_text.specs.Reading as spec;
 
-use crate::regions::{instance, refuse_past};
+use crate::regions::{closure_instance, instance, refuse_past};
 use crate::types::reference;
 use bc_print::Numbering;
 use bc_syntax::{
-    Aggregate, Borrow, Operand, Place, Projection, RegionName, Rvalue, ShortSequence, Symbol,
+    Aggregate, Borrow, Creation, Operand, Place, Projection, RegionName, Rvalue, ShortSequence,
+    Symbol,
 };
 use bc_tokens::{Cursor, Refusal};
 use std::alloc::Global;
@@ -184,8 +185,24 @@ fn aggregate(
     Ok(Aggregate { instance, operands })
 }
 
+/// A closure made, behind its word.
+#[tactic(auto, unfolding(crate::specs::Reading::creation))]
+fn creation(
+    alloc: Global,
+    cursor: &mut Cursor<'_>,
+    regions: &[RegionName],
+    locals: u16,
+) -> Result<Creation, Refusal>
+    requires { length regions.now ≤ 15 }
+    ensures { Reads (spec.creation regions.now locals cursor.old) result cursor.new }
+{
+    let closure = closure_instance(alloc, cursor, regions)?;
+    let operands = operands(alloc, cursor, locals)?;
+    Ok(Creation { closure, operands })
+}
+
 /// What an assignment computes. Own.
-#[tactic(auto, unfolding(crate::specs::Reading::rvalue, crate::specs::Reading::computed, crate::specs::Reading::created))]
+#[tactic(auto, unfolding(crate::specs::Reading::rvalue, crate::specs::Reading::computed, crate::specs::Reading::created, crate::specs::Reading::captured))]
 pub fn rvalue(
     alloc: Global,
     cursor: &mut Cursor<'_>,
@@ -203,6 +220,9 @@ pub fn rvalue(
     }
     if cursor.sees_word() {
         return Ok(Rvalue::Aggregate(aggregate(alloc, cursor, regions, locals)?));
+    }
+    if cursor.eat(Symbol::Closure) {
+        return Ok(Rvalue::Closure(creation(alloc, cursor, regions, locals)?));
     }
     Ok(Rvalue::Use(operand(alloc, cursor, locals)?))
 }

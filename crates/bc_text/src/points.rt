@@ -4,9 +4,11 @@ ghost use Rattle.bc_tokens.specs.Parser.{Reads};
 ghost use Rattle.bc_text.specs.Reading as spec;
 
 use crate::places::{local, operand, operands, place, rvalue};
-use crate::regions::instance;
+use crate::regions::{arguments, instance};
 use bc_print::Numbering;
-use bc_syntax::{Assignment, Call, Condition, Place, RegionName, Statement, Symbol, Terminator};
+use bc_syntax::{
+    Assignment, Call, Condition, Invocation, Place, RegionName, Statement, Symbol, Terminator,
+};
 use bc_tokens::{Cursor, Refusal};
 use std::alloc::Global;
 
@@ -47,8 +49,33 @@ fn called(
     })
 }
 
+/// Which closure is called for a destination, and where it returns to.
+#[tactic(auto, unfolding(crate::specs::Reading::invoked))]
+fn invoked(
+    alloc: Global,
+    cursor: &mut Cursor<'_>,
+    regions: &[RegionName],
+    locals: u16,
+    destination: Place,
+) -> Result<Invocation, Refusal>
+    requires { length regions.now ≤ 15 }
+    ensures { Reads (spec.invoked regions.now locals destination cursor.old) result cursor.new }
+{
+    let closure = place(alloc, cursor, locals)?;
+    let regions = arguments(alloc, cursor, true, regions)?;
+    let operands = operands(alloc, cursor, locals)?;
+    let label = label(cursor)?;
+    Ok(Invocation {
+        destination,
+        closure,
+        regions,
+        operands,
+        target: label,
+    })
+}
+
 #[inline(always)]
-#[tactic(auto, unfolding(crate::specs::Reading::assignment, crate::specs::Reading::value_of))]
+#[tactic(auto, unfolding(crate::specs::Reading::assignment, crate::specs::Reading::value_of, crate::specs::Reading::invoking))]
 fn assignment(
     alloc: Global,
     cursor: &mut Cursor<'_>,
@@ -63,6 +90,10 @@ fn assignment(
     if cursor.eat(Symbol::Call) {
         let call = called(alloc, cursor, regions, locals, target)?;
         return Ok(Point::Terminator(Terminator::Call(call)));
+    }
+    if cursor.eat(Symbol::Invoke) {
+        let invocation = invoked(alloc, cursor, regions, locals, target)?;
+        return Ok(Point::Terminator(Terminator::Invoke(invocation)));
     }
     let value = rvalue(alloc, cursor, regions, locals)?;
     let assignment = Assignment { target, value };

@@ -11,7 +11,7 @@ ghost use Rattle.bc_text.specs.Reading as spec;
 use crate::blocks::blocks;
 use crate::fault::ReadFault;
 use crate::regions::{new_regions, refuse_past, universal};
-use crate::types::{parameters, ty};
+use crate::types::{captures, let_type, parameters, ty};
 use bc_print::Numbering;
 use bc_syntax::{
     Body, Header, Outlives, RegionName, Sequence, Signature, Symbol, Ty, Unit, UnitKind,
@@ -117,18 +117,63 @@ pub fn signature(alloc: Global, cursor: &mut Cursor<'_>, limit: u8) -> Result<Si
     behind_regions(alloc, cursor, regions)
 }
 
-#[tactic(auto, unfolding(crate::specs::Reading::header))]
-fn header(alloc: Global, cursor: &mut Cursor<'_>) -> Result<Header, Refusal>
-    ensures few { IfOk result (λ h. length h.signature.parameters ≤ 16) }
+#[tactic(auto, unfolding(crate::specs::Reading::function_header))]
+fn function_header(alloc: Global, cursor: &mut Cursor<'_>) -> Result<Header, Refusal>
+    ensures few { IfOk result (λ h. length h.captures + length h.signature.parameters ≤ 32) }
     ensures regions { IfOk result (λ h. length h.signature.regions ≤ 15) }
-    ensures reads { Reads (spec.header cursor.old) result cursor.new }
+    ensures reads { Reads (spec.function_header cursor.old) result cursor.new }
 {
-    cursor.expect(Symbol::Fn)?;
     let signature = signature(alloc, cursor, 15)?;
     Ok(Header {
         kind: UnitKind::Function,
+        captures: Sequence::new(alloc),
         signature,
     })
+}
+
+/// What stands behind the regions that a closure declares.
+#[tactic(auto, unfolding(crate::specs::Reading::closure_behind))]
+fn closure_behind(
+    alloc: Global,
+    cursor: &mut Cursor<'_>,
+    regions: Sequence<RegionName>,
+) -> Result<Header, Refusal>
+    requires { length regions ≤ 15 }
+    ensures few { IfOk result (λ h. length h.captures + length h.signature.parameters ≤ 32) }
+    ensures regions { IfOk result (λ h. h.signature.regions ≡ regions) }
+    ensures reads { Reads (spec.closure_behind regions cursor.old) result cursor.new }
+{
+    let clauses = clauses(alloc, cursor, regions.as_slice())?;
+    let captures = captures(alloc, cursor, regions.as_slice())?;
+    let signature = function_ty(alloc, cursor, regions, clauses)?;
+    Ok(Header {
+        kind: UnitKind::Closure,
+        captures,
+        signature,
+    })
+}
+
+#[tactic(auto, unfolding(crate::specs::Reading::closure_header))]
+fn closure_header(alloc: Global, cursor: &mut Cursor<'_>) -> Result<Header, Refusal>
+    ensures few { IfOk result (λ h. length h.captures + length h.signature.parameters ≤ 32) }
+    ensures regions { IfOk result (λ h. length h.signature.regions ≤ 15) }
+    ensures reads { Reads (spec.closure_header cursor.old) result cursor.new }
+{
+    let regions = new_regions(alloc, cursor, 15)?;
+    closure_behind(alloc, cursor, regions)
+}
+
+#[tactic(auto, unfolding(crate::specs::Reading::header))]
+fn header(alloc: Global, cursor: &mut Cursor<'_>) -> Result<Header, Refusal>
+    ensures few { IfOk result (λ h. length h.captures + length h.signature.parameters ≤ 32) }
+    ensures regions { IfOk result (λ h. length h.signature.regions ≤ 15) }
+    ensures reads { Reads (spec.header cursor.old) result cursor.new }
+{
+    if cursor.eat(Symbol::Fn) {
+        return function_header(alloc, cursor);
+    }
+    cursor.expect(Symbol::Closure)?;
+    closure_header(alloc, cursor)
 }
 
 #[tactic(auto, unfolding(crate::specs::Reading::declared_ty))]
@@ -141,7 +186,7 @@ fn declared_ty(
     ensures { Reads (spec.declared_ty regions.now cursor.old) result cursor.new }
 {
     cursor.expect(Symbol::Colon)?;
-    let ty = ty(alloc, cursor, true, regions)?;
+    let ty = let_type(alloc, cursor, regions)?;
     cursor.expect(Symbol::Semicolon)?;
     Ok(ty)
 }
@@ -189,7 +234,7 @@ fn lets(
 /// A body behind its header.
 #[tactic(auto, unfolding(crate::specs::Reading::body_of))]
 fn body_of(alloc: Global, cursor: &mut Cursor<'_>, header: Header) -> Result<Body, Refusal>
-    requires few { length header.signature.parameters ≤ 16 }
+    requires few { length header.captures + length header.signature.parameters ≤ 32 }
     requires regions { length header.signature.regions ≤ 15 }
     ensures { Reads (spec.body_of header cursor.old) result cursor.new }
 {

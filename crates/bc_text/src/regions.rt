@@ -7,7 +7,8 @@ ghost use Rattle.bc_text.specs.Reading as spec;
 use crate::universals::number_of;
 use bc_print::Numbering;
 use bc_syntax::{
-    Instance, ItemName, Region, RegionName, Sequence, ShortSequence, Symbol, is_new, is_word,
+    ClosureInstance, Instance, ItemName, Region, RegionName, Sequence, ShortSequence, Symbol,
+    is_new, is_word,
 };
 use bc_tokens::{Cursor, Refusal};
 use std::alloc::Global;
@@ -152,8 +153,9 @@ fn some_regions(
     Err(refuse_past(begins_region(cursor, variables), cursor))
 }
 
+/// Regions in `<` and `>`, or none where no `<` comes. Own.
 #[tactic(auto, unfolding(bc_tokens::specs::Parser::declared_list))]
-fn arguments(
+pub fn arguments(
     alloc: Global,
     cursor: &mut Cursor<'_>,
     variables: bool,
@@ -184,4 +186,19 @@ pub fn instance(
     let name = item_name(alloc, cursor)?;
     let regions = arguments(alloc, cursor, variables, regions)?;
     Ok(Instance { name, regions })
+}
+
+/// A closure of the unit with regions for its own, behind its word. Own.
+#[tactic(auto, unfolding(crate::specs::Reading::closure_instance))]
+pub fn closure_instance(
+    alloc: Global,
+    cursor: &mut Cursor<'_>,
+    regions: &[RegionName],
+) -> Result<ClosureInstance, Refusal>
+    requires { length regions.now ≤ 15 }
+    ensures { Reads (spec.closure_instance regions.now cursor.old) result cursor.new }
+{
+    let number = cursor.numbered(Numbering::Number, 63)? as u8;
+    let regions = arguments(alloc, cursor, true, regions)?;
+    Ok(ClosureInstance { number, regions })
 }

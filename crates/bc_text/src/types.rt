@@ -3,7 +3,7 @@ ghost use Rattle.std.specs.Prelude.{◌≡◌, ◌≤◌, length, [], IfOk, Ok, 
 ghost use Rattle.bc_tokens.specs.Parser.{Reads, separated_from, closed_list};
 ghost use Rattle.bc_text.specs.Reading as spec;
 
-use crate::regions::{instance, refuse_past, region};
+use crate::regions::{closure_instance, instance, refuse_past, region};
 use bc_syntax::{Base, Mutability, Reference, RegionName, Sequence, ShortSequence, Symbol, Ty};
 use bc_tokens::{Cursor, Refusal};
 use std::alloc::Global;
@@ -80,6 +80,24 @@ pub fn ty(
     Err(refuse_past(begins_ty(cursor), cursor))
 }
 
+/// The type of a `let` local: a closure alone, or a type as it may stand anywhere in a body. Own.
+#[tactic(auto, unfolding(crate::specs::Reading::let_type))]
+pub fn let_type(
+    alloc: Global,
+    cursor: &mut Cursor<'_>,
+    regions: &[RegionName],
+) -> Result<Ty, Refusal>
+    requires { length regions.now ≤ 15 }
+    ensures { Reads (spec.let_type regions.now cursor.old) result cursor.new }
+{
+    if cursor.eat(Symbol::Closure) {
+        let base = Base::Closure(closure_instance(alloc, cursor, regions)?);
+        let references = ShortSequence::new(alloc);
+        return Ok(Ty { references, base });
+    }
+    ty(alloc, cursor, true, regions)
+}
+
 fn some_tys(
     alloc: Global,
     cursor: &mut Cursor<'_>,
@@ -116,5 +134,25 @@ pub fn parameters(
     }
     let found = some_tys(alloc, cursor, regions)?;
     cursor.expect(Symbol::CloseParen)?;
+    Ok(found)
+}
+
+/// The types that a closure captures, with their brackets. Own.
+#[tactic(auto, unfolding(bc_tokens::specs::Parser::closed_list, crate::specs::Reading::captures))]
+pub fn captures(
+    alloc: Global,
+    cursor: &mut Cursor<'_>,
+    regions: &[RegionName],
+) -> Result<Sequence<Ty>, Refusal>
+    requires { length regions.now ≤ 15 }
+    ensures few { IfOk result (λ found. length found ≤ 16) }
+    ensures reads { Reads (spec.captures regions.now cursor.old) result cursor.new }
+{
+    cursor.expect(Symbol::OpenBracket)?;
+    if cursor.eat(Symbol::CloseBracket) {
+        return Ok(Sequence::new(alloc));
+    }
+    let found = some_tys(alloc, cursor, regions)?;
+    cursor.expect(Symbol::CloseBracket)?;
     Ok(found)
 }

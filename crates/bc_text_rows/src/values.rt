@@ -1,8 +1,8 @@
 //! What texts are read as: each form of a unit and of declarations once, and its value told part by part.
 use bc_syntax::{
-    Base, Block, Body, Condition, Declaration, Header, Instance, Mutability, Operand, Outlives,
-    Place, Projection, Reference, Region, RegionName, Rvalue, Sequence, Signature, Statement,
-    StructDeclaration, Terminator, Ty, Unit, Variance,
+    Base, Block, Body, ClosureInstance, Condition, Declaration, Header, Instance, Mutability,
+    Operand, Outlives, Place, Projection, Reference, Region, RegionName, Rvalue, Sequence,
+    Signature, Statement, StructDeclaration, Terminator, Ty, Unit, UnitKind, Variance,
 };
 use bc_text::{MAX_TEXT, ReadFault, read_types, read_unit};
 use std::alloc::Global;
@@ -11,6 +11,10 @@ use std::test::Fail;
 /// Each form of a unit once.
 const UNIT: &[u8] =
     b"fn<'a,'b>where'a:'b,'b:'static(int,&'a mut&'static Pair<'b,'a>)->&'b Leaf{let _3:&'?7 int;let _4:Pair<'?1,'static>;bb0{_3=&'?8 mut _2.*.*.4;_3=&'a _1;_0=calc(copy _1,move _3.*,7);_4=Pair<'?1023,'b>(move _1,5);_1=4294967295;dead _3;drop _4.0;nop;if copy _1 bb1 bb2;}bb1{_4.1=call make<'?2,'b>(copy _2)bb3;}bb2{goto bb4;}bb3{return;}bb4{stop;}}";
+
+/// Each form of a closure once.
+const CLOSURE: &[u8] =
+    b"closure<'a,'b>where'b:'a[&'a int,Leaf](&'b mut int)->int{let _4:closure 63<'?3,'a>;let _5:closure 0;bb0{_4=closure 63<'?3,'a>(copy _1,move _2.0,5);_5=closure 7();_4.1=invoke _5.*<'b,'?9>(copy _3,8)bb1;}bb1{return;}}";
 
 /// Each form of a declaration once.
 const TYPES: &[u8] =
@@ -51,7 +55,21 @@ fn is_struct(ty: &Ty, references: &[Reference], name: &[u8], regions: &[Region])
         Base::Struct(instance) => {
             ty.references.as_slice() == references && is_instance(instance, name, regions)
         }
-        Base::Int => false,
+        Base::Int | Base::Closure(_) => false,
+    }
+}
+
+fn is_closure(found: &ClosureInstance, number: u8, regions: &[Region]) -> bool {
+    found.number == number && found.regions.as_slice() == regions
+}
+
+/// Whether a type is this closure.
+fn is_whole_closure(ty: &Ty, number: u8, regions: &[Region]) -> bool {
+    match &ty.base {
+        Base::Closure(closure) => {
+            ty.references.as_slice().is_empty() && is_closure(closure, number, regions)
+        }
+        Base::Int | Base::Struct(_) => false,
     }
 }
 
@@ -199,9 +217,80 @@ fn are_the_lets(lets: &[Ty]) -> bool {
 }
 
 fn is_the_body(body: &Body) -> bool {
-    is_the_signature(&body.header.signature)
+    body.header.kind == UnitKind::Function
+        && body.header.captures.is_empty()
+        && is_the_signature(&body.header.signature)
         && are_the_lets(body.lets.as_slice())
         && are_the_blocks(body.blocks.as_slice())
+}
+
+fn is_header_of_a_closure(header: &Header) -> bool {
+    let signature = &header.signature;
+    header.kind == UnitKind::Closure
+        && are_a_and_b(signature.regions.as_slice())
+        && matches!(signature.clauses.as_slice(), [clause] if is_clause(clause, 2, 1))
+        && matches!(header.captures.as_slice(), [first, second]
+            if is_int(first, &[shared(A)]) && is_struct(second, &[], b"Leaf", &[]))
+        && matches!(signature.parameters.as_slice(), [only] if is_int(only, &[mutable(B)]))
+        && is_int(&signature.result, &[])
+}
+
+fn are_closures(lets: &[Ty]) -> bool {
+    matches!(lets, [first, second]
+        if is_whole_closure(first, 63, &[Region::Variable(3), A]) && is_whole_closure(second, 0, &[]))
+}
+
+fn is_first_closure_made(statement: &Statement) -> bool {
+    match assigned(statement, 4, &[]) {
+        Some(Rvalue::Closure(made)) => {
+            is_closure(&made.closure, 63, &[Region::Variable(3), A])
+                && matches!(made.operands.as_slice(), [first, second, third]
+                    if is_copy(first, 1) && is_move(second, 2, &[Projection::Field(0)]) && is_number(third, 5))
+        }
+        _ => false,
+    }
+}
+
+fn is_second_closure_made(statement: &Statement) -> bool {
+    match assigned(statement, 5, &[]) {
+        Some(Rvalue::Closure(made)) => {
+            is_closure(&made.closure, 7, &[]) && made.operands.as_slice().is_empty()
+        }
+        _ => false,
+    }
+}
+
+fn is_invocation(terminator: &Terminator) -> bool {
+    let regions = [B, Region::Variable(9)];
+    match terminator {
+        Terminator::Invoke(invocation) => {
+            is_place(&invocation.destination, 4, &[Projection::Field(1)])
+                && is_place(&invocation.closure, 5, &[Projection::Deref])
+                && invocation.regions.as_slice() == regions.as_slice()
+                && matches!(invocation.operands.as_slice(), [first, second]
+                    if is_copy(first, 3) && is_number(second, 8))
+                && invocation.target == 1
+        }
+        _ => false,
+    }
+}
+
+fn are_the_blocks_of_a_closure(blocks: &[Block]) -> bool {
+    match blocks {
+        [first, second] => {
+            matches!(first.statements.as_slice(), [one, two]
+                if is_first_closure_made(one) && is_second_closure_made(two))
+                && is_invocation(&first.terminator)
+                && matches!(second.terminator, Terminator::Return)
+        }
+        _ => false,
+    }
+}
+
+fn is_body_of_a_closure(body: &Body) -> bool {
+    is_header_of_a_closure(&body.header)
+        && are_closures(body.lets.as_slice())
+        && are_the_blocks_of_a_closure(body.blocks.as_slice())
 }
 
 fn is_leaf(declaration: &StructDeclaration) -> bool {
@@ -254,6 +343,12 @@ fn reads_unit(alloc: Global) -> Result<bool, ReadFault> {
     Ok(is_the_body(unit.body()))
 }
 
+/// Whether the text is read as its closure.
+fn reads_closure(alloc: Global) -> Result<bool, ReadFault> {
+    let unit = read_unit(alloc, CLOSURE)?;
+    Ok(is_body_of_a_closure(unit.body()))
+}
+
 /// Whether the text is read as its declarations.
 fn reads_types(alloc: Global) -> Result<bool, ReadFault> {
     let types = read_types(alloc, TYPES)?;
@@ -266,6 +361,17 @@ fn a_text_is_read_as_its_unit(rt: HostRuntime) -> Result<(), Fail> {
     let reads = match reads_unit(rt.alloc()) {
         Ok(reads) => reads,
         Err(_) => reads_unit(rt.alloc())?,
+    };
+    assert!(rt; reads);
+    Ok(())
+}
+
+/// Reads again where the first reading was refused, as where there was no memory.
+#[test]
+fn a_text_is_read_as_its_closure(rt: HostRuntime) -> Result<(), Fail> {
+    let reads = match reads_closure(rt.alloc()) {
+        Ok(reads) => reads,
+        Err(_) => reads_closure(rt.alloc())?,
     };
     assert!(rt; reads);
     Ok(())

@@ -39,10 +39,12 @@ extern_among (Extern d ∷ earlier) name = if same_name name d.name then Some d 
 abbrev pub takes_regions : Instance → StructDeclaration → Bool
 takes_regions instance d = length d.regions == length instance.regions
 
--- a mentioned struct is among the declarations with its number of regions
+-- a mentioned struct is among the declarations with its number of regions. Declarations know no closures: whether the child
+-- of the closure is there is told where the children are known
 abbrev pub is_declared : List Declaration → Base → Bool
 is_declared earlier bases.Int = true
 is_declared earlier (bases.Struct instance) = option_map_or (takes_regions instance) (struct_among earlier instance.name) false
+is_declared earlier (bases.Closure closure) = true
 
 -- ---- invariant positions
 
@@ -67,6 +69,7 @@ abbrev pub base_positions : List Declaration → Bool → Base → List Position
 base_positions earlier invariant bases.Int = []
 base_positions earlier invariant (bases.Struct instance) =
     option_map_or (λ (d : StructDeclaration). argument_positions invariant d.variances instance.regions) (struct_among earlier instance.name) []
+base_positions earlier invariant (bases.Closure closure) = []
 
 -- the region of a reference is where the reference is, and all inside the pointee of a `&mut` is invariant
 abbrev pub positions_in : List Declaration → Bool → List Reference → Base → List Position

@@ -14,6 +14,7 @@ use Rattle.bc_types.specs.Declarations.{same_name, takes_regions}
 abbrev pub is_struct_that : (Instance → Bool) → Base → Bool
 is_struct_that holds bases.Int = false
 is_struct_that holds (bases.Struct instance) = holds instance
+is_struct_that holds (bases.Closure closure) = false
 
 -- a type is a struct of which this holds: references are none
 abbrev pub is_value_that : (Instance → Bool) → List Reference → Base → Bool

@@ -5,8 +5,9 @@ use Rattle.bc_syntax.specs.declared.syntax.Region.{Region}
 use Rattle.bc_syntax.specs.declared.syntax.Region.TheVariants.{Universal, Variable}
 use Rattle.bc_syntax.specs.declared.syntax.Reference.{Reference}
 use Rattle.bc_syntax.specs.declared.syntax.Instance.{Instance}
+use Rattle.bc_syntax.specs.declared.syntax.ClosureInstance.{ClosureInstance}
 use Rattle.bc_syntax.specs.declared.syntax.Base.{Base}
-use Rattle.bc_syntax.specs.declared.syntax.Base.TheVariants.{Int, Struct}
+use Rattle.bc_syntax.specs.declared.syntax.Base.TheVariants.{Int, Struct, Closure}
 use Rattle.bc_syntax.specs.declared.syntax.Ty.{Ty}
 use Rattle.bc_syntax.specs.declared.syntax.ItemName.{ItemName}
 use Rattle.bc_syntax.specs.declared.syntax.StructDeclaration.{StructDeclaration}
@@ -27,9 +28,13 @@ replaced_reference arguments reference = record { region = replaced_region argum
 abbrev pub replaced_instance : List Region → Instance → Instance
 replaced_instance arguments instance = record { name = instance.name; regions = map (replaced_region arguments) instance.regions }
 
+abbrev pub replaced_closure : List Region → ClosureInstance → ClosureInstance
+replaced_closure arguments closure = record { number = closure.number; regions = map (replaced_region arguments) closure.regions }
+
 abbrev pub replaced_base : List Region → Base → Base
 replaced_base arguments Int = Int
 replaced_base arguments (Struct instance) = Struct (replaced_instance arguments instance)
+replaced_base arguments (Closure closure) = Closure (replaced_closure arguments closure)
 
 -- a type with each region replaced
 abbrev pub replaced_ty : List Region → Ty → Ty

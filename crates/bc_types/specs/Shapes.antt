@@ -1,7 +1,8 @@
 -- Types without their regions.
 use Rattle.std.specs.Prelude.{Bool, true, false, ◌&&◌, ◌==◌, not, List, [], ◌∷◌, length}
+use Rattle.bc_syntax.specs.declared.syntax.ClosureInstance.{ClosureInstance}
 use Rattle.bc_syntax.specs.declared.syntax.Base.{Base}
-use Rattle.bc_syntax.specs.declared.syntax.Base.TheVariants.{Int, Struct}
+use Rattle.bc_syntax.specs.declared.syntax.Base.TheVariants.{Int, Struct, Closure}
 use Rattle.bc_syntax.specs.declared.syntax.Instance.{Instance}
 use Rattle.bc_syntax.specs.declared.syntax.Ty.{Ty}
 use Rattle.bc_syntax.specs.declared.syntax.Reference.{Reference}
@@ -17,11 +18,20 @@ blanked ty = replaced_ty [] ty
 abbrev pub alike : Instance → Instance → Bool
 alike first second = same_name first.name second.name && length first.regions == length second.regions
 
+-- closures of one number with one number of regions
+abbrev pub alike_closures : ClosureInstance → ClosureInstance → Bool
+alike_closures first second = first.number == second.number && length first.regions == length second.regions
+
 abbrev pub alike_bases : Base → Base → Bool
 alike_bases Int Int = true
 alike_bases Int (Struct instance) = false
+alike_bases Int (Closure closure) = false
 alike_bases (Struct instance) Int = false
 alike_bases (Struct first) (Struct second) = alike first second
+alike_bases (Struct instance) (Closure closure) = false
+alike_bases (Closure closure) Int = false
+alike_bases (Closure closure) (Struct instance) = false
+alike_bases (Closure first) (Closure second) = alike_closures first second
 
 abbrev pub alike_types : List Reference → Base → List Reference → Base → Bool
 alike_types [] first [] second = alike_bases first second
@@ -37,6 +47,7 @@ one_shape first second = alike_types first.references first.base second.referenc
 abbrev pub is_int_base : Base → Bool
 is_int_base Int = true
 is_int_base (Struct instance) = false
+is_int_base (Closure closure) = false
 
 abbrev pub is_int_behind : List Reference → Base → Bool
 is_int_behind [] base = is_int_base base

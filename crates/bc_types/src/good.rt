@@ -16,6 +16,7 @@ pub(crate) fn is_declared(table: &Table, base: &Base) -> bool
     match base {
         Base::Int => true,
         Base::Struct(instance) => table.declares(instance),
+        Base::Closure(_) => true,
     }
 }
 
@@ -86,6 +87,7 @@ fn base_stands_well(table: &Table, variances: &[Variance], invariant: bool, base
             ),
             None => true,
         },
+        Base::Closure(_) => true,
     }
 }
 

@@ -1,9 +1,9 @@
 //! A declaration's regions replaced by arguments.
 ghost use Rattle.std.specs.Prelude.{◌≡◌, ◌++◌, ◌∷◌, map, IfOk, OnOk};
 ghost use Rattle.std.specs.List.{Contains};
-ghost use Rattle.bc_types.specs.Replaced.{replaced_region, replaced_reference, replaced_instance, replaced_base, replaced_ty};
+ghost use Rattle.bc_types.specs.Replaced.{replaced_region, replaced_reference, replaced_instance, replaced_closure, replaced_base, replaced_ty};
 
-use bc_syntax::{Base, Instance, ItemName, Reference, Region, ShortSequence, Ty};
+use bc_syntax::{Base, ClosureInstance, Instance, ItemName, Reference, Region, ShortSequence, Ty};
 use std::alloc::{AllocError, Global};
 
 /// A region of a declaration where the declared ones are replaced by arguments, the first by the first: `'static` stays. What
@@ -78,12 +78,28 @@ fn replace_instance(
     })
 }
 
+fn replace_closure(
+    alloc: Global,
+    arguments: &[Region],
+    closure: &ClosureInstance,
+) -> Result<ClosureInstance, AllocError>
+    ensures { IfOk result (λ replaced. replaced ≡ replaced_closure arguments.now closure.now) }
+{
+    let mut regions = ShortSequence::new(alloc);
+    push_replaced_regions(&mut regions, arguments, closure.regions.as_slice())?;
+    Ok(ClosureInstance {
+        number: closure.number,
+        regions,
+    })
+}
+
 fn replace_base(alloc: Global, arguments: &[Region], base: &Base) -> Result<Base, AllocError>
     ensures { IfOk result (λ replaced. replaced ≡ replaced_base arguments.now base.now) }
 {
     match base {
         Base::Int => Ok(Base::Int),
         Base::Struct(instance) => Ok(Base::Struct(replace_instance(alloc, arguments, instance)?)),
+        Base::Closure(closure) => Ok(Base::Closure(replace_closure(alloc, arguments, closure)?)),
     }
 }
 

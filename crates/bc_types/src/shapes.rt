@@ -2,10 +2,10 @@
 ghost use Rattle.std.specs.Prelude.{◌≡◌};
 ghost use Rattle.bc_types.specs.Declarations.{same_name};
 ghost use Rattle.bc_types.specs.Mutabilities.{same_mutability};
-ghost use Rattle.bc_types.specs.Shapes.{alike, alike_bases, alike_types, is_int_base as int_base, is_int_behind as int_behind, is_copyable_behind as copyable_behind, is_copyable_type as copyable_type};
+ghost use Rattle.bc_types.specs.Shapes.{alike, alike_closures, alike_bases, alike_types, is_int_base as int_base, is_int_behind as int_behind, is_copyable_behind as copyable_behind, is_copyable_type as copyable_type};
 
 use crate::mutabilities::is_mutable;
-use bc_syntax::{Base, Instance, ItemName, Mutability, Reference, Ty};
+use bc_syntax::{Base, ClosureInstance, Instance, ItemName, Mutability, Reference, Ty};
 
 fn is_same_name(first: &ItemName, second: &ItemName) -> bool
     ensures { result ≡ same_name first.now second.now }
@@ -30,14 +30,26 @@ pub fn are_alike(first: &Instance, second: &Instance) -> bool
         && first.regions.as_slice().len() == second.regions.as_slice().len()
 }
 
+/// Whether closures have one number and one number of regions. (Own.)
+pub fn are_alike_closures(first: &ClosureInstance, second: &ClosureInstance) -> bool
+    ensures { result ≡ alike_closures first.now second.now }
+{
+    first.number == second.number
+        && first.regions.as_slice().len() == second.regions.as_slice().len()
+}
+
 fn are_alike_bases(first: &Base, second: &Base) -> bool
     ensures { result ≡ alike_bases first.now second.now }
 {
     match first {
         Base::Int => is_int_base(second),
         Base::Struct(one) => match second {
-            Base::Int => false,
+            Base::Int | Base::Closure(_) => false,
             Base::Struct(other) => are_alike(one, other),
+        },
+        Base::Closure(one) => match second {
+            Base::Int | Base::Struct(_) => false,
+            Base::Closure(other) => are_alike_closures(one, other),
         },
     }
 }
@@ -72,7 +84,7 @@ fn is_int_base(base: &Base) -> bool
 {
     match base {
         Base::Int => true,
-        Base::Struct(_) => false,
+        Base::Struct(_) | Base::Closure(_) => false,
     }
 }
 

@@ -1,13 +1,13 @@
 //! Subtypes with variance (RFC 2094, "Subtyping"; rustc-dev-guide, "Variance").
 ghost use Rattle.std.specs.Prelude.{◌≡◌, ◌++◌, ◌∷◌, OnOk};
-ghost use Rattle.bc_types.specs.Subtyping.{related, related_arguments, related_bases, related_types, sub};
+ghost use Rattle.bc_types.specs.Subtyping.{related, related_arguments, related_regions, related_closures, related_bases, related_types, sub};
 
 use crate::good::is_invariant;
 use crate::good_types::GoodTypes;
 use crate::mutabilities::is_mutable;
 use crate::subtype::{Constraint, push_outlives};
 use crate::ty_ref::TyRef;
-use bc_syntax::{Base, Reference, Region, Variance};
+use bc_syntax::{Base, ClosureInstance, Reference, Region, Variance};
 use std::alloc::AllocError;
 
 fn push_related(
@@ -50,6 +50,43 @@ fn push_related_arguments(
     }
 }
 
+/// The regions of closures relate both ways, each to the one in its place.
+fn push_related_regions(
+    constraints: &mut Vec<Constraint>,
+    regions: &[Region],
+    others: &[Region],
+) -> Result<(), AllocError>
+    ensures { OnOk result (constraints.new.items ≡ constraints.old.items ++ related_regions regions.now others.now) }
+{
+    match regions {
+        [] => Ok(()),
+        [region, more @ ..] => match others {
+            [] => Ok(()),
+            [other, rest @ ..] => {
+                push_related(constraints, true, *region, *other)?;
+                push_related_regions(constraints, more, rest)
+            }
+        },
+    }
+}
+
+fn push_related_closures(
+    constraints: &mut Vec<Constraint>,
+    closure: &ClosureInstance,
+    other: &Base,
+) -> Result<(), AllocError>
+    ensures { OnOk result (constraints.new.items ≡ constraints.old.items ++ related_closures closure.now other.now) }
+{
+    match other {
+        Base::Int | Base::Struct(_) => Ok(()),
+        Base::Closure(other) => push_related_regions(
+            constraints,
+            closure.regions.as_slice(),
+            other.regions.as_slice(),
+        ),
+    }
+}
+
 fn push_related_bases(
     constraints: &mut Vec<Constraint>,
     types: &GoodTypes,
@@ -62,7 +99,7 @@ fn push_related_bases(
     match base {
         Base::Int => Ok(()),
         Base::Struct(instance) => match other {
-            Base::Int => Ok(()),
+            Base::Int | Base::Closure(_) => Ok(()),
             Base::Struct(other) => match types.struct_of(&instance.name) {
                 Some(declaration) => push_related_arguments(
                     constraints,
@@ -74,6 +111,7 @@ fn push_related_bases(
                 None => Ok(()),
             },
         },
+        Base::Closure(closure) => push_related_closures(constraints, closure, other),
     }
 }
 

@@ -58,7 +58,8 @@ fn copy_names(names: &Sequence<RegionName>) -> Result<Sequence<RegionName>, Allo
     names.clone()
 }
 
-fn copy_types(types: &Sequence<Ty>) -> Result<Sequence<Ty>, AllocError>
+/// The same types again. `AllocError` only where memory was refused. (Own.)
+pub fn copy_types(types: &Sequence<Ty>) -> Result<Sequence<Ty>, AllocError>
     ensures { IfOk result (λ copy. copy ≡ types.now) }
 {
     types.clone()
@@ -77,7 +78,8 @@ fn copy_type(ty: &Ty) -> Result<Ty, AllocError>
     ty.clone()
 }
 
-fn copy_signature(signature: &Signature) -> Result<Signature, AllocError>
+/// The same signature again. `AllocError` only where memory was refused. (Own.)
+pub fn copy_signature(signature: &Signature) -> Result<Signature, AllocError>
     ensures { IfOk result (λ copy. copy ≡ signature.now) }
 {
     Ok(Signature {
@@ -316,6 +318,7 @@ impl Table {
             [] => match &ty.base {
                 Base::Int => false,
                 Base::Struct(instance) => self.struct_holds_drop(instance),
+                Base::Closure(_) => false,
             },
             [_, ..] => false,
         }

@@ -1,5 +1,6 @@
 //! What the analysis finds of a body, and how long each of its steps takes at best, in microseconds.
 use crate::timing::timed;
+use anyhow::bail;
 use bc_cons::{Facts, constraints};
 use bc_judge::judge;
 use bc_live::{LiveSets, live};
@@ -18,6 +19,19 @@ fn no_types(alloc: Global) -> anyhow::Result<Arc<GoodTypes, Global>> {
     match Arc::new(alloc, good) {
         Ok(types) => Ok(types),
         Err(_) => Err(AllocError)?,
+    }
+}
+
+/// A unit that names no closure, typed.
+fn typed_alone(
+    alloc: Global,
+    types: &Arc<GoodTypes, Global>,
+    unit: &Unit,
+) -> anyhow::Result<Typed> {
+    let children = unit.body().children(alloc)?;
+    match children.as_slice() {
+        [] => Ok(type_unit(alloc, types, unit, &[])?),
+        [_, ..] => bail!("the body names a closure"),
     }
 }
 
@@ -94,12 +108,7 @@ fn measure_over<O: Write, E: Write>(
     out: &mut O,
     err: &mut E,
 ) -> anyhow::Result<()> {
-    let typed = timed(
-        rt,
-        "typing",
-        || Ok(type_unit(rt.alloc(), types, unit, &[])?),
-        err,
-    )?;
+    let typed = timed(rt, "typing", || typed_alone(rt.alloc(), types, unit), err)?;
     measure_typed(rt, &typed, out, err)
 }
 

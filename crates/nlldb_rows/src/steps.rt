@@ -234,14 +234,23 @@ fn body_of(alloc: Global, file: &[u8]) -> io::Result<Unit> {
     }
 }
 
-/// The body of a file over its declarations; `InvalidData` where it breaks a typing rule, and as `declared` and `body_of`.
+/// A unit without children over declarations; `InvalidData` where it has some or breaks a typing rule.
+fn typed_alone(alloc: Global, types: &Arc<GoodTypes, Global>, unit: &Unit) -> io::Result<Typed> {
+    let children = unit.body().children(alloc)?;
+    match children.as_slice() {
+        [] => match type_unit(alloc, types, unit, &[]) {
+            Ok(typed) => Ok(typed),
+            Err(_) => Err(ErrorKind::InvalidData.into()),
+        },
+        [_, ..] => Err(ErrorKind::InvalidData.into()),
+    }
+}
+
+/// The body of a file over its declarations; `InvalidData` as `declared`, `body_of` and `typed_alone`.
 fn typed(alloc: Global, file: &[u8]) -> io::Result<Typed> {
     let good = Arc::new(alloc, declared(alloc, file)?)?;
     let unit = body_of(alloc, file)?;
-    match type_unit(alloc, &good, &unit, &[]) {
-        Ok(typed) => Ok(typed),
-        Err(_) => Err(ErrorKind::InvalidData.into()),
-    }
+    typed_alone(alloc, &good, &unit)
 }
 
 fn show_row<W: Write>(alloc: Global, row: &str, out: &mut W) -> io::Result<()> {

@@ -3,4 +3,4 @@ use Rattle.bc_mir.proofs.Replacing.{on_way_tells}
 use Rattle.bc_mir.proofs.place_types.goes_only_mutable.Goals as goal
 
 pub returns : goal.returns
-returns c = c.is_mutable_on_way.ensures ∙ on_way_tells c.args.types.now c.args.locals.now c.args.place.now
+returns c = c.is_mutable_on_way.ensures ∙ on_way_tells c.args.draft.now c.args.place.now

@@ -8,4 +8,4 @@ pub returns-in-Some : goal.returns-in-Some
 returns-in-Some c =
     c.is_like.ensures
     ∙ ap (has_shape c.args.expected.now) c.in-Some.ensures
-    ∙ has_shape-blanked c.args.expected.now (type_of_place c.args.types.now c.args.locals.now c.args.place.now)
+    ∙ has_shape-blanked c.args.expected.now (type_of_place c.args.draft.now c.args.place.now)

@@ -9,4 +9,4 @@ returns-in-Some c =
     let reference = c.args.borrow.now.reference in
     c.is_reference.ensures
     ∙ ap (λ found. has_shape c.args.target.now (option_map (type_referenced reference) found)) c.in-Some.ensures
-    ∙ borrow-blanked reference c.args.target.now (type_to_borrow c.args.types.now c.args.locals.now reference.mutability c.args.borrow.now.place)
+    ∙ borrow-blanked reference c.args.target.now (type_to_borrow c.args.draft.now reference.mutability c.args.borrow.now.place)

@@ -10,4 +10,4 @@ returns-in-Some c =
     ∙ ap (λ ty. one_shape ty c.in-Some.target) c.of.ensures
     ∙ one_shape-left c.args.returned.now c.in-Some.target
     ∙ ap (λ target. of_one_shape target (Some c.args.returned.now)) c.in-Some.ensures
-    ∙ of_one_shape-blanked (type_to_write c.args.types.now c.args.locals.now c.args.destination.now) (Some c.args.returned.now)
+    ∙ of_one_shape-blanked (type_to_write c.args.draft.now c.args.destination.now) (Some c.args.returned.now)

@@ -4,4 +4,4 @@ use Rattle.bc_points.proofs.support.goes_on_mutable.Goals as goal
 
 pub returns : goal.returns
 returns c =
-    c.supports_from.ensures ∙ from_tells c.args.types.now c.args.locals.now c.args.prefix.now c.args.rest.now
+    c.supports_from.ensures ∙ from_tells c.args.typed.now c.args.prefix.now c.args.rest.now

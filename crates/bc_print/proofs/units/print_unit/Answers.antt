@@ -1,7 +1,6 @@
 use Rattle.std.proofs.Common.{subst}
 use Rattle.std.proofs.lemmas.Result.{on_ok_weaker}
 use Rattle.std.specs.Io.KnownBytes.{Appends}
-use Rattle.bc_syntax.specs.declared.symbol.Symbol.TheVariants as s
 use Rattle.bc_syntax.specs.declared.syntax.Body.{Body}
 use Rattle.bc_print.specs.Token.{Fixed}
 use Rattle.bc_print.specs.Printing.{printed}
@@ -12,7 +11,8 @@ use Rattle.bc_print.proofs.units.print_unit.Goals as goal
 pub returns : goal.returns
 returns g c =
     let body = c.body-body.result.now in
-    let fn_word = rw c.text.ensures at c.in_ok-write_all.ensures.bytes in
+    let kind = body.header.kind in
+    let first_word = rw (c.text.ensures, c.kind_word.ensures) at c.in_ok-write_all.ensures.bytes in
     on_ok_weaker c.write_all-2.result
     (λ done. subst (λ (u : Body). Appends (g.W.Write.contents c.args.out.now) (g.W.Write.contents c.write_all-2.new.self) (printed (spell.unit u))) c.body-body.ensures.value
-    (prints _ _ _ _ _ (Fixed s.Fn) (spell.signature body.header.signature) (spell.body body) fn_word c.in_ok-write_signature.ensures c.in_ok-write_body.ensures done)) c.write_all-2.ensures.bytes
+    (prints _ _ _ _ _ (Fixed (spell.kind_word kind)) (spell.header_rest body.header) (spell.body body) first_word c.in_ok-write_header_rest.ensures c.in_ok-write_body.ensures done)) c.write_all-2.ensures.bytes

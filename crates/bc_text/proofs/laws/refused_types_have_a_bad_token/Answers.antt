@@ -17,7 +17,7 @@ returns-clause-bad c = λ bytes fault e short.
       s.later,
       s.is,
       tells_bad s,
-      (s.begun.0, s.begun.2, s.begun.3),
+      (s.begun.0, s.begun.1, s.begun.2, s.begun.3),
       λ ds fits later h.
           let text = begins_whole (going_on s.before s.bad later) (spell.types ds ++ End ∷ []) (go_on s.before s.bad later ∙ sym h) in
           let reads = types_again (going_on s.before s.bad later) ds [] text fits in

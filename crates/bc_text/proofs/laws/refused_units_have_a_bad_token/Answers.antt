@@ -18,7 +18,7 @@ returns-clause-bad c = λ bytes fault e short.
       s.later,
       s.is,
       tells_bad s,
-      (s.begun.0, s.begun.2, s.begun.3),
+      (s.begun.0, s.begun.1, s.begun.2, s.begun.3),
       λ u fits later h.
           let text = begins_whole (going_on s.before s.bad later) (spell.unit u ++ End ∷ []) (go_on s.before s.bad later ∙ sym h) in
           let reads = unit_again (going_on s.before s.bad later) u [] (subst (λ (l : List Token). Begins (going_on s.before s.bad later) l []) (sym (closed u)) text) fits in

@@ -1,0 +1,132 @@
+//! What is found in a typed unit: types of places, of operands and of rvalues, and closures.
+ghost use Rattle.std.specs.Prelude.{◌≡◌, ◌++◌, ⊤, Some, IfOk, OnOk, MatchOption};
+ghost use Rattle.std.specs.List.{list_any};
+ghost use Rattle.bc_types.specs.Drops.{holds_drop};
+ghost use Rattle.bc_mir.specs.Drops.{closure_holds_drop, type_holds_drop};
+ghost use Rattle.bc_mir.specs.PlaceTypes.{type_of_place as place_there, references_of_place as dereferenced_there};
+ghost use Rattle.bc_mir.specs.Rules.{type_of_operand as operand_there, type_to_borrow as borrowed_there, type_of_rvalue as rvalue_there, closure_in as closure_there};
+
+use crate::children::closure_behind;
+use crate::place_types::{lent_type_of_place, push_references_of_place, type_of_place};
+use crate::typed::Typed;
+use crate::value_types::{
+    closure_in, lent_type_of_operand, lent_type_to_borrow, type_of_borrow, type_of_operand,
+    type_of_rvalue,
+};
+use bc_syntax::{Borrow, ClosureInstance, Operand, Place, Reference, Rvalue, Ty};
+use bc_types::{GoodTypes, TyRef};
+use std::alloc::{AllocError, Global};
+
+fn any_holds_drop(types: &GoodTypes, captures: &[Ty]) -> bool
+    ensures { result ≡ list_any (holds_drop types.now) captures.now }
+{
+    captures.iter().any(|ty| types.holds_drop(ty))
+}
+
+impl Typed {
+    /// The type of a place: that of its local, behind each projection in turn; `None` where it has none. The error is want of
+    /// memory alone. (RFC 2094, "The MIR".)
+    pub fn place_type(&self, alloc: Global, place: &Place) -> Result<Option<Ty>, AllocError>
+        ensures { IfOk result (λ ty. ty ≡ place_there self.now place.now) }
+    {
+        type_of_place(alloc, &self.draft, place)
+    }
+
+    /// The type of a place that has one and goes through no field, as it stands in the type of its local; `None` for any other.
+    /// It takes no memory. (RFC 2094, "The MIR".)
+    pub fn lent_type_of_place(&self, place: &Place) -> Option<TyRef<'_>>
+        ensures { MatchOption result ⊤ (λ ty. place_there self.now place.now ≡ Some ty) }
+    {
+        lent_type_of_place(&self.draft, place)
+    }
+
+    /// Appends the references that a place dereferences, the first dereference first; none for a local that is not declared.
+    /// The error is want of memory alone.
+    /// (RFC 2094, "Reborrow constraints".)
+    pub fn push_references_of_place(
+        &self,
+        alloc: Global,
+        out: &mut Vec<Reference>,
+        place: &Place,
+    ) -> Result<(), AllocError>
+        ensures { OnOk result (out.new.items ≡ out.old.items ++ dereferenced_there self.now place.now) }
+    {
+        push_references_of_place(alloc, out, &self.draft, place)
+    }
+
+    /// The type of an operand, or `None` where it breaks a rule. The error is want of memory alone.
+    /// (Own.)
+    pub fn type_of_operand(
+        &self,
+        alloc: Global,
+        operand: &Operand,
+    ) -> Result<Option<Ty>, AllocError>
+        ensures { IfOk result (λ ty. ty ≡ operand_there self.now operand.now) }
+    {
+        type_of_operand(alloc, &self.draft, operand)
+    }
+
+    /// The type of an operand that copies or moves a place which goes through no field, as it stands in the type of its local;
+    /// `None` for any other, and where it breaks a rule. It takes no memory. (Own.)
+    pub fn lent_type_of_operand(&self, operand: &Operand) -> Option<TyRef<'_>>
+        ensures { MatchOption result ⊤ (λ ty. operand_there self.now operand.now ≡ Some ty) }
+    {
+        lent_type_of_operand(&self.draft, operand)
+    }
+
+    /// The type of a place that is borrowed, where it goes through no field, as it stands in the type of its local; `None` for
+    /// any other, and where the borrow breaks a rule. It takes no memory. (Own.)
+    pub fn lent_type_to_borrow(&self, borrow: &Borrow) -> Option<TyRef<'_>>
+        ensures { MatchOption result ⊤ (λ ty. borrowed_there self.now borrow.now.reference.mutability borrow.now.place ≡ Some ty) }
+    {
+        lent_type_to_borrow(&self.draft, borrow)
+    }
+
+    /// The type of a borrow, or `None` where it breaks a rule. The error is want of memory alone. (Own.)
+    pub fn type_of_borrow(&self, alloc: Global, borrow: &Borrow) -> Result<Option<Ty>, AllocError>
+        ensures { IfOk result (λ ty. ty ≡ rvalue_there self.now (Rvalue.Borrow borrow.now)) }
+    {
+        type_of_borrow(alloc, &self.draft, borrow)
+    }
+
+    /// The type of an rvalue, or `None` where it breaks a rule. The error is want of memory alone.
+    /// (Own.)
+    pub fn type_of_rvalue(&self, alloc: Global, rvalue: &Rvalue) -> Result<Option<Ty>, AllocError>
+        ensures { IfOk result (λ ty. ty ≡ rvalue_there self.now rvalue.now) }
+    {
+        type_of_rvalue(alloc, &self.draft, rvalue)
+    }
+
+    /// The closure in a place that may be invoked, or `None` where there is none. The error is want of memory alone. (Own.)
+    pub fn closure_in(
+        &self,
+        alloc: Global,
+        place: &Place,
+    ) -> Result<Option<ClosureInstance>, AllocError>
+        ensures { IfOk result (λ closure. closure ≡ closure_there self.now place.now) }
+    {
+        closure_in(alloc, &self.draft, place)
+    }
+
+    fn closure_holds_drop(&self, closure: &ClosureInstance) -> bool
+        ensures { result ≡ closure_holds_drop self.now closure.now }
+    {
+        match self.child(closure.number) {
+            Some(header) => any_holds_drop(self.types(), header.captures.as_slice()),
+            None => false,
+        }
+    }
+
+    /// Whether a type holds a drop: it is a struct that does, or a closure that captures a value of a type that does. (Own.)
+    pub fn holds_drop(&self, ty: &Ty) -> bool
+        ensures { result ≡ type_holds_drop self.now ty.now }
+    {
+        if self.types().holds_drop(ty) {
+            return true;
+        }
+        match closure_behind(ty.references.as_slice(), &ty.base) {
+            Some(closure) => self.closure_holds_drop(closure),
+            None => false,
+        }
+    }
+}
