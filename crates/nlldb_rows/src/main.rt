@@ -1,13 +1,16 @@
-//! What the command `check` leaves of each row of the files that are named, and what each step of the analysis finds.
+//! What the command `check` leaves of each row of the files that are named, what each step of the analysis finds, and which bodies
+//! keep the typing rules over their children.
 //!
 //! `#` begins a row: its name, to the end of the line, and then its file, up to the next `#`. What stands before the first
 //! row stands at the head of each. (Own.)
 #![tactic(auto)]
 
+mod children;
 mod limits;
 mod spelled;
 mod steps;
 
+use crate::children::show_children;
 use crate::limits::show_limits;
 use crate::spelled::spell_row;
 use crate::steps::show_steps;
@@ -60,6 +63,7 @@ fn main(rt: HostRuntime) -> io::Result<()> {
         show_rows(rt.alloc(), &text, &mut out)?;
     }
     show_steps(&rt, &mut out)?;
+    show_children(&rt, &mut out)?;
     show_limits(&rt, &mut out)?;
     out.flush()
 }

@@ -65,7 +65,7 @@ fn show_point<W: Write>(
     writeln!(out)
 }
 
-fn show_points<W: Write>(alloc: Global, typed: &Typed, out: &mut W) -> io::Result<()> {
+pub(crate) fn show_points<W: Write>(alloc: Global, typed: &Typed, out: &mut W) -> io::Result<()> {
     for (number, step) in typed.steps().iter().enumerate() {
         show_point(alloc, typed, number, step, out)?;
     }
@@ -84,7 +84,7 @@ fn show_live<W: Write>(typed: &Typed, live: &LiveSets, out: &mut W) -> io::Resul
     Ok(())
 }
 
-fn show_demands<W: Write>(facts: &Facts, out: &mut W) -> io::Result<()> {
+pub(crate) fn show_demands<W: Write>(facts: &Facts, out: &mut W) -> io::Result<()> {
     write!(out, "demands:")?;
     for pair in facts.pairs() {
         write!(out, " {}:{}", pair.longer, pair.shorter)?;
@@ -193,7 +193,7 @@ fn show_from_facts<W: Write>(
     show_from_values(alloc, typed, &values, out)
 }
 
-fn facts_of(alloc: Global, typed: &Typed, live: &LiveSets) -> Result<Facts, AllocError> {
+pub(crate) fn facts_of(alloc: Global, typed: &Typed, live: &LiveSets) -> Result<Facts, AllocError> {
     constraints(alloc, typed, live, &[])
 }
 
@@ -216,7 +216,7 @@ fn text_under<'a>(file: &'a [u8], header: &[u8]) -> &'a [u8] {
 }
 
 /// The declarations of a file; `InvalidData` where they are not read or one is bad.
-fn declared(alloc: Global, file: &[u8]) -> io::Result<GoodTypes> {
+pub(crate) fn declared(alloc: Global, file: &[u8]) -> io::Result<GoodTypes> {
     let Ok(types) = read_types(alloc, text_under(file, b"@types")) else {
         return Err(ErrorKind::InvalidData.into());
     };
@@ -227,30 +227,26 @@ fn declared(alloc: Global, file: &[u8]) -> io::Result<GoodTypes> {
 }
 
 /// The body of a file; `InvalidData` where it is not read.
-fn body_of(alloc: Global, file: &[u8]) -> io::Result<Unit> {
+pub(crate) fn body_of(alloc: Global, file: &[u8]) -> io::Result<Unit> {
     match read_unit(alloc, text_under(file, b"@put f")) {
         Ok(unit) => Ok(unit),
         Err(_) => Err(ErrorKind::InvalidData.into()),
     }
 }
 
-/// A unit without children over declarations; `InvalidData` where it has some or breaks a typing rule.
-fn typed_alone(alloc: Global, types: &Arc<GoodTypes, Global>, unit: &Unit) -> io::Result<Typed> {
+/// The body of a file over its declarations; `InvalidData` where it has children or breaks a typing rule, and as `declared` and
+/// `body_of`.
+fn typed(alloc: Global, file: &[u8]) -> io::Result<Typed> {
+    let good = Arc::new(alloc, declared(alloc, file)?)?;
+    let unit = body_of(alloc, file)?;
     let children = unit.body().children(alloc)?;
     match children.as_slice() {
-        [] => match type_unit(alloc, types, unit, &[]) {
+        [] => match type_unit(alloc, &good, &unit, &[]) {
             Ok(typed) => Ok(typed),
             Err(_) => Err(ErrorKind::InvalidData.into()),
         },
         [_, ..] => Err(ErrorKind::InvalidData.into()),
     }
-}
-
-/// The body of a file over its declarations; `InvalidData` as `declared`, `body_of` and `typed_alone`.
-fn typed(alloc: Global, file: &[u8]) -> io::Result<Typed> {
-    let good = Arc::new(alloc, declared(alloc, file)?)?;
-    let unit = body_of(alloc, file)?;
-    typed_alone(alloc, &good, &unit)
 }
 
 fn show_row<W: Write>(alloc: Global, row: &str, out: &mut W) -> io::Result<()> {
