@@ -19,8 +19,10 @@ use Rattle.bc_syntax.specs.declared.syntax.Body.{Body}
 use Rattle.bc_book.specs.declared.call.Entry.{Entry}
 use Rattle.bc_book.specs.declared.call.PutReply.{PutReply}
 use Rattle.bc_book.specs.declared.ledger.TheConstants.{MOST_BODIES}
-use Rattle.bc_book.specs.Calls.{State, Bodies, HoldsCount, with_body, stores, next, after, after_put, MayComeNext, IsPutReply}
-use Rattle.bc_book.specs.Ledgers.{bodies_of, AreCounts, IsKept}
+use Rattle.bc_prov.specs.State.{State, Bodies}
+use Rattle.bc_book.specs.Calls.{HoldsCount, with_body, stores, next, after, after_put, MayComeNext, IsPutReply}
+use Rattle.bc_prov.specs.State.{bodies_of}
+use Rattle.bc_book.specs.Ledgers.{AreCounts, IsKept}
 use Rattle.bc_book.proofs.Histories.{legal_snoc, after-snoc}
 
 equal_only : (o : Ordering) → is_eq o ≡ true → o ≡ Equal

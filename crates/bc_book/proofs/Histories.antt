@@ -2,7 +2,8 @@
 use Rattle.std.proofs.Common.{◌≡◌, ◌⊎◌, List, [], ◌∷◌, ◌++◌, refl, sym, subst, inl, inr, ⊎_elim}
 use Rattle.std.proofs.lemmas.List.Sums.{fold-append}
 use Rattle.bc_book.specs.declared.call.Entry.{Entry}
-use Rattle.bc_book.specs.Calls.{State, opening, next, after, MayComeNext, IsLegal}
+use Rattle.bc_prov.specs.State.{State}
+use Rattle.bc_book.specs.Calls.{opening, next, after, MayComeNext, IsLegal}
 
 -- where a longer list is cut before an element, that is the last one, or the cut is in the list before
 pub snoc_split : {A : Type 0} (h : List A) (x : A) (before : List A) (e : A) (rest : List A) → h ++ x ∷ [] ≡ before ++ e ∷ rest

@@ -1,12 +1,10 @@
 -- Each body that a legal history leaves is held at a name that suits it.
-use Rattle.std.proofs.Common.{◌≡◌, ◌⊎◌, ◌<◌, Bool, true, false, cond, List, [], ◌∷◌, ◌++◌, length, Option, Some, None, MatchOption, refl, sym, ap, ◌∙◌, subst, inl, inr, ⊎_elim, append_assoc, append-nil, arith}
-use Rattle.std.specs.Prelude.{⊤}
+use Rattle.std.proofs.Common.{◌≡◌, Bool, true, false, List, [], ◌∷◌, ◌++◌, Some, refl, sym, ◌∙◌, subst, append_assoc, append-nil}
+use Rattle.std.specs.Prelude.{if◌then◌else◌}
 use Rattle.bc_text.specs.Names.{NameParts, is_same_name}
 use Rattle.bc_text.proofs.Equality.{name}
 use Rattle.bc_syntax.specs.declared.syntax.Body.{Body}
-use Rattle.bc_syntax.specs.declared.syntax.UnitKind.{UnitKind}
-use Rattle.bc_syntax.specs.declared.syntax.UnitKind.TheVariants.{Function, Closure}
-use Rattle.bc_prov.specs.Outcome.{MayHold}
+use Rattle.bc_prov.specs.State.{State, Bodies, Suits, AreSuited}
 use Rattle.bc_book.specs.declared.call.Call.{Call}
 use Rattle.bc_book.specs.declared.call.Call.TheVariants.{Types, Put, Ask}
 use Rattle.bc_book.specs.declared.call.PutReply.{PutReply}
@@ -14,22 +12,17 @@ use Rattle.bc_book.specs.declared.call.PutReply.TheVariants.{Added, Replaced, Fu
 use Rattle.bc_book.specs.declared.call.Reply.{Reply}
 use Rattle.bc_book.specs.declared.call.Reply.TheVariants as replies
 use Rattle.bc_book.specs.declared.call.Entry.{Entry}
-use Rattle.bc_book.specs.Calls.{State, Bodies, Suits, AreSuited, with_body, next, after, after_put, IsReply, IsPutReply, IsLegal}
+use Rattle.bc_book.specs.Calls.{with_body, next, after, after_put, IsReply, IsPutReply, IsLegal}
 use Rattle.bc_book.proofs.Histories.{after-snoc}
 
-either : (b : Bool) → (b ≡ true) ⊎ (b ≡ false)
-either true = inl refl
-either false = inr refl
-
-abbrev suits_there : NameParts → Option Body → Type 0
-suits_there other held = MatchOption held ⊤ (λ (body : Body). Suits body.header.kind other)
-
-with_suited : (bodies : Bodies) (n : NameParts) (body : Body) → Suits body.header.kind n → AreSuited bodies → AreSuited (with_body bodies n body)
-with_suited bodies n body suits are other =
-    ⊎_elim
-    (λ (same : is_same_name n other ≡ true). subst (λ t. suits_there other (cond t (Some body) (bodies other))) (sym same) (subst (λ (m : NameParts). Suits body.header.kind m) ((name n other).0 same) suits))
-    (λ (apart : is_same_name n other ≡ false). subst (λ t. suits_there other (cond t (Some body) (bodies other))) (sym apart) (are other))
-    (either (is_same_name n other))
+with_suited : (bodies : Bodies) (n : NameParts) (body : Body) → Suits body n → AreSuited bodies → AreSuited (with_body bodies n body)
+with_suited bodies n body suits are other found held = by_cases (is_same_name n other) refl held
+  where
+    by_cases : (b : Bool) → is_same_name n other ≡ b → (if b then Some body else bodies other) ≡ Some found → Suits found other
+    by_cases true same is =
+        let one : body ≡ found = cc in
+        subst (λ (b : Body). Suits b other) one (subst (Suits body) ((name n other).0 same) suits)
+    by_cases false apart is = are other found is
 
 put_suited : (bodies : Bodies) (n : NameParts) (body : Body) (reply : PutReply) → IsPutReply bodies n body reply → AreSuited bodies → AreSuited (after_put bodies n body reply)
 put_suited bodies n body Added right are = with_suited bodies n body right.0 are
@@ -51,12 +44,7 @@ suited_from h before (e ∷ rest) legal is are =
     suited_from h (before ++ e ∷ []) rest legal (is ∙ sym (append_assoc before (e ∷ []) rest)) (subst (λ (s : State). AreSuited s.bodies) (sym (after-snoc before e)) one)
 
 pub legal_suited : (h : List Entry) → IsLegal h → AreSuited (after h).bodies
-legal_suited h legal = suited_from h [] h legal refl (λ other. tt)
-
-root_only : (kind : UnitKind) (n : NameParts) → Suits kind n → length n.segments < 7
-root_only Function n suits = let none : length n.segments ≡ 0 = ap length suits in omega (arith, none)
-root_only Closure n suits = absurd suits
-
-pub may_hold : (n : NameParts) (held : Option Body) → suits_there n held → MayHold n held
-may_hold n None suits = tt
-may_hold n (Some body) suits = inr (root_only body.header.kind n suits)
+legal_suited h legal = suited_from h [] h legal refl nothing_held
+  where
+    nothing_held : AreSuited (after []).bodies
+    nothing_held other body held = absurd (cc)

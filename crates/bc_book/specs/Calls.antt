@@ -1,13 +1,11 @@
 -- Declarations and a map from names to bodies, which know of no memo, and the histories of one thread over them.
-use Rattle.std.specs.Prelude.{◌≡◌, ◌≢◌, ◌==◌, ◌↔◌, ◌<◌, ℕ, Bool, true, false, Option, Some, None, IsSome, List, [], ◌∷◌, ◌++◌, length, map, filter, fold, count_by, if◌then◌else◌, MatchOption, ⊤}
+use Rattle.std.specs.Prelude.{◌≡◌, ◌≢◌, ◌==◌, ◌↔◌, ◌<◌, ℕ, Bool, true, false, Some, None, IsSome, List, [], ◌∷◌, ◌++◌, length, map, filter, fold, count_by, if◌then◌else◌}
 use Rattle.std.specs.List.{AllPairs, Contains}
 use Rattle.bc_text.specs.Names.{NameParts, is_same_name}
 use Rattle.bc_syntax.specs.declared.syntax.Declaration.{Declaration}
 use Rattle.bc_syntax.specs.declared.syntax.Body.{Body}
-use Rattle.bc_syntax.specs.declared.syntax.UnitKind.{UnitKind}
-use Rattle.bc_syntax.specs.declared.syntax.UnitKind.TheVariants.{Function, Closure}
-use Rattle.bc_prov.specs.declared.outcome.Outcome.{Outcome}
-use Rattle.bc_prov.specs.Outcome.{IsOutcome}
+use Rattle.bc_prov.specs.State.{State, Bodies, Suits}
+use Rattle.bc_prov.specs.Outcome.{IsOutcomeIn}
 use Rattle.bc_book.specs.declared.call.Call.{Call}
 use Rattle.bc_book.specs.declared.call.Call.TheVariants.{Types, Put, Ask}
 use Rattle.bc_book.specs.declared.call.PutReply.{PutReply}
@@ -17,15 +15,6 @@ use Rattle.bc_book.specs.declared.call.Reply.TheVariants as replies
 use Rattle.bc_book.specs.declared.call.Event.{Event}
 use Rattle.bc_book.specs.declared.call.Entry.{Entry}
 use Rattle.bc_book.specs.declared.ledger.TheConstants.{MOST_BODIES}
-
--- the body at each name, if there is one
-abbrev pub Bodies : Type 0
-Bodies = NameParts → Option Body
-
--- what is held: declarations, and bodies under their names
-pub record State : Type 0 where
-  pub types : List Declaration
-  pub bodies : Bodies
 
 -- no declaration and no body
 abbrev pub opening : State
@@ -45,25 +34,12 @@ HoldsCount bodies count =
     (names : List NameParts) × AllPairs (λ a b. a ≢ b) names
     × ((name : NameParts) → IsSome (bodies name) ↔ Contains names name) × (length names ≡ count)
 
--- a function has a root as its name, and no closure is held
-abbrev pub Suits : UnitKind → NameParts → Type 0
-Suits Function name = name.segments ≡ []
-Suits Closure name = ⊥
-
--- each body is held at a name that suits its kind
-abbrev pub AreSuited : Bodies → Type 0
-AreSuited bodies = (name : NameParts) → MatchOption (bodies name) ⊤ (λ (body : Body). Suits body.header.kind name)
-
 -- the reply to a put of a body at a name
 abbrev pub IsPutReply : Bodies → NameParts → Body → PutReply → Type 0
-IsPutReply bodies name body WrongKind = ¬ Suits body.header.kind name
-IsPutReply bodies name body Full = Suits body.header.kind name × (bodies name ≡ None) × HoldsCount bodies MOST_BODIES
-IsPutReply bodies name body Replaced = Suits body.header.kind name × IsSome (bodies name)
-IsPutReply bodies name body Added = Suits body.header.kind name × (bodies name ≡ None) × ((count : ℕ) × (count < MOST_BODIES) × HoldsCount bodies count)
-
--- the outcome of a name: of what it holds, under the declarations that are held
-abbrev pub IsOutcomeIn : State → NameParts → Outcome → Type 0
-IsOutcomeIn state name outcome = IsOutcome state.types (state.bodies name) name outcome
+IsPutReply bodies name body WrongKind = ¬ Suits body name
+IsPutReply bodies name body Full = Suits body name × (bodies name ≡ None) × HoldsCount bodies MOST_BODIES
+IsPutReply bodies name body Replaced = Suits body name × IsSome (bodies name)
+IsPutReply bodies name body Added = Suits body name × (bodies name ≡ None) × ((count : ℕ) × (count < MOST_BODIES) × HoldsCount bodies count)
 
 -- the reply to a call: declarations are stored, and an Ask's reply is the outcome of its name
 abbrev pub IsReply : State → Call → Reply → Type 0

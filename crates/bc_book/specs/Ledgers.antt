@@ -1,24 +1,21 @@
 -- A history as it is kept, with the declarations and the bodies that it leaves.
 use Rattle.std.specs.Prelude.{◌≡◌, ℕ, ◌^◌, ◌<◌, ◌≤◌, List, [], ◌∷◌, ◌++◌, length, slice_index}
-use Rattle.std.specs.BTreeMap.{BTreeMap, get, btree_map_len}
-use Rattle.bc_text.specs.Names.{NameParts, name_order}
+use Rattle.std.specs.BTreeMap.{BTreeMap, btree_map_len}
+use Rattle.bc_text.specs.Names.{NameParts}
 use Rattle.bc_syntax.specs.declared.syntax.Declaration.{Declaration}
 use Rattle.bc_syntax.specs.declared.syntax.Body.{Body}
 use Rattle.bc_book.specs.declared.call.Call.{Call}
 use Rattle.bc_book.specs.declared.call.Reply.{Reply}
 use Rattle.bc_book.specs.declared.call.Entry.{Entry}
 use Rattle.bc_book.specs.declared.ledger.TheConstants.{MOST_BODIES, MOST_SESSIONS}
-use Rattle.bc_book.specs.Calls.{Bodies, after, count_of, IsReply, IsLegal}
+use Rattle.bc_prov.specs.State.{bodies_of}
+use Rattle.bc_book.specs.Calls.{after, count_of, IsReply, IsLegal}
 
 -- how many entries there may be, those that there are, and for how many more there is memory
 pub record LedgerView : Type 0 where
   pub capacity : ℕ
   pub entries : List Entry
   pub room : ℕ
-
--- the body that a map has at each name
-abbrev pub bodies_of : BTreeMap NameParts Body → Bodies
-bodies_of held = λ name. get name_order held name
 
 -- how many entries each session has
 abbrev pub AreCounts : List ℕ → List Entry → Type 0

@@ -2,8 +2,7 @@
 ghost use Rattle.std.specs.Prelude.{◌≡◌, IsTrue, ◌↔◌, true};
 ghost use Rattle.bc_book.specs.Calls.{stores};
 
-use crate::shared::Shared;
-use bc_prov::Outcome;
+use bc_prov::{Outcome, Shared};
 use bc_syntax::{Types, Unit};
 use bc_text::Name;
 

@@ -1,14 +1,14 @@
 //! The history of a database, and the declarations and the bodies that it leaves.
 ghost use Rattle.std.specs.Prelude.{◌≡◌, ◌↔◌, ◌+◌, ◌<◌, ◌≤◌, ◌^◌, [], ◌∷◌, ◌++◌, length, is_some, IsSome, IfOk, OnOk, OnErr, IfErr, IsTrue, vec_capacity, vec_len};
-ghost use Rattle.std.specs.Option.{option_copied};
 ghost use Rattle.std.specs.BTreeMap.{btree_map_len, get};
 ghost use Rattle.bc_text.specs.Names.{name_order};
-ghost use Rattle.bc_book.specs.Calls.{IsLegal, IsOutcomeIn, IsPutReply, Suits, after, after_put, count_of};
-ghost use Rattle.bc_book.specs.Ledgers.{Enters, AreCounts, bodies_of};
+ghost use Rattle.bc_prov.specs.Outcome.{IsOutcomeIn};
+ghost use Rattle.bc_prov.specs.State.{HasRoom, Suits, SuitsKind, bodies_of};
+ghost use Rattle.bc_book.specs.Calls.{IsLegal, IsPutReply, after, after_put, count_of};
+ghost use Rattle.bc_book.specs.Ledgers.{Enters, AreCounts};
 
 use crate::call::{Call, Entry, Event, PutReply, Reply};
-use crate::shared::Shared;
-use bc_prov::{Outcome, outcome_of};
+use bc_prov::{Bodies, Declared, Outcome, Shared, outcome_of};
 use bc_syntax::{Sequence, Types, Unit, UnitKind};
 use bc_text::Name;
 use std::alloc::{AllocError, Global};
@@ -43,16 +43,13 @@ impl From<AllocError> for Refusal {
     }
 }
 
-/// The bodies that are held, by their names.
-type Bodies = BTreeMap<Name, Shared<Unit>>;
-
 /// A legal history, which may have so many entries, and the declarations and the bodies that it leaves.
 #[derive(Drop)]
 pub struct Ledger {
     capacity: u32,
     history: Vec<Entry>,
     counts: [u32; MOST_SESSIONS],
-    types: Shared<Types>,
+    types: Declared,
     bodies: Bodies,
 }
 
@@ -72,7 +69,7 @@ impl Ledger {
     pub fn new(alloc: Global, capacity: u32) -> Result<Ledger, AllocError>
         ensures { IfOk result (λ ledger. (ledger.capacity ≡ capacity) × (ledger.entries ≡ [])) }
     {
-        let types = no_types(alloc)?;
+        let types = Declared::of(alloc, no_types(alloc)?)?;
         Ok(Ledger {
             capacity,
             history: Vec::new(alloc),
@@ -99,16 +96,21 @@ impl Ledger {
         }
     }
 
-    /// Enters a session's declarations, which are held from now on in place of those before. `AllocError` only where
-    /// memory was refused; then nothing has changed.
-    pub fn put_types(&mut self, session: u8, types: Shared<Types>) -> Result<(), AllocError>
+    /// Enters a session's declarations, which are held from now on in place of those before, with what their check finds.
+    /// `AllocError` only where memory was refused; then nothing has changed.
+    pub fn put_types(
+        &mut self,
+        alloc: Global,
+        session: u8,
+        types: Shared<Types>,
+    ) -> Result<(), AllocError>
         requires session { session < MOST_SESSIONS }
         requires room { 0 < self.old.room }
         requires below { length self.old.entries < self.old.capacity }
         ensures ok { OnOk result (Enters session (Call.Types types) Reply.Stored self.old self.new) }
         ensures err { OnErr result ((self.new.capacity ≡ self.old.capacity) × (self.new.entries ≡ self.old.entries)) }
     {
-        let held = types.clone()?;
+        let held = Declared::of(alloc, types.clone()?)?;
         self.types = held;
         let event = Event {
             call: Call::Types(types),
@@ -119,10 +121,11 @@ impl Ledger {
     }
 
     /// Enters a session's put, with the reply that the bodies held give it: `WrongKind` where the name is not one for such
-    /// a unit, else `Full` where the name is new and `MOST_BODIES` are held, else `Replaced` or `Added` (own). `AllocError`
+    /// a unit (a function's a root, a closure's any other, and a name of seven segments is none for a unit with a child), else `Full` where the name is new and `MOST_BODIES` are held, else `Replaced` or `Added` (own). `AllocError`
     /// only where memory was refused; then nothing has changed.
     pub fn put(
         &mut self,
+        alloc: Global,
         session: u8,
         name: Name,
         unit: Shared<Unit>,
@@ -133,7 +136,7 @@ impl Ledger {
         ensures ok { IfOk result (λ r. Enters session (Call.Put name unit) (Reply.Put r) self.old self.new) }
         ensures err { OnErr result ((self.new.capacity ≡ self.old.capacity) × (self.new.entries ≡ self.old.entries)) }
     {
-        let reply = put_reply(&self.bodies, &name, unit.get());
+        let reply = put_reply(alloc, &self.bodies, &name, unit.get())?;
         store(&mut self.bodies, name, &unit, reply)?;
         let event = Event {
             call: Call::Put(name, unit),
@@ -148,8 +151,7 @@ impl Ledger {
     pub fn outcome(&self, alloc: Global, name: &Name) -> Result<Shared<Outcome>, AllocError>
         ensures { IfOk result (λ outcome. IsOutcomeIn (after self.now.entries) name.now outcome) }
     {
-        let held = held_unit(&self.bodies, name);
-        let outcome = outcome_of(alloc, name, self.types.get(), held)?;
+        let outcome = outcome_of(alloc, &self.types, &self.bodies, name)?;
         match Arc::new(alloc, outcome) {
             Ok(outcome) => Ok(Shared::new(outcome)),
             Err(_) => Err(AllocError),
@@ -192,24 +194,43 @@ fn no_types(alloc: Global) -> Result<Shared<Types>, AllocError>
 }
 
 // Whether a unit of this kind may have the name.
-fn suits(kind: UnitKind, name: &Name) -> bool
-    ensures { IsTrue result ↔ Suits kind name.now }
+fn suits_kind(kind: UnitKind, name: &Name) -> bool
+    ensures { IsTrue result ↔ SuitsKind kind name.now }
 {
     match kind {
         UnitKind::Function => name.segments().is_empty(),
-        UnitKind::Closure => false,
+        UnitKind::Closure => !name.segments().is_empty(),
     }
 }
 
-// The reply to a put, where so many bodies are held.
-fn put_reply(bodies: &Bodies, name: &Name, unit: &Unit) -> PutReply
-    requires { btree_map_len bodies.now ≤ MOST_BODIES }
+// Whether there are names for the children of a unit.
+fn has_room(alloc: Global, unit: &Unit, name: &Name) -> Result<bool, AllocError>
+    ensures { IfOk result (λ room. IsTrue room ↔ HasRoom name.now unit.now) }
+{
+    if name.depth() < 7 {
+        return Ok(true);
+    }
+    let children = unit.body().children(alloc)?;
+    Ok(children.is_empty())
+}
+
+// Whether a unit may be held at the name.
+fn suits(alloc: Global, unit: &Unit, name: &Name) -> Result<bool, AllocError>
+    ensures { IfOk result (λ suits. IsTrue suits ↔ Suits unit.now name.now) }
+{
+    if !suits_kind(unit.body().header.kind, name) {
+        return Ok(false);
+    }
+    has_room(alloc, unit, name)
+}
+
+// The reply to a put of a unit that may be held at the name.
+fn stored_reply(bodies: &Bodies, name: &Name, unit: &Unit) -> PutReply
+    requires few { btree_map_len bodies.now ≤ MOST_BODIES }
+    requires suits { Suits unit.now name.now }
     ensures reply { IsPutReply (bodies_of bodies.now) name.now unit.now result }
     ensures few { result ≡ PutReply.Added → btree_map_len bodies.now < MOST_BODIES }
 {
-    if !suits(unit.body().header.kind, name) {
-        return PutReply::WrongKind;
-    }
     let count = bodies.len();
     if bodies.contains_key(name) {
         PutReply::Replaced
@@ -217,6 +238,24 @@ fn put_reply(bodies: &Bodies, name: &Name, unit: &Unit) -> PutReply
         PutReply::Added
     } else {
         PutReply::Full
+    }
+}
+
+// The reply to a put.
+fn put_reply(
+    alloc: Global,
+    bodies: &Bodies,
+    name: &Name,
+    unit: &Unit,
+) -> Result<PutReply, AllocError>
+    requires { btree_map_len bodies.now ≤ MOST_BODIES }
+    ensures reply { IfOk result (IsPutReply (bodies_of bodies.now) name.now unit.now) }
+    ensures few { IfOk result (λ reply. reply ≡ PutReply.Added → btree_map_len bodies.now < MOST_BODIES) }
+{
+    if suits(alloc, unit, name)? {
+        Ok(stored_reply(bodies, name, unit))
+    } else {
+        Ok(PutReply::WrongKind)
     }
 }
 
@@ -241,16 +280,6 @@ fn store(
     match bodies.insert(name, unit) {
         Ok(_) => Ok(()),
         Err(_) => Err(AllocError),
-    }
-}
-
-// The unit that a name holds, if there is one.
-fn held_unit<'a>(bodies: &'a Bodies, name: &Name) -> Option<&'a Unit>
-    ensures { option_copied result ≡ bodies_of bodies.now name.now }
-{
-    match bodies.get(name) {
-        Some(unit) => Some(unit.get()),
-        None => None,
     }
 }
 

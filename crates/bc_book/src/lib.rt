@@ -3,8 +3,6 @@
 
 mod call;
 mod ledger;
-mod shared;
 
 pub use call::{Call, Entry, Event, PutReply, Reply};
 pub use ledger::{Ledger, MOST_BODIES, MOST_SESSIONS, Refusal};
-pub use shared::Shared;

@@ -8,6 +8,7 @@ use Rattle.bc_types.specs.declared.subtype.Constraint.{Constraint as RegionConst
 use Rattle.bc_mir.specs.Mir.{Mir}
 use Rattle.bc_points.specs.Regions.{region_number}
 use Rattle.bc_cons.specs.declared.facts.Constraint.{Constraint}
+use Rattle.bc_cons.specs.declared.requirements.Requirements.{Requirements}
 use Rattle.bc_cons.specs.Constraints.{numbered, differ, all_pairs}
 use Rattle.bc_mir.specs.Mentions.{regions_of}
 use Rattle.bc_cons.specs.Bounds.{regions_bound, types_bound, pairs_bound}
@@ -86,11 +87,11 @@ pairs_low u least n (p ∷ ps) le within =
     pairs_low u (max (max least (region_number u p.longer + 1)) (region_number u p.shorter + 1)) n ps (omega (arith, le, here.0, here.1))
     (All-tail (λ (c : Constraint). (c.longer < n) × (c.shorter < n)) (numbered u p) (map (numbered u) ps) within)
 
-pub is_region_count : (mir : Mir) → IsRegionCount mir (pairs_bound mir.universals (types_bound mir.universals mir.universals mir.locals) (filter differ (all_pairs mir)))
-is_region_count mir =
+pub is_region_count : (mir : Mir) (kids : List (ℕ × Requirements)) → IsRegionCount mir kids (pairs_bound mir.universals (types_bound mir.universals mir.universals mir.locals) (filter differ (all_pairs mir kids)))
+is_region_count mir kids =
     let u = mir.universals in
     let declared = types_bound u u mir.locals in
-    let pairs = filter differ (all_pairs mir) in
+    let pairs = filter differ (all_pairs mir kids) in
     let le = pairs_bound_least u declared pairs in
     record {
       universals = omega (arith, types_bound_least u u mir.locals, le);

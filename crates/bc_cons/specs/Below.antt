@@ -6,6 +6,7 @@ use Rattle.bc_syntax.specs.declared.syntax.Region.{Region}
 use Rattle.bc_types.specs.declared.subtype.Constraint.{Constraint as RegionConstraint}
 use Rattle.bc_mir.specs.Mir.{Mir}
 use Rattle.bc_points.specs.Regions.{region_number}
+use Rattle.bc_cons.specs.declared.requirements.Requirements.{Requirements}
 use Rattle.bc_cons.specs.Constraints.{constraints_of}
 use Rattle.bc_cons.specs.Facts.{ArePairsWithin}
 use Rattle.bc_mir.specs.Mentions.{regions_of}
@@ -23,8 +24,8 @@ PairsAreBelow universals bound pairs =
 
 -- the least number that those of the universal regions, of the regions in the types of locals and of those in constraints
 -- are below
-pub record IsRegionCount (mir : Mir) (count : ℕ) : Type 0 where
+pub record IsRegionCount (mir : Mir) (kids : List (ℕ × Requirements)) (count : ℕ) : Type 0 where
   pub universals : mir.universals ≤ count
   pub types : TysAreBelow mir.universals count mir.locals
-  pub constraints : ArePairsWithin count (constraints_of mir)
-  pub least : (n : ℕ) → mir.universals ≤ n → TysAreBelow mir.universals n mir.locals → ArePairsWithin n (constraints_of mir) → count ≤ n
+  pub constraints : ArePairsWithin count (constraints_of mir kids)
+  pub least : (n : ℕ) → mir.universals ≤ n → TysAreBelow mir.universals n mir.locals → ArePairsWithin n (constraints_of mir kids) → count ≤ n

@@ -1,9 +1,13 @@
 -- The outlives constraints of a body: the value of the longer region contains that of the shorter.
 use Rattle.std.specs.Prelude.{ℕ, Bool, false, not, ◌==◌, List, [], ◌++◌, map, filter}
 use Rattle.std.specs.List.{flat_map}
+use Rattle.std.specs.Option.{option_map_or}
+use Rattle.bc_syntax.specs.declared.syntax.Outlives.{Outlives}
 use Rattle.bc_syntax.specs.declared.syntax.Region.{Region}
 use Rattle.bc_syntax.specs.declared.syntax.Region.TheVariants.{Universal, Variable}
 use Rattle.bc_syntax.specs.declared.syntax.Reference.{Reference}
+use Rattle.bc_syntax.specs.declared.syntax.Creation.{Creation}
+use Rattle.bc_syntax.specs.declared.syntax.Header.{Header}
 use Rattle.bc_syntax.specs.declared.syntax.Rvalue.{Rvalue}
 use Rattle.bc_syntax.specs.declared.syntax.Rvalue.TheVariants.{Use, Borrow, Aggregate, Closure, Calc}
 use Rattle.bc_syntax.specs.declared.syntax.Statement.TheVariants.{Assign, Dead, Drop, Nop}
@@ -13,12 +17,15 @@ use Rattle.bc_mir.specs.declared.mir.Instruction.{Instruction}
 use Rattle.bc_mir.specs.declared.mir.Instruction.TheVariants.{Statement, Terminator}
 use Rattle.bc_types.specs.declared.subtype.Constraint.{Constraint as RegionConstraint}
 use Rattle.bc_mir.specs.Mir.{Mir}
-use Rattle.bc_points.specs.Pairs.{assignment_pairs, call_pairs, invocation_pairs}
+use Rattle.bc_mir.specs.Children.{child_of, arguments_of}
+use Rattle.bc_points.specs.Pairs.{assignment_pairs, call_pairs, invocation_pairs, replaced_clause}
 use Rattle.bc_points.specs.Prefixes.{from_last_shared}
 use Rattle.bc_mir.specs.PlaceTypes.{references_of_place}
 use Rattle.bc_points.specs.Regions.{region_number}
 use Rattle.bc_types.specs.Subtype.{outlives}
 use Rattle.bc_cons.specs.declared.facts.Constraint.{Constraint}
+use Rattle.bc_cons.specs.declared.requirements.Requirements.{Requirements}
+use Rattle.bc_cons.specs.Requirements.{required_by}
 
 -- a reborrow: each supporting prefix that dereferences a reference of region b, borrowed for r, gives (b, r)
 abbrev pub reborrow_pairs : Mir → Rvalue → List RegionConstraint
@@ -29,19 +36,33 @@ reborrow_pairs mir (Aggregate aggregate) = []
 reborrow_pairs mir (Closure creation) = []
 reborrow_pairs mir (Calc operands) = []
 
--- the pairs of a point: those of an assignment, whose borrow may be a reborrow, and those of a call or of an invocation
-abbrev pub pairs_at : Mir → Instruction → List RegionConstraint
-pairs_at mir (Statement (Assign assignment)) =
-    assignment_pairs mir assignment ++ reborrow_pairs mir assignment.value
-pairs_at mir (Statement (Dead local)) = []
-pairs_at mir (Statement (Drop place)) = []
-pairs_at mir (Statement Nop) = []
-pairs_at mir (Terminator (Goto label)) = []
-pairs_at mir (Terminator (If condition)) = []
-pairs_at mir (Terminator (Call call)) = call_pairs mir call
-pairs_at mir (Terminator (Invoke invocation)) = invocation_pairs mir invocation
-pairs_at mir (Terminator Return) = []
-pairs_at mir (Terminator Stop) = []
+-- what a closure requires, with its external regions replaced by those of the creation
+abbrev pub required_of : Creation → List Outlives → Header → List RegionConstraint
+required_of creation pairs header = map (replaced_clause (arguments_of header creation.closure.regions [])) pairs
+
+-- the creation of a closure demands what the closure requires
+abbrev pub required_pairs : Mir → List (ℕ × Requirements) → Rvalue → List RegionConstraint
+required_pairs mir kids (Use operand) = []
+required_pairs mir kids (Borrow borrow) = []
+required_pairs mir kids (Aggregate aggregate) = []
+required_pairs mir kids (Closure creation) =
+    option_map_or (required_of creation (required_by kids creation.closure.number)) (child_of mir.children creation.closure.number) []
+required_pairs mir kids (Calc operands) = []
+
+-- the pairs of a point, where the children require so much: those of an assignment, whose value may create a closure or borrow
+-- through references, and those of a call or of an invocation
+abbrev pub pairs_at : Mir → List (ℕ × Requirements) → Instruction → List RegionConstraint
+pairs_at mir kids (Statement (Assign assignment)) =
+    assignment_pairs mir assignment ++ (required_pairs mir kids assignment.value ++ reborrow_pairs mir assignment.value)
+pairs_at mir kids (Statement (Dead local)) = []
+pairs_at mir kids (Statement (Drop place)) = []
+pairs_at mir kids (Statement Nop) = []
+pairs_at mir kids (Terminator (Goto label)) = []
+pairs_at mir kids (Terminator (If condition)) = []
+pairs_at mir kids (Terminator (Call call)) = call_pairs mir call
+pairs_at mir kids (Terminator (Invoke invocation)) = invocation_pairs mir invocation
+pairs_at mir kids (Terminator Return) = []
+pairs_at mir kids (Terminator Stop) = []
 
 abbrev pub same_region : Region → Region → Bool
 same_region (Universal u) (Universal v) = u == v
@@ -54,13 +75,13 @@ abbrev pub differ : RegionConstraint → Bool
 differ pair = not (same_region pair.longer pair.shorter)
 
 -- the pairs of all points
-abbrev pub all_pairs : Mir → List RegionConstraint
-all_pairs mir = flat_map (λ (step : Step). pairs_at mir step.instruction) mir.steps
+abbrev pub all_pairs : Mir → List (ℕ × Requirements) → List RegionConstraint
+all_pairs mir kids = flat_map (λ (step : Step). pairs_at mir kids step.instruction) mir.steps
 
 -- a pair by the numbers of its regions
 abbrev pub numbered : ℕ → RegionConstraint → Constraint
 numbered universals pair = record { longer = region_number universals pair.longer; shorter = region_number universals pair.shorter }
 
--- the constraints of a body, by the numbers of the regions
-abbrev pub constraints_of : Mir → List Constraint
-constraints_of mir = map (numbered mir.universals) (filter differ (all_pairs mir))
+-- the constraints of a body whose children require so much, by the numbers of the regions
+abbrev pub constraints_of : Mir → List (ℕ × Requirements) → List Constraint
+constraints_of mir kids = map (numbered mir.universals) (filter differ (all_pairs mir kids))

@@ -4,6 +4,7 @@ ghost use Rattle.std.specs.List.{flat_map};
 ghost use Rattle.bc_flow.specs.Flow.{holds};
 ghost use Rattle.bc_points.specs.Regions.{region_number as number_of};
 ghost use Rattle.bc_cons.specs.Constraints.{same_region, differ, pairs_at, all_pairs, numbered, constraints_of};
+ghost use Rattle.bc_cons.specs.Requirements.{AreOfChildren};
 ghost use Rattle.bc_cons.specs.Starts.{starts_with};
 ghost use Rattle.bc_cons.specs.Below.{IsRegionCount};
 
@@ -28,14 +29,22 @@ fn is_same_region(first: Region, second: Region) -> bool
 fn pairs_of_steps(
     alloc: Global,
     typed: &Typed,
+    kids: &[(u8, Requirements)],
     steps: &[Step],
 ) -> Result<Vec<RegionConstraint>, AllocError>
-    ensures { IfOk result (λ pairs. pairs.items ≡ flat_map (λ step. pairs_at typed.now step.instruction) steps.now) }
+    ensures { IfOk result (λ pairs. pairs.items ≡ flat_map (λ step. pairs_at typed.now kids.now step.instruction) steps.now) }
 {
     let mut pairs = Vec::with_capacity(alloc, steps.len())?;
     let mut references = Vec::new(alloc);
     for step in steps {
-        push_pairs_at(alloc, &mut pairs, &mut references, typed, &step.instruction)?;
+        push_pairs_at(
+            alloc,
+            &mut pairs,
+            &mut references,
+            typed,
+            kids,
+            &step.instruction,
+        )?;
     }
     Ok(pairs)
 }
@@ -75,26 +84,31 @@ fn by_number(
         .collect(alloc)
 }
 
-/// What the values of a body's regions are made from, over the liveness that is handed in and the requirements of the
-/// body's children, by their numbers, of which there are none until closures are read: the outlives constraints of its
-/// points, pairs of a region with itself left out, and the elements that each region starts with. Answers `AllocError` only
-/// where memory was refused. (RFC 2094, "Liveness constraints", "Subtyping constraints" and "Reborrow constraints"; that
-/// constraints hold at every point, and that `'static` starts with all ends, is own.)
+/// What the values of a body's regions are made from, over the liveness that is handed in and what the body's children
+/// require, one entry for each child, ascending: the outlives constraints of its points, pairs of a region with itself left
+/// out, and the elements that each region starts with. What a child requires is demanded at each of its creations, with its
+/// external regions replaced by those of the creation. It asks that a child requires nothing of its local regions. Answers
+/// `AllocError` only where memory was refused. (RFC 2094, "Liveness constraints", "Subtyping constraints" and "Reborrow
+/// constraints"; rustc-dev-guide, "Propagating closure constraints"; that constraints hold at every point, and that `'static`
+/// starts with all ends, is own.)
 pub fn constraints(
     alloc: Global,
     typed: &Typed,
     live: &LiveSets,
-    _kids: &[(u8, Requirements)],
+    requirements: &[(u8, Requirements)],
 ) -> Result<Facts, AllocError>
-    requires kids { length _kids.now ≡ 0 }
+    requires children { AreOfChildren typed.now.children requirements.now }
     ensures elements { IfOk result (λ facts. facts.elements ≡ length typed.now.steps + typed.now.universals) }
     ensures universals { IfOk result (λ facts. typed.now.universals ≤ length facts.starts) }
-    ensures regions { IfOk result (λ facts. IsRegionCount typed.now (length facts.starts)) }
+    ensures regions { IfOk result (λ facts. IsRegionCount typed.now requirements.now (length facts.starts)) }
     ensures starts { IfOk result (λ facts. (r e : ℕ) → holds facts.starts r e ≡ starts_with typed.now (holds live.now) r e) }
-    ensures pairs { IfOk result (λ facts. facts.pairs ≡ constraints_of typed.now) }
+    ensures pairs { IfOk result (λ facts. facts.pairs ≡ constraints_of typed.now requirements.now) }
 {
     let universals = typed.universals();
-    let pairs = differing(alloc, &pairs_of_steps(alloc, typed, typed.steps())?)?;
+    let pairs = differing(
+        alloc,
+        &pairs_of_steps(alloc, typed, requirements, typed.steps())?,
+    )?;
     let declared = types_bound(universals, usize::from(universals), typed.locals());
     let regions = pairs_bound(universals, declared, &pairs);
     let starts = start_rows(alloc, typed, live, regions)?;

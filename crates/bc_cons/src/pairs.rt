@@ -1,11 +1,15 @@
 //! The pairs of regions that each point demands.
 ghost use Rattle.std.specs.Prelude.{◌≡◌, ◌++◌, map, OnOk};
 ghost use Rattle.bc_types.specs.Subtype.{outlives};
-ghost use Rattle.bc_cons.specs.Constraints.{reborrow_pairs, pairs_at};
+ghost use Rattle.bc_cons.specs.Constraints.{reborrow_pairs, required_of, required_pairs, pairs_at};
+ghost use Rattle.bc_cons.specs.Requirements.{required_by as required_here};
 
-use bc_mir::{Constraint as RegionConstraint, Instruction, Typed};
-use bc_points::{from_last_shared, push_assignment_pairs, push_call_pairs, push_invocation_pairs};
-use bc_syntax::{Reference, Region, Rvalue, Statement, Terminator};
+use crate::requirements::Requirements;
+use bc_mir::{Constraint as RegionConstraint, Instruction, Typed, arguments};
+use bc_points::{
+    from_last_shared, push_assignment_pairs, push_call_pairs, push_clauses, push_invocation_pairs,
+};
+use bc_syntax::{Creation, Header, Outlives, Reference, Region, Rvalue, Statement, Terminator};
 use std::alloc::{AllocError, Global};
 
 /// Appends that the region of each reference outlives a region.
@@ -46,19 +50,73 @@ fn push_reborrow(
     }
 }
 
+/// What the child of a number requires.
+fn required_by(kids: &[(u8, Requirements)], number: u8) -> &[Outlives]
+    ensures { result.now ≡ required_here kids.now number }
+{
+    match kids {
+        [] => &[],
+        [kid, more @ ..] => {
+            if kid.0 == number {
+                kid.1.pairs.as_slice()
+            } else {
+                required_by(more, number)
+            }
+        }
+    }
+}
+
+/// Appends what a closure requires, with its external regions replaced by those of the creation.
+fn push_required_of(
+    alloc: Global,
+    pairs: &mut Vec<RegionConstraint>,
+    creation: &Creation,
+    required: &[Outlives],
+    header: &Header,
+) -> Result<(), AllocError>
+    ensures { OnOk result (pairs.new.items ≡ pairs.old.items ++ required_of creation.now required.now header.now) }
+{
+    let given = arguments(alloc, header, creation.closure.regions.as_slice(), &[])?;
+    push_clauses(pairs, &given, required)
+}
+
+/// Appends what the creation of a closure demands since the closure requires it.
+fn push_required(
+    alloc: Global,
+    pairs: &mut Vec<RegionConstraint>,
+    typed: &Typed,
+    kids: &[(u8, Requirements)],
+    rvalue: &Rvalue,
+) -> Result<(), AllocError>
+    ensures { OnOk result (pairs.new.items ≡ pairs.old.items ++ required_pairs typed.now kids.now rvalue.now) }
+{
+    match rvalue {
+        Rvalue::Closure(creation) => match typed.child(creation.closure.number) {
+            Some(header) => {
+                let required = required_by(kids, creation.closure.number);
+                push_required_of(alloc, pairs, creation, required, header)
+            }
+            None => Ok(()),
+        },
+        Rvalue::Use(_) | Rvalue::Borrow(_) | Rvalue::Aggregate(_) | Rvalue::Calc(_) => Ok(()),
+    }
+}
+
 /// Appends the pairs of a point, by what happens there. `references` is a list to be filled anew.
 pub(crate) fn push_pairs_at(
     alloc: Global,
     pairs: &mut Vec<RegionConstraint>,
     references: &mut Vec<Reference>,
     typed: &Typed,
+    kids: &[(u8, Requirements)],
     instruction: &Instruction,
 ) -> Result<(), AllocError>
-    ensures { OnOk result (pairs.new.items ≡ pairs.old.items ++ pairs_at typed.now instruction.now) }
+    ensures { OnOk result (pairs.new.items ≡ pairs.old.items ++ pairs_at typed.now kids.now instruction.now) }
 {
     match instruction {
         Instruction::Statement(Statement::Assign(assignment)) => {
             push_assignment_pairs(alloc, pairs, typed, assignment)?;
+            push_required(alloc, pairs, typed, kids, &assignment.value)?;
             push_reborrow(alloc, pairs, references, typed, &assignment.value)
         }
         Instruction::Terminator(Terminator::Call(call)) => {

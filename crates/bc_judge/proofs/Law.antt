@@ -1,10 +1,14 @@
 -- The list of errors has exactly the errors.
 use Rattle.std.proofs.Common.{◌≡◌, ℕ, ◌+◌, ◌<◌, ◌⊎◌, inl, inr, ◌↔◌, Bool, true, false, List, [], ◌∷◌, Some, refl, sym, ap, ◌∙◌, subst, arith}
-use Rattle.std.specs.Prelude.{◌&&◌, ◌||◌, not, if◌then◌else◌, slice_get}
-use Rattle.std.specs.List.{Contains, enumerate_from, range_with_len}
+use Rattle.std.specs.Prelude.{◌&&◌, ◌||◌, not, if◌then◌else◌, slice_get, filter}
+use Rattle.std.specs.List.{Contains, enumerate_from, list_all, range_with_len}
 use Rattle.std.proofs.lemmas.Bool.{and_parts, and_from, both_ways, false_from_ne_true, not-true}
 use Rattle.std.proofs.lemmas.Option.{slice_get_within, get_or_from_slice_get}
 use Rattle.std.proofs.lemmas.List.Elements.{Contains-append_left, Contains-append_right, Contains-append_cases}
+use Rattle.bc_syntax.specs.declared.syntax.Outlives.{Outlives}
+use Rattle.bc_syntax.specs.declared.syntax.UnitKind.{UnitKind}
+use Rattle.bc_syntax.specs.declared.syntax.UnitKind.TheVariants as kinds
+use Rattle.bc_cons.specs.Requirements.{may_go_up}
 use Rattle.bc_syntax.specs.declared.syntax.Mutability.{Mutability}
 use Rattle.bc_syntax.specs.declared.syntax.Mutability.TheVariants.{Shared, Mutable}
 use Rattle.bc_points.specs.declared.access.AccessKind.{AccessKind}
@@ -16,14 +20,14 @@ use Rattle.bc_mir.specs.Mir.{Mir}
 use Rattle.bc_types.specs.Mutabilities.{is_mutable}
 use Rattle.bc_points.specs.Points.{loan_of}
 use Rattle.bc_points.specs.Accesses.{accesses_of}
-use Rattle.bc_flow.proofs.Membership.{Contains-nil, Contains-one, Contains-head, from_flat_map, in_flat_map, from_enumerate, in_enumerate, from_range, in_range}
+use Rattle.bc_flow.proofs.Membership.{Contains-nil, Contains-one, Contains-head, from_flat_map, in_flat_map, from_map, in_map, from_filter, in_filter, from_enumerate, in_enumerate, from_range, in_range}
 use Rattle.bc_loans.specs.Loans.{loans_of_step, loans_of}
 use Rattle.bc_loans.proofs.Listing.{from_with_point}
 use Rattle.bc_judge.specs.declared.error.BorrowError.{BorrowError}
 use Rattle.bc_judge.specs.declared.error.BorrowError.TheVariants.{Conflict, Lifetime}
 use Rattle.bc_judge.specs.Conflicts.{ScopeTest, is_write, is_conflict, is_relevant_at, point_of, conflict_with, conflicts_of_access, conflicts_of_step, conflicts_of}
-use Rattle.bc_judge.specs.Lifetimes.{TellsKnown, ValueTest, end_of, failure_of, failures_of, lifetimes_of}
-use Rattle.bc_judge.specs.Errors.{errors_of, IsConflict, IsFailure, IsError}
+use Rattle.bc_judge.specs.Lifetimes.{TellsKnown, ValueTest, end_of, failure_of, failures_from, failures_of, is_required_in, is_required, is_lifetime_error, lifetime_of, lifetimes_of, required_of}
+use Rattle.bc_judge.specs.Errors.{errors_of, IsConflict, IsFailure, IsLifetimeError, IsRequirement, IsError}
 
 -- ---- one element under a test
 
@@ -123,11 +127,11 @@ in_conflicts mir in_scope at number loan_at h =
 
 -- ---- failures
 
-from_lifetimes : (mir : Mir) (in_scope : ScopeTest) (value : ValueTest) (known : ℕ → ℕ → Bool) → TellsKnown mir known → (e : BorrowError) → Contains (lifetimes_of mir value known) e → IsError mir in_scope value e
-from_lifetimes mir in_scope value known tells e h =
-    let a = from_flat_map (failures_of mir value known) (range_with_len 0 mir.universals) e h in
-    let b = from_flat_map (failure_of mir value known a.0) (range_with_len 0 mir.universals) e a.2 in
-    let one = from_if (value a.0 (end_of mir b.0) && not (known a.0 b.0)) (Lifetime a.0 b.0) e b.2 in
+from_failures : (mir : Mir) (value : ValueTest) (known : ℕ → ℕ → Bool) → TellsKnown mir known → (f : Outlives) → Contains (failures_of mir value known) f → IsFailure mir value f.longer f.shorter
+from_failures mir value known tells f h =
+    let a = from_flat_map (failures_from mir value known) (range_with_len 0 mir.universals) f h in
+    let b = from_flat_map (failure_of mir value known a.0) (range_with_len 0 mir.universals) f a.2 in
+    let one = from_if (value a.0 (end_of mir b.0) && not (known a.0 b.0)) (record { longer = a.0; shorter = b.0 }) f b.2 in
     let both = and_parts (value a.0 (end_of mir b.0)) (not (known a.0 b.0)) one.0 in
     let longer : a.0 < mir.universals = omega (arith, (from_range 0 mir.universals a.0 a.1).1) in
     let shorter : b.0 < mir.universals = omega (arith, (from_range 0 mir.universals b.0 b.1).1) in
@@ -137,17 +141,55 @@ from_lifetimes mir in_scope value known tells e h =
       has_end = both.0;
       unknown = λ k. both_ways (known a.0 b.0) (not-true (known a.0 b.0) both.1) ((tells a.0 b.0 longer shorter).1 k);
     } in
-    subst (IsError mir in_scope value) one.1 found
+    subst (λ (g : Outlives). IsFailure mir value g.longer g.shorter) one.1 found
 
-in_lifetimes : (mir : Mir) (value : ValueTest) (known : ℕ → ℕ → Bool) → TellsKnown mir known → (longer shorter : ℕ) → IsFailure mir value longer shorter → Contains (lifetimes_of mir value known) (Lifetime longer shorter)
-in_lifetimes mir value known tells longer shorter h =
+in_failures : (mir : Mir) (value : ValueTest) (known : ℕ → ℕ → Bool) → TellsKnown mir known → (f : Outlives) → IsFailure mir value f.longer f.shorter → Contains (failures_of mir value known) f
+in_failures mir value known tells f h =
     let long = h.longer_declared in
     let short = h.shorter_declared in
-    let unknown : known longer shorter ≡ false = false_from_ne_true (known longer shorter) (λ k. h.unknown ((tells longer shorter long short).0 k)) in
-    let both = and_from (value longer (end_of mir shorter)) (not (known longer shorter)) h.has_end (rw unknown) in
-    in_flat_map (failures_of mir value known) (range_with_len 0 mir.universals) longer (Lifetime longer shorter) (in_range 0 mir.universals longer (omega arith) (omega arith))
-    (in_flat_map (failure_of mir value known longer) (range_with_len 0 mir.universals) shorter (Lifetime longer shorter) (in_range 0 mir.universals shorter (omega arith) (omega arith))
-    (in_if (value longer (end_of mir shorter) && not (known longer shorter)) (Lifetime longer shorter) both))
+    let unknown : known f.longer f.shorter ≡ false = false_from_ne_true (known f.longer f.shorter) (λ k. h.unknown ((tells f.longer f.shorter long short).0 k)) in
+    let both = and_from (value f.longer (end_of mir f.shorter)) (not (known f.longer f.shorter)) h.has_end (rw unknown) in
+    in_flat_map (failures_from mir value known) (range_with_len 0 mir.universals) f.longer f (in_range 0 mir.universals f.longer (omega arith) (omega arith))
+    (in_flat_map (failure_of mir value known f.longer) (range_with_len 0 mir.universals) f.shorter f (in_range 0 mir.universals f.shorter (omega arith) (omega arith))
+    (in_if (value f.longer (end_of mir f.shorter) && not (known f.longer f.shorter)) f both))
+
+from_lifetimes : (mir : Mir) (in_scope : ScopeTest) (value : ValueTest) (known : ℕ → ℕ → Bool) → TellsKnown mir known → (e : BorrowError) → Contains (lifetimes_of mir value known) e → IsError mir in_scope value e
+from_lifetimes mir in_scope value known tells e h =
+    let failures = failures_of mir value known in
+    let mapped = from_map lifetime_of (filter (is_lifetime_error mir) failures) e h in
+    let kept = from_filter (is_lifetime_error mir) failures mapped.0 mapped.1 in
+    let found : IsLifetimeError mir value mapped.0 = record {
+      fails = from_failures mir value known tells mapped.0 kept.0;
+      not_required = not-true (is_required mir mapped.0) kept.1;
+    } in
+    subst (IsError mir in_scope value) mapped.2 found
+
+in_lifetimes : (mir : Mir) (value : ValueTest) (known : ℕ → ℕ → Bool) → TellsKnown mir known → (f : Outlives) → IsLifetimeError mir value f → Contains (lifetimes_of mir value known) (lifetime_of f)
+in_lifetimes mir value known tells f h =
+    in_map lifetime_of (filter (is_lifetime_error mir) (failures_of mir value known)) f
+    (in_filter (is_lifetime_error mir) (failures_of mir value known) f (in_failures mir value known tells f h.fails) (rw h.not_required))
+
+-- ---- requirements
+
+pub listed_is_required : (mir : Mir) (value : ValueTest) (known : ℕ → ℕ → Bool) → TellsKnown mir known → (f : Outlives) → Contains (required_of mir value known) f ↔ IsRequirement mir value f
+listed_is_required mir value known tells f = (
+  λ h. let kept = from_filter (is_required mir) (failures_of mir value known) f h in record { fails = from_failures mir value known tells f kept.0; is_required = kept.1 },
+  λ h. in_filter (is_required mir) (failures_of mir value known) f (in_failures mir value known tells f h.fails) h.is_required,
+)
+
+required_goes_up : (kind : UnitKind) (externals : List ℕ) (f : Outlives) → is_required_in kind externals f ≡ true → may_go_up externals f ≡ true
+required_goes_up kinds.Function externals f is = absurd cc
+required_goes_up kinds.Closure externals f is = is
+
+-- what is required is between external regions and `'static` alone
+pub required_may_go_up : (mir : Mir) (failures : List Outlives) → list_all (may_go_up mir.externals) (filter (is_required mir) failures) ≡ true
+required_may_go_up mir [] = refl
+required_may_go_up mir (f ∷ fs) = by_cases (is_required mir f) refl (required_may_go_up mir fs)
+  where
+    by_cases : (b : Bool) → is_required mir f ≡ b → list_all (may_go_up mir.externals) (filter (is_required mir) fs) ≡ true
+        → list_all (may_go_up mir.externals) (if b then f ∷ filter (is_required mir) fs else filter (is_required mir) fs) ≡ true
+    by_cases true is rest = rw (required_goes_up mir.kind mir.externals f is) rest
+    by_cases false is rest = rest
 
 -- ---- errors
 
@@ -155,7 +197,7 @@ to_list : (mir : Mir) (in_scope : ScopeTest) (value : ValueTest) (known : ℕ �
 to_list mir in_scope value known tells (Conflict at number loan_at) h =
     Contains-append_left (conflicts_of mir in_scope) (lifetimes_of mir value known) (Conflict at number loan_at) (in_conflicts mir in_scope at number loan_at h)
 to_list mir in_scope value known tells (Lifetime longer shorter) h =
-    Contains-append_right (conflicts_of mir in_scope) (lifetimes_of mir value known) (Lifetime longer shorter) (in_lifetimes mir value known tells longer shorter h)
+    Contains-append_right (conflicts_of mir in_scope) (lifetimes_of mir value known) (Lifetime longer shorter) (in_lifetimes mir value known tells (record { longer = longer; shorter = shorter }) h)
 
 from_list : (mir : Mir) (in_scope : ScopeTest) (value : ValueTest) (known : ℕ → ℕ → Bool) → TellsKnown mir known → (e : BorrowError) → Contains (errors_of mir in_scope value known) e → IsError mir in_scope value e
 from_list mir in_scope value known tells e h = elim (Contains-append_cases (conflicts_of mir in_scope) (lifetimes_of mir value known) e h) [

@@ -1,7 +1,10 @@
 -- What is known of universal regions, and what fails.
-use Rattle.std.specs.Prelude.{◌≡◌, ℕ, ◌+◌, ◌<◌, ◌↔◌, Bool, true, ◌&&◌, not, if◌then◌else◌, List, [], ◌∷◌, length}
+use Rattle.std.specs.Prelude.{◌≡◌, ℕ, ◌+◌, ◌<◌, ◌↔◌, Bool, true, false, ◌&&◌, not, if◌then◌else◌, List, [], ◌∷◌, length, map, filter}
 use Rattle.std.specs.List.{flat_map, Contains, range_with_len}
 use Rattle.bc_syntax.specs.declared.syntax.Outlives.{Outlives}
+use Rattle.bc_syntax.specs.declared.syntax.UnitKind.{UnitKind}
+use Rattle.bc_syntax.specs.declared.syntax.UnitKind.TheVariants.{Function, Closure}
+use Rattle.bc_cons.specs.Requirements.{may_go_up}
 use Rattle.bc_mir.specs.Mir.{Mir}
 use Rattle.bc_judge.specs.declared.error.BorrowError.{BorrowError}
 use Rattle.bc_judge.specs.declared.error.BorrowError.TheVariants.{Lifetime}
@@ -28,13 +31,37 @@ abbrev pub end_of : Mir → ℕ → ℕ
 end_of mir u = length mir.steps + u
 
 -- a failure: end(b) is in the value of a, and a is not known to outlive b
-abbrev pub failure_of : Mir → ValueTest → (ℕ → ℕ → Bool) → ℕ → ℕ → List BorrowError
-failure_of mir value known a b = if value a (end_of mir b) && not (known a b) then Lifetime a b ∷ [] else []
+abbrev pub failure_of : Mir → ValueTest → (ℕ → ℕ → Bool) → ℕ → ℕ → List Outlives
+failure_of mir value known a b =
+    if value a (end_of mir b) && not (known a b) then record { longer = a; shorter = b } ∷ [] else []
 
 -- the failures of a region, by the shorter one
-abbrev pub failures_of : Mir → ValueTest → (ℕ → ℕ → Bool) → ℕ → List BorrowError
-failures_of mir value known a = flat_map (failure_of mir value known a) (range_with_len 0 mir.universals)
+abbrev pub failures_from : Mir → ValueTest → (ℕ → ℕ → Bool) → ℕ → List Outlives
+failures_from mir value known a = flat_map (failure_of mir value known a) (range_with_len 0 mir.universals)
 
 -- the failures of a body, by the longer region
+abbrev pub failures_of : Mir → ValueTest → (ℕ → ℕ → Bool) → List Outlives
+failures_of mir value known = flat_map (failures_from mir value known) (range_with_len 0 mir.universals)
+
+-- in a closure a failure between external regions and `'static` alone is a requirement, in a function none is
+abbrev pub is_required_in : UnitKind → List ℕ → Outlives → Bool
+is_required_in Function externals failure = false
+is_required_in Closure externals failure = may_go_up externals failure
+
+abbrev pub is_required : Mir → Outlives → Bool
+is_required mir failure = is_required_in mir.kind mir.externals failure
+
+-- any other failure is an error
+abbrev pub is_lifetime_error : Mir → Outlives → Bool
+is_lifetime_error mir failure = not (is_required mir failure)
+
+abbrev pub lifetime_of : Outlives → BorrowError
+lifetime_of failure = Lifetime failure.longer failure.shorter
+
+-- the lifetime errors of a body, by the longer region
 abbrev pub lifetimes_of : Mir → ValueTest → (ℕ → ℕ → Bool) → List BorrowError
-lifetimes_of mir value known = flat_map (failures_of mir value known) (range_with_len 0 mir.universals)
+lifetimes_of mir value known = map lifetime_of (filter (is_lifetime_error mir) (failures_of mir value known))
+
+-- what a body requires of its creator, by the longer region
+abbrev pub required_of : Mir → ValueTest → (ℕ → ℕ → Bool) → List Outlives
+required_of mir value known = filter (is_required mir) (failures_of mir value known)

@@ -4,6 +4,7 @@
 
 mod conflicts;
 mod error;
+mod failures;
 mod judging;
 mod known;
 mod lifetimes;

@@ -1,73 +1,84 @@
-//! The lifetime errors of a body (RFC 2094, "Named lifetimes": errors of universal regions).
-ghost use Rattle.std.specs.Prelude.{◌≡◌, ◌++◌, OnOk};
-ghost use Rattle.bc_flow.specs.Flow.{holds};
-ghost use Rattle.bc_judge.specs.Lifetimes.{end_of, failure_of, failures_of, lifetimes_of};
+//! Failures as lifetime errors and as requirements (RFC 2094, "Named lifetimes"; rustc-dev-guide, "Propagating closure
+//! constraints").
+ghost use Rattle.std.specs.Prelude.{◌≡◌, ◌==◌, ◌++◌, filter, map, IfOk, OnOk};
+ghost use Rattle.std.specs.List.{list_any};
+ghost use Rattle.bc_cons.specs.Requirements.{is_static_or as static_or, may_go_up as goes_up};
+ghost use Rattle.bc_judge.specs.Lifetimes.{is_required_in as required_in, is_required as required, is_lifetime_error, lifetime_of};
 
 use crate::error::BorrowError;
-use crate::known::KnownRelations;
+use bc_cons::Requirements;
 use bc_mir::Typed;
-use bc_solve::Values;
-use std::alloc::AllocError;
+use bc_syntax::{Outlives, Sequence, UnitKind};
+use std::alloc::{AllocError, Global};
 
-/// Whether the value of a universal region has the end of another.
-fn has_end(typed: &Typed, values: &Values, longer: u8, shorter: u8) -> bool
-    ensures { result ≡ holds values.now longer (end_of typed.now shorter) }
+fn is_among(externals: &[usize], number: usize) -> bool
+    ensures { result ≡ list_any (λ external. external == number) externals.now }
 {
-    values.contains(
-        usize::from(longer),
-        typed.steps().len() + usize::from(shorter),
-    )
+    externals.iter().any(|external| *external == number)
 }
 
-/// Appends the failure of two regions, if there is one.
-fn push_failure(
-    errors: &mut Vec<BorrowError>,
-    typed: &Typed,
-    values: &Values,
-    known: &KnownRelations,
-    longer: u8,
-    shorter: u8,
-) -> Result<(), AllocError>
-    ensures { OnOk result (errors.new.items
-        ≡ errors.old.items ++ failure_of typed.now (holds values.now) (holds known.now) longer shorter) }
+fn is_static_or(externals: &[usize], number: u8) -> bool
+    ensures { result ≡ static_or externals.now number }
 {
-    if has_end(typed, values, longer, shorter)
-        && !known.contains(usize::from(longer), usize::from(shorter))
-    {
-        errors.push(BorrowError::Lifetime { longer, shorter })?;
+    number == 0 || is_among(externals, usize::from(number))
+}
+
+/// Whether a pair is between these regions and `'static` alone.
+fn may_go_up(externals: &[usize], pair: Outlives) -> bool
+    ensures { result ≡ goes_up externals.now pair }
+{
+    is_static_or(externals, pair.longer) && is_static_or(externals, pair.shorter)
+}
+
+/// Whether a failure is a requirement of a unit of this kind with these external regions.
+fn is_required_in(kind: UnitKind, externals: &[usize], failure: Outlives) -> bool
+    ensures { result ≡ required_in kind externals.now failure }
+{
+    match kind {
+        UnitKind::Function => false,
+        UnitKind::Closure => may_go_up(externals, failure),
     }
-    Ok(())
 }
 
-/// Appends the failures of a region.
-fn push_failures(
-    errors: &mut Vec<BorrowError>,
-    typed: &Typed,
-    values: &Values,
-    known: &KnownRelations,
-    longer: u8,
-) -> Result<(), AllocError>
-    ensures { OnOk result (errors.new.items
-        ≡ errors.old.items ++ failures_of typed.now (holds values.now) (holds known.now) longer) }
+fn is_required(typed: &Typed, failure: Outlives) -> bool
+    ensures { result ≡ required typed.now failure }
 {
-    for shorter in 0..typed.universals() {
-        push_failure(errors, typed, values, known, longer, shorter)?;
-    }
-    Ok(())
+    is_required_in(typed.kind(), typed.externals(), failure)
 }
 
-/// Appends the lifetime errors of a body in order, where `values` has the elements of each region.
+/// Appends the failures that are lifetime errors, in order.
 pub(crate) fn push_lifetimes(
     errors: &mut Vec<BorrowError>,
     typed: &Typed,
-    values: &Values,
-    known: &KnownRelations,
+    failures: &[Outlives],
 ) -> Result<(), AllocError>
     ensures { OnOk result (errors.new.items
-        ≡ errors.old.items ++ lifetimes_of typed.now (holds values.now) (holds known.now)) }
+        ≡ errors.old.items ++ map lifetime_of (filter (is_lifetime_error typed.now) failures.now)) }
 {
-    for longer in 0..typed.universals() {
-        push_failures(errors, typed, values, known, longer)?;
+    for failure in failures {
+        if !is_required(typed, *failure) {
+            errors.push(BorrowError::Lifetime {
+                longer: failure.longer,
+                shorter: failure.shorter,
+            })?;
+        }
     }
     Ok(())
+}
+
+/// The failures that are requirements, in order.
+pub(crate) fn requirements(
+    alloc: Global,
+    typed: &Typed,
+    failures: &[Outlives],
+) -> Result<Requirements, AllocError>
+    ensures { IfOk result (λ requirements. requirements.pairs ≡ filter (required typed.now) failures.now) }
+{
+    let mut pairs = Sequence::new(alloc);
+    for failure in failures {
+        if is_required(typed, *failure) {
+            pairs.push(*failure)?;
+        }
+    }
+    Ok(Requirements { pairs })
 }

@@ -1,5 +1,5 @@
 -- What follows from the definitions, and later promises rest on.
-use Rattle.std.specs.Prelude.{◌≡◌, ◌↔◌, true, Some, List, reverse}
+use Rattle.std.specs.Prelude.{◌≡◌, ◌↔◌, true, Some, reverse}
 use Rattle.std.specs.List.{Contains, flat_map}
 use Rattle.std.specs.Option.{option_to_list}
 use Rattle.bc_syntax.specs.declared.syntax.Ty.{Ty}

@@ -16,7 +16,7 @@ pub use access::{Access, AccessKind, Depth, accesses, push_accesses};
 pub use laws::{prefixes_chain, reborrows_list_taken_references, supporters_are_found};
 pub use liveness::{defines, push_uses};
 pub use loan::{Loan, loan_of};
-pub use pairs::{push_assignment_pairs, push_call_pairs, push_invocation_pairs};
+pub use pairs::{push_assignment_pairs, push_call_pairs, push_clauses, push_invocation_pairs};
 pub use place_ref::PlaceRef;
 pub use prefix::{from_last_shared, is_prefix, is_shallow_prefix};
 pub use region::region_number;

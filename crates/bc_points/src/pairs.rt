@@ -223,7 +223,10 @@ fn push_clause(
     push_outlives(constraints, longer, shorter)
 }
 
-fn push_clauses(
+/// Appends clauses of a function or a closure, or what a closure requires, with the declared regions replaced by arguments. The
+/// error is want of memory alone.
+/// (RFC 2094, "Subtyping"; rustc-dev-guide, "Propagating closure constraints".)
+pub fn push_clauses(
     constraints: &mut Vec<Constraint>,
     arguments: &[Region],
     clauses: &[Outlives],

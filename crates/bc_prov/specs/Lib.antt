@@ -1,2 +1,6 @@
-pub mod Errors
+pub mod State
+pub mod Checks
+pub mod Verdicts
 pub mod Outcome
+pub mod Visits
+pub mod Laws

@@ -1,47 +1,82 @@
 -- What an Ask finds.
-use Rattle.std.specs.Prelude.{◌≡◌, ◌<◌, ◌⊎◌, ⊤, ℕ, Option, Some, None, List, [], ◌∷◌, ◌++◌, length}
-use Rattle.bc_syntax.specs.declared.syntax.Declaration.{Declaration}
-use Rattle.bc_syntax.specs.declared.syntax.Body.{Body}
-use Rattle.bc_syntax.specs.Children.{children_of}
+use Rattle.std.specs.Prelude.{◌≡◌, ℕ, zero, suc, List, [], ◌∷◌, map, find, Option, Some, None, is_none}
+use Rattle.std.specs.List.{AllZip, flat_map}
+use Rattle.std.specs.Option.{option_map, option_or}
 use Rattle.bc_text.specs.Names.{NameParts}
-use Rattle.bc_mir.specs.declared.typed.Where.{Where}
+use Rattle.bc_syntax.specs.Children.{children_of}
 use Rattle.bc_types.specs.Declarations.{first_bad}
-use Rattle.bc_mir.specs.Mir.{Mir, mir_of}
 use Rattle.bc_mir.specs.Typing.{misfit}
-use Rattle.bc_judge.specs.declared.error.BorrowError.{BorrowError}
+use Rattle.bc_syntax.specs.declared.syntax.Body.{Body}
+use Rattle.bc_judge.specs.declared.verdict.Verdict.{Verdict}
+use Rattle.bc_prov.specs.declared.outcome.BodyErrors.{BodyErrors}
 use Rattle.bc_prov.specs.declared.outcome.Outcome.{Outcome}
 use Rattle.bc_prov.specs.declared.outcome.Outcome.TheVariants.{NoBody, Missing, BadTypes, Ill, Report}
-use Rattle.bc_prov.specs.Errors.{AreErrorsOf}
+use Rattle.bc_prov.specs.State.{State, child, levels_from, mir_at}
+use Rattle.bc_prov.specs.Verdicts.{IsVerdictAt}
 
--- the report of one body
-abbrev pub report_of : NameParts → List BorrowError → Outcome
-report_of name errors = Report (record { name = name; errors = errors } ∷ [])
+-- the first of these closures of a name that is absent
+abbrev pub absent_among : State → NameParts → List ℕ → Option NameParts
+absent_among state name numbers = find (λ (n : NameParts). is_none (state.bodies n)) (map (child name) numbers)
 
--- the outcome of a body with this misfit, or none: where it breaks a rule first, else the report of its errors
-abbrev pub IsOutcomeOf : NameParts → Mir → Option Where → Outcome → Type 0
-IsOutcomeOf name mir (Some place) outcome = outcome ≡ Ill name place
-IsOutcomeOf name mir None outcome = (errors : List BorrowError) × AreErrorsOf mir errors × (outcome ≡ report_of name errors)
+-- the fault of a body alone: its least absent child, else its misfit
+abbrev pub own_fault : State → NameParts → Body → Option Outcome
+own_fault state name body = option_or (option_map Missing (absent_among state name (children_of body))) (option_map (Ill name) (misfit (mir_at state name body)))
 
--- the name of a child
-abbrev pub child_of : NameParts → ℕ → NameParts
-child_of name number = record { root = name.root; segments = name.segments ++ number ∷ [] }
+-- the first that there is, in the order of these numbers
+abbrev pub first_among : {A : Type 0} → (ℕ → Option A) → List ℕ → Option A
+first_among f [] = None
+first_among f (number ∷ numbers) = option_or (f number) (first_among f numbers)
 
--- the outcome of a body with these children: no closure is held, so that the least child is missing, before any misfit
-abbrev pub IsOutcomeAmong : NameParts → List ℕ → Mir → Outcome → Type 0
-IsOutcomeAmong name [] mir outcome = IsOutcomeOf name mir (misfit mir) outcome
-IsOutcomeAmong name (number ∷ numbers) mir outcome = outcome ≡ Missing (child_of name number)
+-- the first fault from a body at a name on, where `below` gives that from each of its closures on, by number
+abbrev pub fault_over : State → NameParts → (ℕ → Option Outcome) → Option Body → Option Outcome
+fault_over state name below None = None
+fault_over state name below (Some body) = option_or (own_fault state name body) (first_among below (children_of body))
 
--- a body that this name may hold: behind seven segments there is no name for a child
-abbrev pub MayHold : NameParts → Option Body → Type 0
-MayHold name None = ⊤
-MayHold name (Some body) = (children_of body ≡ []) ⊎ (length name.segments < 7)
+-- the first fault from a name on, where names go on for so many levels
+unfoldable pub fault_within : State → ℕ → NameParts → Option Outcome
+fault_within state zero name = None
+fault_within state (suc levels) name = fault_over state name (λ number. fault_within state levels (child name number)) (state.bodies name)
 
--- the outcome of a name that holds this body, or none, where this declaration is the first bad one, or none is bad
-abbrev pub IsOutcomeBehind : Option ℕ → List Declaration → Option Body → NameParts → Outcome → Type 0
-IsOutcomeBehind (Some index) types held name outcome = outcome ≡ BadTypes index
-IsOutcomeBehind None types None name outcome = outcome ≡ NoBody
-IsOutcomeBehind None types (Some body) name outcome = IsOutcomeAmong name (children_of body) (mir_of types [] body) outcome
+-- the first fault from a name on: its own, else the first from its children on, ascending
+unfoldable pub fault_at : State → NameParts → Option Outcome
+fault_at state name = fault_within state (levels_from name) name
 
--- the outcome under these declarations of a name that holds this body, or none: the first bad declaration before all else
-abbrev pub IsOutcome : List Declaration → Option Body → NameParts → Outcome → Type 0
-IsOutcome types held name outcome = IsOutcomeBehind (first_bad types) types held name outcome
+-- the bodies from one at a name on, where `below` gives those from each of its closures on, by number
+abbrev pub units_over : NameParts → (ℕ → List (NameParts × Body)) → Option Body → List (NameParts × Body)
+units_over name below None = []
+units_over name below (Some body) = (name, body) ∷ flat_map below (children_of body)
+
+unfoldable pub units_within : State → ℕ → NameParts → List (NameParts × Body)
+units_within state zero name = []
+units_within state (suc levels) name = units_over name (λ number. units_within state levels (child name number)) (state.bodies name)
+
+-- the bodies from a name on in the order of a visit, each with its name: its own, then those from its children on, ascending
+unfoldable pub units_at : State → NameParts → List (NameParts × Body)
+units_at state name = units_within state (levels_from name) name
+
+-- these are the errors of what stands at the name
+pub record IsReported (state : State) (unit : NameParts × Body) (found : BodyErrors) : Type 0 where
+  pub named : found.name ≡ unit.0
+  pub verdict : Verdict
+  pub is_verdict : IsVerdictAt state unit.0 verdict
+  pub errors : found.errors ≡ verdict.errors
+
+-- the outcome of a name where this is the first fault from it on, or none
+abbrev pub IsOutcomeAfter : State → NameParts → Option Outcome → Outcome → Type 0
+IsOutcomeAfter state name (Some fault) outcome = outcome ≡ fault
+IsOutcomeAfter state name None outcome = (found : List BodyErrors) × AllZip (IsReported state) (units_at state name) found × (outcome ≡ Report found)
+
+-- the outcome of a name that holds this body, or none
+abbrev pub IsOutcomeOf : State → NameParts → Option Body → Outcome → Type 0
+IsOutcomeOf state name None outcome = outcome ≡ NoBody
+IsOutcomeOf state name (Some body) outcome = IsOutcomeAfter state name (fault_at state name) outcome
+
+-- the outcome of a name where this declaration is the first bad one, or none is bad
+abbrev pub IsOutcomeBehind : Option ℕ → State → NameParts → Outcome → Type 0
+IsOutcomeBehind (Some index) state name outcome = outcome ≡ BadTypes index
+IsOutcomeBehind None state name outcome = IsOutcomeOf state name (state.bodies name) outcome
+
+-- The outcome of a name: the first bad declaration before all else, then that the name is absent, then the first fault
+-- from it on, and else the report of all bodies from it on.
+abbrev pub IsOutcomeIn : State → NameParts → Outcome → Type 0
+IsOutcomeIn state name outcome = IsOutcomeBehind (first_bad state.types) state name outcome

@@ -1,5 +1,5 @@
 //! A database: opened for its session, and closed with it, which gives the history.
-ghost use Rattle.std.specs.Prelude.{◌≡◌, ◌↔◌, ◌≤◌, [], ◌∷◌, IfOk, IfErr, OnOk, MatchOption};
+ghost use Rattle.std.specs.Prelude.{◌≡◌, ◌↔◌, ◌≤◌, [], ◌∷◌, IfOk, IfErr, IsTrue, OnOk, MatchOption};
 ghost use Rattle.bc_book.specs.Calls.{IsLegal};
 ghost use Rattle.bc_share.specs.Sessions.{new_session};
 ghost use Rattle.bc_share.specs.Closings.{AreSessionsOf, IsCloseFault, IsInRange, IsOneHistory, IsTheirs};
@@ -132,14 +132,23 @@ impl Db {
     }
 }
 
+// Whether these are the one session of a database.
+fn is_only_session(tag: u64, sessions: &[Session]) -> bool
+    ensures { IsTrue result ↔ AreSessionsOf tag 1 sessions.now }
+{
+    match sessions {
+        [session] => session.tag() == tag && session.number() == 0,
+        [] | [_, _, ..] => false,
+    }
+}
+
 // The one session of a database, where this is handed in.
 fn only_session(tag: u64, sessions: Vec<Session>) -> Option<Session>
     ensures { MatchOption result (¬ AreSessionsOf tag 1 sessions.items) (λ session. (sessions.items ≡ session ∷ []) × AreSessionsOf tag 1 sessions.items) }
 {
     let mut sessions = sessions;
-    let session = sessions.pop()?;
-    if sessions.is_empty() && session.tag() == tag && session.number() == 0 {
-        Some(session)
+    if is_only_session(tag, &sessions) {
+        sessions.pop()
     } else {
         None
     }

@@ -5,8 +5,8 @@ ghost use Rattle.bc_book.specs.declared.ledger.TheConstants.{MOST_SESSIONS};
 ghost use Rattle.bc_book.specs.Calls.{IsLegal};
 ghost use Rattle.bc_share.specs.Sessions.{IsAnswered, new_session};
 
-use bc_book::{Call, Entry, Event, Ledger, PutReply, Refusal, Reply, Shared};
-use bc_prov::Outcome;
+use bc_book::{Call, Entry, Event, Ledger, PutReply, Refusal, Reply};
+use bc_prov::{Outcome, Shared};
 use bc_syntax::{Types, Unit};
 use bc_text::Name;
 use std::alloc::{AllocError, Global};
@@ -71,7 +71,7 @@ impl Session {
         make_room(&mut self.ledger, &mut self.own)?;
         let types = Shared::new(types);
         let mine = types.clone()?;
-        self.ledger.put_types(self.number, types)?;
+        self.ledger.put_types(self.alloc, self.number, types)?;
         self.own.push_reserved(Event {
             call: Call::Types(mine),
             reply: Reply::Stored,
@@ -94,7 +94,7 @@ impl Session {
         make_room(&mut self.ledger, &mut self.own)?;
         let unit = Shared::new(unit);
         let mine = unit.clone()?;
-        let reply = self.ledger.put(self.number, name, unit)?;
+        let reply = self.ledger.put(self.alloc, self.number, name, unit)?;
         self.own.push_reserved(Event {
             call: Call::Put(name, mine),
             reply: Reply::Put(reply),

@@ -17,26 +17,49 @@ const WRITES_LAST: &[u8] =
 const WRITES_WHILE_BORROWED: &[u8] =
     b"fn () -> int { let _1: int; let _2: &'?0 int; bb0 { _1 = 1; _2 = &'?1 _1; _1 = 2; _0 = copy _2.*; return; } }";
 
+/// Creates its closure 0 and invokes it.
+const INVOKES: &[u8] =
+    b"fn () -> int { let _1: closure 0; bb0 { _1 = closure 0(); _0 = invoke _1() bb1; } bb1 { return; } }";
+
+/// A closure that does so with its closure 1.
+const NESTED: &[u8] =
+    b"closure [] () -> int { let _1: closure 1; bb0 { _1 = closure 1(); _0 = invoke _1() bb1; } bb1 { return; } }";
+
+/// A closure that creates none: no error.
+const CLOSURE: &[u8] = b"closure [] () -> int { bb0 { _0 = 0; return; } }";
+
+/// A closure that writes a local while the borrow of it is still used: one conflict.
+const CLOSURE_WRITES: &[u8] =
+    b"closure [] () -> int { let _1: int; let _2: &'?0 int; bb0 { _1 = 1; _2 = &'?1 _1; _1 = 2; _0 = copy _2.*; return; } }";
+
+/// A closure that requires that the first region outlives the second: no error of its own.
+const REQUIRES: &[u8] =
+    b"closure <'x,'y> [&'x int, &'y int] () -> int { let _3: &'y int; bb0 { _3 = copy _1; _0 = 0; return; } }";
+
 const INVARIANT_BUT_MARKED_COVARIANT: &[u8] = b"struct H<+'a> { &'static mut &'a int; }";
 
 const MARKED_INVARIANT: &[u8] = b"struct H<='a> { &'static mut &'a int; }";
 
-/// What an Ask finds: no body, the first bad declaration, one body with so many errors, or something else.
+/// What an Ask finds: no body, a missing closure, whose name has so many segments, the first bad declaration, one body with so
+/// many errors, three with so many each, or something else.
 #[derive(Clone, Copy, PartialEq)]
 enum Found {
     NoBody,
+    Missing(usize),
     BadTypes(usize),
     Errors(usize),
+    Three(usize, usize, usize),
     Other,
 }
 
-/// A call with the reply that it is to have, or the refusal; or puts of new bodies under 256 names.
+/// A call with the reply that it is to have, or the refusal; or puts of new bodies under 256 names; or of new closures under 252.
 #[derive(Clone, Copy)]
 enum Turn<'a> {
     Put(&'a [u8], &'a [u8], Result<PutReply, Refusal>),
     Types(&'a [u8], Result<(), Refusal>),
     Ask(&'a [u8], Result<Found, Refusal>),
     Fill,
+    FillBelow,
 }
 
 const FULL: Refusal = Refusal::HistoryFull;
@@ -68,10 +91,14 @@ fn declared(alloc: Global, text: &[u8]) -> Result<Arc<Types, Global>, Fail> {
 fn found_by(outcome: &Outcome) -> Found {
     match outcome {
         Outcome::NoBody => Found::NoBody,
+        Outcome::Missing(name) => Found::Missing(name.segments().len()),
         Outcome::BadTypes(index) => Found::BadTypes(*index),
-        Outcome::Missing(_) | Outcome::Ill(_, _) => Found::Other,
+        Outcome::Ill(_, _) => Found::Other,
         Outcome::Report(bodies) => match bodies.as_slice() {
             [body] => Found::Errors(body.errors.len()),
+            [outer, middle, inner] => {
+                Found::Three(outer.errors.len(), middle.errors.len(), inner.errors.len())
+            }
             _ => Found::Other,
         },
     }
@@ -103,6 +130,28 @@ fn fills(session: &mut Session, unit: &Arc<Unit, Global>) -> Result<bool, Fail> 
     Ok(true)
 }
 
+/// The name of a closure of the root of this letter; fails where there is none.
+fn child_of(letter: u8, number: u8) -> Result<Name, Fail> {
+    let root = [letter];
+    let Some(child) = name(&root)?.child(number) else {
+        return Err("a child")?;
+    };
+    Ok(child)
+}
+
+/// Whether a closure is new under the numbers 0 to 62 of each of four roots.
+fn fills_below(session: &mut Session, closure: &Arc<Unit, Global>) -> Result<bool, Fail> {
+    for letter in b'a'..b'e' {
+        for number in 0..63 {
+            let child = child_of(letter, number)?;
+            if session.put(child, Arc::try_clone(closure)?)? != PutReply::Added {
+                return Ok(false);
+            }
+        }
+    }
+    Ok(true)
+}
+
 /// Makes a call, and answers whether it has its reply.
 fn goes(alloc: Global, session: &mut Session, turn: &Turn) -> Result<bool, Fail> {
     match *turn {
@@ -113,6 +162,7 @@ fn goes(alloc: Global, session: &mut Session, turn: &Turn) -> Result<bool, Fail>
         Turn::Types(types, wanted) => Ok(session.put_types(declared(alloc, types)?) == wanted),
         Turn::Ask(asked, wanted) => finds(session, asked, wanted),
         Turn::Fill => fills(session, &shared(alloc, WRITES_LAST)?),
+        Turn::FillBelow => fills_below(session, &shared(alloc, CLOSURE)?),
     }
 }
 
@@ -235,6 +285,63 @@ fn the_history_has_each_call_with_its_reply(rt: HostRuntime) -> Result<(), Fail>
     Ok(())
 }
 
+/// An Ask before the closures are put, and one behind each put.
+#[test]
+fn an_ask_tells_of_the_closures_that_are_held_then(rt: HostRuntime) -> Result<(), Fail> {
+    let turns = [
+        Turn::Put(b"f", INVOKES, Ok(PutReply::Added)),
+        Turn::Ask(b"f", Ok(Found::Missing(1))),
+        Turn::Put(b"f/0", NESTED, Ok(PutReply::Added)),
+        Turn::Ask(b"f", Ok(Found::Missing(2))),
+        Turn::Put(b"f/0/1", CLOSURE, Ok(PutReply::Added)),
+        Turn::Ask(b"f", Ok(Found::Three(0, 0, 0))),
+        Turn::Put(b"f/0/1", CLOSURE_WRITES, Ok(PutReply::Replaced)),
+        Turn::Ask(b"f", Ok(Found::Three(0, 0, 1))),
+        Turn::Put(b"f/0/1", INVOKES, Ok(PutReply::WrongKind)),
+        Turn::Ask(b"f", Ok(Found::Three(0, 0, 1))),
+    ];
+    let history = history_of(&rt, rt.alloc(), 10, &turns)?;
+    assert!(rt; are_of(history.entries(), &turns), "ten entries");
+    Ok(())
+}
+
+/// What a closure requires is no error where it is asked by itself.
+#[test]
+fn a_closure_is_asked_by_its_own_name(rt: HostRuntime) -> Result<(), Fail> {
+    let turns = [
+        Turn::Put(b"f/0", REQUIRES, Ok(PutReply::Added)),
+        Turn::Put(b"f/1", CLOSURE_WRITES, Ok(PutReply::Added)),
+        Turn::Put(b"f/2", NESTED, Ok(PutReply::Added)),
+        Turn::Ask(b"f/0", Ok(Found::Errors(0))),
+        Turn::Ask(b"f/1", Ok(Found::Errors(1))),
+        Turn::Ask(b"f/2", Ok(Found::Missing(2))),
+        Turn::Ask(b"f", Ok(Found::NoBody)),
+        Turn::Ask(b"f/3", Ok(Found::NoBody)),
+    ];
+    let history = history_of(&rt, rt.alloc(), 8, &turns)?;
+    assert!(rt; are_of(history.entries(), &turns), "eight entries");
+    Ok(())
+}
+
+/// A function at a root, a closure behind it, and none behind seven segments, where a closure of its own has no name.
+#[test]
+fn a_unit_is_put_under_a_name_of_its_kind(rt: HostRuntime) -> Result<(), Fail> {
+    let turns = [
+        Turn::Put(b"f/0", WRITES_LAST, Ok(PutReply::WrongKind)),
+        Turn::Put(b"f", CLOSURE, Ok(PutReply::WrongKind)),
+        Turn::Put(b"f/0/1/2/3/4/5/6", NESTED, Ok(PutReply::WrongKind)),
+        Turn::Ask(b"f/0/1/2/3/4/5/6", Ok(Found::NoBody)),
+        Turn::Put(b"f/0/1/2/3/4/5/6", CLOSURE, Ok(PutReply::Added)),
+        Turn::Put(b"f/0/1/2/3/4/5/6", NESTED, Ok(PutReply::WrongKind)),
+        Turn::Ask(b"f/0/1/2/3/4/5/6", Ok(Found::Errors(0))),
+        Turn::Put(b"f/0/1/2/3/4/5", NESTED, Ok(PutReply::Added)),
+        Turn::Put(b"f/0/1/2/3/4/5", CLOSURE, Ok(PutReply::Replaced)),
+    ];
+    let history = history_of(&rt, rt.alloc(), 9, &turns)?;
+    assert!(rt; are_of(history.entries(), &turns), "nine entries");
+    Ok(())
+}
+
 #[test]
 fn a_new_name_is_full_behind_256_bodies(rt: HostRuntime) -> Result<(), Fail> {
     let turns = [
@@ -245,5 +352,26 @@ fn a_new_name_is_full_behind_256_bodies(rt: HostRuntime) -> Result<(), Fail> {
     ];
     let history = history_of(&rt, rt.alloc(), 300, &turns)?;
     assert!(rt; history.entries().len() == 259, "259 entries");
+    Ok(())
+}
+
+/// Four functions and 252 closures below them; a put of the wrong kind is told so before that there is no room.
+#[test]
+fn closures_count_among_the_256_bodies(rt: HostRuntime) -> Result<(), Fail> {
+    let turns = [
+        Turn::Put(b"a", INVOKES, Ok(PutReply::Added)),
+        Turn::Put(b"b", INVOKES, Ok(PutReply::Added)),
+        Turn::Put(b"c", INVOKES, Ok(PutReply::Added)),
+        Turn::FillBelow,
+        Turn::Put(b"d", INVOKES, Ok(PutReply::Added)),
+        Turn::Put(b"a/63", CLOSURE, Ok(PutReply::Full)),
+        Turn::Put(b"e", INVOKES, Ok(PutReply::Full)),
+        Turn::Put(b"a/63", INVOKES, Ok(PutReply::WrongKind)),
+        Turn::Put(b"a/62", CLOSURE, Ok(PutReply::Replaced)),
+        Turn::Put(b"d", WRITES_LAST, Ok(PutReply::Replaced)),
+        Turn::Ask(b"a/63", Ok(Found::NoBody)),
+    ];
+    let history = history_of(&rt, rt.alloc(), 300, &turns)?;
+    assert!(rt; history.entries().len() == 262, "262 entries");
     Ok(())
 }

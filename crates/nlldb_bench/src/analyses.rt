@@ -73,6 +73,14 @@ fn measure_facts<O: Write, E: Write>(
     measure_values(rt, typed, &values, out, err)
 }
 
+/// What the values of a unit that names no closure are made from.
+fn demands_alone(alloc: Global, typed: &Typed, live: &LiveSets) -> anyhow::Result<Facts> {
+    match typed.children() {
+        [] => Ok(constraints(alloc, typed, live, &[])?),
+        [_, ..] => bail!("the body names a closure"),
+    }
+}
+
 fn measure_live<O: Write, E: Write>(
     rt: &HostRuntime,
     typed: &Typed,
@@ -83,7 +91,7 @@ fn measure_live<O: Write, E: Write>(
     let facts = timed(
         rt,
         "constraints",
-        || Ok(constraints(rt.alloc(), typed, live, &[])?),
+        || demands_alone(rt.alloc(), typed, live),
         err,
     )?;
     measure_facts(rt, typed, &facts, out, err)

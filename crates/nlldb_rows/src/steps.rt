@@ -4,16 +4,19 @@
 //! is live, the demands between regions (the longer, then the shorter), the elements of a region's value, the loans with the point
 //! that makes each and its region, the loans in scope before a point, the regions that a universal one is known to outlive, and
 //! the errors. (Own.)
+ghost use Rattle.std.specs.Prelude.{◌≡◌, [], map, IfOk};
+ghost use Rattle.bc_mir.specs.declared.children.Child.{Child as AChild};
+
 use crate::spelled::spell_row;
 use bc_check::Sections;
-use bc_cons::{Facts, constraints};
+use bc_cons::{Facts, Requirements, constraints};
 use bc_judge::{judge, known_relations};
 use bc_live::{LiveSets, live};
 use bc_loans::{Scopes, in_scope, loans};
-use bc_mir::{CheckTypes, GoodTypes, Step, Typed, type_unit};
+use bc_mir::{CheckTypes, Child, GoodTypes, Step, Typed, type_unit};
 use bc_points::{Access, AccessKind, Depth, Loan, accesses, region_number};
 use bc_solve::{Values, solve_plain};
-use bc_syntax::Unit;
+use bc_syntax::{Sequence, Unit};
 use bc_text::{read_types, read_unit};
 use std::alloc::{AllocError, Global};
 use std::io::{ErrorKind, Write};
@@ -193,8 +196,30 @@ fn show_from_facts<W: Write>(
     show_from_values(alloc, typed, &values, out)
 }
 
+fn no_requirements(alloc: Global, child: &Child) -> (u8, Requirements)
+    ensures { result ≡ (child.now.number, record { pairs = [] }) }
+{
+    let pairs = Sequence::new(alloc);
+    (child.number, Requirements { pairs })
+}
+
+/// No requirement of any child.
+fn without_requirements(
+    alloc: Global,
+    children: &[Child],
+) -> Result<Vec<(u8, Requirements)>, AllocError>
+    ensures { IfOk result (λ kids. kids.items ≡ map (λ (child : AChild). (child.number, record { pairs = [] })) children.now) }
+{
+    children
+        .iter()
+        .map(|child| no_requirements(alloc, child))
+        .collect(alloc)
+}
+
+/// What the values are made from, where no child requires anything.
 pub(crate) fn facts_of(alloc: Global, typed: &Typed, live: &LiveSets) -> Result<Facts, AllocError> {
-    constraints(alloc, typed, live, &[])
+    let kids = without_requirements(alloc, typed.children())?;
+    constraints(alloc, typed, live, &kids)
 }
 
 fn show_body<W: Write>(alloc: Global, typed: &Typed, out: &mut W) -> io::Result<()> {

@@ -1,9 +1,8 @@
-use Rattle.std.proofs.Common.{◌≡◌, ◌++◌}
-use Rattle.std.specs.List.{flat_map, range_with_len}
-use Rattle.bc_flow.specs.Flow.{holds}
-use Rattle.bc_judge.specs.Lifetimes.{failures_of}
+use Rattle.std.proofs.Common.{◌≡◌, ◌++◌, drop, filter, map}
+use Rattle.bc_judge.specs.Lifetimes.{is_lifetime_error, lifetime_of}
 use Rattle.bc_judge.proofs.lifetimes.push_lifetimes.Given as goal
 
-abbrev pub invariant-loop-longer : goal.invariant-loop-longer
-invariant-loop-longer l =
-    l.errors.items ≡ l.initial.errors.items ++ flat_map (failures_of l.typed (holds l.values) (holds l.known)) (range_with_len 0 l.longer)
+abbrev pub invariant-loop-failure : goal.invariant-loop-failure
+invariant-loop-failure l =
+    l.errors.items ++ map lifetime_of (filter (is_lifetime_error l.typed) (drop l.failure-index l.failures))
+    ≡ l.initial.errors.items ++ map lifetime_of (filter (is_lifetime_error l.typed) l.failures)

@@ -1,6 +1,7 @@
 use Rattle.std.proofs.Common.{◌<◌, List, ◌∷◌, [], ◌++◌, length, refl, sym, subst}
 use Rattle.bc_book.specs.declared.call.Entry.{Entry}
-use Rattle.bc_book.specs.Calls.{IsOutcomeIn, after, count_of}
+use Rattle.bc_prov.specs.Outcome.{IsOutcomeIn}
+use Rattle.bc_book.specs.Calls.{after, count_of}
 use Rattle.bc_book.specs.Ledgers.{LedgerView, IsKept, AreCounts}
 use Rattle.bc_book.specs.declared.call.Call.TheVariants.{Ask}
 use Rattle.bc_book.specs.declared.call.Reply.TheVariants as replies

@@ -1,4 +1,4 @@
-use Rattle.std.proofs.Common.{◌<◌, List, ◌∷◌, [], ◌++◌, length, refl, sym, subst}
+use Rattle.std.proofs.Common.{◌<◌, ◌∙◌, List, ◌∷◌, [], ◌++◌, length, refl, sym, subst}
 use Rattle.bc_book.specs.declared.call.Entry.{Entry}
 use Rattle.bc_book.specs.Calls.{count_of}
 use Rattle.bc_book.specs.Ledgers.{LedgerView, IsKept, AreCounts}
@@ -18,7 +18,7 @@ invariant_of-self c =
     let counts : AreCounts c.enter.new.counts (h ++ e ∷ []) = subst (AreCounts c.enter.new.counts) c.enter.ensures.entries c.enter.ensures.counts in
     let held = c.in_ok-held.held in
     subst (λ (l : List Entry). IsKept i.capacity l c.enter.new.counts held i.bodies) (sym c.enter.ensures.entries)
-    (kept_snoc i.capacity h i.counts c.enter.new.counts i.types held i.bodies i.bodies e kept below (tt, refl) counts c.in_ok-held.ensures.cases kept.holds kept.few)
+    (kept_snoc i.capacity h i.counts c.enter.new.counts i.types held i.bodies i.bodies e kept below (tt, refl) counts (c.in_ok-held.ensures ∙ c.in_ok-clone.ensures.cases) kept.holds kept.few)
 
 pub returns-clause-ok : goal.returns-clause-ok
 returns-clause-ok c =

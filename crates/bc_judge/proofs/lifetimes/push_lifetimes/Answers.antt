@@ -1,8 +1,0 @@
-use Rattle.bc_flow.specs.Flow.{holds}
-use Rattle.bc_judge.specs.Lifetimes.{failures_of}
-use Rattle.bc_flow.proofs.Ranges.{range-turn}
-use Rattle.bc_judge.proofs.lifetimes.push_lifetimes.Goals as goal
-
-pub loop-longer-preserved : goal.loop-longer-preserved
-loop-longer-preserved c =
-    range-turn (failures_of c.args.typed.now (holds c.args.values.now) (holds c.args.known.now)) _ _ _ c.loop-longer.longer c.in_ok-push_failures.ensures c.loop-longer.invariant

@@ -1,0 +1,64 @@
+-- Declarations and a map from names to bodies, and what a body is there.
+use Rattle.std.specs.Prelude.{◌≡◌, ◌≢◌, ◌⊎◌, ◌<◌, ℕ, ◌-◌, List, [], ◌∷◌, ◌++◌, length, Option, Some}
+use Rattle.std.specs.Option.{option_map}
+use Rattle.std.specs.List.{filter_map}
+use Rattle.std.specs.BTreeMap.{BTreeMap, get}
+use Rattle.bc_syntax.specs.declared.syntax.Declaration.{Declaration}
+use Rattle.bc_syntax.specs.declared.syntax.Body.{Body}
+use Rattle.bc_syntax.specs.declared.syntax.UnitKind.{UnitKind}
+use Rattle.bc_syntax.specs.declared.syntax.UnitKind.TheVariants.{Function, Closure}
+use Rattle.bc_syntax.specs.Children.{children_of}
+use Rattle.bc_text.specs.Names.{NameParts, name_order}
+use Rattle.bc_mir.specs.declared.children.Child.{Child}
+use Rattle.bc_mir.specs.Mir.{Mir, mir_of}
+
+-- the body at each name, if there is one
+abbrev pub Bodies : Type 0
+Bodies = NameParts → Option Body
+
+-- what is held: declarations, and bodies under their names
+pub record State : Type 0 where
+  pub types : List Declaration
+  pub bodies : Bodies
+
+-- the body that a map has at each name
+abbrev pub bodies_of : BTreeMap NameParts Body → Bodies
+bodies_of held = λ name. get name_order held name
+
+abbrev pub state_of : List Declaration → BTreeMap NameParts Body → State
+state_of types held = record { types = types; bodies = bodies_of held }
+
+-- the name of the closure of this number
+abbrev pub child : NameParts → ℕ → NameParts
+child name number = record { root = name.root; segments = name.segments ++ number ∷ [] }
+
+-- a name of seven segments has none for a child
+abbrev pub HasRoom : NameParts → Body → Type 0
+HasRoom name body = (children_of body ≡ []) ⊎ (length name.segments < 7)
+
+-- a function has a root as its name, and a closure any other
+abbrev pub SuitsKind : UnitKind → NameParts → Type 0
+SuitsKind Function name = name.segments ≡ []
+SuitsKind Closure name = name.segments ≢ []
+
+-- a body may be held at this name
+pub record Suits (body : Body) (name : NameParts) : Type 0 where
+  pub kind : SuitsKind body.header.kind name
+  pub room : HasRoom name body
+
+-- each body is held at a name that suits it
+abbrev pub AreSuited : Bodies → Type 0
+AreSuited bodies = (name : NameParts) (body : Body) → bodies name ≡ Some body → Suits body name
+
+-- how many levels there are from a name on, its own among them: a name has at most seven segments
+abbrev pub levels_from : NameParts → ℕ
+levels_from name = 8 - length name.segments
+
+-- the headers of these closures of a name, of each one that is held
+abbrev pub children_at : State → NameParts → List ℕ → List Child
+children_at state name numbers =
+    filter_map (λ number. option_map (λ (body : Body). record { number = number; header = body.header }) (state.bodies (child name number))) numbers
+
+-- a body at a name, over the declarations and the headers of its children
+abbrev pub mir_at : State → NameParts → Body → Mir
+mir_at state name body = mir_of state.types (children_at state name (children_of body)) body

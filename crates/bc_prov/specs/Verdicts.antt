@@ -1,0 +1,53 @@
+-- The errors and the requirements of a body and, by recursion on longer names, of what stands at a name.
+use Rattle.std.specs.Prelude.{◌≡◌, ◌↔◌, ℕ, zero, suc, Bool, true, List, map, Option, Some, None}
+use Rattle.std.specs.List.{AllZip, zip}
+use Rattle.bc_syntax.specs.declared.syntax.Body.{Body}
+use Rattle.bc_syntax.specs.Children.{children_of}
+use Rattle.bc_text.specs.Names.{NameParts}
+use Rattle.bc_mir.specs.Mir.{Mir}
+use Rattle.bc_live.specs.Live.{IsLive}
+use Rattle.bc_cons.specs.declared.requirements.Requirements.{Requirements}
+use Rattle.bc_cons.specs.Constraints.{constraints_of}
+use Rattle.bc_cons.specs.Starts.{starts_with}
+use Rattle.bc_solve.specs.Values.{IsInValue}
+use Rattle.bc_loans.specs.Scope.{IsInScope}
+use Rattle.bc_judge.specs.declared.verdict.Verdict.{Verdict}
+use Rattle.bc_judge.specs.Errors.{AreErrors, AreRequirements}
+use Rattle.bc_prov.specs.State.{State, child, levels_from, mir_at}
+
+-- a test tells of two numbers whether the fact holds: whether there is a proof, and not which one
+abbrev pub Tells : (ℕ → ℕ → Bool) → (ℕ → ℕ → Type 0) → Type 0
+Tells test Fact = (x y : ℕ) → (test x y ≡ true) ↔ ∥ Fact x y ∥₁
+
+-- This is the verdict on a body, whose children require so much: `live` tells the points on whose entry each local is live,
+-- `value` the elements in the value of each region over that liveness, `in_scope` the loans in scope on entry to each point
+-- within those values, and the errors and the requirements are the conflicts and failures there.
+pub record IsVerdictOf (mir : Mir) (kids : List (ℕ × Requirements)) (verdict : Verdict) : Type 0 where
+  pub live : ℕ → ℕ → Bool
+  pub value : ℕ → ℕ → Bool
+  pub in_scope : ℕ → ℕ → Bool
+  pub tells_live : Tells live (IsLive mir)
+  pub tells_value : Tells value (IsInValue (starts_with mir live) (constraints_of mir kids))
+  pub tells_scope : Tells in_scope (λ point loan. IsInScope mir value loan point)
+  pub errors : AreErrors mir in_scope value verdict.errors
+  pub requirements : AreRequirements mir value verdict.requirements
+
+-- what each of these closures requires
+abbrev pub requirements_by : List ℕ → List Verdict → List (ℕ × Requirements)
+requirements_by numbers verdicts = zip numbers (map (λ (v : Verdict). v.requirements) verdicts)
+
+-- the verdict on a body at a name, where `Below` tells the verdicts on its closures, by number
+abbrev pub IsVerdictOver : State → NameParts → (ℕ → Verdict → Type 0) → Option Body → Verdict → Type 0
+IsVerdictOver state name Below None verdict = ⊥
+IsVerdictOver state name Below (Some body) verdict =
+    (kids : List Verdict) × AllZip Below (children_of body) kids × IsVerdictOf (mir_at state name body) (requirements_by (children_of body) kids) verdict
+
+-- the verdict on what stands at a name, where names go on for so many levels
+unfoldable pub IsVerdictWithin : State → ℕ → NameParts → Verdict → Type 0
+IsVerdictWithin state zero name verdict = ⊥
+IsVerdictWithin state (suc levels) name verdict =
+    IsVerdictOver state name (λ number. IsVerdictWithin state levels (child name number)) (state.bodies name) verdict
+
+-- the verdict on what stands at a name: over the verdicts on its children, one for each
+unfoldable pub IsVerdictAt : State → NameParts → Verdict → Type 0
+IsVerdictAt state name = IsVerdictWithin state (levels_from name) name

@@ -1,0 +1,66 @@
+//! Declarations that were checked.
+ghost use Rattle.std.specs.Prelude.{◌≡◌, IfOk};
+ghost use Rattle.bc_prov.specs.Checks.{IsCheckOf};
+
+use crate::shared::Shared;
+use bc_mir::{CheckTypes, DeclFault, GoodTypes};
+use bc_syntax::Types;
+use std::alloc::{AllocError, Global};
+use std::marker::Model;
+use std::sync::Arc;
+
+/// What the check of declarations found: declarations of which none is bad, or the first bad one, counted from 0.
+#[derive(Drop)]
+pub(crate) enum Check {
+    Good(Arc<GoodTypes, Global>),
+    Bad(usize),
+}
+
+/// Declarations with what their check found, so that they are checked once. Contracts see the declarations. (Own.)
+#[derive(Drop)]
+pub struct Declared {
+    types: Shared<Types>,
+    check: Check,
+}
+
+impl Model for Declared {
+    ghost use Rattle.std.specs.Prelude.{List};
+    ghost use Rattle.bc_syntax.specs.declared.syntax.Declaration.{Declaration};
+    ghost use Rattle.bc_prov.specs.Checks.{IsCheckOf};
+
+    ghost Value = { List Declaration };
+
+    ghost view = { λ d. d.types };
+
+    ghost invariant = { λ d. IsCheckOf d.types d.check };
+}
+
+fn first_bad(alloc: Global, types: &Types) -> Result<Check, AllocError>
+    ensures { IfOk result (IsCheckOf types.now) }
+{
+    match types.check(alloc) {
+        Ok(good) => match Arc::new(alloc, good) {
+            Ok(good) => Ok(Check::Good(good)),
+            Err(_) => Err(AllocError),
+        },
+        Err(DeclFault::BadDecl { index }) => Ok(Check::Bad(index)),
+        Err(DeclFault::NoMemory) => Err(AllocError),
+    }
+}
+
+impl Declared {
+    /// Declarations, checked. Answers `AllocError` only where memory was refused. (Own.)
+    pub fn of(alloc: Global, types: Shared<Types>) -> Result<Declared, AllocError>
+        ensures { IfOk result (λ declared. declared ≡ types) }
+    {
+        let check = first_bad(alloc, types.get())?;
+        Ok(Declared { types, check })
+    }
+
+    /// What their check found.
+    pub(crate) fn found(&self) -> &Check
+        ensures { IsCheckOf self.now result.now }
+    {
+        &self.check
+    }
+}
