@@ -21,8 +21,7 @@ use Rattle.bc_book.specs.declared.call.PutReply.{PutReply}
 use Rattle.bc_book.specs.declared.ledger.TheConstants.{MOST_BODIES}
 use Rattle.bc_prov.specs.State.{State, Bodies}
 use Rattle.bc_book.specs.Calls.{HoldsCount, with_body, stores, next, after, after_put, MayComeNext, IsPutReply}
-use Rattle.bc_prov.specs.State.{bodies_of}
-use Rattle.bc_book.specs.Ledgers.{AreCounts, IsKept}
+use Rattle.bc_book.specs.Ledgers.{AreCounts, IsKept, bodies_of}
 use Rattle.bc_book.proofs.Histories.{legal_snoc, after-snoc}
 
 equal_only : (o : Ordering) → is_eq o ≡ true → o ≡ Equal

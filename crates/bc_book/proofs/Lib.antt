@@ -3,3 +3,4 @@ pub mod Histories
 pub mod Counting
 pub mod Bodies
 pub mod Suited
+pub mod Parts

@@ -1,14 +1,15 @@
 //! The history of a database, and the declarations and the bodies that it leaves.
 ghost use Rattle.std.specs.Prelude.{◌≡◌, ◌↔◌, ◌+◌, ◌<◌, ◌≤◌, ◌^◌, [], ◌∷◌, ◌++◌, length, is_some, IsSome, IfOk, OnOk, OnErr, IfErr, IsTrue, vec_capacity, vec_len};
-ghost use Rattle.std.specs.BTreeMap.{btree_map_len, get};
+ghost use Rattle.std.specs.BTreeMap.{IsOrdered, btree_map_len, get};
 ghost use Rattle.bc_text.specs.Names.{name_order};
 ghost use Rattle.bc_prov.specs.Outcome.{IsOutcomeIn};
-ghost use Rattle.bc_prov.specs.State.{HasRoom, Suits, SuitsKind, bodies_of};
+ghost use Rattle.bc_prov.specs.Snapshots.{IsPartOf};
+ghost use Rattle.bc_prov.specs.State.{HasRoom, Suits, SuitsKind};
 ghost use Rattle.bc_book.specs.Calls.{IsLegal, IsPutReply, after, after_put, count_of};
-ghost use Rattle.bc_book.specs.Ledgers.{Enters, AreCounts};
+ghost use Rattle.bc_book.specs.Ledgers.{Enters, AreCounts, bodies_of, units_within};
 
 use crate::call::{Call, Entry, Event, PutReply, Reply};
-use bc_prov::{Bodies, Declared, Outcome, Shared, outcome_of};
+use bc_prov::{Declared, Outcome, Providers, Shared, Snapshot, report};
 use bc_syntax::{Sequence, Types, Unit, UnitKind};
 use bc_text::Name;
 use std::alloc::{AllocError, Global};
@@ -43,13 +44,16 @@ impl From<AllocError> for Refusal {
     }
 }
 
+// The bodies that are held, by their names.
+type Bodies = BTreeMap<Name, Shared<Unit>>;
+
 /// A legal history, which may have so many entries, and the declarations and the bodies that it leaves.
 #[derive(Drop)]
 pub struct Ledger {
     capacity: u32,
     history: Vec<Entry>,
     counts: [u32; MOST_SESSIONS],
-    types: Declared,
+    types: Shared<Declared>,
     bodies: Bodies,
 }
 
@@ -69,7 +73,7 @@ impl Ledger {
     pub fn new(alloc: Global, capacity: u32) -> Result<Ledger, AllocError>
         ensures { IfOk result (λ ledger. (ledger.capacity ≡ capacity) × (ledger.entries ≡ [])) }
     {
-        let types = Declared::of(alloc, no_types(alloc)?)?;
+        let types = declared(alloc, no_types(alloc)?)?;
         Ok(Ledger {
             capacity,
             history: Vec::new(alloc),
@@ -110,7 +114,7 @@ impl Ledger {
         ensures ok { OnOk result (Enters session (Call.Types types) Reply.Stored self.old self.new) }
         ensures err { OnErr result ((self.new.capacity ≡ self.old.capacity) × (self.new.entries ≡ self.old.entries)) }
     {
-        let held = Declared::of(alloc, types.clone()?)?;
+        let held = declared(alloc, types.clone()?)?;
         self.types = held;
         let event = Event {
             call: Call::Types(types),
@@ -146,12 +150,28 @@ impl Ledger {
         Ok(reply)
     }
 
-    /// The outcome of a name, under the declarations held: that of `bc_prov::outcome_of`. Nothing is entered.
-    /// `AllocError` only where memory was refused.
-    pub fn outcome(&self, alloc: Global, name: &Name) -> Result<Shared<Outcome>, AllocError>
+    /// The part of what is held that the outcome of a name rests on: the declarations, and the units at the name and at all names
+    /// that begin with it and `/`. Nothing is entered. `AllocError` only where memory was refused.
+    pub fn snapshot(&self, alloc: Global, name: &Name) -> Result<Snapshot, AllocError>
+        ensures { IfOk result (λ snapshot. IsPartOf snapshot name.now (after self.now.entries)) }
+    {
+        let types = self.types.clone()?;
+        let units = part_of(alloc, &self.bodies, name)?;
+        Ok(Snapshot::of(types, *name, units))
+    }
+
+    /// The outcome of a name, under the declarations and the bodies held, by the providers: that of `bc_prov::report`. Nothing is
+    /// entered. `AllocError` only where memory was refused, as a provider may answer too.
+    pub fn outcome(
+        &self,
+        alloc: Global,
+        providers: &Providers,
+        name: &Name,
+    ) -> Result<Shared<Outcome>, AllocError>
         ensures { IfOk result (λ outcome. IsOutcomeIn (after self.now.entries) name.now outcome) }
     {
-        let outcome = outcome_of(alloc, &self.types, &self.bodies, name)?;
+        let snapshot = self.snapshot(alloc, name)?;
+        let outcome = report(alloc, providers, &snapshot)?;
         match Arc::new(alloc, outcome) {
             Ok(outcome) => Ok(Shared::new(outcome)),
             Err(_) => Err(AllocError),
@@ -191,6 +211,35 @@ fn no_types(alloc: Global) -> Result<Shared<Types>, AllocError>
         Ok(types) => Ok(Shared::new(types)),
         Err(_) => Err(AllocError),
     }
+}
+
+// Declarations, checked.
+fn declared(alloc: Global, types: Shared<Types>) -> Result<Shared<Declared>, AllocError>
+    ensures { IfOk result (λ declared. declared ≡ types) }
+{
+    let declared = Declared::of(alloc, types)?;
+    match Arc::new(alloc, declared) {
+        Ok(declared) => Ok(Shared::new(declared)),
+        Err(_) => Err(AllocError),
+    }
+}
+
+// The units held at a name and at all names that begin with it and `/`, in the order of these names.
+fn part_of(
+    alloc: Global,
+    bodies: &Bodies,
+    root: &Name,
+) -> Result<Vec<(Name, Shared<Unit>)>, AllocError>
+    ensures part { IfOk result (λ part. part.items ≡ units_within root.now bodies.now.entries) }
+    ensures ordered { IsOrdered name_order bodies.now }
+{
+    let mut part = Vec::new(alloc);
+    for (name, unit) in bodies {
+        if root.holds(name) {
+            part.push((*name, unit.clone()?))?;
+        }
+    }
+    Ok(part)
 }
 
 // Whether a unit of this kind may have the name.

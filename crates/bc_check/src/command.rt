@@ -15,7 +15,7 @@ use crate::input::read_whole;
 use crate::print::write_report;
 use crate::stop::{Stop, stop_with};
 use bc_book::PutReply;
-use bc_prov::{BodyErrors, Outcome};
+use bc_prov::{BodyErrors, Outcome, Providers};
 use bc_share::{Db, MOST_ENTRIES, Session};
 use bc_text::Name;
 use std::alloc::Global;
@@ -94,13 +94,18 @@ fn make_change<E: Write>(session: &mut Session, change: Change, err: &mut E) -> 
 }
 
 /// Asks a name, and prints its report. The status of the outcome.
-fn make_ask<O: Write>(session: &mut Session, name: &Name, out: &mut O) -> Result<u8, Stop>
+fn make_ask<O: Write>(
+    session: &mut Session,
+    providers: &Providers,
+    name: &Name,
+    out: &mut O,
+) -> Result<u8, Stop>
     ensures no_memory { IsErrOf result Stop.NoMemory → (session.new ≡ session.old) × Keeps (O.contents out.old) (O.contents out.new) }
     ensures served { IfOk result (λ status. Serves (calls.Ask name.now) shown status session.old session.new (O.contents out.old) (O.contents out.new)) }
     ensures range { IfOk result (λ status. status ≤ 2) }
     ensures stop { IfErr result (λ stop. (stop ≡ Stop.CannotWrite) ⊎ (stop ≡ Stop.NoMemory) ⊎ (stop ≡ Stop.HistoryFull)) }
 {
-    let outcome = session.ask(name)?;
+    let outcome = session.ask(name, providers)?;
     if write_answer(name, &outcome, out).is_err() {
         return Err(Stop::CannotWrite);
     }
@@ -128,6 +133,7 @@ fn make_changes<E: Write>(
 /// Asks the names in order, and prints their reports. The greatest status of the outcomes.
 fn make_asks<O: Write>(
     session: &mut Session,
+    providers: &Providers,
     names: &BTreeSet<Name>,
     out: &mut O,
 ) -> Result<u8, Stop>
@@ -138,7 +144,7 @@ fn make_asks<O: Write>(
 {
     let mut status: u8 = 0;
     for name in names {
-        status = status.max(make_ask(session, name, out)?);
+        status = status.max(make_ask(session, providers, name, out)?);
     }
     Ok(status)
 }
@@ -174,6 +180,7 @@ fn hand_on<O: Write + Drop>(asked: Result<u8, Stop>, out: &mut BufWriter<O>) -> 
 /// status of the outcomes.
 fn answer_all<O: Write + Drop>(
     session: &mut Session,
+    providers: &Providers,
     names: &BTreeSet<Name>,
     out: &mut BufWriter<O>,
 ) -> Result<u8, Stop>
@@ -183,7 +190,7 @@ fn answer_all<O: Write + Drop>(
     ensures stop { IfErr result (λ stop. (stop ≡ Stop.CannotWrite) ⊎ (stop ≡ Stop.NoMemory) ⊎ (stop ≡ Stop.HistoryFull)) }
     ensures handed_on { (result ≡ Err Stop.CannotWrite) ⊎ (writer_buffer out.new ≡ []) }
 {
-    let asked = make_asks(session, names, out);
+    let asked = make_asks(session, providers, names, out);
     hand_on(asked, out)
 }
 
@@ -205,6 +212,7 @@ pub(crate) fn find_capacity(changes: usize, names: usize) -> Result<u32, Stop>
 /// `MOST_ENTRIES` of them.
 fn serve<O: Write + Drop, E: Write>(
     alloc: Global,
+    providers: &Providers,
     changes: Vec<Change>,
     names: &BTreeSet<Name>,
     out: &mut BufWriter<O>,
@@ -223,7 +231,7 @@ fn serve<O: Write + Drop, E: Write>(
         return Err(Stop::Foreign);
     };
     let changed = make_changes(&mut session, changes, err)?;
-    let asked = answer_all(&mut session, names, out)?;
+    let asked = answer_all(&mut session, providers, names, out)?;
     sessions.push(session)?;
     db.close(sessions)?;
     Ok(changed.max(asked))
@@ -237,6 +245,7 @@ fn serve<O: Write + Drop, E: Write>(
 /// fails; with `NoMemory` where there is no room.
 pub fn check<I: Read, O: Write + Drop, E: Write>(
     alloc: Global,
+    providers: &Providers,
     input: &mut I,
     out: &mut BufWriter<O>,
     err: &mut E,
@@ -249,7 +258,7 @@ pub fn check<I: Read, O: Write + Drop, E: Write>(
     let file = read_whole(alloc, input)?;
     let changes = read_changes(alloc, &file)?;
     let names = find_asked(alloc, &changes)?;
-    serve(alloc, changes, &names, out, err)
+    serve(alloc, providers, changes, &names, out, err)
 }
 
 /// The whole command `check` on the input named `file`: writes reports on `out` and faults on `err`, and gives the
@@ -261,6 +270,7 @@ pub fn check<I: Read, O: Write + Drop, E: Write>(
 /// `err` where that line cannot be written: then nothing more can be said.
 pub fn check_and_tell<I: Read, O: Write + Drop, E: Write>(
     alloc: Global,
+    providers: &Providers,
     file: &str,
     input: &mut I,
     out: &mut BufWriter<O>,
@@ -270,7 +280,7 @@ pub fn check_and_tell<I: Read, O: Write + Drop, E: Write>(
     ensures ended { IfOk result (λ status. IsEnd file.now (I.remaining input.old) status (writer_contents O.contents out.old) (writer_contents O.contents out.new) (E.contents err.old) (E.contents err.new)) }
     ensures handed_on { writer_buffer out.old ≡ [] → IfOk result (λ status. status < 3 → writer_buffer out.new ≡ []) }
 {
-    match check(alloc, input, out, err) {
+    match check(alloc, providers, input, out, err) {
         Ok(status) => Ok(status),
         Err(stop) => stop_with(file, &stop, err),
     }
@@ -279,6 +289,7 @@ pub fn check_and_tell<I: Read, O: Write + Drop, E: Write>(
 /// `check_and_tell` with status 3 where standard error fails (own).
 pub fn check_over<I: Read, O: Write + Drop, E: Write>(
     alloc: Global,
+    providers: &Providers,
     file: &str,
     input: &mut I,
     out: &mut BufWriter<O>,
@@ -288,7 +299,7 @@ pub fn check_over<I: Read, O: Write + Drop, E: Write>(
     ensures ended { result < 3 → IsEnd file.now (I.remaining input.old) result (writer_contents O.contents out.old) (writer_contents O.contents out.new) (E.contents err.old) (E.contents err.new) }
     ensures handed_on { writer_buffer out.old ≡ [] → result < 3 → writer_buffer out.new ≡ [] }
 {
-    match check_and_tell(alloc, file, input, out, err) {
+    match check_and_tell(alloc, providers, file, input, out, err) {
         Ok(status) => status,
         Err(_) => 3,
     }

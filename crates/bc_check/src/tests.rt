@@ -1,5 +1,6 @@
 //! The command over readers and writers in memory, also such as fail at one call.
 use crate::check_over;
+use bc_analyses::providers;
 use std::io;
 use std::io::{BufWriter, ErrorKind, Read, Write};
 use std::test::Fail;
@@ -134,7 +135,14 @@ fn run(rt: &HostRuntime, file: &[u8], devices: Devices) -> io::Result<Ending> {
     let out = Output::new(rt, devices.write);
     let mut out = BufWriter::with_capacity(rt.alloc(), devices.room, out)?;
     let mut err = Output::new(rt, devices.tell);
-    let status = check_over(rt.alloc(), "demo", &mut input, &mut out, &mut err);
+    let status = check_over(
+        rt.alloc(),
+        &providers!(rt.alloc()),
+        "demo",
+        &mut input,
+        &mut out,
+        &mut err,
+    );
     let (out, _unwritten) = out.into_parts();
     let (reads, writes, tells) = (input.fuse.calls, out.fuse.calls, err.fuse.calls);
     Ok(Ending {

@@ -2,6 +2,7 @@ pub mod Equality
 pub mod Starts
 pub mod Steps
 pub mod Local
+pub mod Lookup
 pub mod Looking
 pub mod Gathering
 pub mod Walking

@@ -1,9 +1,9 @@
 -- The outcome of a name is that of its part of what is held.
-use Rattle.std.proofs.Common.{◌≡◌, ℕ, zero, suc, List, [], ◌∷◌, ◌++◌, refl, sym, ap, ◌∙◌, subst, append_assoc, append-nil, Option, Some, None}
+use Rattle.std.proofs.Common.{◌≡◌, ℕ, zero, suc, List, [], ◌∷◌, ◌++◌, refl, ap, ◌∙◌, subst, true, Option, Some, None}
 use Rattle.std.specs.Prelude.{is_none, if◌then◌else◌}
 use Rattle.std.specs.List.{AllZip, AllByRecursion, flat_map, filter_map}
 use Rattle.std.specs.Option.{option_map, option_or}
-use Rattle.bc_text.specs.Names.{NameParts}
+use Rattle.bc_text.specs.Names.{NameParts, is_within}
 use Rattle.bc_syntax.specs.Children.{children_of}
 use Rattle.bc_syntax.specs.declared.syntax.Declaration.{Declaration}
 use Rattle.bc_types.specs.Declarations.{first_bad}
@@ -17,18 +17,15 @@ use Rattle.bc_prov.specs.declared.outcome.Outcome.TheVariants.{Missing, Ill}
 use Rattle.bc_prov.specs.State.{State, child, levels_from, mir_at}
 use Rattle.bc_prov.specs.Verdicts.{IsVerdictOf, IsVerdictOver, IsVerdictWithin, IsVerdictAt, requirements_by}
 use Rattle.bc_prov.specs.Outcome.{IsReported, IsOutcomeAfter, IsOutcomeOf, IsOutcomeBehind, IsOutcomeIn, absent_among, own_fault, first_among, fault_over, fault_within, fault_at, units_over, units_within, units_at}
-use Rattle.bc_prov.specs.Laws.{HaveSamePart, IsFrom}
+use Rattle.bc_prov.specs.Laws.{HaveSamePart}
+use Rattle.bc_text.proofs.Within.{within_self, within_child}
 
--- a closure of a name is from where the name is from
-from_child : (root name : NameParts) (number : ℕ) → IsFrom root name → IsFrom root (child name number)
-from_child root name number from = (
-  from.0,
-  (from.1.0 ++ number ∷ [], ap (λ ns. ns ++ number ∷ []) from.1.1 ∙ append_assoc root.segments from.1.0 (number ∷ [])),
-)
+abbrev IsFrom : NameParts → NameParts → Type 0
+IsFrom root name = is_within root name ≡ true
 
 module _ (a b : State) (root : NameParts) (same : HaveSamePart root a b) where
   kids_same : (name : NameParts) → IsFrom root name → (number : ℕ) → a.bodies (child name number) ≡ b.bodies (child name number)
-  kids_same name from number = same.bodies (child name number) (from_child root name number from)
+  kids_same name from number = same.bodies (child name number) (within_child root name number from)
 
   mir-same : (name : NameParts) (body : Body) → IsFrom root name → mir_at a name body ≡ mir_at b name body
   mir-same name body from = λ i. mir_of (same.types i) (filter_map (λ number. option_map (λ (u : Body). record { number = number; header = u.header }) (kids_same name from number i)) (children_of body)) body
@@ -49,7 +46,7 @@ module _ (a b : State) (root : NameParts) (same : HaveSamePart root a b) where
   fault-same zero name from = refl
   fault-same (suc levels) name from =
       ap (fault_over a name (λ number. fault_within a levels (child name number))) (same.bodies name from)
-      ∙ fault-over-same name (λ number. fault_within a levels (child name number)) (λ number. fault_within b levels (child name number)) (b.bodies name) from (λ number. fault-same levels (child name number) (from_child root name number from))
+      ∙ fault-over-same name (λ number. fault_within a levels (child name number)) (λ number. fault_within b levels (child name number)) (b.bodies name) from (λ number. fault-same levels (child name number) (within_child root name number from))
 
   units-over-same : (name : NameParts) (f g : ℕ → List (NameParts × Body)) (o : Option Body) → ((number : ℕ) → f number ≡ g number) → units_over name f o ≡ units_over name g o
   units-over-same name f g None e = refl
@@ -60,7 +57,7 @@ module _ (a b : State) (root : NameParts) (same : HaveSamePart root a b) where
   units-same zero name from = refl
   units-same (suc levels) name from =
       ap (units_over name (λ number. units_within a levels (child name number))) (same.bodies name from)
-      ∙ units-over-same name (λ number. units_within a levels (child name number)) (λ number. units_within b levels (child name number)) (b.bodies name) (λ number. units-same levels (child name number) (from_child root name number from))
+      ∙ units-over-same name (λ number. units_within a levels (child name number)) (λ number. units_within b levels (child name number)) (b.bodies name) (λ number. units-same levels (child name number) (within_child root name number from))
 
   verdict-over-same : (name : NameParts) (F G : ℕ → Verdict → Type 0) (o : Option Body) (v : Verdict) → IsFrom root name → ((number : ℕ) → F number ≡ G number) → IsVerdictOver a name F o v ≡ IsVerdictOver b name G o v
   verdict-over-same name F G None v from e = refl
@@ -73,7 +70,7 @@ module _ (a b : State) (root : NameParts) (same : HaveSamePart root a b) where
   verdict-same (suc levels) name v from =
       ap (λ (o : Option Body). IsVerdictOver a name (λ number. IsVerdictWithin a levels (child name number)) o v) (same.bodies name from)
       ∙ verdict-over-same name (λ number. IsVerdictWithin a levels (child name number)) (λ number. IsVerdictWithin b levels (child name number)) (b.bodies name) v from
-      (λ number i w. verdict-same levels (child name number) w (from_child root name number from) i)
+      (λ number i w. verdict-same levels (child name number) w (within_child root name number from) i)
 
   all-append : (xs ys : List (NameParts × Body)) → AllByRecursion (λ (u : NameParts × Body). IsFrom root u.0) xs → AllByRecursion (λ (u : NameParts × Body). IsFrom root u.0) ys → AllByRecursion (λ (u : NameParts × Body). IsFrom root u.0) (xs ++ ys)
   all-append [] ys h k = k
@@ -92,7 +89,7 @@ module _ (a b : State) (root : NameParts) (same : HaveSamePart root a b) where
   units_from : (levels : ℕ) (name : NameParts) → IsFrom root name → AllByRecursion (λ (u : NameParts × Body). IsFrom root u.0) (units_within a levels name)
   unfolding units_within
   units_from zero name from = tt
-  units_from (suc levels) name from = units_over_from name (λ number. units_within a levels (child name number)) (a.bodies name) from (λ number. units_from levels (child name number) (from_child root name number from))
+  units_from (suc levels) name from = units_over_from name (λ number. units_within a levels (child name number)) (a.bodies name) from (λ number. units_from levels (child name number) (within_child root name number from))
 
   reported_same : (unit : NameParts × Body) (found : BodyErrors) → IsFrom root unit.0 → IsReported a unit found → IsReported b unit found
   unfolding IsVerdictAt
@@ -110,7 +107,7 @@ module _ (a b : State) (root : NameParts) (same : HaveSamePart root a b) where
   all_reported (u ∷ us) (f ∷ fs) from h = (reported_same u f from.0 h.0, all_reported us fs from.1 h.1)
 
   here : IsFrom root root
-  here = (refl, ([], sym (append-nil root.segments)))
+  here = within_self root
 
   after_same : (fault : Option Outcome) (o : Outcome) → IsOutcomeAfter a root fault o → IsOutcomeAfter b root fault o
   unfolding units_at

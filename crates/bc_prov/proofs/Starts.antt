@@ -4,7 +4,7 @@ use Rattle.std.proofs.Math.Bool.{Bool-set}
 use Rattle.std.proofs.Math.Logic.{∥∥₁_elim}
 use Rattle.bc_cons.specs.declared.facts.Constraint.{Constraint}
 use Rattle.bc_solve.specs.Values.{IsInValue}
-use Rattle.bc_prov.specs.Verdicts.{Tells}
+use Rattle.bc_prov.specs.Facts.{Tells}
 
 -- a test that tells a fact tells that there is a proof of it
 pub told : (test : ℕ → ℕ → Bool) (Fact : ℕ → ℕ → Type 0) → ((x y : ℕ) → (test x y ≡ true) ↔ Fact x y) → Tells test Fact

@@ -1,18 +1,14 @@
 -- What is always true of outcomes.
-use Rattle.std.specs.Prelude.{◌≡◌, ℕ, List, ◌++◌}
-use Rattle.bc_text.specs.Names.{NameParts}
+use Rattle.std.specs.Prelude.{◌≡◌, true}
+use Rattle.bc_text.specs.Names.{NameParts, is_within}
 use Rattle.bc_prov.specs.declared.outcome.Outcome.{Outcome}
 use Rattle.bc_prov.specs.State.{State}
 use Rattle.bc_prov.specs.Outcome.{IsOutcomeIn}
 
--- the name is this one, or it begins with this one and `/`
-abbrev pub IsFrom : NameParts → NameParts → Type 0
-IsFrom root name = (name.root ≡ root.root) × ((rest : List ℕ) × (name.segments ≡ root.segments ++ rest))
-
 -- two states have the same declarations, and the same bodies at a name and at all names that begin with it and `/`
 pub record HaveSamePart (root : NameParts) (one other : State) : Type 0 where
   pub types : one.types ≡ other.types
-  pub bodies : (name : NameParts) → IsFrom root name → one.bodies name ≡ other.bodies name
+  pub bodies : (name : NameParts) → is_within root name ≡ true → one.bodies name ≡ other.bodies name
 
 -- the outcome of a name is that of its part of what is held
 abbrev pub OutcomesAreLocal : Type 0

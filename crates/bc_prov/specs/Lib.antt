@@ -1,6 +1,8 @@
 pub mod State
 pub mod Checks
+pub mod Facts
 pub mod Verdicts
 pub mod Outcome
+pub mod Snapshots
 pub mod Visits
 pub mod Laws

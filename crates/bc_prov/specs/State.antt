@@ -2,7 +2,8 @@
 use Rattle.std.specs.Prelude.{◌≡◌, ◌≢◌, ◌⊎◌, ◌<◌, ℕ, ◌-◌, List, [], ◌∷◌, ◌++◌, length, Option, Some}
 use Rattle.std.specs.Option.{option_map}
 use Rattle.std.specs.List.{filter_map}
-use Rattle.std.specs.BTreeMap.{BTreeMap, get}
+use Rattle.std.specs.Map.{lookup}
+use Rattle.std.specs.BTreeMap.{is_at}
 use Rattle.bc_syntax.specs.declared.syntax.Declaration.{Declaration}
 use Rattle.bc_syntax.specs.declared.syntax.Body.{Body}
 use Rattle.bc_syntax.specs.declared.syntax.UnitKind.{UnitKind}
@@ -21,12 +22,13 @@ pub record State : Type 0 where
   pub types : List Declaration
   pub bodies : Bodies
 
--- the body that a map has at each name
-abbrev pub bodies_of : BTreeMap NameParts Body → Bodies
-bodies_of held = λ name. get name_order held name
+-- what a list of entries has at a name, if the name is in it
+abbrev pub at_name : {V : Type 0} → List (NameParts × V) → NameParts → Option V
+at_name entries name = lookup (is_at (name_order name)) entries
 
-abbrev pub state_of : List Declaration → BTreeMap NameParts Body → State
-state_of types held = record { types = types; bodies = bodies_of held }
+-- declarations, and the bodies that a list has under their names: a name that is not in it is absent
+abbrev pub state_of : List Declaration → List (NameParts × Body) → State
+state_of types units = record { types = types; bodies = at_name units }
 
 -- the name of the closure of this number
 abbrev pub child : NameParts → ℕ → NameParts

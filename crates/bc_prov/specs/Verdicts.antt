@@ -1,5 +1,5 @@
 -- The errors and the requirements of a body and, by recursion on longer names, of what stands at a name.
-use Rattle.std.specs.Prelude.{◌≡◌, ◌↔◌, ℕ, zero, suc, Bool, true, List, map, Option, Some, None}
+use Rattle.std.specs.Prelude.{ℕ, zero, suc, Bool, List, map, Option, Some, None}
 use Rattle.std.specs.List.{AllZip, zip}
 use Rattle.bc_syntax.specs.declared.syntax.Body.{Body}
 use Rattle.bc_syntax.specs.Children.{children_of}
@@ -14,10 +14,7 @@ use Rattle.bc_loans.specs.Scope.{IsInScope}
 use Rattle.bc_judge.specs.declared.verdict.Verdict.{Verdict}
 use Rattle.bc_judge.specs.Errors.{AreErrors, AreRequirements}
 use Rattle.bc_prov.specs.State.{State, child, levels_from, mir_at}
-
--- a test tells of two numbers whether the fact holds: whether there is a proof, and not which one
-abbrev pub Tells : (ℕ → ℕ → Bool) → (ℕ → ℕ → Type 0) → Type 0
-Tells test Fact = (x y : ℕ) → (test x y ≡ true) ↔ ∥ Fact x y ∥₁
+use Rattle.bc_prov.specs.Facts.{Tells}
 
 -- This is the verdict on a body, whose children require so much: `live` tells the points on whose entry each local is live,
 -- `value` the elements in the value of each region over that liveness, `in_scope` the loans in scope on entry to each point

@@ -19,7 +19,7 @@ use Rattle.bc_prov.specs.Outcome.{absent_among, own_fault, fault_at}
 
 -- what is held, as a state
 abbrev pub state_in : Held → State
-state_in held = state_of (arc_value held.types.now) held.bodies.now
+state_in held = state_of (arc_value held.types.now) held.snapshot.now.units
 
 -- a closure's number and header
 abbrev pub child_of_kid : Kid → Child

@@ -1,14 +1,12 @@
-//! What is held, as an Ask of one name sees it.
-use crate::bodies::Bodies;
+//! A snapshot whose declarations are good.
+use crate::snapshot::Snapshot;
 use bc_mir::GoodTypes;
-use bc_text::Name;
 use std::alloc::Global;
 use std::sync::Arc;
 
-/// Declarations of which none is bad, bodies by their names, and the name that is asked.
+/// A snapshot, and its declarations, of which none is bad.
 #[derive(Drop)]
 pub(crate) struct Held<'a> {
     pub(crate) types: &'a Arc<GoodTypes, Global>,
-    pub(crate) bodies: &'a Bodies,
-    pub(crate) root: Name,
+    pub(crate) snapshot: &'a Snapshot,
 }

@@ -1,21 +1,23 @@
 //! The outcome of a name: the whole analysis of a body and its closures, from their units to their errors.
 #![tactic(auto)]
 
-mod bodies;
 mod body;
 mod declared;
 mod held;
 mod laws;
 mod outcome;
+mod providers;
 mod reporting;
 mod shared;
+mod snapshot;
 mod stack;
 mod verdicts;
 mod walk;
 
-pub use bodies::{Bodies, unit_of};
 pub use declared::Declared;
 pub use laws::outcomes_are_local;
 pub use outcome::{BodyErrors, Outcome};
-pub use reporting::outcome_of;
+pub use providers::{Liveness, Providers, Scoping, Solver};
+pub use reporting::report;
 pub use shared::Shared;
+pub use snapshot::Snapshot;

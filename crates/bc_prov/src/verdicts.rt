@@ -7,6 +7,7 @@ ghost use Rattle.bc_prov.specs.Visits.{IsSound, number_of_child, state_in, visit
 use crate::body::verdict_on;
 use crate::held::Held;
 use crate::outcome::BodyErrors;
+use crate::providers::Providers;
 use crate::stack::Stack;
 use crate::walk::Visit;
 use bc_cons::Requirements;
@@ -35,15 +36,16 @@ fn take_kids(
 impl Held<'_> {
     /// The errors of the bodies that were visited from the root on, in that order. A body comes after its creator, so they are
     /// judged from the last on: what they require, and no creator took yet, lies in a list with that of the next one in front.
-    /// Answers `AllocError` only where memory was refused.
+    /// Answers `AllocError` only where memory was refused, as a provider may answer too.
     pub(crate) fn errors_of(
         &self,
         alloc: Global,
+        providers: &Providers,
         visits: Vec<Visit>,
     ) -> Result<Vec<BodyErrors>, AllocError>
-        requires sound { IsSound (state_in self.now) self.now.root }
-        requires visits { visits.items ≡ map (visit_of (state_in self.now)) (units_at (state_in self.now) self.now.root) }
-        ensures { IfOk result (λ found. AllZip (IsReported (state_in self.now)) (units_at (state_in self.now) self.now.root) found.items) }
+        requires sound { IsSound (state_in self.now) self.now.snapshot.now.root }
+        requires visits { visits.items ≡ map (visit_of (state_in self.now)) (units_at (state_in self.now) self.now.snapshot.now.root) }
+        ensures { IfOk result (λ found. AllZip (IsReported (state_in self.now)) (units_at (state_in self.now) self.now.snapshot.now.root) found.items) }
     {
         let mut visits = visits;
         let mut required = Stack::new(alloc);
@@ -51,7 +53,7 @@ impl Held<'_> {
         while let Some(visit) = visits.pop() {
             let Visit { name, typed } = visit;
             let kids = take_kids(alloc, typed.children(), &mut required)?;
-            let verdict = verdict_on(alloc, &typed, &kids)?;
+            let verdict = verdict_on(alloc, providers, &typed, &kids)?;
             let Verdict {
                 errors,
                 requirements,

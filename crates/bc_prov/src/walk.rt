@@ -2,10 +2,9 @@
 ghost use Rattle.std.specs.Prelude.{◌≡◌, ◌≢◌, ◌<◌, ◌≤◌, ◌++◌, [], true, length, map, nat_le, Some, None, IfOk};
 ghost use Rattle.std.specs.List.{AllByRecursion, list_all};
 ghost use Rattle.bc_prov.specs.Outcome.{fault_at, units_at};
-ghost use Rattle.bc_prov.specs.State.{AreSuited, bodies_of};
+ghost use Rattle.bc_prov.specs.State.{AreSuited, at_name};
 ghost use Rattle.bc_prov.specs.Visits.{AreKids, ChildKid, IsLooked, child_of_kid, state_in, visit_of};
 
-use crate::bodies::unit_of;
 use crate::held::Held;
 use crate::outcome::Outcome;
 use bc_mir::{IllFault, KidHeader, Typed, type_unit};
@@ -46,7 +45,7 @@ fn find_kids<'a>(
     name: Name,
     numbers: &[u8],
 ) -> Result<Kids<'a>, AllocError>
-    requires suited { AreSuited (bodies_of held.now.bodies.now) }
+    requires suited { AreSuited (at_name held.now.snapshot.now.units) }
     requires few { numbers.now ≢ [] → length name.segments < 7 }
     requires low { list_all (λ number. nat_le number 63) numbers.now ≡ true }
     ensures { IfOk result (AreKids (state_in held.now) name numbers.now) }
@@ -54,7 +53,7 @@ fn find_kids<'a>(
     let mut kids = Vec::new(alloc);
     for number in numbers {
         let child = name.child(*number).unwrap();
-        match unit_of(held.bodies, &child) {
+        match held.snapshot.unit(&child) {
             Some(unit) => kids.push(Kid {
                 number: *number,
                 unit,
@@ -85,8 +84,8 @@ fn look<'a>(
     unit: &Unit,
 ) -> Result<Looked<'a>, AllocError>
     requires short { length name.segments ≤ 7 }
-    requires suited { AreSuited (bodies_of held.now.bodies.now) }
-    requires held { bodies_of held.now.bodies.now name ≡ Some unit.now }
+    requires suited { AreSuited (at_name held.now.snapshot.now.units) }
+    requires held { at_name held.now.snapshot.now.units name ≡ Some unit.now }
     ensures { IfOk result (IsLooked (state_in held.now) name unit.now) }
 {
     let numbers = unit.body().children(alloc)?;
@@ -112,8 +111,8 @@ pub(crate) fn walk(
     visits: &mut Vec<Visit>,
 ) -> Result<Option<Outcome>, AllocError>
     requires short { length name.segments ≤ 7 }
-    requires suited { AreSuited (bodies_of held.now.bodies.now) }
-    requires held { bodies_of held.now.bodies.now name ≡ Some unit.now }
+    requires suited { AreSuited (at_name held.now.snapshot.now.units) }
+    requires held { at_name held.now.snapshot.now.units name ≡ Some unit.now }
     ensures fault { IfOk result (λ fault. fault ≡ fault_at (state_in held.now) name) }
     ensures visits { result ≡ Ok None → visits.new.items ≡ visits.old.items ++ map (visit_of (state_in held.now)) (units_at (state_in held.now) name) }
 {

@@ -2,6 +2,8 @@
 #![tactic(auto)]
 
 mod audit;
+#[cfg(test)]
+mod counted;
 mod db;
 mod session;
 #[cfg(test)]

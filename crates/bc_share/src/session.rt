@@ -6,7 +6,7 @@ ghost use Rattle.bc_book.specs.Calls.{IsLegal};
 ghost use Rattle.bc_share.specs.Sessions.{IsAnswered, new_session};
 
 use bc_book::{Call, Entry, Event, Ledger, PutReply, Refusal, Reply};
-use bc_prov::{Outcome, Shared};
+use bc_prov::{Outcome, Providers, Shared};
 use bc_syntax::{Types, Unit};
 use bc_text::Name;
 use std::alloc::{AllocError, Global};
@@ -108,14 +108,18 @@ impl Session {
     /// Room in the session's own list is made first. Refused with `HistoryFull` only where the history has as many
     /// entries as it may have, where no call is taken, and with `NoMemory` only where memory was refused; the session
     /// and the history are then as they were.
-    pub fn ask(&mut self, name: &Name) -> Result<Arc<Outcome, Global>, Refusal>
+    pub fn ask(
+        &mut self,
+        name: &Name,
+        providers: &Providers,
+    ) -> Result<Arc<Outcome, Global>, Refusal>
         ensures told { IfOk result (λ outcome. IsAnswered (Call.Ask name.now) (Reply.Outcome (arc_value outcome)) self.old self.new) }
         ensures refused { OnErr result (self.new ≡ self.old) }
         ensures below { OnOk result (length self.old.entries < self.old.capacity) }
         ensures full { IfErr result (λ r. r ≡ Refusal.HistoryFull → length self.old.entries ≡ self.old.capacity) }
     {
         make_room(&mut self.ledger, &mut self.own)?;
-        let outcome = self.ledger.outcome(self.alloc, name)?;
+        let outcome = self.ledger.outcome(self.alloc, providers, name)?;
         let mine = outcome.clone()?;
         let answer = outcome.clone()?;
         self.ledger.ask(self.number, *name, outcome);

@@ -1,7 +1,8 @@
 //! Databases: their ranges, their sessions, their histories.
 use crate::{CloseFault, Db, History, OpenFault, Session};
+use bc_analyses::providers;
 use bc_book::{Call, Entry, Event, PutReply, Refusal, Reply};
-use bc_prov::Outcome;
+use bc_prov::{Outcome, Providers};
 use bc_syntax::{Types, Unit};
 use bc_text::{Name, read_types, read_unit};
 use std::alloc::{AllocError, Global};
@@ -10,7 +11,7 @@ use std::sync::Arc;
 use std::test::Fail;
 
 /// Writes the local once the borrow of it is used no more: no error.
-const WRITES_LAST: &[u8] =
+pub(crate) const WRITES_LAST: &[u8] =
     b"fn () -> int { let _1: int; let _2: &'?0 int; bb0 { _1 = 1; _2 = &'?1 _1; _0 = copy _2.*; _1 = 2; return; } }";
 
 /// Writes the local while the borrow of it is still used: one conflict.
@@ -18,15 +19,15 @@ const WRITES_WHILE_BORROWED: &[u8] =
     b"fn () -> int { let _1: int; let _2: &'?0 int; bb0 { _1 = 1; _2 = &'?1 _1; _1 = 2; _0 = copy _2.*; return; } }";
 
 /// Creates its closure 0 and invokes it.
-const INVOKES: &[u8] =
+pub(crate) const INVOKES: &[u8] =
     b"fn () -> int { let _1: closure 0; bb0 { _1 = closure 0(); _0 = invoke _1() bb1; } bb1 { return; } }";
 
 /// A closure that does so with its closure 1.
-const NESTED: &[u8] =
+pub(crate) const NESTED: &[u8] =
     b"closure [] () -> int { let _1: closure 1; bb0 { _1 = closure 1(); _0 = invoke _1() bb1; } bb1 { return; } }";
 
 /// A closure that creates none: no error.
-const CLOSURE: &[u8] = b"closure [] () -> int { bb0 { _0 = 0; return; } }";
+pub(crate) const CLOSURE: &[u8] = b"closure [] () -> int { bb0 { _0 = 0; return; } }";
 
 /// A closure that writes a local while the borrow of it is still used: one conflict.
 const CLOSURE_WRITES: &[u8] =
@@ -36,14 +37,14 @@ const CLOSURE_WRITES: &[u8] =
 const REQUIRES: &[u8] =
     b"closure <'x,'y> [&'x int, &'y int] () -> int { let _3: &'y int; bb0 { _3 = copy _1; _0 = 0; return; } }";
 
-const INVARIANT_BUT_MARKED_COVARIANT: &[u8] = b"struct H<+'a> { &'static mut &'a int; }";
+pub(crate) const INVARIANT_BUT_MARKED_COVARIANT: &[u8] = b"struct H<+'a> { &'static mut &'a int; }";
 
 const MARKED_INVARIANT: &[u8] = b"struct H<='a> { &'static mut &'a int; }";
 
 /// What an Ask finds: no body, a missing closure, whose name has so many segments, the first bad declaration, one body with so
 /// many errors, three with so many each, or something else.
 #[derive(Clone, Copy, PartialEq)]
-enum Found {
+pub(crate) enum Found {
     NoBody,
     Missing(usize),
     BadTypes(usize),
@@ -54,7 +55,7 @@ enum Found {
 
 /// A call with the reply that it is to have, or the refusal; or puts of new bodies under 256 names; or of new closures under 252.
 #[derive(Clone, Copy)]
-enum Turn<'a> {
+pub(crate) enum Turn<'a> {
     Put(&'a [u8], &'a [u8], Result<PutReply, Refusal>),
     Types(&'a [u8], Result<(), Refusal>),
     Ask(&'a [u8], Result<Found, Refusal>),
@@ -107,10 +108,11 @@ fn found_by(outcome: &Outcome) -> Found {
 /// Asks for a name, and answers whether that finds this or has its refusal.
 fn finds(
     session: &mut Session,
+    providers: &Providers,
     asked: &[u8],
     wanted: Result<Found, Refusal>,
 ) -> Result<bool, Fail> {
-    match (session.ask(&name(asked)?), wanted) {
+    match (session.ask(&name(asked)?, providers), wanted) {
         (Ok(outcome), Ok(wanted)) => Ok(found_by(&outcome) == wanted),
         (Err(refused), Err(refusal)) => Ok(refused == refusal),
         (Ok(_), Err(_)) | (Err(_), Ok(_)) => Ok(false),
@@ -153,14 +155,19 @@ fn fills_below(session: &mut Session, closure: &Arc<Unit, Global>) -> Result<boo
 }
 
 /// Makes a call, and answers whether it has its reply.
-fn goes(alloc: Global, session: &mut Session, turn: &Turn) -> Result<bool, Fail> {
+fn goes(
+    alloc: Global,
+    session: &mut Session,
+    providers: &Providers,
+    turn: &Turn,
+) -> Result<bool, Fail> {
     match *turn {
         Turn::Put(put, unit, wanted) => {
             let unit = shared(alloc, unit)?;
             Ok(session.put(name(put)?, unit) == wanted)
         }
         Turn::Types(types, wanted) => Ok(session.put_types(declared(alloc, types)?) == wanted),
-        Turn::Ask(asked, wanted) => finds(session, asked, wanted),
+        Turn::Ask(asked, wanted) => finds(session, providers, asked, wanted),
         Turn::Fill => fills(session, &shared(alloc, WRITES_LAST)?),
         Turn::FillBelow => fills_below(session, &shared(alloc, CLOSURE)?),
     }
@@ -170,26 +177,39 @@ fn all_go(
     rt: &impl Abort,
     alloc: Global,
     session: &mut Session,
+    providers: &Providers,
     turns: &[Turn],
 ) -> Result<(), Fail> {
     for (number, turn) in turns.iter().enumerate() {
-        assert!(rt; goes(alloc, session, turn)?, "call {number}");
+        assert!(rt; goes(alloc, session, providers, turn)?, "call {number}");
     }
     Ok(())
 }
 
-/// The history of a new database with so many entries at most, whose session makes these calls.
+/// The history of a new database with so many entries at most, whose session makes these calls, by these providers.
+pub(crate) fn history_by(
+    rt: &impl Abort,
+    alloc: Global,
+    providers: &Providers,
+    capacity: u32,
+    turns: &[Turn],
+) -> Result<History, Fail> {
+    let (db, mut sessions) = Db::open(alloc, 0, capacity, 1)?;
+    for session in sessions.iter_mut() {
+        all_go(rt, alloc, session, providers, turns)?;
+    }
+    Ok(db.close(sessions)?)
+}
+
+/// The same, by the program's providers.
 fn history_of(
     rt: &impl Abort,
     alloc: Global,
     capacity: u32,
     turns: &[Turn],
 ) -> Result<History, Fail> {
-    let (db, mut sessions) = Db::open(alloc, 0, capacity, 1)?;
-    for session in sessions.iter_mut() {
-        all_go(rt, alloc, session, turns)?;
-    }
-    Ok(db.close(sessions)?)
+    let providers = providers!(alloc);
+    history_by(rt, alloc, &providers, capacity, turns)
 }
 
 /// Whether the entry of a call is the session's and has its number, and whether it has the call and its reply.

@@ -1,7 +1,7 @@
 -- What stays true of a name's cells as a name is made.
-use Rattle.std.proofs.Common.{◌≡◌, ℕ, suc, ◌+◌, ◌-◌, ◌<◌, ◌≤◌, true, List, [], ◌∷◌, ◌++◌, length, take, drop, set, replicate, refl, sym, ap, ◌∙◌, subst, append_assoc, arith}
+use Rattle.std.proofs.Common.{◌≡◌, ℕ, zero, suc, ◌+◌, ◌-◌, ◌<◌, ◌≤◌, true, List, [], ◌∷◌, ◌++◌, length, take, drop, set, replicate, refl, sym, ap, ◌∙◌, subst, append_assoc, arith}
 use Rattle.std.specs.List.{AllByRecursion}
-use Rattle.std.proofs.lemmas.List.{length-append, length-replicate, take_more_set, length_push, take_at, drop-replicate}
+use Rattle.std.proofs.lemmas.List.{length-append, length-replicate, take_more_set, length_push, length-take, length-take-le, take_at, take-take, drop-replicate}
 use Rattle.std.proofs.Math.Seq.{set-append_seam}
 use Rattle.bc_text.specs.declared.name.Name.TheInside.{Inside}
 use Rattle.bc_text.specs.Names.{is_root}
@@ -53,5 +53,28 @@ root_stored bytes h =
         root = subst (λ (s : List ℕ). is_root s ≡ true) (sym front) h;
         depth = omega arith;
         segments = tt;
+      };
+    }
+
+all-take : (n : ℕ) (xs : List ℕ) → AllByRecursion (λ number. number ≤ 63) xs → AllByRecursion (λ number. number ≤ 63) (take n xs)
+all-take zero xs h = tt
+all-take (suc n) [] h = tt
+all-take (suc n) (x ∷ xs) h = (h.0, all-take n xs h.1)
+
+-- cells with the first segments alone
+pub beginning_stored : (a : Inside) (n : ℕ) → IsStored a → n ≤ a.depth → IsStored (cells a.root a.root_len (take n a.segments ++ drop n (replicate 7 0)) n)
+beginning_stored a n h within =
+    let long : length (take n a.segments) ≡ n = length-take-le n a.segments (omega (arith, h.depth, length-take a.depth a.segments)) in
+    let front : take n (take n a.segments ++ drop n (replicate 7 0)) ≡ take n a.segments = take_at (take n a.segments) (drop n (replicate 7 0)) n long in
+    let shorter : take n (take a.depth a.segments) ≡ take n a.segments = take-take n a.depth a.segments within in
+    record {
+      root = h.root;
+      root_len = h.root_len;
+      segments = ap (padded 7) front ∙ ap (λ k. take n a.segments ++ replicate (7 - k) 0) long ∙ ap (λ (s : List ℕ). take n a.segments ++ s) (sym (drop-replicate n 7 0));
+      depth = ap length front ∙ long;
+      name = record {
+        root = h.name.root;
+        depth = omega (arith, ap length front, long, h.name.depth, h.depth, within);
+        segments = subst (λ (s : List ℕ). AllByRecursion (λ number. number ≤ 63) s) (shorter ∙ sym front) (all-take n (take a.depth a.segments) h.name.segments);
       };
     }

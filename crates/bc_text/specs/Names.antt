@@ -1,7 +1,7 @@
 -- What a name is, how it is spelled, and how names are ordered.
 use Rattle.std.specs.Prelude.{◌≡◌, ℕ, ◌≤◌, Bool, ◌&&◌, ◌||◌, ◌==◌, nat_le, true, List, ◌∷◌, ◌++◌, length, slice_index, decimal, Option, Some, None, if◌then◌else◌, not, ◌-◌, ◌*◌, ◌+◌}
 use Rattle.std.specs.Char.{is_ascii_alphabetic, is_ascii_digit}
-use Rattle.std.specs.List.{flat_map, list_all, AllByRecursion}
+use Rattle.std.specs.List.{flat_map, list_all, starts_with, AllByRecursion}
 use Rattle.std.specs.declared.cmp.Ordering.{Ordering}
 use Rattle.std.specs.Ordering.{nat_cmp, then_cmp, on, eq_of_both}
 use Rattle.std.specs.Cmp.Lexicographic.{slice_cmp, pointwise}
@@ -42,6 +42,10 @@ name_order = then_cmp (on (λ (name : NameParts). name.root) (slice_cmp nat_cmp)
 -- whether two names have the same root and the same segments
 abbrev pub is_same_name : NameParts → NameParts → Bool
 is_same_name = eq_of_both (on (λ (name : NameParts). name.root) (pointwise ◌==◌)) (on (λ (name : NameParts). name.segments) (pointwise ◌==◌))
+
+-- whether a name is this one, or begins with it and `/`
+abbrev pub is_within : NameParts → NameParts → Bool
+is_within root name = pointwise ◌==◌ root.root name.root && starts_with ◌==◌ name.segments root.segments
 
 -- the segment that stands at the front: its number, and how many bytes it is spelled in
 abbrev pub first_segment : List ℕ → Option (ℕ × ℕ)

@@ -1,11 +1,11 @@
 //! Names: a root, and the numbers of the closures behind it.
-ghost use Rattle.std.specs.Prelude.{◌≡◌, ◌+◌, ◌≤◌, ◌<◌, ℕ, List, [], ◌∷◌, ◌++◌, IfSome, IsSome, Some, None, length, drop, slice_index, false, true, nat_le, nat_lt, ◌&&◌, if◌then◌else◌};
+ghost use Rattle.std.specs.Prelude.{◌≡◌, ◌+◌, ◌≤◌, ◌<◌, ℕ, List, [], ◌∷◌, ◌++◌, IfSome, IsSome, Some, None, length, take, drop, slice_index, false, true, nat_le, nat_lt, ◌&&◌, if◌then◌else◌};
 ghost use Rattle.std.proofs.Common.{rules};
 ghost use Rattle.std.specs.Char.{is_ascii_digit};
 ghost use Rattle.std.specs.Cmp.{partial_order_from_own_ties};
 ghost use Rattle.std.specs.Cmp.Rules.{comparing};
 ghost use Rattle.std.specs.Ordering.{as_partial_cmp};
-ghost use Rattle.bc_text.specs.Names.{IsName, NameParts, begins_root, is_root, first_segment, name_text, name_order, is_same_name};
+ghost use Rattle.bc_text.specs.Names.{IsName, NameParts, begins_root, is_root, first_segment, name_text, name_order, is_same_name, is_within};
 
 use bc_syntax::{are_run_bytes, byte_at, from, run};
 use std::cmp::Ordering;
@@ -143,6 +143,28 @@ impl Name {
         ensures { result ≡ length self.now.segments }
     {
         self.segments().len()
+    }
+
+    /// Whether another name is this one, or begins with it and `/`. Own.
+    pub fn holds(&self, other: &Name) -> bool
+        ensures { result ≡ is_within self.now other.now }
+    {
+        self.root() == other.root() && other.segments().starts_with(self.segments())
+    }
+
+    /// The name with the first segments alone, so many, or all where it has no more. Own.
+    pub fn beginning(&self, depth: usize) -> Name
+        ensures { result ≡ record { root = self.now.root; segments = take depth self.now.segments } }
+    {
+        let depth = depth.min(usize::from(self.depth));
+        let mut segments = [0; 7];
+        segments[..depth].copy_from_slice(&self.segments[..depth]);
+        Name {
+            root: self.root,
+            root_len: self.root_len,
+            segments,
+            depth: depth as u8,
+        }
     }
 }
 

@@ -1,7 +1,9 @@
 //! The program: `nlldb check FILE`.
 #![tactic(auto)]
 
+use bc_analyses::{find_live, find_scopes, find_values};
 use bc_check::{Stop, check_and_tell, stop_with};
+use bc_prov::Providers;
 use std::alloc::AllocError;
 use std::fs::File;
 use std::io::{BufWriter, ErrorKind, Stderr};
@@ -24,8 +26,8 @@ fn keep_memory(rt: &HostRuntime) {
     drop(block);
 }
 
-/// Checks the file of this name. What it prints stands in a buffer, which `check_and_tell` empties. Where the output fails,
-/// what the buffer still holds is let go unwritten.
+/// Checks the file of this name, with the analyses of this repository as providers. What it prints stands in a buffer, which
+/// `check_and_tell` empties. Where the output fails, what the buffer still holds is let go unwritten.
 fn check_file(rt: &HostRuntime, file: &str, err: &mut Stderr) -> io::Result<u8> {
     let Ok(mut input) = File::open(rt, file) else {
         return stop_with(file, &Stop::CannotRead, err);
@@ -33,7 +35,15 @@ fn check_file(rt: &HostRuntime, file: &str, err: &mut Stderr) -> io::Result<u8> 
     let Ok(mut out) = BufWriter::new(rt.alloc(), rt.stdout()) else {
         return stop_with(file, &Stop::NoMemory, err);
     };
-    let ended = check_and_tell(rt.alloc(), file, &mut input, &mut out, err);
+    let (Ok(live), Ok(solve), Ok(in_scope)) = (
+        Box::new(rt.alloc(), find_live),
+        Box::new(rt.alloc(), find_values),
+        Box::new(rt.alloc(), find_scopes),
+    ) else {
+        return stop_with(file, &Stop::NoMemory, err);
+    };
+    let providers = Providers::new(live, solve, in_scope);
+    let ended = check_and_tell(rt.alloc(), &providers, file, &mut input, &mut out, err);
     let (_stdout, _unwritten) = out.into_parts();
     ended
 }

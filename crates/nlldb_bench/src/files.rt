@@ -1,7 +1,9 @@
 //! A file of many bodies, checked as the command does.
 use crate::readings::checksum;
 use crate::timing::timed;
+use bc_analyses::providers;
 use bc_check::check_over;
+use bc_prov::Providers;
 use std::alloc::Global;
 use std::io;
 use std::io::{BufWriter, Write};
@@ -26,10 +28,17 @@ pub fn many_bodies(alloc: Global) -> io::Result<Vec<u8>> {
 }
 
 /// What `check` leaves of a file: its status, and the reports.
-fn checked(rt: &HostRuntime, file: &[u8]) -> io::Result<(u8, Vec<u8>)> {
+fn checked(rt: &HostRuntime, providers: &Providers, file: &[u8]) -> io::Result<(u8, Vec<u8>)> {
     let mut input = file;
     let mut out = BufWriter::new(rt.alloc(), Vec::new(rt.alloc()))?;
-    let status = check_over(rt.alloc(), "file", &mut input, &mut out, &mut io::sink());
+    let status = check_over(
+        rt.alloc(),
+        providers,
+        "file",
+        &mut input,
+        &mut out,
+        &mut io::sink(),
+    );
     let (reports, _unwritten) = out.into_parts();
     Ok((status, reports))
 }
@@ -42,8 +51,9 @@ pub fn measure_file<O: Write, E: Write>(
     out: &mut O,
     err: &mut E,
 ) -> anyhow::Result<()> {
+    let providers = providers!(rt.alloc());
     write!(err, "{name}: microseconds:")?;
-    let (status, reports) = timed(rt, "checking", || Ok(checked(rt, file)?), err)?;
+    let (status, reports) = timed(rt, "checking", || Ok(checked(rt, &providers, file)?), err)?;
     let bytes = file.len();
     let sum = checksum(&reports);
     writeln!(

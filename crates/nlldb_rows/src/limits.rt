@@ -16,6 +16,7 @@
 //! else is demanded of a declared region.
 use crate::show_check;
 use bc_check::{Section, Sections};
+use bc_prov::Providers;
 use bc_syntax::{Types, Unit};
 use bc_text::{print_types, print_unit, read_types, read_unit};
 use std::alloc::Global;
@@ -83,10 +84,14 @@ fn show_section<O: Write>(alloc: Global, section: &Section<'_>, out: &mut O) -> 
 
 /// Shows whether the declarations and the body of the file at all limits are printed and read back as they were, and what `check`
 /// leaves of it. It fails where the file cannot be read or `out` cannot be written, and for want of memory. (Own.)
-pub fn show_limits<O: Write + Drop>(rt: &HostRuntime, out: &mut BufWriter<O>) -> io::Result<()> {
+pub fn show_limits<O: Write + Drop>(
+    rt: &HostRuntime,
+    providers: &Providers,
+    out: &mut BufWriter<O>,
+) -> io::Result<()> {
     let file = fs::read(rt, "limits.nll")?;
     for section in Sections::of(&file) {
         show_section(rt.alloc(), &section, out)?;
     }
-    show_check(rt.alloc(), "limits.nll", &file, out)
+    show_check(rt.alloc(), providers, "limits.nll", &file, out)
 }

@@ -1,7 +1,7 @@
 use Rattle.std.proofs.Common.{◌≡◌, sym, ◌∙◌, subst, arith}
 use Rattle.std.specs.BTreeMap.{btree_map_len}
 use Rattle.bc_book.specs.declared.ledger.TheConstants.{MOST_BODIES}
-use Rattle.bc_prov.specs.State.{bodies_of}
+use Rattle.bc_book.specs.Ledgers.{bodies_of}
 use Rattle.bc_book.specs.Calls.{HoldsCount}
 use Rattle.bc_book.proofs.Bodies.{counted, absent}
 use Rattle.bc_book.proofs.ledger.stored_reply.Goals as goal

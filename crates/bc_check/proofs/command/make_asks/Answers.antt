@@ -1,9 +1,14 @@
-use Rattle.std.proofs.Common.{arith}
+use Rattle.std.proofs.Common.{arith, ◌≡◌}
 use Rattle.bc_book.specs.declared.call.Call.TheVariants.{Ask}
 use Rattle.bc_check.specs.declared.stop.Stop.TheVariants.{NoMemory}
 use Rattle.bc_check.specs.Run.{shown}
-use Rattle.bc_check.proofs.Serving.{making_more, making_part, same_stop}
+use Rattle.bc_check.proofs.Serving.{making_none, making_more, making_part, same_stop}
 use Rattle.bc_check.proofs.command.make_asks.Goals as goal
+
+pub loop-name-init : goal.loop-name-init
+loop-name-init g c =
+    let same : c.into_iter-name-iterator.result ≡ c.args.names.now.keys = c.into_iter-name-iterator.ensures.into_iter_gives.0 in
+    record { made = making_none Ask _ _ shown _ _ same; range = omega arith }
 
 pub loop-name-preserved : goal.loop-name-preserved
 loop-name-preserved g c = record {

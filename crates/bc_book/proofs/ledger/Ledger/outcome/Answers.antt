@@ -1,11 +1,12 @@
-use Rattle.std.proofs.Common.{sym, subst}
-use Rattle.bc_prov.specs.State.{AreSuited}
+use Rattle.std.proofs.Common.{sym, ◌∙◌, subst}
+use Rattle.bc_prov.specs.Outcome.{IsOutcomeIn}
 use Rattle.bc_book.specs.Calls.{after}
-use Rattle.bc_book.proofs.Bodies.{same_bodies}
-use Rattle.bc_book.proofs.Suited.{legal_suited}
+use Rattle.bc_book.proofs.Parts.{part_outcome}
 use Rattle.bc_book.proofs.ledger.Ledger.outcome.Goals as goal
 
-pub outcome_of-requires : goal.outcome_of-requires
-outcome_of-requires c =
-    let i = c.self.inside in
-    record { suited = subst AreSuited (sym (same_bodies i.bodies (after i.history.items).bodies c.self.invariant.holds)) (legal_suited i.history.items c.self.invariant.legal) }
+pub returns-in-Ok : goal.returns-in-Ok
+returns-in-Ok g c =
+    let state = after c.args.self.now.entries in
+    let name = c.args.name.now in
+    subst (IsOutcomeIn state name) (sym (c.new-in-Ok.ensures ∙ c.in-Ok.ensures.ok))
+    (part_outcome c.in_ok-snapshot.snapshot name state c.in_ok-outcome.outcome c.in_ok-snapshot.ensures c.in_ok-outcome.ensures)

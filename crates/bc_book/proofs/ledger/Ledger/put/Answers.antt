@@ -5,8 +5,7 @@ use Rattle.bc_book.specs.declared.call.Call.TheVariants.{Put}
 use Rattle.bc_book.specs.declared.call.Reply.TheVariants as replies
 use Rattle.bc_prov.specs.State.{Bodies}
 use Rattle.bc_book.specs.Calls.{after, after_put, count_of}
-use Rattle.bc_prov.specs.State.{bodies_of}
-use Rattle.bc_book.specs.Ledgers.{LedgerView, IsKept, AreCounts}
+use Rattle.bc_book.specs.Ledgers.{LedgerView, IsKept, AreCounts, bodies_of}
 use Rattle.bc_book.proofs.Histories.{legal_more}
 use Rattle.bc_book.proofs.Bodies.{kept_snoc, kept_same, same_bodies, same_reply}
 use Rattle.bc_book.proofs.ledger.Ledger.put.Goals as goal

@@ -5,20 +5,20 @@ use Rattle.bc_prov.proofs.Folding.{Folds, turn, turn-children, turn-enough, fold
 use Rattle.bc_prov.proofs.held.Held.errors_of.Goals as goal
 
 pub loop-visit-init : goal.loop-visit-init
-loop-visit-init c = rw (c.new-required.ensures, c.new-found.ensures) (folds_none (state_in c.args.self.now) c.args.self.now.root c.args.visits.items c.requires.sound c.requires.visits)
+loop-visit-init g c = rw (c.new-required.ensures, c.new-found.ensures) (folds_none (state_in c.args.self.now) c.args.self.now.snapshot.now.root c.args.visits.items c.requires.sound c.requires.visits)
 
 pub take_kids-requires : goal.take_kids-requires
-take_kids-requires c =
+take_kids-requires g c =
     let state = state_in c.args.self.now in
-    let root = c.args.self.now.root in
+    let root = c.args.self.now.snapshot.now.root in
     let folds = subst (λ (vs : List Visit). Folds state root vs c.loop-visit.required c.loop-visit.found) c.in-Some.ensures.items c.loop-visit.invariant in
     let here = turn state root c.pop.new.self.items c.in-Some.visit c.loop-visit.required c.loop-visit.found c.requires.sound folds in
     rw c.children.ensures (turn-enough state root c.pop.new.self.items c.in-Some.visit c.loop-visit.required c.loop-visit.found here)
 
 pub verdict_on-requires : goal.verdict_on-requires
-verdict_on-requires c =
+verdict_on-requires g c =
     let state = state_in c.args.self.now in
-    let root = c.args.self.now.root in
+    let root = c.args.self.now.snapshot.now.root in
     let folds = subst (λ (vs : List Visit). Folds state root vs c.loop-visit.required c.loop-visit.found) c.in-Some.ensures.items c.loop-visit.invariant in
     let here = turn state root c.pop.new.self.items c.in-Some.visit c.loop-visit.required c.loop-visit.found c.requires.sound folds in
     rw c.deref.ensures.value
@@ -26,9 +26,9 @@ verdict_on-requires c =
     (c.in_ok-kids.ensures.numbers ∙ ap (map number_of_child) c.children.ensures) c.in_ok-kids.ensures.rest)
 
 pub loop-visit-preserved : goal.loop-visit-preserved
-loop-visit-preserved c =
+loop-visit-preserved g c =
     let state = state_in c.args.self.now in
-    let root = c.args.self.now.root in
+    let root = c.args.self.now.snapshot.now.root in
     let folds = subst (λ (vs : List Visit). Folds state root vs c.loop-visit.required c.loop-visit.found) c.in-Some.ensures.items c.loop-visit.invariant in
     let here = turn state root c.pop.new.self.items c.in-Some.visit c.loop-visit.required c.loop-visit.found c.requires.sound folds in
     rw (c.in_ok-push.ensures.ok, c.in_ok-push-2.ensures.ok)

@@ -4,7 +4,7 @@ use Rattle.bc_prov.specs.Visits.{state_in}
 use Rattle.bc_prov.proofs.held.Held.errors_of.Given as goal
 
 abbrev pub invariant-loop-visit : goal.invariant-loop-visit
-invariant-loop-visit l = Folds (state_in l.self) l.self.root l.visits.items l.required l.found
+invariant-loop-visit g l = Folds (state_in l.self) l.self.snapshot.now.root l.visits.items l.required l.found
 
 abbrev pub decreases-loop-visit : goal.decreases-loop-visit
-decreases-loop-visit l = vec_len l.visits
+decreases-loop-visit g l = vec_len l.visits

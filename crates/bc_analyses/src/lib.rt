@@ -1,0 +1,54 @@
+//! The analyses of a body as this repository has them, stored as providers.
+#![tactic(auto)]
+
+ghost use Rattle.std.specs.Prelude.{IfOk};
+ghost use Rattle.bc_prov.specs.Facts.{AreLive, AreScopes, AreValues};
+
+use bc_cons::Facts;
+use bc_live::{LiveSets, live};
+use bc_loans::{Scopes, in_scope};
+use bc_mir::Typed;
+pub use bc_prov::Providers;
+use bc_solve::{Values, solve_components};
+use std::alloc::{AllocError, Global};
+
+/// The points on whose entry each local of a body is live: `bc_live::live`, with the fact that a provider owes. Answers
+/// `AllocError` only where memory was refused. (RFC 2094, "Liveness".)
+pub fn find_live(alloc: Global, typed: &Typed) -> Result<LiveSets, AllocError>
+    ensures { IfOk result (AreLive typed.now) }
+{
+    let sets = live(alloc, typed)?;
+    Ok(sets)
+}
+
+/// The values of regions: `bc_solve::solve_components`, with the fact that a provider owes. Answers `AllocError` only where
+/// memory was refused. (RFC 2094, "Solving constraints".)
+pub fn find_values(alloc: Global, facts: &Facts) -> Result<Values, AllocError>
+    ensures { IfOk result (AreValues facts.now) }
+{
+    let values = solve_components(alloc, facts)?;
+    Ok(values)
+}
+
+/// The loans in scope within the values of regions: `bc_loans::in_scope`, with the fact that a provider owes. Answers
+/// `AllocError` only where memory was refused. (RFC 2094, "Borrow checker phase 1: computing loans in scope".)
+pub fn find_scopes(alloc: Global, typed: &Typed, values: &Values) -> Result<Scopes, AllocError>
+    ensures { IfOk result (AreScopes typed.now values.now) }
+{
+    let scopes = in_scope(alloc, typed, values)?;
+    Ok(scopes)
+}
+
+/// The providers that call these three, made with the allocator that is named; answers `AllocError` from the function in which it
+/// stands, where memory was refused. It is a macro, since no function may hand out a closure that it stores. (rustc-dev-guide,
+/// "Queries": providers.)
+#[macro_export]
+macro_rules! providers {
+    ($alloc:expr) => {
+        $crate::Providers::new(
+            Box::new($alloc, $crate::find_live)?,
+            Box::new($alloc, $crate::find_values)?,
+            Box::new($alloc, $crate::find_scopes)?,
+        )
+    };
+}

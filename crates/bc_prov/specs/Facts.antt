@@ -1,0 +1,43 @@
+-- What liveness, region values and loans in scope have to say of a body.
+use Rattle.std.specs.Prelude.{◌≡◌, ◌↔◌, ℕ, Bool, true, List, Result}
+use Rattle.std.specs.Result.{ForOk}
+use Rattle.std.proofs.Common.{Bor}
+use Rattle.std.specs.declared.alloc.AllocError.{AllocError}
+use Rattle.std.specs.declared.alloc.Global.{Global}
+use Rattle.bc_flow.specs.Flow.{holds}
+use Rattle.bc_mir.specs.Mir.{Mir}
+use Rattle.bc_cons.specs.Facts.{RegionFacts}
+use Rattle.bc_live.specs.Live.{IsLive}
+use Rattle.bc_solve.specs.Values.{IsInValue}
+use Rattle.bc_loans.specs.Scope.{IsInScope}
+
+-- a test tells of two numbers whether the fact holds: whether there is a proof, and not which one
+abbrev pub Tells : (ℕ → ℕ → Bool) → (ℕ → ℕ → Type 0) → Type 0
+Tells test Fact = (x y : ℕ) → (test x y ≡ true) ↔ ∥ Fact x y ∥₁
+
+-- the sets have, for each local, just the points on whose entry it is live
+abbrev pub AreLive : Mir → List (List Bool) → Type 0
+AreLive mir sets = Tells (holds sets) (IsLive mir)
+
+-- the values have, for each region, just the elements that every lawful assignment gives it
+abbrev pub AreValues : RegionFacts → List (List Bool) → Type 0
+AreValues facts values = Tells (holds values) (IsInValue (holds facts.starts) facts.pairs)
+
+-- the scopes have, for each point, just the loans that are in scope on entry to it, within these values
+abbrev pub AreScopes : Mir → List (List Bool) → List (List Bool) → Type 0
+AreScopes mir values scopes = Tells (holds scopes) (λ point loan. IsInScope mir (holds values) loan point)
+
+-- what a closure answers for a body is its liveness, or want of memory; `post` tells what it may answer
+abbrev pub AnswersLiveness : (Global → Bor Mir → Result (List (List Bool)) AllocError → Type 0) → Type 0
+AnswersLiveness post = (alloc : Global) (typed : Bor Mir) (sets : Result (List (List Bool)) AllocError) → post alloc typed sets → ForOk sets (AreLive typed.now)
+
+-- the same for the values over facts of regions
+abbrev pub AnswersValues : (Global → Bor RegionFacts → Result (List (List Bool)) AllocError → Type 0) → Type 0
+AnswersValues post =
+    (alloc : Global) (facts : Bor RegionFacts) (values : Result (List (List Bool)) AllocError) → post alloc facts values → ForOk values (AreValues facts.now)
+
+-- the same for the loans in scope of a body within values
+abbrev pub AnswersScopes : (Global → Bor Mir → Bor (List (List Bool)) → Result (List (List Bool)) AllocError → Type 0) → Type 0
+AnswersScopes post =
+    (alloc : Global) (typed : Bor Mir) (values : Bor (List (List Bool))) (scopes : Result (List (List Bool)) AllocError) → post alloc typed values scopes
+    → ForOk scopes (AreScopes typed.now values.now)

@@ -1,0 +1,29 @@
+-- A part of what is held, as a snapshot has it.
+use Rattle.std.specs.Prelude.{◌≡◌, true, List}
+use Rattle.std.specs.List.{AllByRecursion}
+use Rattle.std.specs.List.Sorted.{IsStrictlySortedBy}
+use Rattle.std.specs.Map.{keys_of}
+use Rattle.bc_syntax.specs.declared.syntax.Declaration.{Declaration}
+use Rattle.bc_syntax.specs.declared.syntax.Body.{Body}
+use Rattle.bc_text.specs.Names.{NameParts, is_within, name_order}
+use Rattle.bc_prov.specs.State.{State, Suits, at_name}
+
+-- declarations, a name, and bodies under their names
+pub record SnapshotView : Type 0 where
+  pub types : List Declaration
+  pub root : NameParts
+  pub units : List (NameParts × Body)
+
+-- The names ascend strictly, each is the root or begins with it and `/`, and each body suits its name: a function has a root,
+-- a closure any other, and at a name of seven segments it has no child.
+pub record IsSnapshot (root : NameParts) (units : List (NameParts × Body)) : Type 0 where
+  pub ascending : IsStrictlySortedBy name_order (keys_of units)
+  pub within : AllByRecursion (λ name. is_within root name ≡ true) (keys_of units)
+  pub suited : AllByRecursion (λ (unit : NameParts × Body). Suits unit.1 unit.0) units
+
+-- the snapshot is a name's part of a state: its declarations, and its bodies at the name and at all names that begin with it
+-- and `/`
+pub record IsPartOf (snapshot : SnapshotView) (name : NameParts) (state : State) : Type 0 where
+  pub root : snapshot.root ≡ name
+  pub types : snapshot.types ≡ state.types
+  pub bodies : (other : NameParts) → is_within name other ≡ true → at_name snapshot.units other ≡ state.bodies other

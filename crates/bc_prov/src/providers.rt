@@ -1,0 +1,81 @@
+//! The analyses of a body, as closures that are stored.
+ghost use Rattle.std.specs.Prelude.{IfOk};
+ghost use Rattle.bc_prov.specs.Facts.{AnswersLiveness, AnswersScopes, AnswersValues, AreLive, AreScopes, AreValues};
+
+use bc_cons::Facts;
+use bc_live::LiveSets;
+use bc_loans::Scopes;
+use bc_mir::Typed;
+use bc_solve::Values;
+use std::alloc::{AllocError, Global};
+
+/// The points on whose entry each local of a body is live, by a closure. (RFC 2094, "Liveness".)
+pub type Liveness = Box<dyn Fn(Global, &Typed) -> Result<LiveSets, AllocError> + Send + Sync>;
+
+/// The values of regions, by a closure. (RFC 2094, "Solving constraints".)
+pub type Solver = Box<dyn Fn(Global, &Facts) -> Result<Values, AllocError> + Send + Sync>;
+
+/// The loans in scope within the values of regions, by a closure. (RFC 2094, "Borrow checker phase 1: computing loans in
+/// scope".)
+pub type Scoping = Box<dyn Fn(Global, &Typed, &Values) -> Result<Scopes, AllocError> + Send + Sync>;
+
+/// The closures by which bodies are analysed. Their facts stand in the type: each may be called on every value of its input,
+/// and answers only what its definition says, or want of memory. Threads share one by reference. (rustc-dev-guide,
+/// "Queries": providers, which are installed from outside.)
+#[derive(Drop)]
+pub struct Providers {
+    live: Liveness,
+    solve: Solver,
+    in_scope: Scoping,
+    ghost live_callable: { Liveness.IsAlwaysCallable live },
+    ghost live_right: { AnswersLiveness (Liveness.post live) },
+    ghost solve_callable: { Solver.IsAlwaysCallable solve },
+    ghost solve_right: { AnswersValues (Solver.post solve) },
+    ghost in_scope_callable: { Scoping.IsAlwaysCallable in_scope },
+    ghost in_scope_right: { AnswersScopes (Scoping.post in_scope) },
+}
+
+impl Providers {
+    /// The providers that call these closures. It takes no memory. It asks that each closure may be called on every value of
+    /// its input, and answers only liveness, values or loans in scope as they are defined, or want of memory. (Own.)
+    pub fn new(live: Liveness, solve: Solver, in_scope: Scoping) -> Providers
+        requires live_callable { Liveness.IsAlwaysCallable live }
+        requires live_right { AnswersLiveness (Liveness.post live) }
+        requires solve_callable { Solver.IsAlwaysCallable solve }
+        requires solve_right { AnswersValues (Solver.post solve) }
+        requires in_scope_callable { Scoping.IsAlwaysCallable in_scope }
+        requires in_scope_right { AnswersScopes (Scoping.post in_scope) }
+    {
+        Providers {
+            live,
+            solve,
+            in_scope,
+        }
+    }
+
+    /// The liveness of a body, by the closure.
+    pub(crate) fn live(&self, alloc: Global, typed: &Typed) -> Result<LiveSets, AllocError>
+        ensures { IfOk result (AreLive typed.now) }
+    {
+        (self.live)(alloc, typed)
+    }
+
+    /// The values over facts of regions, by the closure.
+    pub(crate) fn solve(&self, alloc: Global, facts: &Facts) -> Result<Values, AllocError>
+        ensures { IfOk result (AreValues facts.now) }
+    {
+        (self.solve)(alloc, facts)
+    }
+
+    /// The loans in scope of a body within values, by the closure.
+    pub(crate) fn in_scope(
+        &self,
+        alloc: Global,
+        typed: &Typed,
+        values: &Values,
+    ) -> Result<Scopes, AllocError>
+        ensures { IfOk result (AreScopes typed.now values.now) }
+    {
+        (self.in_scope)(alloc, typed, values)
+    }
+}

@@ -1,0 +1,138 @@
+//! Asks by providers of a test: such as count their calls, and such as always want memory.
+ghost use Rattle.std.specs.Prelude.{IfOk};
+ghost use Rattle.bc_prov.specs.Facts.{AreValues};
+
+use crate::tests::{
+    CLOSURE, Found, INVARIANT_BUT_MARKED_COVARIANT, INVOKES, NESTED, Turn, WRITES_LAST, history_by,
+};
+use bc_analyses::{find_live, find_scopes, find_values};
+use bc_book::{PutReply, Refusal};
+use bc_cons::Facts;
+use bc_mir::Typed;
+use bc_prov::{Liveness, Providers, Scoping, Solver};
+use bc_solve::Values;
+use std::alloc::{AllocError, Global};
+use std::process::Abort;
+use std::sync::Arc;
+use std::sync::atomic::AtomicU32;
+use std::sync::atomic::Ordering::SeqCst;
+use std::test::Fail;
+
+/// A body that borrows where its result is a number.
+const ILL: &[u8] = b"fn () -> int { bb0 { _0 = &'?0 _0; return; } }";
+
+/// How often each provider was called.
+#[derive(Drop)]
+struct Calls {
+    live: AtomicU32,
+    solve: AtomicU32,
+    in_scope: AtomicU32,
+}
+
+impl Calls {
+    fn new() -> Calls {
+        Calls {
+            live: AtomicU32::new(0),
+            solve: AtomicU32::new(0),
+            in_scope: AtomicU32::new(0),
+        }
+    }
+
+    /// Whether each was called so often.
+    fn are(&self, count: u32) -> bool {
+        self.live.load(SeqCst) == count
+            && self.solve.load(SeqCst) == count
+            && self.in_scope.load(SeqCst) == count
+    }
+}
+
+/// A solver that always wants memory.
+fn want_memory(_alloc: Global, _facts: &Facts) -> Result<Values, AllocError>
+    ensures { IfOk result (AreValues _facts.now) }
+{
+    Err(AllocError)
+}
+
+/// Whether each provider is called so often where a session makes these calls, by providers that count their calls and answer as
+/// the program's do.
+fn are_called(
+    rt: &impl Abort,
+    alloc: Global,
+    turns: &[Turn],
+    capacity: u32,
+    count: u32,
+) -> Result<bool, Fail> {
+    let Ok(calls) = Arc::new(alloc, Calls::new()) else {
+        return Err("memory")?;
+    };
+    let to_live = Arc::try_clone(&calls)?;
+    let to_solve = Arc::try_clone(&calls)?;
+    let to_scope = Arc::try_clone(&calls)?;
+    let live: Liveness = Box::new(alloc, move |alloc: Global, typed: &Typed| {
+        to_live.live.fetch_add(1, SeqCst);
+        find_live(alloc, typed)
+    })?;
+    let solve: Solver = Box::new(alloc, move |alloc: Global, facts: &Facts| {
+        to_solve.solve.fetch_add(1, SeqCst);
+        find_values(alloc, facts)
+    })?;
+    let in_scope: Scoping = Box::new(
+        alloc,
+        move |alloc: Global, typed: &Typed, values: &Values| {
+            to_scope.in_scope.fetch_add(1, SeqCst);
+            find_scopes(alloc, typed, values)
+        },
+    )?;
+    let providers = Providers::new(live, solve, in_scope);
+    let _history = history_by(rt, alloc, &providers, capacity, turns)?;
+    Ok(calls.are(count))
+}
+
+#[test]
+fn each_provider_is_called_once_for_each_body_of_a_report(rt: HostRuntime) -> Result<(), Fail> {
+    let turns = [
+        Turn::Put(b"f", INVOKES, Ok(PutReply::Added)),
+        Turn::Put(b"f/0", NESTED, Ok(PutReply::Added)),
+        Turn::Put(b"f/0/1", CLOSURE, Ok(PutReply::Added)),
+        Turn::Ask(b"f", Ok(Found::Three(0, 0, 0))),
+        Turn::Ask(b"f/0/1", Ok(Found::Errors(0))),
+    ];
+    assert!(rt; are_called(&rt, rt.alloc(), &turns, 5, 4)?);
+    Ok(())
+}
+
+#[test]
+fn no_provider_is_called_where_there_is_a_fault(rt: HostRuntime) -> Result<(), Fail> {
+    let turns = [
+        Turn::Ask(b"f", Ok(Found::NoBody)),
+        Turn::Put(b"f", INVOKES, Ok(PutReply::Added)),
+        Turn::Ask(b"f", Ok(Found::Missing(1))),
+        Turn::Put(b"f/0", NESTED, Ok(PutReply::Added)),
+        Turn::Ask(b"f", Ok(Found::Missing(2))),
+        Turn::Put(b"g", ILL, Ok(PutReply::Added)),
+        Turn::Ask(b"g", Ok(Found::Other)),
+        Turn::Types(INVARIANT_BUT_MARKED_COVARIANT, Ok(())),
+        Turn::Ask(b"f", Ok(Found::BadTypes(0))),
+    ];
+    assert!(rt; are_called(&rt, rt.alloc(), &turns, 9, 0)?);
+    Ok(())
+}
+
+/// Catches the wrong body `report_ignores_providers`: where a provider always wants memory, so does the report of a body.
+#[test]
+fn a_report_wants_memory_where_a_provider_does(rt: HostRuntime) -> Result<(), Fail> {
+    let alloc = rt.alloc();
+    let providers = Providers::new(
+        Box::new(alloc, find_live)?,
+        Box::new(alloc, want_memory)?,
+        Box::new(alloc, find_scopes)?,
+    );
+    let turns = [
+        Turn::Put(b"f", WRITES_LAST, Ok(PutReply::Added)),
+        Turn::Ask(b"f", Err(Refusal::NoMemory)),
+        Turn::Ask(b"g", Ok(Found::NoBody)),
+    ];
+    let history = history_by(&rt, alloc, &providers, 3, &turns)?;
+    assert!(rt; history.entries().len() == 2, "the refused Ask is no entry");
+    Ok(())
+}
