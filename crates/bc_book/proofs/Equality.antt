@@ -1,33 +1,19 @@
 -- `==` on events decides `≡`.
-use Rattle.std.proofs.Common.{◌≡◌, refl, ap}
+use Rattle.std.proofs.Common.{◌≡◌, refl}
 use Rattle.std.specs.Bool.{Decides}
 use Rattle.std.proofs.lemmas.Bool.Decides.{Decides-and, Decides-like}
 use Rattle.bc_text.proofs.Equality.{name}
-use Rattle.std.proofs.lemmas.Slice.Eq.{slice_eq-Decides}
-use Rattle.bc_syntax.proofs.Equality.{apart, body, declaration}
-use Rattle.bc_prov.proofs.Equality.{outcome}
-use Rattle.bc_book.specs.declared.call.Call.{Call}
-use Rattle.bc_book.specs.declared.call.Call.TheVariants as calls
+use Rattle.bc_syntax.proofs.Equality.{apart, body}
+use Rattle.bc_prov.proofs.Equality.{outcome, declared}
 use Rattle.bc_book.specs.declared.call.PutReply.{PutReply}
 use Rattle.bc_book.specs.declared.call.PutReply.TheVariants as put_replies
-use Rattle.bc_book.specs.declared.call.Reply.{Reply}
-use Rattle.bc_book.specs.declared.call.Reply.TheVariants as replies
+use Rattle.bc_book.specs.declared.call.RemoveReply.{RemoveReply}
+use Rattle.bc_book.specs.declared.call.RemoveReply.TheVariants as remove_replies
 use Rattle.bc_book.specs.declared.call.Event.{Event}
-use Rattle.bc_book.specs.contracts.call.CallPartialEq.TheImpl as call_impl
+use Rattle.bc_book.specs.declared.call.Event.TheVariants as events
 use Rattle.bc_book.specs.contracts.call.PutReplyPartialEq.TheImpl as put_reply_impl
-use Rattle.bc_book.specs.contracts.call.ReplyPartialEq.TheImpl as reply_impl
+use Rattle.bc_book.specs.contracts.call.RemoveReplyPartialEq.TheImpl as remove_reply_impl
 use Rattle.bc_book.specs.contracts.call.EventPartialEq.TheImpl as event_impl
-
-pub call : (a b : Call) → Decides ((call_impl.ghosts).eq a b) (a ≡ b)
-call (calls.Types x) (calls.Types y) = Decides-like _ (λ p i. calls.Types (p i)) (λ e. cc) (slice_eq-Decides declaration x y _ refl)
-call (calls.Types x) (calls.Put y0 y1) = apart (λ e. absurd (cc))
-call (calls.Types x) (calls.Ask y) = apart (λ e. absurd (cc))
-call (calls.Put x0 x1) (calls.Types y) = apart (λ e. absurd (cc))
-call (calls.Put x0 x1) (calls.Put y0 y1) = Decides-like _ (λ p i. calls.Put (p.0 i) (p.1 i)) (λ e. (cc, cc)) (Decides-and _ _ (name x0 y0) (body x1 y1))
-call (calls.Put x0 x1) (calls.Ask y) = apart (λ e. absurd (cc))
-call (calls.Ask x) (calls.Types y) = apart (λ e. absurd (cc))
-call (calls.Ask x) (calls.Put y0 y1) = apart (λ e. absurd (cc))
-call (calls.Ask x) (calls.Ask y) = Decides-like _ (λ p i. calls.Ask (p i)) (λ e. cc) (name x y)
 
 pub put_reply : (a b : PutReply) → Decides ((put_reply_impl.ghosts).eq a b) (a ≡ b)
 put_reply put_replies.Added put_replies.Added = (λ _. refl, λ _. refl)
@@ -47,18 +33,26 @@ put_reply put_replies.WrongKind put_replies.Replaced = apart (λ e. absurd (cc))
 put_reply put_replies.WrongKind put_replies.Full = apart (λ e. absurd (cc))
 put_reply put_replies.WrongKind put_replies.WrongKind = (λ _. refl, λ _. refl)
 
-pub reply : (a b : Reply) → Decides ((reply_impl.ghosts).eq a b) (a ≡ b)
-reply replies.Stored replies.Stored = (λ _. refl, λ _. refl)
-reply replies.Stored (replies.Put y) = apart (λ e. absurd (cc))
-reply replies.Stored (replies.Outcome y) = apart (λ e. absurd (cc))
-reply (replies.Put x) replies.Stored = apart (λ e. absurd (cc))
-reply (replies.Put x) (replies.Put y) = Decides-like _ (λ p i. replies.Put (p i)) (λ e. cc) (put_reply x y)
-reply (replies.Put x) (replies.Outcome y) = apart (λ e. absurd (cc))
-reply (replies.Outcome x) replies.Stored = apart (λ e. absurd (cc))
-reply (replies.Outcome x) (replies.Put y) = apart (λ e. absurd (cc))
-reply (replies.Outcome x) (replies.Outcome y) = Decides-like _ (λ p i. replies.Outcome (p i)) (λ e. cc) (outcome x y)
+pub remove_reply : (a b : RemoveReply) → Decides ((remove_reply_impl.ghosts).eq a b) (a ≡ b)
+remove_reply remove_replies.Removed remove_replies.Removed = (λ _. refl, λ _. refl)
+remove_reply remove_replies.Removed remove_replies.Absent = apart (λ e. absurd (cc))
+remove_reply remove_replies.Absent remove_replies.Removed = apart (λ e. absurd (cc))
+remove_reply remove_replies.Absent remove_replies.Absent = (λ _. refl, λ _. refl)
 
 pub event : (a b : Event) → Decides ((event_impl.ghosts).eq a b) (a ≡ b)
-event a b =
-    Decides-like _ (λ p i. record { call = p.0 i; reply = p.1 i }) (λ e. (ap (λ (r : Event). r.call) e, ap (λ (r : Event). r.reply) e))
-    (Decides-and _ _ (call a.call b.call) (reply a.reply b.reply))
+event (events.Types x) (events.Types y) = Decides-like _ (λ p i. events.Types (p i)) (λ e. cc) (declared x y)
+event (events.Types x) (events.Put y0 y1 y2) = apart (λ e. absurd (cc))
+event (events.Types x) (events.Remove y0 y1) = apart (λ e. absurd (cc))
+event (events.Types x) (events.Ask y0 y1) = apart (λ e. absurd (cc))
+event (events.Put x0 x1 x2) (events.Types y) = apart (λ e. absurd (cc))
+event (events.Put x0 x1 x2) (events.Put y0 y1 y2) = Decides-like _ (λ p i. events.Put (p.0 i) (p.1.0 i) (p.1.1 i)) (λ e. (cc, (cc, cc))) (Decides-and _ _ (name x0 y0) (Decides-and _ _ (body x1 y1) (put_reply x2 y2)))
+event (events.Put x0 x1 x2) (events.Remove y0 y1) = apart (λ e. absurd (cc))
+event (events.Put x0 x1 x2) (events.Ask y0 y1) = apart (λ e. absurd (cc))
+event (events.Remove x0 x1) (events.Types y) = apart (λ e. absurd (cc))
+event (events.Remove x0 x1) (events.Put y0 y1 y2) = apart (λ e. absurd (cc))
+event (events.Remove x0 x1) (events.Remove y0 y1) = Decides-like _ (λ p i. events.Remove (p.0 i) (p.1 i)) (λ e. (cc, cc)) (Decides-and _ _ (name x0 y0) (remove_reply x1 y1))
+event (events.Remove x0 x1) (events.Ask y0 y1) = apart (λ e. absurd (cc))
+event (events.Ask x0 x1) (events.Types y) = apart (λ e. absurd (cc))
+event (events.Ask x0 x1) (events.Put y0 y1 y2) = apart (λ e. absurd (cc))
+event (events.Ask x0 x1) (events.Remove y0 y1) = apart (λ e. absurd (cc))
+event (events.Ask x0 x1) (events.Ask y0 y1) = Decides-like _ (λ p i. events.Ask (p.0 i) (p.1 i)) (λ e. (cc, cc)) (Decides-and _ _ (name x0 y0) (outcome x1 y1))

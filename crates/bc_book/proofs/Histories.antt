@@ -1,9 +1,10 @@
 -- Histories that grow at their end.
-use Rattle.std.proofs.Common.{◌≡◌, ◌⊎◌, List, [], ◌∷◌, ◌++◌, refl, sym, subst, inl, inr, ⊎_elim}
-use Rattle.std.proofs.lemmas.List.Sums.{fold-append}
+use Rattle.std.proofs.Common.{◌≡◌, ◌⊎◌, ◌+◌, ◌≤◌, Bool, true, cond, List, [], ◌∷◌, ◌++◌, length, refl, sym, ap, ◌∙◌, subst, inl, inr, ⊎_elim, arith}
+use Rattle.std.proofs.lemmas.List.Sums.{fold-append, sum_by-append, count_by-le-length}
 use Rattle.bc_book.specs.declared.call.Entry.{Entry}
 use Rattle.bc_prov.specs.State.{State}
 use Rattle.bc_book.specs.Calls.{opening, next, after, MayComeNext, IsLegal}
+use Rattle.bc_book.specs.Changes.{writes, writes_of}
 
 -- where a longer list is cut before an element, that is the last one, or the cut is in the list before
 pub snoc_split : {A : Type 0} (h : List A) (x : A) (before : List A) (e : A) (rest : List A) → h ++ x ∷ [] ≡ before ++ e ∷ rest
@@ -34,5 +35,21 @@ legal_snoc h x legal fits before e rest is =
 pub legal_more : (h l : List Entry) (x : Entry) → IsLegal h → MayComeNext h x → l ≡ h ++ x ∷ [] → IsLegal l
 legal_more h l x legal fits is = subst IsLegal (sym is) (legal_snoc h x legal fits)
 
-pub after-snoc : (h : List Entry) (e : Entry) → after (h ++ e ∷ []) ≡ next (after h) e.event.call e.event.reply
-after-snoc h e = fold-append (λ (s : State) (x : Entry). next s x.event.call x.event.reply) opening h (e ∷ [])
+pub after-snoc : (h : List Entry) (e : Entry) → after (h ++ e ∷ []) ≡ next (after h) e.event
+after-snoc h e = fold-append (λ (s : State) (x : Entry). next s x.event) opening h (e ∷ [])
+
+-- how many accepted writes there are with one entry more
+pub writes-snoc : (h : List Entry) (e : Entry) → writes_of (h ++ e ∷ []) ≡ writes_of h + cond (writes e.event) 1 0
+writes-snoc h e =
+    let split : writes_of (h ++ e ∷ []) ≡ writes_of h + (0 + cond (writes e.event) 1 0) = sum_by-append (λ (x : Entry). cond (writes x.event) 1 0) h (e ∷ []) in
+    omega (arith, split)
+
+pub writes_no_fewer : (h : List Entry) (e : Entry) → writes_of h ≤ writes_of (h ++ e ∷ [])
+writes_no_fewer h e = let more = writes-snoc h e in omega (arith, more)
+
+pub writes_more : (h : List Entry) (e : Entry) → writes e.event ≡ true → writes_of (h ++ e ∷ []) ≡ writes_of h + 1
+writes_more h e is = writes-snoc h e ∙ ap (λ (b : Bool). writes_of h + cond b 1 0) is
+
+-- there are no more writes than entries
+pub writes_few : (h : List Entry) → writes_of h ≤ length h
+writes_few h = count_by-le-length (λ (e : Entry). writes e.event) h

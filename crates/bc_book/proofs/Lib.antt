@@ -1,6 +1,8 @@
 pub mod Equality
 pub mod Histories
 pub mod Counting
-pub mod Bodies
-pub mod Suited
 pub mod Parts
+pub mod Answering
+pub mod Changing
+pub mod Remembering
+pub mod Keeping

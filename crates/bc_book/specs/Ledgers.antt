@@ -1,48 +1,102 @@
--- A history as it is kept, with the declarations and the bodies that it leaves.
-use Rattle.std.specs.Prelude.{◌≡◌, ℕ, ◌^◌, ◌<◌, ◌≤◌, List, [], ◌∷◌, ◌++◌, length, filter, slice_index}
-use Rattle.std.specs.BTreeMap.{BTreeMap, btree_map_len}
-use Rattle.bc_text.specs.Names.{NameParts, is_within}
-use Rattle.bc_syntax.specs.declared.syntax.Declaration.{Declaration}
-use Rattle.bc_syntax.specs.declared.syntax.Body.{Body}
-use Rattle.bc_book.specs.declared.call.Call.{Call}
-use Rattle.bc_book.specs.declared.call.Reply.{Reply}
-use Rattle.bc_book.specs.declared.call.Entry.{Entry}
-use Rattle.bc_book.specs.declared.ledger.TheConstants.{MOST_BODIES, MOST_SESSIONS}
+-- A history as it is kept, with what it leaves.
+use Rattle.std.specs.Prelude.{◌≡◌, ◌↔◌, ℕ, ◌^◌, ◌<◌, ◌≤◌, Some, IsSome, List, [], ◌∷◌, ◌++◌, length, slice_index}
+use Rattle.std.specs.Map.{remove_entry}
+use Rattle.std.specs.BTreeMap.{is_at}
+use Rattle.bc_text.specs.Names.{NameParts, name_order}
 use Rattle.bc_prov.specs.State.{Bodies, at_name}
+use Rattle.bc_memo.specs.declared.memo.Remembered.{Remembered}
+use Rattle.bc_memo.specs.declared.change.Change.{Change}
+use Rattle.bc_memo.specs.declared.change.Change.TheVariants as changes
+use Rattle.bc_memo.specs.Places.{ShelfView, AreOrdered, unit_of}
+use Rattle.bc_book.specs.declared.call.PutReply.TheVariants.{Added}
+use Rattle.bc_book.specs.declared.call.Event.{Event}
+use Rattle.bc_book.specs.declared.call.Event.TheVariants.{Types, Put, Remove, Ask}
+use Rattle.bc_book.specs.declared.call.Entry.{Entry}
+use Rattle.bc_book.specs.declared.ledger.Refusal.{Refusal}
+use Rattle.bc_book.specs.declared.ledger.Refusal.TheVariants.{HistoryFull}
+use Rattle.bc_book.specs.declared.ledger.TheConstants.{MOST_BODIES, MOST_SESSIONS}
 use Rattle.bc_book.specs.Calls.{after, count_of, IsReply, IsLegal}
+use Rattle.bc_book.specs.Changes.{writes_of}
+use Rattle.bc_book.specs.Answers.{IsShelfOf}
+use Rattle.bc_book.specs.Memory.{IsRight, ArePast}
 
--- how many entries there may be, those that there are, and for how many more there is memory
+-- how many entries there may be, those that there are, what is held, what is remembered, and for how many more entries, places and
+-- answers there is memory
 pub record LedgerView : Type 0 where
   pub capacity : ℕ
   pub entries : List Entry
+  pub shelf : ShelfView
+  pub answers : List (NameParts × Remembered)
   pub room : ℕ
+  pub places : ℕ
+  pub rows : ℕ
 
 -- how many entries each session has
 abbrev pub AreCounts : List ℕ → List Entry → Type 0
 AreCounts counts h = (session : ℕ) → session < MOST_SESSIONS → slice_index counts session ≡ count_of session h
 
--- the body that a map has at each name
-abbrev pub bodies_of : BTreeMap NameParts Body → Bodies
-bodies_of held = at_name held.entries
-
--- those that stand at a name or at one that begins with it and `/`
-abbrev pub units_within : NameParts → List (NameParts × Body) → List (NameParts × Body)
-units_within root units = filter (λ (unit : NameParts × Body). is_within root unit.0) units
-
--- the history is legal and not too long, and the counts, the declarations and the bodies are those that it leaves
-pub record IsKept (capacity : ℕ) (h : List Entry) (counts : List ℕ) (declared : List Declaration) (held : BTreeMap NameParts Body) : Type 0 where
+-- The history is legal and not too long. The counts, the declarations, the bodies and the answers are those that it leaves. What is
+-- remembered is of names that are held, in their order, and is right while all that it was found from has its revision.
+pub record IsKept (capacity : ℕ) (h : List Entry) (counts : List ℕ) (writes : ℕ) (shelf : ShelfView) (answers : List (NameParts × Remembered)) : Type 0 where
   pub legal : IsLegal h
   pub bounded : capacity < 2 ^ 32
   pub short : length h ≤ capacity
   pub counted : AreCounts counts h
-  pub types : declared ≡ (after h).types
-  pub holds : (name : NameParts) → bodies_of held name ≡ (after h).bodies name
-  pub few : btree_map_len held ≤ MOST_BODIES
+  pub sized : length counts ≡ MOST_SESSIONS
+  pub written : writes ≡ writes_of h
+  pub shelf_of : IsShelfOf shelf h
+  pub few : length shelf.places ≤ MOST_BODIES
+  pub past : ArePast shelf h
+  pub sorted : AreOrdered answers
+  pub held : (name : NameParts) (row : Remembered) → at_name answers name ≡ Some row → IsSome (at_name shelf.places name)
+  pub right : (name : NameParts) (row : Remembered) → at_name answers name ≡ Some row → IsRight shelf h name row
 
--- the one entry is added, with its session's next number: the call, and the reply that what is held gives it; the history
--- is legal with it
-pub record Enters (session : ℕ) (call : Call) (reply : Reply) (old new : LedgerView) : Type 0 where
-  pub right : IsReply (after old.entries) call reply
+-- two ledgers have the same history, and hold and remember the same
+pub record SameLedger (one other : LedgerView) : Type 0 where
+  pub capacity : other.capacity ≡ one.capacity
+  pub entries : other.entries ≡ one.entries
+  pub shelf : other.shelf ≡ one.shelf
+  pub answers : other.answers ≡ one.answers
+
+-- this may be remembered for a name: the name is held, and it is right
+pub record IsRow (shelf : ShelfView) (h : List Entry) (name : NameParts) (row : Remembered) : Type 0 where
+  pub held : IsSome (at_name shelf.places name)
+  pub right : IsRight shelf h name row
+
+-- what is still remembered after a change: nothing for a name whose body is taken away
+abbrev pub kept_rows : Change → List (NameParts × Remembered) → List (NameParts × Remembered)
+kept_rows (changes.Types types) rows = rows
+kept_rows (changes.Put name unit) rows = rows
+kept_rows (changes.Remove name) rows = remove_entry (is_at (name_order name)) rows
+kept_rows (changes.Answer name outcome) rows = rows
+kept_rows changes.Nothing rows = rows
+
+-- the body that is held at each name
+abbrev pub bodies_of : ShelfView → Bodies
+bodies_of shelf = λ name. unit_of (at_name shelf.places name)
+
+-- a body is added only where fewer than `MOST_BODIES` are held
+abbrev pub HasPlace : ℕ → Event → Type 0
+HasPlace held (Types types) = Unit {0}
+HasPlace held (Put name body reply) = reply ≡ Added → held < MOST_BODIES
+HasPlace held (Remove name reply) = Unit {0}
+HasPlace held (Ask name outcome) = Unit {0}
+
+-- how many entries there may be, those that there are, what is held, and what is remembered
+pub record BookView : Type 0 where
+  pub capacity : ℕ
+  pub entries : List Entry
+  pub shelf : ShelfView
+  pub answers : List (NameParts × Remembered)
+
+-- the one entry is added, with its session's next number: the call, and the reply that what is held gives it; the history is legal
+-- with it
+pub record Appends (session : ℕ) (event : Event) (old new : BookView) : Type 0 where
+  pub right : IsReply (after old.entries) event
   pub capacity : new.capacity ≡ old.capacity
-  pub entries : new.entries ≡ old.entries ++ record { session = session; number = count_of session old.entries; event = record { call = call; reply = reply } } ∷ []
+  pub entries : new.entries ≡ old.entries ++ record { session = session; number = count_of session old.entries; event = event } ∷ []
   pub legal : IsLegal new.entries
+
+-- a call is refused as full exactly where there are as many entries as there may be
+abbrev pub IsFull : BookView → Refusal → Type 0
+IsFull book refusal = refusal ≡ HistoryFull ↔ length book.entries ≡ book.capacity

@@ -1,2 +1,6 @@
 pub mod Calls
+pub mod Changes
+pub mod Answers
+pub mod Works
+pub mod Memory
 pub mod Ledgers

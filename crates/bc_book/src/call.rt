@@ -1,17 +1,21 @@
-//! Calls, their replies, and the entries of a history.
-ghost use Rattle.std.specs.Prelude.{◌≡◌, IsTrue, ◌↔◌, true};
-ghost use Rattle.bc_book.specs.Calls.{stores};
+//! Calls, calls with their replies, and the entries of a history.
+ghost use Rattle.std.specs.Prelude.{◌≡◌, ◌↔◌, IfOk, IsTrue};
+ghost use Rattle.bc_book.specs.Calls.{stores, takes};
+ghost use Rattle.bc_book.specs.Changes.{change_of, writes};
 
-use bc_prov::{Outcome, Shared};
+use bc_memo::Change;
+use bc_prov::{Declared, Outcome, Shared};
 use bc_syntax::{Types, Unit};
 use bc_text::Name;
+use std::alloc::AllocError;
 
-/// What a session asks for: to store declarations in place of those before, to put a unit under a name, or the outcome
-/// of a name. (Own.)
-#[derive(Drop, PartialEq)]
+/// What a session asks for: to store declarations in place of those before, to put a unit under a name, to take the unit of a name
+/// away, or the outcome of a name. (Own.)
+#[derive(Drop)]
 pub enum Call {
     Types(Shared<Types>),
     Put(Name, Shared<Unit>),
+    Remove(Name),
     Ask(Name),
 }
 
@@ -25,8 +29,15 @@ pub enum PutReply {
     WrongKind,
 }
 
+/// The reply to a removal: the body is taken away, or none was held. (Own.)
+#[derive(Clone, Copy, Debug, PartialEq, Eq)]
+pub enum RemoveReply {
+    Removed,
+    Absent,
+}
+
 impl PutReply {
-    /// Whether the put stored its body.
+    /// Whether the put stored its body. Own.
     pub fn stores(self) -> bool
         ensures { result ≡ stores self }
     {
@@ -37,22 +48,28 @@ impl PutReply {
     }
 }
 
-/// The reply to a call of its kind: declarations are stored, a put has its reply, and an Ask its outcome. (Own.)
-#[derive(Drop, PartialEq)]
-pub enum Reply {
-    Stored,
-    Put(PutReply),
-    Outcome(Shared<Outcome>),
+impl RemoveReply {
+    /// Whether the removal took a body away. Own.
+    pub fn takes(self) -> bool
+        ensures { result ≡ takes self }
+    {
+        match self {
+            RemoveReply::Removed => true,
+            RemoveReply::Absent => false,
+        }
+    }
 }
 
-/// A call with its reply.
+/// A call with its reply: declarations, which are stored; a put or a removal with its reply; or an Ask with its outcome. (Own.)
 #[derive(Drop, PartialEq)]
-pub struct Event {
-    pub call: Call,
-    pub reply: Reply,
+pub enum Event {
+    Types(Shared<Declared>),
+    Put(Name, Shared<Unit>, PutReply),
+    Remove(Name, RemoveReply),
+    Ask(Name, Shared<Outcome>),
 }
 
-/// An event of a session, and how many events that session had before it.
+/// An event of a session, and how many events that session had before it. (Own.)
 #[derive(Drop)]
 pub struct Entry {
     pub session: u8,
@@ -61,10 +78,46 @@ pub struct Entry {
 }
 
 impl Event {
-    /// Whether another event has the same call and the same reply.
+    /// Whether another event has the same call and the same reply. Own.
     pub fn is(&self, other: &Event) -> bool
         ensures { IsTrue result ↔ (self.now ≡ other.now) }
     {
         self == other
+    }
+
+    /// Whether it is an accepted write: declarations that were stored, or a body that was added, replaced or removed.
+    pub(crate) fn writes(&self) -> bool
+        ensures { result ≡ writes self.now }
+    {
+        match self {
+            Event::Types(_) => true,
+            Event::Put(_, _, reply) => reply.stores(),
+            Event::Remove(_, reply) => reply.takes(),
+            Event::Ask(_, _) => false,
+        }
+    }
+
+    /// What it changes in what is held, as one more owner of what it brings. `AllocError` only where memory was refused.
+    pub(crate) fn change(&self) -> Result<Change, AllocError>
+        ensures { IfOk result (λ change. change ≡ change_of self.now) }
+    {
+        match self {
+            Event::Types(types) => Ok(Change::Types(types.clone()?)),
+            Event::Put(name, unit, reply) => {
+                if reply.stores() {
+                    Ok(Change::Put(*name, unit.clone()?))
+                } else {
+                    Ok(Change::Nothing)
+                }
+            }
+            Event::Remove(name, reply) => {
+                if reply.takes() {
+                    Ok(Change::Remove(*name))
+                } else {
+                    Ok(Change::Nothing)
+                }
+            }
+            Event::Ask(name, outcome) => Ok(Change::Answer(*name, outcome.clone()?)),
+        }
     }
 }

@@ -1,19 +1,21 @@
-//! The history of a database, and the declarations and the bodies that it leaves.
-ghost use Rattle.std.specs.Prelude.{◌≡◌, ◌↔◌, ◌+◌, ◌<◌, ◌≤◌, ◌^◌, [], ◌∷◌, ◌++◌, length, is_some, IsSome, IfOk, OnOk, OnErr, IfErr, IsTrue, vec_capacity, vec_len};
-ghost use Rattle.std.specs.BTreeMap.{IsOrdered, btree_map_len, get};
-ghost use Rattle.bc_text.specs.Names.{name_order};
+//! The history, and what it leaves: what lies under the lock but for what publishes. It waits for nobody.
+ghost use Rattle.std.specs.Prelude.{◌≡◌, ◌↔◌, ◌+◌, ◌^◌, ◌<◌, [], ◌∷◌, ◌++◌, length, IfOk, IfSome, IsSome, IsTrue, OnOk, IfErr};
+ghost use Rattle.std.specs.Option.{ForSome};
 ghost use Rattle.bc_prov.specs.Outcome.{IsOutcomeIn};
 ghost use Rattle.bc_prov.specs.Snapshots.{IsPartOf};
-ghost use Rattle.bc_prov.specs.State.{HasRoom, Suits, SuitsKind};
-ghost use Rattle.bc_book.specs.Calls.{IsLegal, IsPutReply, after, after_put, count_of};
-ghost use Rattle.bc_book.specs.Ledgers.{Enters, AreCounts, bodies_of, units_within};
+ghost use Rattle.bc_prov.specs.State.{at_name};
+ghost use Rattle.bc_book.specs.Calls.{IsLegal, IsPutReply, IsRemoveReply, MayComeNext, after, count_of};
+ghost use Rattle.bc_book.specs.Changes.{change_of, writes_after};
+ghost use Rattle.bc_book.specs.Ledgers.{HasPlace, IsRow, SameLedger, kept_rows};
 
-use crate::call::{Call, Entry, Event, PutReply, Reply};
-use bc_prov::{Declared, Outcome, Providers, Shared, Snapshot, report};
-use bc_syntax::{Sequence, Types, Unit, UnitKind};
+use crate::call::{Entry, Event, PutReply, RemoveReply};
+use crate::reply::{put_reply, remove_reply};
+use crate::work::{Begun, Work, carrying};
+use bc_memo::{Change, Memo, Remembered, Shelf};
+use bc_prov::{Declared, Outcome, Providers, Shared};
+use bc_syntax::{Sequence, Types, Unit};
 use bc_text::Name;
 use std::alloc::{AllocError, Global};
-use std::collections::BTreeMap;
 use std::marker::Model;
 use std::sync::Arc;
 use thiserror::Error;
@@ -44,17 +46,15 @@ impl From<AllocError> for Refusal {
     }
 }
 
-// The bodies that are held, by their names.
-type Bodies = BTreeMap<Name, Shared<Unit>>;
-
-/// A legal history, which may have so many entries, and the declarations and the bodies that it leaves.
+/// A legal history, which may have so many entries, with what it leaves, and answers that are remembered.
 #[derive(Drop)]
-pub struct Ledger {
+pub(crate) struct Ledger {
     capacity: u32,
     history: Vec<Entry>,
     counts: [u32; MOST_SESSIONS],
-    types: Shared<Declared>,
-    bodies: Bodies,
+    writes: u32,
+    shelf: Shelf,
+    memo: Memo,
 }
 
 impl Model for Ledger {
@@ -63,14 +63,14 @@ impl Model for Ledger {
 
     ghost Value = { LedgerView };
 
-    ghost view = { λ l. record { capacity = l.capacity; entries = l.history.items; room = vec_capacity l.history - l.history.len } };
+    ghost view = { λ l. record { capacity = l.capacity; entries = l.history.items; shelf = l.shelf.held; answers = l.memo.rows; room = vec_capacity l.history - l.history.len; places = l.shelf.room; rows = l.memo.room } };
 
-    ghost invariant = { λ l. IsKept l.capacity l.history.items l.counts l.types l.bodies };
+    ghost invariant = { λ l. IsKept l.capacity l.history.items l.counts l.writes l.shelf.held l.memo.rows };
 }
 
 impl Ledger {
     /// An empty history, with no declaration and no body. `AllocError` only where memory was refused.
-    pub fn new(alloc: Global, capacity: u32) -> Result<Ledger, AllocError>
+    pub(crate) fn new(alloc: Global, capacity: u32) -> Result<Ledger, AllocError>
         ensures { IfOk result (λ ledger. (ledger.capacity ≡ capacity) × (ledger.entries ≡ [])) }
     {
         let types = declared(alloc, no_types(alloc)?)?;
@@ -78,123 +78,194 @@ impl Ledger {
             capacity,
             history: Vec::new(alloc),
             counts: [0; MOST_SESSIONS],
-            types,
-            bodies: BTreeMap::new(alloc),
+            writes: 0,
+            shelf: Shelf::new(alloc, types, MOST_BODIES)?,
+            memo: Memo::new(alloc),
         })
     }
 
-    /// Makes room for one entry. The capacity is tested first: `HistoryFull` exactly where the history is as long as it
-    /// may be, and `NoMemory` only where memory was refused. The history is as it was in each case. (Own.)
-    pub fn reserve(&mut self) -> Result<(), Refusal>
-        ensures same { (self.new.capacity ≡ self.old.capacity) × (self.new.entries ≡ self.old.entries) }
-        ensures room { OnOk result (0 < self.new.room) }
+    /// Makes room for one entry, one body and one answer. The capacity is tested first: `HistoryFull` exactly where the history is as
+    /// long as it may be, and `NoMemory` only where memory was refused. What is kept is as it was in each case. (Own.)
+    pub(crate) fn reserve(&mut self) -> Result<(), Refusal>
+        ensures same { SameLedger self.old self.new }
+        ensures room { OnOk result ((0 < self.new.room) × (0 < self.new.places) × (0 < self.new.rows)) }
         ensures below { OnOk result (length self.old.entries < self.old.capacity) }
         ensures full { IfErr result (λ r. r ≡ Refusal.HistoryFull ↔ length self.old.entries ≡ self.old.capacity) }
     {
         if self.history.len() == self.capacity as usize {
             return Err(Refusal::HistoryFull);
         }
-        match self.history.reserve(1) {
-            Ok(()) => Ok(()),
-            Err(_) => Err(Refusal::NoMemory),
-        }
-    }
-
-    /// Enters a session's declarations, which are held from now on in place of those before, with what their check finds.
-    /// `AllocError` only where memory was refused; then nothing has changed.
-    pub fn put_types(
-        &mut self,
-        alloc: Global,
-        session: u8,
-        types: Shared<Types>,
-    ) -> Result<(), AllocError>
-        requires session { session < MOST_SESSIONS }
-        requires room { 0 < self.old.room }
-        requires below { length self.old.entries < self.old.capacity }
-        ensures ok { OnOk result (Enters session (Call.Types types) Reply.Stored self.old self.new) }
-        ensures err { OnErr result ((self.new.capacity ≡ self.old.capacity) × (self.new.entries ≡ self.old.entries)) }
-    {
-        let held = declared(alloc, types.clone()?)?;
-        self.types = held;
-        let event = Event {
-            call: Call::Types(types),
-            reply: Reply::Stored,
-        };
-        enter(&mut self.history, &mut self.counts, session, event);
+        self.history.reserve(1)?;
+        self.shelf.reserve()?;
+        self.memo.reserve()?;
         Ok(())
     }
 
-    /// Enters a session's put, with the reply that the bodies held give it: `WrongKind` where the name is not one for such
-    /// a unit (a function's a root, a closure's any other, and a name of seven segments is none for a unit with a child), else `Full` where the name is new and `MOST_BODIES` are held, else `Replaced` or `Added` (own). `AllocError`
-    /// only where memory was refused; then nothing has changed.
-    pub fn put(
-        &mut self,
-        alloc: Global,
-        session: u8,
-        name: Name,
-        unit: Shared<Unit>,
-    ) -> Result<PutReply, AllocError>
-        requires session { session < MOST_SESSIONS }
-        requires room { 0 < self.old.room }
-        requires below { length self.old.entries < self.old.capacity }
-        ensures ok { IfOk result (λ r. Enters session (Call.Put name unit) (Reply.Put r) self.old self.new) }
-        ensures err { OnErr result ((self.new.capacity ≡ self.old.capacity) × (self.new.entries ≡ self.old.entries)) }
-    {
-        let reply = put_reply(alloc, &self.bodies, &name, unit.get())?;
-        store(&mut self.bodies, name, &unit, reply)?;
-        let event = Event {
-            call: Call::Put(name, unit),
-            reply: Reply::Put(reply),
-        };
-        enter(&mut self.history, &mut self.counts, session, event);
-        Ok(reply)
-    }
-
-    /// The part of what is held that the outcome of a name rests on: the declarations, and the units at the name and at all names
-    /// that begin with it and `/`. Nothing is entered. `AllocError` only where memory was refused.
-    pub fn snapshot(&self, alloc: Global, name: &Name) -> Result<Snapshot, AllocError>
-        ensures { IfOk result (λ snapshot. IsPartOf snapshot name.now (after self.now.entries)) }
-    {
-        let types = self.types.clone()?;
-        let units = part_of(alloc, &self.bodies, name)?;
-        Ok(Snapshot::of(types, *name, units))
-    }
-
-    /// The outcome of a name, under the declarations and the bodies held, by the providers: that of `bc_prov::report`. Nothing is
-    /// entered. `AllocError` only where memory was refused, as a provider may answer too.
-    pub fn outcome(
+    /// The reply to a put. `AllocError` only where memory was refused.
+    pub(crate) fn put_reply(
         &self,
         alloc: Global,
-        providers: &Providers,
         name: &Name,
-    ) -> Result<Shared<Outcome>, AllocError>
-        ensures { IfOk result (λ outcome. IsOutcomeIn (after self.now.entries) name.now outcome) }
+        unit: &Unit,
+    ) -> Result<PutReply, AllocError>
+        ensures reply { IfOk result (IsPutReply (after self.now.entries).bodies name.now unit.now) }
+        ensures place { IfOk result (λ reply. reply ≡ PutReply.Added → length self.now.shelf.places < MOST_BODIES) }
     {
-        let snapshot = self.snapshot(alloc, name)?;
-        let outcome = report(alloc, providers, &snapshot)?;
-        match Arc::new(alloc, outcome) {
-            Ok(outcome) => Ok(Shared::new(outcome)),
-            Err(_) => Err(AllocError),
+        put_reply(alloc, &self.shelf, name, unit)
+    }
+
+    /// The reply to a removal. It takes no memory.
+    pub(crate) fn remove_reply(&self, name: &Name) -> RemoveReply
+        ensures { IsRemoveReply (after self.now.entries).bodies name.now result }
+    {
+        remove_reply(&self.shelf, name)
+    }
+
+    /// What is remembered for a name, where all that it was found from is as it was: the name's outcome. It takes no memory.
+    pub(crate) fn answer(&self, name: &Name) -> Option<&Shared<Outcome>>
+        ensures { IfSome result (λ outcome. IsOutcomeIn (after self.now.entries) name.now outcome.now) }
+    {
+        self.memo.lookup(&self.shelf, name)
+    }
+
+    // One more owner of what is remembered for a name and stands.
+    fn shared_answer(&self, name: &Name) -> Result<Option<Shared<Outcome>>, AllocError>
+        ensures { IfOk result (λ answer. IfSome answer (IsOutcomeIn (after self.now.entries) name.now)) }
+    {
+        match self.answer(name) {
+            Some(outcome) => {
+                let outcome = outcome.clone()?;
+                Ok(Some(outcome))
+            }
+            None => Ok(None),
         }
     }
 
-    /// Enters a session's Ask, with its outcome. It takes no memory.
-    pub fn ask(&mut self, session: u8, name: Name, outcome: Shared<Outcome>)
-        requires session { session < MOST_SESSIONS }
-        requires room { 0 < self.old.room }
-        requires below { length self.old.entries < self.old.capacity }
-        requires outcome { IsOutcomeIn (after self.old.entries) name outcome }
-        ensures { Enters session (Call.Ask name) (Reply.Outcome outcome) self.old self.new }
+    /// A name's part of what is held, with its outcome if it is remembered. `AllocError` only where memory was refused.
+    pub(crate) fn begin(&self, alloc: Global, name: &Name) -> Result<Begun, AllocError>
+        ensures { IfOk result (λ begun. IsPartOf begun name.now (after self.now.entries)) }
     {
-        let event = Event {
-            call: Call::Ask(name),
-            reply: Reply::Outcome(outcome),
-        };
-        enter(&mut self.history, &mut self.counts, session, event);
+        let answer = self.shared_answer(name)?;
+        let part = self.shelf.part(alloc, name)?;
+        Ok(carrying(part, answer))
+    }
+
+    /// The outcome of the name of a work: what is remembered for it; else the work's own where it stands; else it is worked out
+    /// again. `AllocError` only where memory was refused, as a provider may answer too.
+    pub(crate) fn outcome(
+        &self,
+        alloc: Global,
+        work: Work,
+        providers: &Providers,
+    ) -> Result<Shared<Outcome>, AllocError>
+        ensures { IfOk result (IsOutcomeIn (after self.now.entries) work.snapshot.root) }
+    {
+        let name = *work.name();
+        if let Some(outcome) = self.answer(&name) {
+            return outcome.clone();
+        }
+        match work.standing(&self.shelf) {
+            Some(outcome) => Ok(outcome),
+            None => self.work_again(alloc, &name, providers),
+        }
+    }
+
+    // The outcome of a name, worked out.
+    fn work_again(
+        &self,
+        alloc: Global,
+        name: &Name,
+        providers: &Providers,
+    ) -> Result<Shared<Outcome>, AllocError>
+        ensures { IfOk result (IsOutcomeIn (after self.now.entries) name.now) }
+    {
+        let begun = self.begin(alloc, name)?;
+        begun.snapshot.outcome(alloc, providers)
+    }
+
+    /// What is to be remembered of an outcome of a name, where the name is held and nothing that stands is remembered for it.
+    /// `AllocError` only where memory was refused.
+    pub(crate) fn row(
+        &self,
+        alloc: Global,
+        name: &Name,
+        outcome: &Shared<Outcome>,
+    ) -> Result<Option<(Name, Remembered)>, AllocError>
+        requires { IsOutcomeIn (after self.now.entries) name.now outcome.now }
+        ensures { IfOk result (λ row. ForSome row (λ r. (r.0 ≡ name.now) × IsRow self.now.shelf self.now.entries r.0 r.1)) }
+    {
+        if !self.lacks_answer(name) {
+            return Ok(None);
+        }
+        let row = self.remembered(alloc, name, outcome)?;
+        Ok(Some((*name, row)))
+    }
+
+    // Whether a name is held, and nothing that stands is remembered for it.
+    fn lacks_answer(&self, name: &Name) -> bool
+        ensures { IsTrue result → IsSome (at_name self.now.shelf.places name.now) }
+    {
+        self.shelf.is_held(name) && self.answer(name).is_none()
+    }
+
+    // An outcome of a name that is held, with the revisions of all that it rests on.
+    fn remembered(
+        &self,
+        alloc: Global,
+        name: &Name,
+        outcome: &Shared<Outcome>,
+    ) -> Result<Remembered, AllocError>
+        requires held { IsSome (at_name self.now.shelf.places name.now) }
+        requires outcome { IsOutcomeIn (after self.now.entries) name.now outcome.now }
+        ensures { IfOk result (IsRow self.now.shelf self.now.entries name.now) }
+    {
+        let part = self.shelf.part(alloc, name)?;
+        let names = part.snapshot.used(alloc)?;
+        let outcome = outcome.clone()?;
+        let row = Remembered::of(alloc, &self.shelf, &names, outcome)?;
+        Ok(row)
+    }
+
+    /// How many entries a session has.
+    pub(crate) fn number(&self, session: u8) -> u32
+        requires { session < MOST_SESSIONS }
+        ensures { result ≡ count_of session self.now.entries }
+    {
+        self.counts[usize::from(session)]
+    }
+
+    /// Remembers an outcome of a name that is held, where there is one. It takes no memory.
+    pub(crate) fn remember(&mut self, row: Option<(Name, Remembered)>)
+        requires room { 0 < self.old.rows }
+        requires row { ForSome row (λ r. IsRow self.old.shelf self.old.entries r.0 r.1) }
+        ensures { (self.new.capacity ≡ self.old.capacity) × (self.new.entries ≡ self.old.entries) × (self.new.shelf ≡ self.old.shelf) × (self.new.room ≡ self.old.room) × (self.new.places ≡ self.old.places) }
+    {
+        if let Some(row) = row {
+            self.memo.put(row.0, row.1);
+        }
+    }
+
+    /// Takes in the entry that comes next, given what it changes. It takes no memory.
+    pub(crate) fn record(&mut self, entry: Entry, change: Change)
+        requires session { entry.session < MOST_SESSIONS }
+        requires room { (0 < self.old.room) × (0 < self.old.places) }
+        requires below { length self.old.entries < self.old.capacity }
+        requires next { MayComeNext self.old.entries entry }
+        requires place { HasPlace (length self.old.shelf.places) entry.event }
+        requires change { change ≡ change_of entry.event }
+        ensures same { self.new.capacity ≡ self.old.capacity }
+        ensures entries { self.new.entries ≡ self.old.entries ++ entry ∷ [] }
+        ensures legal { IsLegal self.new.entries }
+    {
+        self.writes = writes_with(self.writes, &entry.event);
+        forget_removed(&mut self.memo, &change);
+        self.shelf.change(change, self.writes);
+        self.counts[usize::from(entry.session)] = entry.number + 1;
+        self.history.push_reserved(entry);
     }
 
     /// The history, taken out: all entries, in their order.
-    pub fn into_history(self) -> Vec<Entry>
+    pub(crate) fn into_history(self) -> Vec<Entry>
         ensures entries { result.items ≡ self.entries }
         ensures legal { IsLegal self.entries }
     {
@@ -224,128 +295,20 @@ fn declared(alloc: Global, types: Shared<Types>) -> Result<Shared<Declared>, All
     }
 }
 
-// The units held at a name and at all names that begin with it and `/`, in the order of these names.
-fn part_of(
-    alloc: Global,
-    bodies: &Bodies,
-    root: &Name,
-) -> Result<Vec<(Name, Shared<Unit>)>, AllocError>
-    ensures part { IfOk result (λ part. part.items ≡ units_within root.now bodies.now.entries) }
-    ensures ordered { IsOrdered name_order bodies.now }
+// The count of accepted writes, with one event more.
+fn writes_with(count: u32, event: &Event) -> u32
+    requires { count + 1 < 2 ^ 32 }
+    ensures { result ≡ writes_after count event.now }
 {
-    let mut part = Vec::new(alloc);
-    for (name, unit) in bodies {
-        if root.holds(name) {
-            part.push((*name, unit.clone()?))?;
-        }
-    }
-    Ok(part)
+    if event.writes() { count + 1 } else { count }
 }
 
-// Whether a unit of this kind may have the name.
-fn suits_kind(kind: UnitKind, name: &Name) -> bool
-    ensures { IsTrue result ↔ SuitsKind kind name.now }
+// Forgets what is remembered for a name whose body is taken away.
+fn forget_removed(memo: &mut Memo, change: &Change)
+    ensures { memo.new.rows ≡ kept_rows change.now memo.old.rows }
 {
-    match kind {
-        UnitKind::Function => name.segments().is_empty(),
-        UnitKind::Closure => !name.segments().is_empty(),
+    match change {
+        Change::Remove(name) => memo.forget(name),
+        Change::Types(_) | Change::Put(_, _) | Change::Answer(_, _) | Change::Nothing => {}
     }
-}
-
-// Whether there are names for the children of a unit.
-fn has_room(alloc: Global, unit: &Unit, name: &Name) -> Result<bool, AllocError>
-    ensures { IfOk result (λ room. IsTrue room ↔ HasRoom name.now unit.now) }
-{
-    if name.depth() < 7 {
-        return Ok(true);
-    }
-    let children = unit.body().children(alloc)?;
-    Ok(children.is_empty())
-}
-
-// Whether a unit may be held at the name.
-fn suits(alloc: Global, unit: &Unit, name: &Name) -> Result<bool, AllocError>
-    ensures { IfOk result (λ suits. IsTrue suits ↔ Suits unit.now name.now) }
-{
-    if !suits_kind(unit.body().header.kind, name) {
-        return Ok(false);
-    }
-    has_room(alloc, unit, name)
-}
-
-// The reply to a put of a unit that may be held at the name.
-fn stored_reply(bodies: &Bodies, name: &Name, unit: &Unit) -> PutReply
-    requires few { btree_map_len bodies.now ≤ MOST_BODIES }
-    requires suits { Suits unit.now name.now }
-    ensures reply { IsPutReply (bodies_of bodies.now) name.now unit.now result }
-    ensures few { result ≡ PutReply.Added → btree_map_len bodies.now < MOST_BODIES }
-{
-    let count = bodies.len();
-    if bodies.contains_key(name) {
-        PutReply::Replaced
-    } else if count < MOST_BODIES {
-        PutReply::Added
-    } else {
-        PutReply::Full
-    }
-}
-
-// The reply to a put.
-fn put_reply(
-    alloc: Global,
-    bodies: &Bodies,
-    name: &Name,
-    unit: &Unit,
-) -> Result<PutReply, AllocError>
-    requires { btree_map_len bodies.now ≤ MOST_BODIES }
-    ensures reply { IfOk result (IsPutReply (bodies_of bodies.now) name.now unit.now) }
-    ensures few { IfOk result (λ reply. reply ≡ PutReply.Added → btree_map_len bodies.now < MOST_BODIES) }
-{
-    if suits(alloc, unit, name)? {
-        Ok(stored_reply(bodies, name, unit))
-    } else {
-        Ok(PutReply::WrongKind)
-    }
-}
-
-// Stores the unit of a put, where the reply says so.
-fn store(
-    bodies: &mut Bodies,
-    name: Name,
-    unit: &Shared<Unit>,
-    reply: PutReply,
-) -> Result<(), AllocError>
-    requires few { btree_map_len bodies.old ≤ MOST_BODIES }
-    requires reply { IsPutReply (bodies_of bodies.old) name unit.now reply }
-    requires added { reply ≡ PutReply.Added → btree_map_len bodies.old < MOST_BODIES }
-    ensures ok { OnOk result ((other : _) → bodies_of bodies.new other ≡ after_put (bodies_of bodies.old) name unit.now reply other) }
-    ensures few { btree_map_len bodies.new ≤ MOST_BODIES }
-    ensures err { OnErr result ((other : _) → bodies_of bodies.new other ≡ bodies_of bodies.old other) }
-{
-    if !reply.stores() {
-        return Ok(());
-    }
-    let unit = unit.clone()?;
-    match bodies.insert(name, unit) {
-        Ok(_) => Ok(()),
-        Err(_) => Err(AllocError),
-    }
-}
-
-// Adds a session's event to a history that has room for it.
-fn enter(history: &mut Vec<Entry>, counts: &mut [u32; MOST_SESSIONS], session: u8, event: Event)
-    requires session { session < MOST_SESSIONS }
-    requires room { vec_len history.old < vec_capacity history.old }
-    requires short { length history.old.items + 1 < 2 ^ 32 }
-    requires counts { AreCounts counts.old history.old.items }
-    ensures entries { history.new.items ≡ history.old.items ++ record { session = session; number = count_of session history.old.items; event = event } ∷ [] }
-    ensures counts { AreCounts counts.new history.new.items }
-{
-    let number = counts[usize::from(session)];
-    counts[usize::from(session)] = number + 1;
-    history.push_reserved(Entry {
-        session,
-        number,
-        event,
-    });
 }

@@ -1,8 +1,13 @@
-//! The database's calls and replies, its state, and the histories of its calls. Nothing here waits or is shared.
+//! The database's calls and replies, its state, what it remembers, and the histories of its calls. Nothing here waits or is shared.
 #![tactic(auto)]
 
+mod book;
 mod call;
 mod ledger;
+mod reply;
+mod work;
 
-pub use call::{Call, Entry, Event, PutReply, Reply};
-pub use ledger::{Ledger, MOST_BODIES, MOST_SESSIONS, Refusal};
+pub use book::Book;
+pub use call::{Call, Entry, Event, PutReply, RemoveReply};
+pub use ledger::{MOST_BODIES, MOST_SESSIONS, Refusal};
+pub use work::{Begun, Work};

@@ -7,16 +7,11 @@ use Rattle.std.proofs.lemmas.List.{map-append}
 use Rattle.std.proofs.lemmas.Grind.{flat_map-append}
 use Rattle.bc_book.specs.declared.call.Call.{Call}
 use Rattle.bc_book.specs.declared.call.Event.{Event}
-use Rattle.bc_share.specs.Sessions.{SessionView, IsAnswered}
+use Rattle.bc_book.specs.Calls.{call_of}
+use Rattle.bc_share.specs.Sessions.{SessionView}
 use Rattle.bc_check.specs.declared.stop.Stop.{Stop}
-use Rattle.bc_check.specs.Run.{reply_status, greatest}
-use Rattle.bc_book.specs.declared.call.Reply.{Reply}
-use Rattle.bc_book.specs.declared.call.Entry.{Entry}
-use Rattle.bc_book.specs.Calls.{calls, count_of}
-use Rattle.std.specs.Prelude.{◌==◌, filter}
-use Rattle.std.specs.List.{All}
-use Rattle.std.proofs.lemmas.List.Elements.{All-push, filter-append}
-use Rattle.bc_check.specs.Served.{event_of, IsSound, Serves, Served, ServedPart}
+use Rattle.bc_check.specs.Run.{event_status, greatest}
+use Rattle.bc_check.specs.Served.{Adds, Serves, Served, ServedPart}
 
 pub nothing_added : (u : Option (List ℕ)) → Appends u u []
 nothing_added None = tt
@@ -33,44 +28,28 @@ added_then (Some xs) None w a b x y = absurd x
 added_then (Some xs) (Some ys) None a b x y = y
 added_then (Some xs) (Some ys) (Some zs) a b x y = y ∙ ap (λ (t : List ℕ). t ++ b) x ∙ append_assoc xs a b
 
-greatest-snoc : (events : List Event) (event : Event) → greatest (events ++ event ∷ []) ≡ max (greatest events) (reply_status event.reply)
+greatest-snoc : (events : List Event) (event : Event) → greatest (events ++ event ∷ []) ≡ max (greatest events) (event_status event)
 greatest-snoc [] event = omega arith
 greatest-snoc (e ∷ events) event = let more = greatest-snoc events event in omega (arith, more)
 
 one_text : (text : Event → List ℕ) (event : Event) → flat_map text (event ∷ []) ≡ text event
 one_text text event = append-nil (text event)
 
-calls-append : (session : ℕ) (g h : List Entry) → calls session (g ++ h) ≡ calls session g ++ calls session h
-calls-append session g h =
-    let own = λ (e : Entry). e.session == session in
-    ap (map (λ (e : Entry). e.event)) (filter-append own g h) ∙ map-append (λ (e : Entry). e.event) (filter own g) (filter own h)
+adds_none : (s : SessionView) → Adds [] s s
+adds_none s = record { tag = refl; number = refl; own = sym (append-nil s.own) }
 
--- a call that is answered keeps the history legal, and the session's own
-sound_more : (call : Call) (reply : Reply) (old new : SessionView) → IsAnswered call reply old new → IsSound old → IsSound new
-sound_more call reply old new t h =
-    let number : ℕ = count_of old.number old.entries in
-    let event : Event = event_of call reply in
-    let more : Entry = record { session = old.number; number = number; event = event } in
-    let named : ℕ → List Event = λ (n : ℕ). calls 0 (record { session = n; number = number; event = event } ∷ []) in
-    record {
-      number = t.session.1 ∙ h.number;
-      legal = t.legal;
-      alone = subst (λ (es : List Entry). All (λ (e : Entry). e.session ≡ 0) es) (sym t.entries) (All-push (λ (e : Entry). e.session ≡ 0) old.entries more h.alone h.number);
-      own = ap (λ (es : List Entry). calls 0 es) t.entries
-          ∙ calls-append 0 old.entries (more ∷ [])
-          ∙ ap (λ (es : List Event). es ++ calls 0 (more ∷ [])) h.own
-          ∙ ap (λ (n : ℕ). old.own ++ named n) h.number
-          ∙ sym t.own;
-    }
+pub adds_then : (a b : List Event) (old mid new : SessionView) → Adds a old mid → Adds b mid new → Adds (a ++ b) old new
+adds_then a b old mid new h k = record {
+  tag = k.tag ∙ h.tag;
+  number = k.number ∙ h.number;
+  own = k.own ∙ ap (λ (es : List Event). es ++ b) h.own ∙ append_assoc old.own a b;
+}
 
 pub served_none : (text : Event → List ℕ) (s : SessionView) (u : Option (List ℕ)) → Served [] text 0 s s u u
 served_none text s u = record {
   events = [];
   made = refl;
-  tag = refl;
-  number = refl;
-  own = sym (append-nil s.own);
-  sound = λ h. h;
+  adds = adds_none s;
   printed = nothing_added u;
   status = refl;
 }
@@ -78,60 +57,55 @@ served_none text s u = record {
 -- one call more
 pub served_more : (list : List Call) (call : Call) (text : Event → List ℕ) (m n : ℕ) (old mid new : SessionView) (u v w : Option (List ℕ)) → Served list text m old mid u v → Serves call text n mid new v w → Served (list ++ call ∷ []) text (max m n) old new u w
 served_more list call text m n old mid new u v w h k =
-    let event : Event = event_of call k.reply in
+    let event : Event = k.event in
+    let one : Adds (event ∷ []) mid new = record { tag = k.answered.tag; number = k.answered.number; own = k.answered.own } in
     let printed : flat_map text h.events ++ text event ≡ flat_map text (h.events ++ event ∷ []) = ap (λ (t : List ℕ). flat_map text h.events ++ t) (sym (one_text text event)) ∙ sym (flat_map-append text h.events (event ∷ [])) in
     record {
       events = h.events ++ event ∷ [];
-      made = map-append (λ (e : Event). e.call) h.events (event ∷ []) ∙ ap (λ (cs : List Call). cs ++ call ∷ []) h.made;
-      tag = k.answered.session.0 ∙ h.tag;
-      number = k.answered.session.1 ∙ h.number;
-      own = k.answered.own ∙ ap (λ (es : List Event). es ++ event ∷ []) h.own ∙ append_assoc old.own h.events (event ∷ []);
-      sound = λ sound. sound_more call k.reply mid new k.answered (h.sound sound);
+      made = map-append call_of h.events (event ∷ []) ∙ ap (λ (cs : List Call). cs ++ call_of event ∷ []) h.made ∙ ap (λ (c : Call). list ++ c ∷ []) k.made;
+      adds = adds_then h.events (event ∷ []) old mid new h.adds one;
       printed = subst (λ (t : List ℕ). Appends u w t) printed (added_then u v w _ _ h.printed k.printed);
       status = let more = greatest-snoc h.events event in omega (arith, more, h.status, k.status);
     }
 
 -- of all items those that are not left have their calls made
-pub record Making {X : Type 0} (call_of : X → Call) (all left : List X) (text : Event → List ℕ) (exit : ℕ) (old new : SessionView) (before after : Option (List ℕ)) : Type 0 where
+pub record Making {X : Type 0} (call_at : X → Call) (all left : List X) (text : Event → List ℕ) (exit : ℕ) (old new : SessionView) (before after : Option (List ℕ)) : Type 0 where
   pub front : List X
   pub cut : all ≡ front ++ left
-  pub served : Served (map call_of front) text exit old new before after
+  pub served : Served (map call_at front) text exit old new before after
 
-pub making_none : {X : Type 0} (call_of : X → Call) (all left : List X) (text : Event → List ℕ) (s : SessionView) (u : Option (List ℕ)) → left ≡ all → Making call_of all left text 0 s s u u
-making_none call_of all left text s u is = record { front = []; cut = sym is; served = served_none text s u }
+pub making_none : {X : Type 0} (call_at : X → Call) (all left : List X) (text : Event → List ℕ) (s : SessionView) (u : Option (List ℕ)) → left ≡ all → Making call_at all left text 0 s s u u
+making_none call_at all left text s u is = record { front = []; cut = sym is; served = served_none text s u }
 
-pub making_more : {X : Type 0} (call_of : X → Call) (all left rest : List X) (x : X) (text : Event → List ℕ) (m n : ℕ) (old mid new : SessionView) (u v w : Option (List ℕ)) → Making call_of all left text m old mid u v → left ≡ x ∷ rest → Serves (call_of x) text n mid new v w → Making call_of all rest text (max m n) old new u w
-making_more {X} call_of all left rest x text m n old mid new u v w h next k = record {
+pub making_more : {X : Type 0} (call_at : X → Call) (all left rest : List X) (x : X) (text : Event → List ℕ) (m n : ℕ) (old mid new : SessionView) (u v w : Option (List ℕ)) → Making call_at all left text m old mid u v → left ≡ x ∷ rest → Serves (call_at x) text n mid new v w → Making call_at all rest text (max m n) old new u w
+making_more {X} call_at all left rest x text m n old mid new u v w h next k = record {
   front = h.front ++ x ∷ [];
   cut = h.cut ∙ ap (λ (xs : List X). h.front ++ xs) next ∙ sym (append_assoc h.front (x ∷ []) rest);
-  served = subst (λ (cs : List Call). Served cs text (max m n) old new u w) (sym (map-append call_of h.front (x ∷ []))) (served_more (map call_of h.front) (call_of x) text m n old mid new u v w h.served k);
+  served = subst (λ (cs : List Call). Served cs text (max m n) old new u w) (sym (map-append call_at h.front (x ∷ []))) (served_more (map call_at h.front) (call_at x) text m n old mid new u v w h.served k);
 }
 
-pub making_all : {X : Type 0} (call_of : X → Call) (all left : List X) (text : Event → List ℕ) (exit : ℕ) (old new : SessionView) (u v : Option (List ℕ)) → Making call_of all left text exit old new u v → left ≡ [] → Served (map call_of all) text exit old new u v
-making_all {X} call_of all left text exit old new u v h none =
+pub making_all : {X : Type 0} (call_at : X → Call) (all left : List X) (text : Event → List ℕ) (exit : ℕ) (old new : SessionView) (u v : Option (List ℕ)) → Making call_at all left text exit old new u v → left ≡ [] → Served (map call_at all) text exit old new u v
+making_all {X} call_at all left text exit old new u v h none =
     let same : all ≡ h.front = h.cut ∙ ap (λ (xs : List X). h.front ++ xs) none ∙ append-nil h.front in
-    subst (λ (xs : List X). Served (map call_of xs) text exit old new u v) (sym same) h.served
+    subst (λ (xs : List X). Served (map call_at xs) text exit old new u v) (sym same) h.served
 
 pub served_kept : (list : List Call) (text : Event → List ℕ) (exit : ℕ) (old new : SessionView) (u v w : Option (List ℕ)) → Served list text exit old new u v → Keeps v w → Served list text exit old new u w
 served_kept list text exit old new u v w h k = record {
   events = h.events;
   made = h.made;
-  tag = h.tag;
-  number = h.number;
-  own = h.own;
-  sound = h.sound;
+  adds = h.adds;
   printed = subst (λ (t : List ℕ). Appends u w t) (append-nil _) (added_then u v w _ [] h.printed (kept_adds v w k));
   status = h.status;
 }
 
 -- the calls that were made where one more was refused
-pub making_part : {X : Type 0} (call_of : X → Call) (all left : List X) (text : Event → List ℕ) (exit : ℕ) (old mid new : SessionView) (u v w : Option (List ℕ)) → Making call_of all left text exit old mid u v → new ≡ mid → Keeps v w → ServedPart (map call_of all) text old new u w
-making_part {X} call_of all left text exit old mid new u v w h same k = record {
-  front = map call_of h.front;
-  ahead = map call_of left;
-  cut = sym (map-append call_of h.front left) ∙ ap (λ (xs : List X). map call_of xs) (sym h.cut);
+pub making_part : {X : Type 0} (call_at : X → Call) (all left : List X) (text : Event → List ℕ) (exit : ℕ) (old mid new : SessionView) (u v w : Option (List ℕ)) → Making call_at all left text exit old mid u v → new ≡ mid → Keeps v w → ServedPart (map call_at all) text old new u w
+making_part {X} call_at all left text exit old mid new u v w h same k = record {
+  front = map call_at h.front;
+  ahead = map call_at left;
+  cut = sym (map-append call_at h.front left) ∙ ap (λ (xs : List X). map call_at xs) (sym h.cut);
   exit = exit;
-  served = subst (λ (s : SessionView). Served (map call_of h.front) text exit old s u w) (sym same) (served_kept (map call_of h.front) text exit old mid u v w h.served k);
+  served = subst (λ (s : SessionView). Served (map call_at h.front) text exit old s u w) (sym same) (served_kept (map call_at h.front) text exit old mid u v w h.served k);
 }
 
 pub part_of_all : (list : List Call) (text : Event → List ℕ) (exit : ℕ) (old new : SessionView) (u v : Option (List ℕ)) → Served list text exit old new u v → ServedPart list text old new u v

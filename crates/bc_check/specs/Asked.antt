@@ -4,12 +4,13 @@ use Rattle.std.specs.List.{Contains}
 use Rattle.std.specs.List.Sorted.{IsStrictlySortedBy}
 use Rattle.bc_text.specs.Names.{NameParts, name_order}
 use Rattle.bc_book.specs.declared.call.Call.{Call}
-use Rattle.bc_book.specs.declared.call.Call.TheVariants.{Types, Put, Ask}
+use Rattle.bc_book.specs.declared.call.Call.TheVariants.{Types, Put, Remove, Ask}
 
 -- the root name under which a call puts a body, if it puts one under a root
 abbrev pub root_put : Call → Option NameParts
 root_put (Types types) = None
 root_put (Put name body) = if length name.segments == 0 then Some name else None
+root_put (Remove name) = None
 root_put (Ask name) = None
 
 -- the root names under which bodies are put, in the order of names, each once

@@ -35,6 +35,7 @@ IsHeader (PutLine name) header = IsName name × (header ≡ codes "@put " ++ nam
 abbrev pub Makes : Part → Call → Type 0
 Makes section (calls.Types types) = IsHeader TypesLine section.header × (read_types section.text ≡ Ok types)
 Makes section (calls.Put name body) = IsHeader (PutLine name) section.header × (read section.text ≡ Ok body)
+Makes section (calls.Remove name) = ⊥
 Makes section (calls.Ask name) = ⊥
 
 -- the text behind a header line cannot be read

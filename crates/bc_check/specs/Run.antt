@@ -6,12 +6,11 @@ use Rattle.bc_prov.specs.declared.outcome.BodyErrors.{BodyErrors}
 use Rattle.bc_prov.specs.declared.outcome.Outcome.{Outcome}
 use Rattle.bc_prov.specs.declared.outcome.Outcome.TheVariants.{NoBody, Missing, BadTypes, Ill, Report}
 use Rattle.bc_book.specs.declared.call.Call.{Call}
-use Rattle.bc_book.specs.declared.call.Call.TheVariants.{Types, Put, Ask}
+use Rattle.bc_book.specs.declared.call.Call.TheVariants as calls_made
 use Rattle.bc_book.specs.declared.call.PutReply.{PutReply}
 use Rattle.bc_book.specs.declared.call.PutReply.TheVariants.{Added, Replaced, Full, WrongKind}
-use Rattle.bc_book.specs.declared.call.Reply.{Reply}
-use Rattle.bc_book.specs.declared.call.Reply.TheVariants as replies
 use Rattle.bc_book.specs.declared.call.Event.{Event}
+use Rattle.bc_book.specs.declared.call.Event.TheVariants.{Types, Put, Remove, Ask}
 use Rattle.bc_book.specs.declared.call.Entry.{Entry}
 use Rattle.bc_book.specs.Calls.{IsLegal, calls}
 use Rattle.bc_check.specs.Text.{line}
@@ -19,7 +18,7 @@ use Rattle.bc_check.specs.Report.{report}
 
 -- the calls of a file: those of its sections, then an Ask of each of its names
 abbrev pub calls_of : List Call → List NameParts → List Call
-calls_of made names = made ++ map Ask names
+calls_of made names = made ++ map calls_made.Ask names
 
 -- the line of a put that stored nothing
 abbrev pub refused_line : NameParts → PutReply → List ℕ
@@ -33,26 +32,18 @@ abbrev pub answer_lines : NameParts → Outcome → List ℕ
 answer_lines name outcome = line (codes "ask " ++ name_text name) ++ report outcome
 
 -- what is printed of a call on standard error
-abbrev pub told_of : Call → Reply → List ℕ
-told_of (Types types) reply = []
-told_of (Put name body) replies.Stored = []
-told_of (Put name body) (replies.Put reply) = refused_line name reply
-told_of (Put name body) (replies.Outcome outcome) = []
-told_of (Ask name) reply = []
+abbrev pub told : Event → List ℕ
+told (Types types) = []
+told (Put name body reply) = refused_line name reply
+told (Remove name reply) = []
+told (Ask name outcome) = []
 
 -- what is printed of a call on standard output
-abbrev pub shown_of : Call → Reply → List ℕ
-shown_of (Types types) reply = []
-shown_of (Put name body) reply = []
-shown_of (Ask name) replies.Stored = []
-shown_of (Ask name) (replies.Put reply) = []
-shown_of (Ask name) (replies.Outcome outcome) = answer_lines name outcome
-
-abbrev pub told : Event → List ℕ
-told event = told_of event.call event.reply
-
 abbrev pub shown : Event → List ℕ
-shown event = shown_of event.call event.reply
+shown (Types types) = []
+shown (Put name body reply) = []
+shown (Remove name reply) = []
+shown (Ask name outcome) = answer_lines name outcome
 
 -- 2 for a put that stored nothing
 abbrev pub put_status : PutReply → ℕ
@@ -73,16 +64,17 @@ outcome_status (BadTypes index) = 2
 outcome_status (Ill name place) = 2
 outcome_status (Report bodies) = if are_clean bodies then 0 else 1
 
--- 0 for declarations that are stored
-abbrev pub reply_status : Reply → ℕ
-reply_status replies.Stored = 0
-reply_status (replies.Put reply) = put_status reply
-reply_status (replies.Outcome outcome) = outcome_status outcome
+-- the status of a call: 0 for declarations and for a removal
+abbrev pub event_status : Event → ℕ
+event_status (Types types) = 0
+event_status (Put name body reply) = put_status reply
+event_status (Remove name reply) = 0
+event_status (Ask name outcome) = outcome_status outcome
 
 -- the greatest status of some calls
 abbrev pub greatest : List Event → ℕ
 greatest [] = 0
-greatest (event ∷ events) = max (reply_status event.reply) (greatest events)
+greatest (event ∷ events) = max (event_status event) (greatest events)
 
 -- the calls of one session alone, with replies as they must be after those before them
 pub record AreLegal (events : List Event) : Type 0 where

@@ -7,7 +7,7 @@ ghost use Rattle.bc_check.specs.Changes.{seen};
 ghost use Rattle.bc_check.specs.Stops.{is_of_calls};
 ghost use Rattle.bc_check.specs.Ends.{Checked, IsEnd, Leaves, OfFile};
 ghost use Rattle.bc_check.specs.Run.{refused_line, answer_lines, told, shown, put_status, are_clean, outcome_status};
-ghost use Rattle.bc_check.specs.Served.{Serves, Served, ServedPart, Runs, Begins};
+ghost use Rattle.bc_check.specs.Served.{Serves, Served, ServedPart, ServedAll, ServedFirst, Runs, Begins};
 
 use crate::asked::find_asked;
 use crate::file::{Change, read_changes};
@@ -194,6 +194,27 @@ fn answer_all<O: Write + Drop>(
     hand_on(asked, out)
 }
 
+/// Makes the changes in order, and then asks the names in order; what is printed of these is handed on. The greatest status
+/// of the calls.
+fn make_all<O: Write + Drop, E: Write>(
+    session: &mut Session,
+    providers: &Providers,
+    changes: Vec<Change>,
+    names: &BTreeSet<Name>,
+    out: &mut BufWriter<O>,
+    err: &mut E,
+) -> Result<u8, Stop>
+    ensures served { IfOk result (λ status. ServedAll (map seen changes.items) names.now.keys status session.old session.new (writer_contents O.contents out.old) (writer_contents O.contents out.new) (E.contents err.old) (E.contents err.new)) }
+    ensures no_memory { IsErrOf result Stop.NoMemory → ServedFirst (map seen changes.items) names.now.keys session.old session.new (writer_contents O.contents out.old) (writer_contents O.contents out.new) (E.contents err.old) (E.contents err.new) }
+    ensures range { IfOk result (λ status. status ≤ 2) }
+    ensures stop { IfErr result (λ stop. (stop ≡ Stop.CannotTell) ⊎ (stop ≡ Stop.CannotWrite) ⊎ (stop ≡ Stop.NoMemory) ⊎ (stop ≡ Stop.HistoryFull)) }
+    ensures handed_on { writer_buffer out.old ≡ [] → (result ≡ Err Stop.CannotWrite) ⊎ (writer_buffer out.new ≡ []) }
+{
+    let changed = make_changes(session, changes, err)?;
+    let asked = answer_all(session, providers, names, out)?;
+    Ok(changed.max(asked))
+}
+
 /// How many entries the history may have: one for each change and each Ask, and one at least. `TooManyCalls` exactly
 /// where there are more than `MOST_ENTRIES` of them.
 pub(crate) fn find_capacity(changes: usize, names: usize) -> Result<u32, Stop>
@@ -207,9 +228,11 @@ pub(crate) fn find_capacity(changes: usize, names: usize) -> Result<u32, Stop>
     Ok((changes + names).max(1) as u32)
 }
 
-/// Opens a database, makes the changes in order, asks the names in order and closes. The greatest status of the
-/// calls, whose reports the writer behind `out` then has. `TooManyCalls` exactly where there are more than
-/// `MOST_ENTRIES` of them.
+/// Opens a database, makes the changes in order, asks the names in order, and closes, also where a call is refused or a
+/// writer fails. The greatest status of the calls, whose reports the writer behind `out` then has. `TooManyCalls` exactly
+/// where there are more than `MOST_ENTRIES` of them.
+///
+/// That `out` failed is said before all else, and a fault of the close before a refused call and a line that was not told.
 fn serve<O: Write + Drop, E: Write>(
     alloc: Global,
     providers: &Providers,
@@ -230,11 +253,14 @@ fn serve<O: Write + Drop, E: Write>(
     let Some(mut session) = sessions.pop() else {
         return Err(Stop::Foreign);
     };
-    let changed = make_changes(&mut session, changes, err)?;
-    let asked = answer_all(&mut session, providers, names, out)?;
-    sessions.push(session)?;
-    db.close(sessions)?;
-    Ok(changed.max(asked))
+    let made = make_all(&mut session, providers, changes, names, out, err);
+    sessions.push_reserved(session);
+    let closed = db.close(sessions);
+    if matches!(made, Err(Stop::CannotWrite)) {
+        return made;
+    }
+    closed?;
+    made
 }
 
 /// Reads the whole input, makes its changes and asks its names, and prints what belongs to each call. The greatest

@@ -1,10 +1,11 @@
 -- `==` on outcomes decides `≡`.
-use Rattle.std.proofs.Common.{◌≡◌, refl, ap}
+use Rattle.std.proofs.Common.{◌≡◌, List, refl, ap}
 use Rattle.std.specs.Bool.{Decides}
 use Rattle.std.proofs.lemmas.Bool.Decides.{Decides-and, Decides-like, Decides-eqb}
 use Rattle.std.proofs.lemmas.Slice.Eq.{slice_eq-Decides}
-use Rattle.bc_syntax.proofs.Equality.{apart}
+use Rattle.bc_syntax.proofs.Equality.{apart, declaration}
 use Rattle.bc_text.proofs.Equality.{name}
+use Rattle.bc_syntax.specs.declared.syntax.Declaration.{Declaration}
 use Rattle.bc_mir.specs.declared.mir.Point.{Point}
 use Rattle.bc_mir.specs.declared.typed.Where.{Where}
 use Rattle.bc_mir.specs.declared.typed.Where.TheVariants as wheres
@@ -18,6 +19,7 @@ use Rattle.bc_mir.specs.contracts.typed.WherePartialEq.TheImpl as place_impl
 use Rattle.bc_judge.specs.contracts.error.BorrowErrorPartialEq.TheImpl as error_impl
 use Rattle.bc_prov.specs.contracts.outcome.BodyErrorsPartialEq.TheImpl as body_impl
 use Rattle.bc_prov.specs.contracts.outcome.OutcomePartialEq.TheImpl as outcome_impl
+use Rattle.bc_prov.specs.contracts.declared.DeclaredPartialEq.TheImpl as declared_impl
 
 pub point : (a b : Point) → Decides ((point_impl.ghosts).eq a b) (a ≡ b)
 point a b =
@@ -67,3 +69,6 @@ outcome (outcomes.Report x) (outcomes.Missing y) = apart (λ e. absurd (cc))
 outcome (outcomes.Report x) (outcomes.BadTypes y) = apart (λ e. absurd (cc))
 outcome (outcomes.Report x) (outcomes.Ill y0 y1) = apart (λ e. absurd (cc))
 outcome (outcomes.Report x) (outcomes.Report y) = Decides-like _ (λ p i. outcomes.Report (p i)) (λ e. cc) (slice_eq-Decides body x y _ refl)
+
+pub declared : (a b : List Declaration) → Decides ((declared_impl.ghosts).eq a b) (a ≡ b)
+declared a b = slice_eq-Decides declaration a b _ refl

@@ -3,6 +3,7 @@ pub mod Starts
 pub mod Steps
 pub mod Local
 pub mod Lookup
+pub mod Used
 pub mod Looking
 pub mod Gathering
 pub mod Walking

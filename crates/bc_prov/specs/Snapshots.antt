@@ -1,18 +1,22 @@
 -- A part of what is held, as a snapshot has it.
-use Rattle.std.specs.Prelude.{◌≡◌, true, List}
-use Rattle.std.specs.List.{AllByRecursion}
+use Rattle.std.specs.Prelude.{◌≡◌, true, List, ◌∷◌, map, Option, IfSome}
+use Rattle.std.specs.List.{AllByRecursion, flat_map}
 use Rattle.std.specs.List.Sorted.{IsStrictlySortedBy}
 use Rattle.std.specs.Map.{keys_of}
 use Rattle.bc_syntax.specs.declared.syntax.Declaration.{Declaration}
 use Rattle.bc_syntax.specs.declared.syntax.Body.{Body}
+use Rattle.bc_syntax.specs.Children.{children_of}
 use Rattle.bc_text.specs.Names.{NameParts, is_within, name_order}
-use Rattle.bc_prov.specs.State.{State, Suits, at_name}
+use Rattle.bc_prov.specs.declared.outcome.Outcome.{Outcome}
+use Rattle.bc_prov.specs.State.{State, Suits, at_name, child, state_of}
+use Rattle.bc_prov.specs.Outcome.{IsOutcomeIn}
 
--- declarations, a name, and bodies under their names
+-- declarations, a name, bodies under their names, and an outcome, if one is carried
 pub record SnapshotView : Type 0 where
   pub types : List Declaration
   pub root : NameParts
   pub units : List (NameParts × Body)
+  pub carried : Option Outcome
 
 -- The names ascend strictly, each is the root or begins with it and `/`, and each body suits its name: a function has a root,
 -- a closure any other, and at a name of seven segments it has no child.
@@ -20,6 +24,19 @@ pub record IsSnapshot (root : NameParts) (units : List (NameParts × Body)) : Ty
   pub ascending : IsStrictlySortedBy name_order (keys_of units)
   pub within : AllByRecursion (λ name. is_within root name ≡ true) (keys_of units)
   pub suited : AllByRecursion (λ (unit : NameParts × Body). Suits unit.1 unit.0) units
+
+-- the names and the bodies are as they should be, and what is carried, if it is, is the outcome of the name
+pub record IsKept (types : List Declaration) (root : NameParts) (units : List (NameParts × Body)) (carried : Option Outcome) : Type 0 where
+  pub snapshot : IsSnapshot root units
+  pub outcome : IfSome carried (IsOutcomeIn (state_of types units) root)
+
+-- the names of the closures of a body at a name
+abbrev pub children_named : NameParts × Body → List NameParts
+children_named unit = map (child unit.0) (children_of unit.1)
+
+-- the names on which the outcome of a name rests: its own, and that of each closure that one of its bodies has, held or absent
+abbrev pub names_used : NameParts → List (NameParts × Body) → List NameParts
+names_used root units = root ∷ flat_map children_named units
 
 -- the snapshot is a name's part of a state: its declarations, and its bodies at the name and at all names that begin with it
 -- and `/`

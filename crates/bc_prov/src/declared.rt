@@ -35,6 +35,20 @@ impl Model for Declared {
     ghost invariant = { λ d. IsCheckOf d.types d.check };
 }
 
+impl PartialEq for Declared {
+    ghost use Rattle.bc_syntax.specs.contracts.declarations.TypesPartialEq.TheImpl as types_impl;
+    ghost use Rattle.bc_syntax.specs.contracts.declarations.TypesPartialEq.TheImpl.Laws.{laws-law};
+
+    ghost eq = { (types_impl.ghosts).eq };
+
+    ghost laws = { laws-law };
+
+    /// Whether the declarations are equal, and so what their check found.
+    fn eq(&self, other: &Declared) -> bool {
+        self.types == other.types
+    }
+}
+
 fn first_bad(alloc: Global, types: &Types) -> Result<Check, AllocError>
     ensures { IfOk result (IsCheckOf types.now) }
 {

@@ -1,8 +1,14 @@
 //! Laws of outcomes, each the contract of a function that does nothing.
-ghost use Rattle.bc_prov.specs.Laws.{OutcomesAreLocal};
+ghost use Rattle.bc_prov.specs.Laws.{OutcomesAreLocal, OutcomesRestOnUsedNames};
 
 /// The outcome of a name depends on the declarations and on its part of what is held alone: the bodies at the name and at all
 /// names that begin with it and `/`. (Own.)
 pub fn outcomes_are_local()
     ensures { OutcomesAreLocal }
+{}
+
+/// The outcome of a name depends alone on the declarations, and on which bodies are held at that name and at the names of the
+/// closures that the bodies of its part have. (Own.)
+pub fn outcomes_rest_on_used_names()
+    ensures { OutcomesRestOnUsedNames }
 {}

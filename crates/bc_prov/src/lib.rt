@@ -15,7 +15,7 @@ mod verdicts;
 mod walk;
 
 pub use declared::Declared;
-pub use laws::outcomes_are_local;
+pub use laws::{outcomes_are_local, outcomes_rest_on_used_names};
 pub use outcome::{BodyErrors, Outcome};
 pub use providers::{Liveness, Providers, Scoping, Solver};
 pub use reporting::report;

@@ -6,7 +6,7 @@ use bc_text::Name;
 
 /// A body's name, and its errors in order: the conflicts by point, access and loan, then the lifetime errors. (RFC 2094,
 /// "Borrow checker phase 2: reporting errors" and "Named lifetimes"; the order is own.)
-#[derive(Drop, PartialEq)]
+#[derive(Clone, Drop, PartialEq)]
 pub struct BodyErrors {
     pub name: Name,
     pub errors: Sequence<BorrowError>,
@@ -15,7 +15,7 @@ pub struct BodyErrors {
 /// What an Ask finds: that no body is held, that a child is not held and which is the first, that a declaration is bad and
 /// which is the first, counted from 0, that a unit breaks a typing rule and where, or the bodies with their errors, each body
 /// before its closures, and these ascending. (Own.)
-#[derive(Drop, PartialEq)]
+#[derive(Clone, Drop, PartialEq)]
 pub enum Outcome {
     NoBody,
     Missing(Name),

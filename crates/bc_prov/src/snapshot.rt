@@ -1,43 +1,88 @@
 //! Parts of what is held: what the outcome of one name rests on.
-ghost use Rattle.std.specs.Prelude.{◌≡◌};
+ghost use Rattle.std.specs.Prelude.{◌≡◌, ◌≢◌, ◌<◌, ◌++◌, [], true, length, map, nat_le, Some, None, IfOk, IfSome, OnOk};
+ghost use Rattle.std.specs.List.{list_all};
 ghost use Rattle.std.specs.Option.{option_copied};
-ghost use Rattle.bc_prov.specs.Snapshots.{IsSnapshot};
-ghost use Rattle.bc_prov.specs.State.{AreSuited, at_name};
+ghost use Rattle.bc_prov.specs.Outcome.{IsOutcomeIn};
+ghost use Rattle.bc_prov.specs.Snapshots.{IsSnapshot, names_used};
+ghost use Rattle.bc_prov.specs.State.{AreSuited, at_name, child, state_of};
 
 use crate::declared::Declared;
+use crate::outcome::Outcome;
 use crate::shared::Shared;
 use bc_syntax::Unit;
 use bc_text::Name;
+use std::alloc::{AllocError, Global};
 use std::marker::Model;
 
 /// Declarations, a name, and the units held at that name and at names that begin with it and `/`. A name that is not in the list
-/// is absent. (Own.)
+/// is absent. A snapshot may carry the outcome of its name. (Own.)
 #[derive(Drop)]
 pub struct Snapshot {
     types: Shared<Declared>,
     root: Name,
     units: Vec<(Name, Shared<Unit>)>,
+    carried: Option<Shared<Outcome>>,
 }
 
 impl Model for Snapshot {
-    ghost use Rattle.bc_prov.specs.Snapshots.{SnapshotView, IsSnapshot};
+    ghost use Rattle.bc_prov.specs.Snapshots.{SnapshotView, IsKept};
 
     ghost Value = { SnapshotView };
 
-    ghost view = { λ s. record { types = s.types; root = s.root; units = s.units.items } };
+    ghost view = { λ s. record { types = s.types; root = s.root; units = s.units.items; carried = s.carried } };
 
-    ghost invariant = { λ s. IsSnapshot s.root s.units.items };
+    ghost invariant = { λ s. IsKept s.types s.root s.units.items s.carried };
+}
+
+/// Adds the names of the closures that have these numbers. On an error the list has some of them.
+fn push_children(names: &mut Vec<Name>, name: Name, numbers: &[u8]) -> Result<(), AllocError>
+    requires few { numbers.now ≢ [] → length name.segments < 7 }
+    requires low { list_all (λ number. nat_le number 63) numbers.now ≡ true }
+    ensures { OnOk result (names.new.items ≡ names.old.items ++ map (child name) numbers.now) }
+{
+    for number in numbers {
+        let child = name.child(*number).unwrap();
+        names.push(child)?;
+    }
+    Ok(())
 }
 
 impl Snapshot {
     /// The snapshot of a name that has these declarations and these units. It takes no memory. It asks that the names ascend
     /// strictly, that each is the root or begins with it and `/`, that a function has a name without segments and a closure
-    /// any other, and that no unit at a name of seven segments has a child. The list may be empty. (Own.)
+    /// any other, and that no unit at a name of seven segments has a child. The list may be empty. No outcome is carried. (Own.)
     pub fn of(types: Shared<Declared>, root: Name, units: Vec<(Name, Shared<Unit>)>) -> Snapshot
         requires { IsSnapshot root units.items }
-        ensures { result ≡ record { types = types; root = root; units = units.items } }
+        ensures { result ≡ record { types = types; root = root; units = units.items; carried = None } }
     {
-        Snapshot { types, root, units }
+        Snapshot {
+            types,
+            root,
+            units,
+            carried: None,
+        }
+    }
+
+    /// The snapshot with the outcome of its name, which its caller knows. It takes no memory. It asks that this is the outcome.
+    /// (Own.)
+    pub fn carry(self, outcome: Shared<Outcome>) -> Snapshot
+        requires { IsOutcomeIn (state_of self.types self.units) self.root outcome }
+        ensures { result ≡ record self { carried = Some outcome } }
+    {
+        Snapshot {
+            types: self.types,
+            root: self.root,
+            units: self.units,
+            carried: Some(outcome),
+        }
+    }
+
+    /// The outcome of its name that it carries, if it does. It takes no memory. (Own.)
+    pub fn carried(&self) -> Option<&Shared<Outcome>>
+        ensures value { option_copied result ≡ self.now.carried }
+        ensures right { IfSome result (λ outcome. IsOutcomeIn (state_of self.now.types self.now.units) self.now.root outcome.now) }
+    {
+        self.carried.as_ref()
     }
 
     /// The declarations. (Own.)
@@ -71,5 +116,19 @@ impl Snapshot {
             Ok(at) => Some(self.units[at].1.get()),
             Err(_) => None,
         }
+    }
+
+    /// The names on which its outcome rests: its own, and that of each closure that one of its units has, held or absent, in the
+    /// order of the units. Answers `AllocError` only where memory was refused. (Own.)
+    pub fn used(&self, alloc: Global) -> Result<Vec<Name>, AllocError>
+        ensures { IfOk result (λ names. names.items ≡ names_used self.now.root self.now.units) }
+    {
+        let mut names = Vec::new(alloc);
+        names.push(self.root)?;
+        for unit in &self.units {
+            let numbers = unit.1.get().body().children(alloc)?;
+            push_children(&mut names, unit.0, &numbers)?;
+        }
+        Ok(names)
     }
 }

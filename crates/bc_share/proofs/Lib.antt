@@ -1,3 +1,2 @@
 pub mod Audits
 pub mod Closings
-pub mod Tellings

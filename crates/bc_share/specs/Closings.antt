@@ -29,14 +29,10 @@ pub record Agrees (sessions : List SessionView) (h : List Entry) : Type 0 where
 abbrev pub IsOneHistory : List SessionView → List Entry → Type 0
 IsOneHistory sessions h = IsLegal h × Agrees sessions h
 
--- the history is the one that the sessions had
-abbrev pub IsTheirs : List SessionView → List Entry → Type 0
-IsTheirs sessions h = All (λ (s : SessionView). s.entries ≡ h) sessions
-
 -- why closing failed: these are not the sessions, each once; or they are, and the history does not agree with them
 abbrev pub IsCloseFault : ℕ → ℕ → List SessionView → CloseFault → Type 0
 IsCloseFault tag count sessions Foreign = ¬ AreSessionsOf tag count sessions
-IsCloseFault tag count sessions (Audit h) = AreSessionsOf tag count sessions × IsTheirs sessions h × IsLegal h × (¬ Agrees sessions h)
+IsCloseFault tag count sessions (Audit h) = AreSessionsOf tag count sessions × IsLegal h × (¬ Agrees sessions h)
 
 -- how many entries and how many sessions a database may have
 abbrev pub IsInRange : ℕ → ℕ → Type 0

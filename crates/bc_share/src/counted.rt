@@ -1,13 +1,17 @@
 //! Asks by providers of a test: such as count their calls, and such as always want memory.
 ghost use Rattle.std.specs.Prelude.{IfOk};
-ghost use Rattle.bc_prov.specs.Facts.{AreValues};
+ghost use Rattle.bc_prov.specs.Facts.{AreLive, AreScopes, AreValues};
 
+use crate::Db;
 use crate::tests::{
-    CLOSURE, Found, INVARIANT_BUT_MARKED_COVARIANT, INVOKES, NESTED, Turn, WRITES_LAST, history_by,
+    CLOSURE, CLOSURE_WRITES, Found, INVARIANT_BUT_MARKED_COVARIANT, INVOKES, NESTED, Turn,
+    WRITES_LAST, all_go, history_by,
 };
-use bc_analyses::{find_live, find_scopes, find_values};
+use bc_analyses::{find_live, find_scopes, find_values, providers};
 use bc_book::{PutReply, Refusal};
 use bc_cons::Facts;
+use bc_live::LiveSets;
+use bc_loans::Scopes;
 use bc_mir::Typed;
 use bc_prov::{Liveness, Providers, Scoping, Solver};
 use bc_solve::Values;
@@ -51,6 +55,29 @@ fn want_memory(_alloc: Global, _facts: &Facts) -> Result<Values, AllocError>
     ensures { IfOk result (AreValues _facts.now) }
 {
     Err(AllocError)
+}
+
+/// A liveness that always wants memory.
+fn no_live(_alloc: Global, _typed: &Typed) -> Result<LiveSets, AllocError>
+    ensures { IfOk result (AreLive _typed.now) }
+{
+    Err(AllocError)
+}
+
+/// Loans in scope that always want memory.
+fn no_scopes(_alloc: Global, _typed: &Typed, _values: &Values) -> Result<Scopes, AllocError>
+    ensures { IfOk result (AreScopes _typed.now _values.now) }
+{
+    Err(AllocError)
+}
+
+/// Providers that always want memory.
+pub(crate) fn refusing(alloc: Global) -> Result<Providers, Fail> {
+    Ok(Providers::new(
+        Box::new(alloc, no_live)?,
+        Box::new(alloc, want_memory)?,
+        Box::new(alloc, no_scopes)?,
+    ))
 }
 
 /// Whether each provider is called so often where a session makes these calls, by providers that count their calls and answer as
@@ -134,5 +161,34 @@ fn a_report_wants_memory_where_a_provider_does(rt: HostRuntime) -> Result<(), Fa
     ];
     let history = history_by(&rt, alloc, &providers, 3, &turns)?;
     assert!(rt; history.entries().len() == 2, "the refused Ask is no entry");
+    Ok(())
+}
+
+/// Catches the wrong body `memo_never_used`: what was found is told again where each provider wants memory, and no longer once a
+/// closure that it rests on is replaced.
+#[test]
+fn a_second_ask_of_an_unchanged_name_calls_no_provider(rt: HostRuntime) -> Result<(), Fail> {
+    let alloc = rt.alloc();
+    let found = Turn::Ask(b"f", Ok(Found::Three(0, 0, 0)));
+    let first = [
+        Turn::Put(b"f", INVOKES, Ok(PutReply::Added)),
+        Turn::Put(b"f/0", NESTED, Ok(PutReply::Added)),
+        Turn::Put(b"f/0/1", CLOSURE, Ok(PutReply::Added)),
+        found,
+    ];
+    let second = [
+        found,
+        Turn::Put(b"g", WRITES_LAST, Ok(PutReply::Added)),
+        found,
+        Turn::Put(b"f/0/1", CLOSURE_WRITES, Ok(PutReply::Replaced)),
+        Turn::Ask(b"f", Err(Refusal::NoMemory)),
+    ];
+    let (db, mut sessions) = Db::open(alloc, 0, 9, 1)?;
+    for session in sessions.iter_mut() {
+        all_go(&rt, alloc, session, &providers!(alloc), &first)?;
+        all_go(&rt, alloc, session, &refusing(alloc)?, &second)?;
+    }
+    let history = db.close(sessions)?;
+    assert!(rt; history.entries().len() == 8, "the refused Ask is no entry");
     Ok(())
 }

@@ -2,7 +2,7 @@
 ghost use Rattle.std.specs.Prelude.{◌≡◌, ◌↔◌, ◌≤◌, [], ◌∷◌, IfOk, IfErr, IsTrue, OnOk, MatchOption};
 ghost use Rattle.bc_book.specs.Calls.{IsLegal};
 ghost use Rattle.bc_share.specs.Sessions.{new_session};
-ghost use Rattle.bc_share.specs.Closings.{AreSessionsOf, IsCloseFault, IsInRange, IsOneHistory, IsTheirs};
+ghost use Rattle.bc_share.specs.Closings.{AreSessionsOf, IsCloseFault, IsInRange, IsOneHistory};
 
 use crate::audit::agrees;
 use crate::session::Session;
@@ -91,7 +91,7 @@ impl Db {
         sessions: u8,
     ) -> Result<(Db, Vec<Session>), OpenFault>
         ensures range { OnOk result (IsInRange capacity sessions) }
-        ensures opened { IfOk result (λ opened. (opened.0 ≡ tag) × (opened.1.items ≡ new_session tag 0 capacity ∷ [])) }
+        ensures opened { IfOk result (λ opened. (opened.0 ≡ tag) × (opened.1.items ≡ new_session tag 0 ∷ [])) }
         ensures fault { IfErr result (λ fault. fault ≡ OpenFault.Range ↔ ¬ IsInRange capacity sessions) }
     {
         if capacity == 0 || capacity > MOST_ENTRIES || sessions != 1 {
@@ -114,7 +114,7 @@ impl Db {
     /// (own). The database is gone in each case.
     pub fn close(self, sessions: Vec<Session>) -> Result<History, CloseFault>
         ensures one_history { IfOk result (λ h. IsOneHistory sessions.items h) }
-        ensures theirs { IfOk result (λ h. AreSessionsOf self 1 sessions.items × IsTheirs sessions.items h) }
+        ensures theirs { OnOk result (AreSessionsOf self 1 sessions.items) }
         ensures fault { IfErr result (λ fault. IsCloseFault self 1 sessions.items fault) }
     {
         let Some(session) = only_session(self.tag, sessions) else {

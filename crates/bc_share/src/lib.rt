@@ -7,6 +7,8 @@ mod counted;
 mod db;
 mod session;
 #[cfg(test)]
+mod settled;
+#[cfg(test)]
 mod tests;
 
 pub use db::{CloseFault, Db, History, MOST_ENTRIES, OpenFault};

@@ -1,26 +1,27 @@
 //! What one session does, and its own list of that.
-ghost use Rattle.std.specs.Prelude.{◌≡◌, ◌↔◌, ◌<◌, [], length, IfOk, IfErr, OnOk, OnErr, vec_capacity, vec_len};
+ghost use Rattle.std.specs.Prelude.{◌≡◌, ◌<◌, IfOk, OnOk, OnErr};
 ghost use Rattle.std.specs.Arc.{arc_value};
 ghost use Rattle.bc_book.specs.declared.ledger.TheConstants.{MOST_SESSIONS};
 ghost use Rattle.bc_book.specs.Calls.{IsLegal};
 ghost use Rattle.bc_share.specs.Sessions.{IsAnswered, new_session};
 
-use bc_book::{Call, Entry, Event, Ledger, PutReply, Refusal, Reply};
-use bc_prov::{Outcome, Providers, Shared};
+use bc_book::{Book, Entry, Event, PutReply, Refusal, RemoveReply};
+use bc_prov::{Declared, Outcome, Providers, Shared};
 use bc_syntax::{Types, Unit};
 use bc_text::Name;
 use std::alloc::{AllocError, Global};
 use std::marker::Model;
 use std::sync::Arc;
 
-/// One session of a database: it makes the calls, and keeps a list of its own of them and their replies. (Own.)
+/// One session of a database: it makes the calls, and keeps a list of its own of them and their replies. Contracts see its number,
+/// the tag of its database, and that list. (Own.)
 #[derive(Drop)]
 pub struct Session {
     alloc: Global,
     tag: u64,
     number: u8,
     own: Vec<Event>,
-    ledger: Ledger,
+    book: Book,
 }
 
 impl Model for Session {
@@ -30,7 +31,7 @@ impl Model for Session {
 
     ghost Value = { SessionView };
 
-    ghost view = { λ s. record { tag = s.tag; number = s.number; own = s.own.items; capacity = s.ledger.capacity; entries = s.ledger.entries } };
+    ghost view = { λ s. record { tag = s.tag; number = s.number; own = s.own.items } };
 
     ghost invariant = { λ s. s.number < MOST_SESSIONS };
 }
@@ -44,15 +45,15 @@ impl Session {
         capacity: u32,
     ) -> Result<Session, AllocError>
         requires { number < MOST_SESSIONS }
-        ensures { IfOk result (λ session. session ≡ new_session tag number capacity) }
+        ensures { IfOk result (λ session. session ≡ new_session tag number) }
     {
-        let ledger = Ledger::new(alloc, capacity)?;
+        let book = Book::new(alloc, capacity)?;
         Ok(Session {
             alloc,
             tag,
             number,
             own: Vec::new(alloc),
-            ledger,
+            book,
         })
     }
 
@@ -63,19 +64,14 @@ impl Session {
     /// entries as it may have, where no call is taken, and with `NoMemory` only where memory was refused; the session
     /// and the history are then as they were.
     pub fn put_types(&mut self, types: Arc<Types, Global>) -> Result<(), Refusal>
-        ensures told { OnOk result (IsAnswered (Call.Types (arc_value types)) Reply.Stored self.old self.new) }
+        ensures told { OnOk result (IsAnswered (Event.Types (arc_value types)) self.old self.new) }
         ensures refused { OnErr result (self.new ≡ self.old) }
-        ensures below { OnOk result (length self.old.entries < self.old.capacity) }
-        ensures full { IfErr result (λ r. r ≡ Refusal.HistoryFull → length self.old.entries ≡ self.old.capacity) }
     {
-        make_room(&mut self.ledger, &mut self.own)?;
-        let types = Shared::new(types);
+        self.own.reserve(1)?;
+        let types = checked(self.alloc, Shared::new(types))?;
         let mine = types.clone()?;
-        self.ledger.put_types(self.alloc, self.number, types)?;
-        self.own.push_reserved(Event {
-            call: Call::Types(mine),
-            reply: Reply::Stored,
-        });
+        self.book.put_types(self.number, types)?;
+        self.own.push_reserved(Event::Types(mine));
         Ok(())
     }
 
@@ -83,50 +79,50 @@ impl Session {
     ///
     /// Replies `WrongKind` where the name is not one for such a unit, else `Full` where the name is new and
     /// `MOST_BODIES` are held, else `Replaced` or `Added` (own). Room in the session's own list is made first. Refused
-    /// with `HistoryFull` only where the history has as many entries as it may have, where no call is taken, and with
-    /// `NoMemory` only where memory was refused; the session and the history are then as they were.
+    /// as `put_types` is.
     pub fn put(&mut self, name: Name, unit: Arc<Unit, Global>) -> Result<PutReply, Refusal>
-        ensures told { IfOk result (λ reply. IsAnswered (Call.Put name (arc_value unit)) (Reply.Put reply) self.old self.new) }
+        ensures told { IfOk result (λ reply. IsAnswered (Event.Put name (arc_value unit) reply) self.old self.new) }
         ensures refused { OnErr result (self.new ≡ self.old) }
-        ensures below { OnOk result (length self.old.entries < self.old.capacity) }
-        ensures full { IfErr result (λ r. r ≡ Refusal.HistoryFull → length self.old.entries ≡ self.old.capacity) }
     {
-        make_room(&mut self.ledger, &mut self.own)?;
+        self.own.reserve(1)?;
         let unit = Shared::new(unit);
         let mine = unit.clone()?;
-        let reply = self.ledger.put(self.alloc, self.number, name, unit)?;
-        self.own.push_reserved(Event {
-            call: Call::Put(name, mine),
-            reply: Reply::Put(reply),
-        });
+        let reply = self.book.put(self.alloc, self.number, name, unit)?;
+        self.own.push_reserved(Event::Put(name, mine, reply));
+        Ok(reply)
+    }
+
+    /// Takes the unit of a name away: `Removed`, or `Absent` where none is held (own). Room in the session's own list is
+    /// made first. Refused as `put_types` is.
+    pub fn remove(&mut self, name: Name) -> Result<RemoveReply, Refusal>
+        ensures told { IfOk result (λ reply. IsAnswered (Event.Remove name reply) self.old self.new) }
+        ensures refused { OnErr result (self.new ≡ self.old) }
+    {
+        self.own.reserve(1)?;
+        let reply = self.book.remove(self.number, name)?;
+        self.own.push_reserved(Event::Remove(name, reply));
         Ok(reply)
     }
 
     /// Whether the body under a name is borrow-correct now: the outcome of what the name holds, under the declarations
-    /// that are held: their first bad one, `NoBody`, `Ill`, or the body's errors (RFC 2094; the rest is own).
+    /// that are held: their first bad one, `NoBody`, `Missing`, `Ill`, or the errors of the body and of its closures
+    /// (RFC 2094; the rest is own).
     ///
-    /// Room in the session's own list is made first. Refused with `HistoryFull` only where the history has as many
-    /// entries as it may have, where no call is taken, and with `NoMemory` only where memory was refused; the session
-    /// and the history are then as they were.
+    /// Room in the session's own list is made first. Refused as `put_types` is, and with `NoMemory` where a provider
+    /// wants memory.
     pub fn ask(
         &mut self,
         name: &Name,
         providers: &Providers,
     ) -> Result<Arc<Outcome, Global>, Refusal>
-        ensures told { IfOk result (λ outcome. IsAnswered (Call.Ask name.now) (Reply.Outcome (arc_value outcome)) self.old self.new) }
+        ensures told { IfOk result (λ outcome. IsAnswered (Event.Ask name.now (arc_value outcome)) self.old self.new) }
         ensures refused { OnErr result (self.new ≡ self.old) }
-        ensures below { OnOk result (length self.old.entries < self.old.capacity) }
-        ensures full { IfErr result (λ r. r ≡ Refusal.HistoryFull → length self.old.entries ≡ self.old.capacity) }
     {
-        make_room(&mut self.ledger, &mut self.own)?;
-        let outcome = self.ledger.outcome(self.alloc, providers, name)?;
-        let mine = outcome.clone()?;
-        let answer = outcome.clone()?;
-        self.ledger.ask(self.number, *name, outcome);
-        self.own.push_reserved(Event {
-            call: Call::Ask(*name),
-            reply: Reply::Outcome(mine),
-        });
+        self.own.reserve(1)?;
+        let begun = self.book.snapshot(self.alloc, name)?;
+        let work = begun.work(self.alloc, providers)?;
+        let (mine, answer) = self.book.settle(self.alloc, self.number, work, providers)?;
+        self.own.push_reserved(Event::Ask(*name, mine));
         Ok(answer.into_arc())
     }
 
@@ -147,24 +143,18 @@ impl Session {
     /// Its own list, and the history.
     pub(crate) fn into_lists(self) -> (Vec<Event>, Vec<Entry>)
         ensures own { result.0.items ≡ self.own }
-        ensures entries { result.1.items ≡ self.entries }
-        ensures legal { IsLegal self.entries }
+        ensures legal { IsLegal result.1.items }
     {
-        (self.own, self.ledger.into_history())
+        (self.own, self.book.into_history())
     }
 }
 
-// Makes room for one event of an own list, and then for one entry of a history: `NoMemory` where the list gets none, even
-// where the history is full, and else `HistoryFull` exactly where it is.
-fn make_room(ledger: &mut Ledger, own: &mut Vec<Event>) -> Result<(), Refusal>
-    ensures ledger { (ledger.new.capacity ≡ ledger.old.capacity) × (ledger.new.entries ≡ ledger.old.entries) }
-    ensures own { own.new.items ≡ own.old.items }
-    ensures room { OnOk result ((0 < ledger.new.room) × (vec_len own.new < vec_capacity own.new)) }
-    ensures below { OnOk result (length ledger.old.entries < ledger.old.capacity) }
-    ensures full { IfErr result (λ r. r ≡ Refusal.HistoryFull → length ledger.old.entries ≡ ledger.old.capacity) }
+// Declarations with what their check finds. `AllocError` only where memory was refused.
+fn checked(alloc: Global, types: Shared<Types>) -> Result<Shared<Declared>, AllocError>
+    ensures { IfOk result (λ declared. declared ≡ types) }
 {
-    if own.reserve(1).is_err() {
-        return Err(Refusal::NoMemory);
+    match Arc::new(alloc, Declared::of(alloc, types)?) {
+        Ok(declared) => Ok(Shared::new(declared)),
+        Err(_) => Err(AllocError),
     }
-    ledger.reserve()
 }

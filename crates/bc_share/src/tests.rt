@@ -1,7 +1,7 @@
 //! Databases: their ranges, their sessions, their histories.
 use crate::{CloseFault, Db, History, OpenFault, Session};
 use bc_analyses::providers;
-use bc_book::{Call, Entry, Event, PutReply, Refusal, Reply};
+use bc_book::{Entry, Event, PutReply, Refusal, RemoveReply};
 use bc_prov::{Outcome, Providers};
 use bc_syntax::{Types, Unit};
 use bc_text::{Name, read_types, read_unit};
@@ -15,7 +15,7 @@ pub(crate) const WRITES_LAST: &[u8] =
     b"fn () -> int { let _1: int; let _2: &'?0 int; bb0 { _1 = 1; _2 = &'?1 _1; _0 = copy _2.*; _1 = 2; return; } }";
 
 /// Writes the local while the borrow of it is still used: one conflict.
-const WRITES_WHILE_BORROWED: &[u8] =
+pub(crate) const WRITES_WHILE_BORROWED: &[u8] =
     b"fn () -> int { let _1: int; let _2: &'?0 int; bb0 { _1 = 1; _2 = &'?1 _1; _1 = 2; _0 = copy _2.*; return; } }";
 
 /// Creates its closure 0 and invokes it.
@@ -30,7 +30,7 @@ pub(crate) const NESTED: &[u8] =
 pub(crate) const CLOSURE: &[u8] = b"closure [] () -> int { bb0 { _0 = 0; return; } }";
 
 /// A closure that writes a local while the borrow of it is still used: one conflict.
-const CLOSURE_WRITES: &[u8] =
+pub(crate) const CLOSURE_WRITES: &[u8] =
     b"closure [] () -> int { let _1: int; let _2: &'?0 int; bb0 { _1 = 1; _2 = &'?1 _1; _1 = 2; _0 = copy _2.*; return; } }";
 
 /// A closure that requires that the first region outlives the second: no error of its own.
@@ -58,6 +58,7 @@ pub(crate) enum Found {
 pub(crate) enum Turn<'a> {
     Put(&'a [u8], &'a [u8], Result<PutReply, Refusal>),
     Types(&'a [u8], Result<(), Refusal>),
+    Remove(&'a [u8], Result<RemoveReply, Refusal>),
     Ask(&'a [u8], Result<Found, Refusal>),
     Fill,
     FillBelow,
@@ -66,7 +67,7 @@ pub(crate) enum Turn<'a> {
 const FULL: Refusal = Refusal::HistoryFull;
 
 /// The name that a text spells; fails where it spells none.
-fn name(text: &[u8]) -> Result<Name, Fail> {
+pub(crate) fn name(text: &[u8]) -> Result<Name, Fail> {
     let Some(name) = Name::read(text) else {
         return Err("a name")?;
     };
@@ -74,7 +75,7 @@ fn name(text: &[u8]) -> Result<Name, Fail> {
 }
 
 /// The unit that a text spells, behind an `Arc`, as a put takes it; fails where it spells none, or for want of memory.
-fn shared(alloc: Global, text: &[u8]) -> Result<Arc<Unit, Global>, Fail> {
+pub(crate) fn shared(alloc: Global, text: &[u8]) -> Result<Arc<Unit, Global>, Fail> {
     match Arc::new(alloc, read_unit(alloc, text)?) {
         Ok(unit) => Ok(unit),
         Err(_) => Err(AllocError)?,
@@ -89,7 +90,7 @@ fn declared(alloc: Global, text: &[u8]) -> Result<Arc<Types, Global>, Fail> {
     }
 }
 
-fn found_by(outcome: &Outcome) -> Found {
+pub(crate) fn found_by(outcome: &Outcome) -> Found {
     match outcome {
         Outcome::NoBody => Found::NoBody,
         Outcome::Missing(name) => Found::Missing(name.segments().len()),
@@ -167,13 +168,14 @@ fn goes(
             Ok(session.put(name(put)?, unit) == wanted)
         }
         Turn::Types(types, wanted) => Ok(session.put_types(declared(alloc, types)?) == wanted),
+        Turn::Remove(removed, wanted) => Ok(session.remove(name(removed)?) == wanted),
         Turn::Ask(asked, wanted) => finds(session, providers, asked, wanted),
         Turn::Fill => fills(session, &shared(alloc, WRITES_LAST)?),
         Turn::FillBelow => fills_below(session, &shared(alloc, CLOSURE)?),
     }
 }
 
-fn all_go(
+pub(crate) fn all_go(
     rt: &impl Abort,
     alloc: Global,
     session: &mut Session,
@@ -218,12 +220,11 @@ fn is_of(entry: &Entry, number: usize, turn: &Turn) -> bool {
 }
 
 fn is_event_of(event: &Event, turn: &Turn) -> bool {
-    match (turn, &event.call, &event.reply) {
-        (Turn::Put(_, _, Ok(wanted)), Call::Put(_, _), Reply::Put(reply)) => reply == wanted,
-        (Turn::Types(_, Ok(())), Call::Types(_), Reply::Stored) => true,
-        (Turn::Ask(_, Ok(wanted)), Call::Ask(_), Reply::Outcome(outcome)) => {
-            found_by(outcome.get()) == *wanted
-        }
+    match (turn, event) {
+        (Turn::Put(_, _, Ok(wanted)), Event::Put(_, _, reply)) => reply == wanted,
+        (Turn::Types(_, Ok(())), Event::Types(_)) => true,
+        (Turn::Remove(_, Ok(wanted)), Event::Remove(_, reply)) => reply == wanted,
+        (Turn::Ask(_, Ok(wanted)), Event::Ask(_, outcome)) => found_by(outcome.get()) == *wanted,
         _ => false,
     }
 }
@@ -280,6 +281,7 @@ fn a_full_history_takes_no_call(rt: HostRuntime) -> Result<(), Fail> {
         Turn::Ask(b"f", Err(FULL)),
         Turn::Put(b"f", WRITES_LAST, Err(FULL)),
         Turn::Types(MARKED_INVARIANT, Err(FULL)),
+        Turn::Remove(b"f", Err(FULL)),
     ];
     let history = history_of(&rt, rt.alloc(), 1, &turns)?;
     assert!(rt; history.entries().len() == 1, "one entry");
@@ -305,7 +307,7 @@ fn the_history_has_each_call_with_its_reply(rt: HostRuntime) -> Result<(), Fail>
     Ok(())
 }
 
-/// An Ask before the closures are put, and one behind each put.
+/// An Ask before the closures are put, and one behind each put. Catches the wrong body `missing_stays_answered`.
 #[test]
 fn an_ask_tells_of_the_closures_that_are_held_then(rt: HostRuntime) -> Result<(), Fail> {
     let turns = [
@@ -322,6 +324,34 @@ fn an_ask_tells_of_the_closures_that_are_held_then(rt: HostRuntime) -> Result<()
     ];
     let history = history_of(&rt, rt.alloc(), 10, &turns)?;
     assert!(rt; are_of(history.entries(), &turns), "ten entries");
+    Ok(())
+}
+
+/// What was found for a name is not told again once a closure of it is replaced, removed or put again.
+#[test]
+fn an_answer_falls_with_each_closure_that_it_rests_on(rt: HostRuntime) -> Result<(), Fail> {
+    let turns = [
+        Turn::Put(b"f", INVOKES, Ok(PutReply::Added)),
+        Turn::Put(b"f/0", NESTED, Ok(PutReply::Added)),
+        Turn::Put(b"f/0/1", CLOSURE, Ok(PutReply::Added)),
+        Turn::Ask(b"f", Ok(Found::Three(0, 0, 0))),
+        Turn::Put(b"f/0/1", CLOSURE_WRITES, Ok(PutReply::Replaced)),
+        Turn::Ask(b"f", Ok(Found::Three(0, 0, 1))),
+        Turn::Remove(b"f/0", Ok(RemoveReply::Removed)),
+        Turn::Ask(b"f", Ok(Found::Missing(1))),
+        Turn::Remove(b"f/0", Ok(RemoveReply::Absent)),
+        Turn::Ask(b"f/0", Ok(Found::NoBody)),
+        Turn::Put(b"f/0", NESTED, Ok(PutReply::Added)),
+        Turn::Ask(b"f", Ok(Found::Three(0, 0, 1))),
+        Turn::Types(INVARIANT_BUT_MARKED_COVARIANT, Ok(())),
+        Turn::Ask(b"f", Ok(Found::BadTypes(0))),
+        Turn::Types(MARKED_INVARIANT, Ok(())),
+        Turn::Ask(b"f", Ok(Found::Three(0, 0, 1))),
+        Turn::Remove(b"f", Ok(RemoveReply::Removed)),
+        Turn::Ask(b"f", Ok(Found::NoBody)),
+    ];
+    let history = history_of(&rt, rt.alloc(), 18, &turns)?;
+    assert!(rt; are_of(history.entries(), &turns), "eighteen entries");
     Ok(())
 }
 

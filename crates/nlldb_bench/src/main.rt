@@ -1,8 +1,9 @@
-//! Reads three long texts, analyses three large bodies, solves constraints between many regions and checks a file of many bodies,
-//! many times. What was read and found goes to standard output and is the same at each run; how fast goes to standard error.
+//! Reads three long texts, analyses three large bodies, solves constraints between many regions, asks for a body
+//! again and checks a file of many bodies, many times. What was read and found goes to standard output and is the same at each run; how fast goes to standard error.
 #![tactic(auto)]
 
 mod analyses;
+mod asks;
 mod bodies;
 mod chains;
 mod files;
@@ -12,6 +13,7 @@ mod texts;
 mod timing;
 
 use crate::analyses::measure_body;
+use crate::asks::measure_asks;
 use crate::bodies::{borrows_and_reads, borrows_and_writes, branches};
 use crate::chains::{Shape, measure_constraints};
 use crate::files::{many_bodies, measure_file};
@@ -71,12 +73,29 @@ fn measure_solving<O: Write, E: Write>(
     measure_constraints(rt, "random pairs", Shape::RandomPairs, out, err)
 }
 
+fn measure_asking<O: Write, E: Write>(
+    rt: &HostRuntime,
+    out: &mut O,
+    err: &mut E,
+) -> anyhow::Result<()> {
+    let text = borrows_and_reads(rt.alloc())?;
+    measure_asks(rt, "asks of many points", &text, out, err)?;
+    measure_asks(
+        rt,
+        "asks of two points",
+        b"fn()->int{bb0{_0=1;return;}}",
+        out,
+        err,
+    )
+}
+
 fn main(rt: HostRuntime) -> anyhow::Result<()> {
     let mut out = rt.stdout();
     let mut err = rt.stderr();
     measure_texts(&rt, &mut out, &mut err)?;
     measure_bodies(&rt, &mut out, &mut err)?;
     measure_solving(&rt, &mut out, &mut err)?;
+    measure_asking(&rt, &mut out, &mut err)?;
     let file = many_bodies(rt.alloc())?;
     measure_file(&rt, "many bodies", &file, &mut out, &mut err)
 }

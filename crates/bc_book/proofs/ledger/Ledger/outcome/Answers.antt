@@ -1,12 +1,13 @@
-use Rattle.std.proofs.Common.{sym, ◌∙◌, subst}
+use Rattle.std.proofs.Common.{subst}
 use Rattle.bc_prov.specs.Outcome.{IsOutcomeIn}
 use Rattle.bc_book.specs.Calls.{after}
-use Rattle.bc_book.proofs.Parts.{part_outcome}
+use Rattle.bc_book.specs.Ledgers.{LedgerView}
+use Rattle.bc_book.proofs.Parts.{stood_outcome}
 use Rattle.bc_book.proofs.ledger.Ledger.outcome.Goals as goal
 
-pub returns-in-Ok : goal.returns-in-Ok
-returns-in-Ok g c =
-    let state = after c.args.self.now.entries in
-    let name = c.args.name.now in
-    subst (IsOutcomeIn state name) (sym (c.new-in-Ok.ensures ∙ c.in-Ok.ensures.ok))
-    (part_outcome c.in_ok-snapshot.snapshot name state c.in_ok-outcome.outcome c.in_ok-snapshot.ensures c.in_ok-outcome.ensures)
+pub returns-in-Some-standing : goal.returns-in-Some-standing
+returns-in-Some-standing g c =
+    let i = c.self.inside in
+    let w = c.args.work in
+    subst (λ (v : LedgerView). IsOutcomeIn (after v.entries) w.snapshot.root c.in-Some-standing.outcome) c.self.view_is
+    (stood_outcome i.shelf.held i.history.items w c.in-Some-standing.outcome c.self.invariant.shelf_of c.in-Some-standing.ensures)

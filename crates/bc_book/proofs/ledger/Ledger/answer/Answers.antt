@@ -1,0 +1,15 @@
+use Rattle.std.proofs.Common.{subst}
+use Rattle.std.specs.Prelude.{IfSome}
+use Rattle.bc_prov.specs.Outcome.{IsOutcomeIn}
+use Rattle.bc_book.specs.Calls.{after}
+use Rattle.bc_book.specs.Ledgers.{LedgerView}
+use Rattle.bc_book.proofs.Keeping.{answer_right, some_map}
+use Rattle.bc_book.proofs.ledger.Ledger.answer.Goals as goal
+
+pub returns : goal.returns
+returns c =
+    let i = c.self.inside in
+    let n = c.args.name.now in
+    subst (λ (v : LedgerView). IfSome c.lookup.result (λ o. IsOutcomeIn (after v.entries) n o.now)) c.self.view_is
+    (some_map c.lookup.result _ (λ o. IsOutcomeIn (after i.history.items) n o.now)
+    (λ o t. answer_right i.history.items i.shelf.held i.memo.rows n t.0 o.now c.self.invariant.right t.1 t.2 t.3) c.lookup.ensures.stands)

@@ -1,0 +1,169 @@
+//! What lies under the lock: the history, what it leaves, and what is remembered.
+ghost use Rattle.std.specs.Prelude.{◌≡◌, ◌<◌, [], length, IfOk, IfErr, OnErr, OnOk};
+ghost use Rattle.std.specs.Option.{ForSome};
+ghost use Rattle.bc_prov.specs.Snapshots.{IsPartOf};
+ghost use Rattle.bc_book.specs.Calls.{IsLegal, IsReply, after};
+ghost use Rattle.bc_book.specs.Ledgers.{Appends, HasPlace, IsFull, IsRow};
+
+use crate::call::{Entry, Event, PutReply, RemoveReply};
+use crate::ledger::{Ledger, MOST_SESSIONS, Refusal};
+use crate::work::{Begun, Work};
+use bc_memo::Remembered;
+use bc_prov::{Declared, Outcome, Providers, Shared};
+use bc_syntax::Unit;
+use bc_text::Name;
+use std::alloc::{AllocError, Global};
+use std::marker::Model;
+
+/// A book: the history of all calls, what it leaves, and what is remembered of it. Contracts see how many entries it may have, those
+/// that it has, what is held, and what is remembered. (Own.)
+#[derive(Drop)]
+pub struct Book {
+    ledger: Ledger,
+}
+
+impl Model for Book {
+    ghost use Rattle.bc_book.specs.Ledgers.{BookView};
+
+    ghost Value = { BookView };
+
+    ghost view = { λ b. record { capacity = b.ledger.capacity; entries = b.ledger.entries; shelf = b.ledger.shelf; answers = b.ledger.answers } };
+}
+
+impl Book {
+    /// A book without entries, which may have so many, with no declaration and no body. `AllocError` only where memory was refused.
+    /// Own.
+    pub fn new(alloc: Global, capacity: u32) -> Result<Book, AllocError>
+        ensures { IfOk result (λ book. (book.capacity ≡ capacity) × (book.entries ≡ [])) }
+    {
+        let ledger = Ledger::new(alloc, capacity)?;
+        Ok(Book { ledger })
+    }
+
+    /// Stores a session's declarations in place of those before (own). They were checked before, since that takes memory and time.
+    ///
+    /// Refused with `HistoryFull` exactly where the history has as many entries as it may have, which is tested first, and with
+    /// `NoMemory` only where memory was refused. Then nothing has changed.
+    pub fn put_types(&mut self, session: u8, types: Shared<Declared>) -> Result<(), Refusal>
+        requires session { session < MOST_SESSIONS }
+        ensures step { OnOk result (Appends session (Event.Types types) self.old self.new) }
+        ensures refused { OnErr result (self.new ≡ self.old) }
+        ensures full { IfErr result (IsFull self.old) }
+        ensures below { OnOk result (length self.old.entries < self.old.capacity) }
+    {
+        self.append(session, Event::Types(types), None)
+    }
+
+    /// Stores a session's unit under a name, where the reply says so: `WrongKind` where the name is not one for such a unit (a
+    /// function's a root, a closure's any other, and a name of seven segments is none for a unit with a child), else `Full` where the
+    /// name is new and `MOST_BODIES` are held, else `Replaced` or `Added` (own). Refused as `put_types` is.
+    pub fn put(
+        &mut self,
+        alloc: Global,
+        session: u8,
+        name: Name,
+        unit: Shared<Unit>,
+    ) -> Result<PutReply, Refusal>
+        requires session { session < MOST_SESSIONS }
+        ensures step { IfOk result (λ reply. Appends session (Event.Put name unit reply) self.old self.new) }
+        ensures refused { OnErr result (self.new ≡ self.old) }
+        ensures full { IfErr result (IsFull self.old) }
+        ensures below { OnOk result (length self.old.entries < self.old.capacity) }
+    {
+        self.ledger.reserve()?;
+        let reply = self.ledger.put_reply(alloc, &name, unit.get())?;
+        self.append(session, Event::Put(name, unit, reply), None)?;
+        Ok(reply)
+    }
+
+    /// Takes the unit of a name away: `Removed`, or `Absent` where none is held (own). Refused as `put_types` is.
+    pub fn remove(&mut self, session: u8, name: Name) -> Result<RemoveReply, Refusal>
+        requires session { session < MOST_SESSIONS }
+        ensures step { IfOk result (λ reply. Appends session (Event.Remove name reply) self.old self.new) }
+        ensures refused { OnErr result (self.new ≡ self.old) }
+        ensures full { IfErr result (IsFull self.old) }
+        ensures below { OnOk result (length self.old.entries < self.old.capacity) }
+    {
+        self.ledger.reserve()?;
+        let reply = self.ledger.remove_reply(&name);
+        self.append(session, Event::Remove(name, reply), None)?;
+        Ok(reply)
+    }
+
+    /// The part of what is held that the outcome of a name rests on: the declarations, and the units at the name and at all names that
+    /// begin with it and `/`, with their revisions; it carries the outcome that is remembered for the name and stands, if there is one.
+    /// Nothing is entered. `AllocError` only where memory was refused. Own.
+    pub fn snapshot(&self, alloc: Global, name: &Name) -> Result<Begun, AllocError>
+        ensures { IfOk result (λ begun. IsPartOf begun name.now (after self.now.entries)) }
+    {
+        self.ledger.begin(alloc, name)
+    }
+
+    /// Enters a session's Ask of the name of a work, and answers its outcome: the one that is remembered and stands, else the work's
+    /// own where its revisions, declarations and units are those held, else the one that the providers give of what is held. The
+    /// outcome of a name that is held is remembered (own). It answers two owners of it, one for the session's own list. Refused as
+    /// `put_types` is, and with `NoMemory` where a provider wants memory.
+    pub fn settle(
+        &mut self,
+        alloc: Global,
+        session: u8,
+        work: Work,
+        providers: &Providers,
+    ) -> Result<(Shared<Outcome>, Shared<Outcome>), Refusal>
+        requires session { session < MOST_SESSIONS }
+        ensures step { IfOk result (λ told. Appends session (Event.Ask work.snapshot.root told.0) self.old self.new) }
+        ensures same { IfOk result (λ told. told.1 ≡ told.0) }
+        ensures refused { OnErr result (self.new ≡ self.old) }
+        ensures full { IfErr result (IsFull self.old) }
+        ensures below { OnOk result (length self.old.entries < self.old.capacity) }
+    {
+        self.ledger.reserve()?;
+        let name = *work.name();
+        let outcome = self.ledger.outcome(alloc, work, providers)?;
+        let mine = outcome.clone()?;
+        let answer = outcome.clone()?;
+        let row = self.ledger.row(alloc, &name, &outcome)?;
+        self.append(session, Event::Ask(name, outcome), row)?;
+        Ok((mine, answer))
+    }
+
+    // Adds a session's event, whose reply is the one that what is held gives it, and remembers an outcome, where there is one. All
+    // that may be refused comes first.
+    fn append(
+        &mut self,
+        session: u8,
+        event: Event,
+        row: Option<(Name, Remembered)>,
+    ) -> Result<(), Refusal>
+        requires session { session < MOST_SESSIONS }
+        requires reply { IsReply (after self.old.entries) event }
+        requires place { HasPlace (length self.old.shelf.places) event }
+        requires row { ForSome row (λ r. IsRow self.old.shelf self.old.entries r.0 r.1) }
+        ensures step { OnOk result (Appends session event self.old self.new) }
+        ensures refused { OnErr result (self.new ≡ self.old) }
+        ensures full { IfErr result (IsFull self.old) }
+        ensures below { OnOk result (length self.old.entries < self.old.capacity) }
+    {
+        self.ledger.reserve()?;
+        let change = event.change()?;
+        let number = self.ledger.number(session);
+        self.ledger.remember(row);
+        self.ledger.record(
+            Entry {
+                session,
+                number,
+                event,
+            },
+            change,
+        );
+        Ok(())
+    }
+
+    /// The history, taken out: all entries, in their order. Own.
+    pub fn into_history(self) -> Vec<Entry>
+        ensures entries { result.items ≡ self.entries }
+        ensures legal { IsLegal self.entries }
+    {
+        self.ledger.into_history()
+    }
+}

@@ -1,0 +1,91 @@
+//! The replies to puts and removals.
+ghost use Rattle.std.specs.Prelude.{◌≡◌, ◌↔◌, ◌<◌, ◌≤◌, IfOk, IsTrue, length};
+ghost use Rattle.bc_prov.specs.State.{HasRoom, Suits, SuitsKind};
+ghost use Rattle.bc_book.specs.Calls.{IsPutReply, IsRemoveReply};
+ghost use Rattle.bc_book.specs.Ledgers.{bodies_of};
+
+use crate::call::{PutReply, RemoveReply};
+use crate::ledger::MOST_BODIES;
+use bc_memo::Shelf;
+use bc_syntax::{Unit, UnitKind};
+use bc_text::Name;
+use std::alloc::{AllocError, Global};
+
+// Whether a unit of this kind may have the name.
+fn suits_kind(kind: UnitKind, name: &Name) -> bool
+    ensures { IsTrue result ↔ SuitsKind kind name.now }
+{
+    match kind {
+        UnitKind::Function => name.segments().is_empty(),
+        UnitKind::Closure => !name.segments().is_empty(),
+    }
+}
+
+// Whether there are names for the children of a unit.
+fn has_room(alloc: Global, unit: &Unit, name: &Name) -> Result<bool, AllocError>
+    ensures { IfOk result (λ room. IsTrue room ↔ HasRoom name.now unit.now) }
+{
+    if name.depth() < 7 {
+        return Ok(true);
+    }
+    let children = unit.body().children(alloc)?;
+    Ok(children.is_empty())
+}
+
+// Whether a unit may be held at the name.
+fn suits(alloc: Global, unit: &Unit, name: &Name) -> Result<bool, AllocError>
+    ensures { IfOk result (λ suits. IsTrue suits ↔ Suits unit.now name.now) }
+{
+    if !suits_kind(unit.body().header.kind, name) {
+        return Ok(false);
+    }
+    has_room(alloc, unit, name)
+}
+
+// The reply to a put of a unit that may be held at the name.
+fn stored_reply(shelf: &Shelf, name: &Name, unit: &Unit) -> PutReply
+    requires few { length shelf.now.held.places ≤ MOST_BODIES }
+    requires suits { Suits unit.now name.now }
+    ensures reply { IsPutReply (bodies_of shelf.now.held) name.now unit.now result }
+    ensures place { result ≡ PutReply.Added → length shelf.now.held.places < MOST_BODIES }
+{
+    let count = shelf.count();
+    if shelf.is_held(name) {
+        PutReply::Replaced
+    } else if count < MOST_BODIES {
+        PutReply::Added
+    } else {
+        PutReply::Full
+    }
+}
+
+/// The reply to a put: `WrongKind` where the name is not one for such a unit (a function's a root, a closure's any other, and a name
+/// of seven segments is none for a unit with a child), else `Full` where the name is new and `MOST_BODIES` are held, else `Replaced`
+/// or `Added` (own). `AllocError` only where memory was refused.
+pub(crate) fn put_reply(
+    alloc: Global,
+    shelf: &Shelf,
+    name: &Name,
+    unit: &Unit,
+) -> Result<PutReply, AllocError>
+    requires { length shelf.now.held.places ≤ MOST_BODIES }
+    ensures reply { IfOk result (IsPutReply (bodies_of shelf.now.held) name.now unit.now) }
+    ensures place { IfOk result (λ reply. reply ≡ PutReply.Added → length shelf.now.held.places < MOST_BODIES) }
+{
+    if suits(alloc, unit, name)? {
+        Ok(stored_reply(shelf, name, unit))
+    } else {
+        Ok(PutReply::WrongKind)
+    }
+}
+
+/// The reply to a removal (own). It takes no memory.
+pub(crate) fn remove_reply(shelf: &Shelf, name: &Name) -> RemoveReply
+    ensures { IsRemoveReply (bodies_of shelf.now.held) name.now result }
+{
+    if shelf.is_held(name) {
+        RemoveReply::Removed
+    } else {
+        RemoveReply::Absent
+    }
+}

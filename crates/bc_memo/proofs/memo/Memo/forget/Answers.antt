@@ -1,0 +1,10 @@
+use Rattle.std.proofs.Common.{List, sym, subst}
+use Rattle.std.specs.BTreeMap.{is_at}
+use Rattle.bc_text.specs.Names.{NameParts, name_order}
+use Rattle.bc_memo.specs.declared.memo.Remembered.{Remembered}
+use Rattle.bc_memo.specs.Places.{AreOrdered}
+use Rattle.bc_memo.proofs.Places.{ordered-take}
+use Rattle.bc_memo.proofs.memo.Memo.forget.Goals as goal
+
+pub invariant_of-self : goal.invariant_of-self
+invariant_of-self c = subst (λ (l : List (NameParts × Remembered)). AreOrdered l) (sym c.take.ensures) (ordered-take (is_at (name_order c.args.name.now)) c.self.inside.rows.items c.self.invariant)

@@ -1,0 +1,11 @@
+use Rattle.std.proofs.Common.{arith, refl}
+use Rattle.bc_text.specs.Names.{NameParts}
+use Rattle.bc_memo.specs.declared.place.Place.{Place}
+use Rattle.bc_memo.proofs.Parts.{map_same}
+use Rattle.bc_memo.proofs.shelf.are_revisions.Goals as goal
+
+pub returns : goal.returns
+returns c =
+    let same = c.if-revisions-places.false in
+    let done = c.loop-index-test.false in
+    (λ _. map_same (λ (p : NameParts × Place). p.1.revision) c.args.revisions.now c.args.places.now (omega (arith, same)) (λ k d e less. c.loop-index.invariant k d e (omega (arith, done, less))), λ _. refl)

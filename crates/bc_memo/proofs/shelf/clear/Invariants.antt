@@ -1,0 +1,6 @@
+use Rattle.std.proofs.Common.{◌≡◌}
+use Rattle.bc_memo.proofs.Marking.{cleared_below}
+use Rattle.bc_memo.proofs.shelf.clear.Given as goal
+
+abbrev pub invariant-loop-depth : goal.invariant-loop-depth
+invariant-loop-depth l = l.places.items ≡ cleared_below l.name l.depth l.initial.places.items

@@ -1,0 +1,195 @@
+-- What is held, with its revisions and its answers, and what a change makes of it.
+use Rattle.std.specs.Prelude.{◌≡◌, ℕ, ◌<◌, ◌≤◌, Bool, true, false, Option, Some, None, List, [], length, map, filter, slice_index_or, if◌then◌else◌}
+use Rattle.std.specs.Option.{option_or}
+use Rattle.std.specs.Ordering.{is_gt}
+use Rattle.std.specs.declared.cmp.Ordering.TheVariants.{Less, Greater}
+use Rattle.std.specs.Map.{keys_of, remove_entry}
+use Rattle.std.specs.BTreeMap.{is_at, insert_entry}
+use Rattle.std.specs.List.{AllByRecursion}
+use Rattle.std.specs.List.Sorted.{IsStrictlySortedBy}
+use Rattle.bc_syntax.specs.declared.syntax.Declaration.{Declaration}
+use Rattle.bc_syntax.specs.declared.syntax.Body.{Body}
+use Rattle.bc_text.specs.Names.{NameParts, name_order, is_same_name, is_within}
+use Rattle.bc_prov.specs.State.{Suits, at_name}
+use Rattle.bc_prov.specs.Snapshots.{SnapshotView}
+use Rattle.bc_prov.specs.declared.outcome.Outcome.{Outcome}
+use Rattle.bc_memo.specs.declared.place.Place.{Place}
+use Rattle.bc_memo.specs.declared.change.Change.{Change}
+use Rattle.bc_memo.specs.declared.change.Change.TheVariants.{Types, Put, Remove, Answer, Nothing}
+
+-- places by their names
+abbrev pub Places : Type 0
+Places = List (NameParts × Place)
+
+-- declarations with their revision, and places
+pub record ShelfView : Type 0 where
+  pub types : List Declaration
+  pub types_revision : ℕ
+  pub places : Places
+
+-- what is held, and for how many more places there is memory
+pub record ShelfRoom : Type 0 where
+  pub held : ShelfView
+  pub room : ℕ
+
+-- these declarations and no unit
+abbrev pub empty_shelf : List Declaration → ShelfView
+empty_shelf types = record { types = types; types_revision = 0; places = [] }
+
+-- the names ascend
+abbrev pub AreOrdered : {V : Type 0} → List (NameParts × V) → Type 0
+AreOrdered entries = IsStrictlySortedBy name_order (keys_of entries)
+
+-- the names ascend, and each unit suits its name
+pub record AreKept (places : Places) : Type 0 where
+  pub ordered : AreOrdered places
+  pub suited : AllByRecursion (λ (p : NameParts × Place). Suits p.1.unit p.0) places
+
+abbrev pub unit_of : Option Place → Option Body
+unit_of None = None
+unit_of (Some place) = Some place.unit
+
+abbrev pub revision_of : Option Place → Option ℕ
+revision_of None = None
+revision_of (Some place) = Some place.revision
+
+abbrev pub answer_of : Option Place → Option Outcome
+answer_of None = None
+answer_of (Some place) = place.answer
+
+-- the revision of a name; an absent name has none
+abbrev pub revision_at : ShelfView → NameParts → Option ℕ
+revision_at shelf name = revision_of (at_name shelf.places name)
+
+-- a place that is written anew has no answer
+abbrev pub written : Body → ℕ → Place
+written unit revision = record { unit = unit; revision = revision; answer = None }
+
+-- a unit that a change puts at a name suits it
+abbrev pub MayChange : Change → Type 0
+MayChange (Types types) = Unit {0}
+MayChange (Put name unit) = Suits unit name
+MayChange (Remove name) = Unit {0}
+MayChange (Answer name outcome) = Unit {0}
+MayChange Nothing = Unit {0}
+
+-- the places after a change, but for their answers
+abbrev pub placed : Places → Change → ℕ → Places
+placed places (Types types) revision = places
+placed places (Put name unit) revision = insert_entry name_order places name (written unit revision)
+placed places (Remove name) revision = remove_entry (is_at (name_order name)) places
+placed places (Answer name outcome) revision = places
+placed places Nothing revision = places
+
+-- a change makes the answer of a name void: it brings declarations, or it writes the name or one that begins with it and `/`
+abbrev pub voids : Change → NameParts → Bool
+voids (Types types) name = true
+voids (Put other unit) name = is_within name other
+voids (Remove other) name = is_within name other
+voids (Answer other outcome) name = false
+voids Nothing name = false
+
+-- the answer that a change brings for a name
+abbrev pub brought : Change → NameParts → Option Outcome
+brought (Types types) name = None
+brought (Put other unit) name = None
+brought (Remove other) name = None
+brought (Answer other outcome) name = if is_same_name other name then Some outcome else None
+brought Nothing name = None
+
+-- the answer of a name after a change
+abbrev pub next_answer : Change → NameParts → Option Outcome → Option Outcome
+next_answer change name before = if voids change name then None else option_or (brought change name) before
+
+-- the place with another answer
+abbrev pub with_answer : Place → Option Outcome → Place
+with_answer place answer = record { unit = place.unit; revision = place.revision; answer = answer }
+
+abbrev pub mark : Change → NameParts → Place → Place
+mark change name place = with_answer place (next_answer change name place.answer)
+
+-- the places with their answers after a change
+abbrev pub marked : Change → Places → Places
+marked change places = map (λ (p : NameParts × Place). (p.0, mark change p.0 p.1)) places
+
+-- the places with this answer at a name, if it has a place
+abbrev pub answered : NameParts → Option Outcome → Places → Places
+answered name answer places = map (λ (p : NameParts × Place). (p.0, if is_same_name name p.0 then with_answer p.1 answer else p.1)) places
+
+-- the places without the answers of a name and of those with which it begins
+abbrev pub cleared : NameParts → Places → Places
+cleared name places = map (λ (p : NameParts × Place). (p.0, if is_within p.0 name then with_answer p.1 None else p.1)) places
+
+-- the places without answers
+abbrev pub unanswered : Places → Places
+unanswered places = map (λ (p : NameParts × Place). (p.0, with_answer p.1 None)) places
+
+-- the declarations after a change
+abbrev pub next_types : List Declaration → Change → List Declaration
+next_types held (Types types) = types
+next_types held (Put name unit) = held
+next_types held (Remove name) = held
+next_types held (Answer name outcome) = held
+next_types held Nothing = held
+
+-- the revision of the declarations after a change
+abbrev pub next_types_revision : ℕ → Change → ℕ → ℕ
+next_types_revision before (Types types) revision = revision
+next_types_revision before (Put name unit) revision = before
+next_types_revision before (Remove name) revision = before
+next_types_revision before (Answer name outcome) revision = before
+next_types_revision before Nothing revision = before
+
+-- what is held after a change, which gives this revision to what it writes
+abbrev pub changed : ShelfView → Change → ℕ → ShelfView
+changed shelf change revision = record {
+  types = next_types shelf.types change;
+  types_revision = next_types_revision shelf.types_revision change revision;
+  places = marked change (placed shelf.places change revision);
+}
+
+-- the places of a name and of those that begin with it and `/`
+abbrev pub part_in : NameParts → Places → Places
+part_in root places = filter (λ (p : NameParts × Place). is_within root p.0) places
+
+-- their bodies
+abbrev pub units_in : NameParts → Places → List (NameParts × Body)
+units_in root places = map (λ (p : NameParts × Place). (p.0, p.1.unit)) (part_in root places)
+
+-- their revisions
+abbrev pub revisions_in : NameParts → Places → List ℕ
+revisions_in root places = map (λ (p : NameParts × Place). p.1.revision) (part_in root places)
+
+-- a snapshot has the declarations and the bodies that are held at its root and at names that begin with it and `/`, with these
+-- revisions
+pub record IsHeld (shelf : ShelfView) (snapshot : SnapshotView) (types_at : ℕ) (units_at : List ℕ) : Type 0 where
+  pub types_revision : types_at ≡ shelf.types_revision
+  pub revisions : units_at ≡ revisions_in snapshot.root shelf.places
+  pub types : snapshot.types ≡ shelf.types
+  pub units : snapshot.units ≡ units_in snapshot.root shelf.places
+
+-- the name comes behind all before a place
+abbrev pub IsAbove : {V : Type 0} → List (NameParts × V) → NameParts → ℕ → Type 0
+IsAbove {V} entries name place = (j : ℕ) (d : NameParts × V) → j < place → name_order name (slice_index_or entries j d).0 ≡ Greater
+
+-- the name comes before all from a place on
+abbrev pub IsBelow : {V : Type 0} → List (NameParts × V) → NameParts → ℕ → Type 0
+IsBelow {V} entries name place = (j : ℕ) (d : NameParts × V) → place ≤ j → j < length entries → name_order name (slice_index_or entries j d).0 ≡ Less
+
+-- all before a place come before the name, and none from it on does
+pub record IsStartAt {V : Type 0} (entries : List (NameParts × V)) (name : NameParts) (place : ℕ) : Type 0 where
+  pub within : place ≤ length entries
+  pub above : IsAbove entries name place
+  pub later : (j : ℕ) (d : NameParts × V) → place ≤ j → j < length entries → is_gt (name_order name (slice_index_or entries j d).0) ≡ false
+
+-- the name stands at a place
+pub record IsFoundAt {V : Type 0} (entries : List (NameParts × V)) (name : NameParts) (place : ℕ) : Type 0 where
+  pub within : place < length entries
+  pub above : IsAbove entries name place
+  pub at : (d : NameParts × V) → (slice_index_or entries place d).0 ≡ name
+
+-- the name would stand before a place
+pub record IsGapAt {V : Type 0} (entries : List (NameParts × V)) (name : NameParts) (place : ℕ) : Type 0 where
+  pub within : place ≤ length entries
+  pub above : IsAbove entries name place
+  pub below : IsBelow entries name place

@@ -1,0 +1,13 @@
+//! What is held, with revisions, and answers that are remembered while the revisions of all that they were found from stand.
+#![tactic(auto)]
+
+mod change;
+mod memo;
+mod place;
+mod rows;
+mod shelf;
+
+pub use change::Change;
+pub use memo::{Memo, Remembered};
+pub use place::Place;
+pub use shelf::{Part, Shelf};

@@ -1,0 +1,169 @@
+//! Outcomes of names, with the revisions of all that they were found from.
+ghost use Rattle.std.specs.Prelude.{◌≡◌, ◌↔◌, ◌<◌, [], IfNone, IfOk, IfSome, IsSome, IsTrue, OnErr, OnOk, Some};
+ghost use Rattle.std.specs.BTreeMap.{insert_entry, is_at};
+ghost use Rattle.std.specs.Map.{remove_entry};
+ghost use Rattle.std.specs.List.{AllByRecursion};
+ghost use Rattle.bc_text.specs.Names.{name_order};
+ghost use Rattle.bc_prov.specs.State.{at_name};
+ghost use Rattle.bc_memo.specs.Memos.{IsRowOf, Stands, recorded};
+ghost use Rattle.bc_memo.specs.Places.{revision_at};
+
+use crate::rows::{find, put, take};
+use crate::shelf::Shelf;
+use bc_prov::{Outcome, Shared};
+use bc_text::Name;
+use std::alloc::{AllocError, Global};
+use std::marker::Model;
+
+/// An outcome, with the revisions of the declarations and of each name that it was found from; an absent name has none. (Own.)
+#[derive(Drop)]
+pub struct Remembered {
+    pub types: u32,
+    pub used: Vec<(Name, Option<u32>)>,
+    pub outcome: Shared<Outcome>,
+}
+
+/// What is remembered. Contracts see the rows, in the order of their names, and for how many more names there is memory. (Own.)
+#[derive(Drop)]
+pub struct Memo {
+    rows: Vec<(Name, Remembered)>,
+}
+
+impl Model for Memo {
+    ghost use Rattle.std.specs.Prelude.{◌-◌, vec_capacity};
+    ghost use Rattle.bc_memo.specs.Memos.{MemoView};
+    ghost use Rattle.bc_memo.specs.Places.{AreOrdered};
+
+    ghost Value = { MemoView };
+
+    ghost view = { λ m. record { rows = m.rows.items; room = vec_capacity m.rows - m.rows.len } };
+
+    ghost invariant = { λ m. AreOrdered m.rows.items };
+}
+
+impl Remembered {
+    /// An outcome with the revisions that a shelf has of its declarations and of these names. Answers `AllocError` only where
+    /// memory was refused. (Own.)
+    pub fn of(
+        alloc: Global,
+        shelf: &Shelf,
+        names: &[Name],
+        outcome: Shared<Outcome>,
+    ) -> Result<Remembered, AllocError>
+        ensures { IfOk result (λ row. IsRowOf shelf.now.held names.now outcome row) }
+    {
+        let used = revisions(alloc, shelf, names)?;
+        Ok(Remembered {
+            types: shelf.types_revision(),
+            used,
+            outcome,
+        })
+    }
+}
+
+impl Memo {
+    /// Nothing is remembered. (Own.)
+    pub fn new(alloc: Global) -> Memo
+        ensures { result.rows ≡ [] }
+    {
+        Memo {
+            rows: Vec::new(alloc),
+        }
+    }
+
+    /// The outcome that is remembered for a name, where the declarations and all names that it was found from have the revisions
+    /// that they had; `None` exactly where nothing is remembered for the name or something changed since. It takes no memory. (Own.)
+    pub fn lookup(&self, shelf: &Shelf, name: &Name) -> Option<&Shared<Outcome>>
+        ensures stands { IfSome result (λ outcome. (row : Remembered) × (at_name self.now.rows name.now ≡ Some row) × Stands shelf.now.held row × (outcome.now ≡ row.outcome)) }
+        ensures none { IfNone result ((row : Remembered) → at_name self.now.rows name.now ≡ Some row → Stands shelf.now.held row → ⊥) }
+    {
+        match find(&self.rows, name) {
+            Ok(place) => {
+                let row = &self.rows[place].1;
+                if stands(shelf, row) {
+                    Some(&row.outcome)
+                } else {
+                    None
+                }
+            }
+            Err(_) => None,
+        }
+    }
+
+    /// Makes room for one more name, and changes nothing else. Answers `AllocError` only where memory was refused. (Own.)
+    pub fn reserve(&mut self) -> Result<(), AllocError>
+        ensures same { self.new.rows ≡ self.old.rows }
+        ensures room { OnOk result (0 < self.new.room) }
+    {
+        self.rows.reserve(1)
+    }
+
+    /// Remembers a row for a name, in the place of what was remembered for it. It takes no memory: it asks for room. (Own.)
+    pub fn put(&mut self, name: Name, row: Remembered)
+        requires { 0 < self.old.room }
+        ensures { self.new.rows ≡ insert_entry name_order self.old.rows name row }
+    {
+        put(&mut self.rows, name, row);
+    }
+
+    /// Forgets what is remembered for a name, if anything is. It takes no memory. (Own.)
+    pub fn forget(&mut self, name: &Name)
+        ensures { self.new.rows ≡ remove_entry (is_at (name_order name.now)) self.old.rows }
+    {
+        take(&mut self.rows, name);
+    }
+
+    /// Remembers an outcome for a name that is held, with the revisions that a shelf has of its declarations and of these names.
+    /// Answers `AllocError` only where memory was refused, and then remembers what it did before. (Own.)
+    pub fn install(
+        &mut self,
+        alloc: Global,
+        shelf: &Shelf,
+        name: Name,
+        names: &[Name],
+        outcome: Shared<Outcome>,
+    ) -> Result<(), AllocError>
+        requires held { IsSome (at_name shelf.now.held.places name) }
+        ensures installed { OnOk result ((row : Remembered) × IsRowOf shelf.now.held names.now outcome row × (self.new.rows ≡ insert_entry name_order self.old.rows name row)) }
+        ensures refused { OnErr result (self.new.rows ≡ self.old.rows) }
+    {
+        let row = Remembered::of(alloc, shelf, names, outcome)?;
+        self.reserve()?;
+        self.put(name, row);
+        Ok(())
+    }
+}
+
+// Whether the declarations and all names that are recorded have the revisions that they had.
+fn stands(shelf: &Shelf, row: &Remembered) -> bool
+    ensures { IsTrue result ↔ Stands shelf.now.held row.now }
+{
+    shelf.types_revision() == row.types && all_stand(shelf, &row.used)
+}
+
+// Whether all these names have these revisions.
+fn all_stand(shelf: &Shelf, used: &[(Name, Option<u32>)]) -> bool
+    ensures { IsTrue result ↔ AllByRecursion (λ row. revision_at shelf.now.held row.0 ≡ row.1) used.now }
+{
+    for row in used {
+        if shelf.revision(&row.0) != row.1 {
+            return false;
+        }
+    }
+    true
+}
+
+// The names with the revisions that they have.
+fn revisions(
+    alloc: Global,
+    shelf: &Shelf,
+    names: &[Name],
+) -> Result<Vec<(Name, Option<u32>)>, AllocError>
+    ensures { IfOk result (λ used. used.items ≡ recorded shelf.now.held names.now) }
+{
+    let mut used = Vec::with_capacity(alloc, names.len())?;
+    for name in names {
+        used.push((*name, shelf.revision(name)))?;
+    }
+    Ok(used)
+}

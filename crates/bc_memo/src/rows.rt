@@ -1,0 +1,54 @@
+//! Rows in the order of their names.
+ghost use Rattle.std.specs.Prelude.{◌≡◌, ◌<◌, IfErr, IfOk, vec_capacity, vec_len};
+ghost use Rattle.std.specs.BTreeMap.{insert_entry, is_at};
+ghost use Rattle.std.specs.Map.{remove_entry};
+ghost use Rattle.bc_text.specs.Names.{name_order};
+ghost use Rattle.bc_memo.specs.Places.{AreOrdered, IsFoundAt, IsGapAt, IsStartAt};
+
+use bc_text::Name;
+
+/// The row of a name, or the row before which it would stand.
+pub(crate) fn find<T>(rows: &[(Name, T)], name: &Name) -> Result<usize, usize>
+    requires { AreOrdered rows.now }
+    ensures found { IfOk result (IsFoundAt rows.now name.now) }
+    ensures missed { IfErr result (IsGapAt rows.now name.now) }
+{
+    rows.binary_search_by(|row| row.0.cmp(name))
+}
+
+/// The first row that does not come before a name.
+pub(crate) fn start<T>(rows: &[(Name, T)], name: &Name) -> usize
+    requires { AreOrdered rows.now }
+    ensures { IsStartAt rows.now name.now result }
+{
+    match find(rows, name) {
+        Ok(place) => place,
+        Err(place) => place,
+    }
+}
+
+/// Puts a value at a name. It takes no memory.
+pub(crate) fn put<T: Drop>(rows: &mut Vec<(Name, T)>, name: Name, value: T)
+    requires ordered { AreOrdered rows.old.items }
+    requires room { vec_len rows.old < vec_capacity rows.old }
+    ensures { rows.new.items ≡ insert_entry name_order rows.old.items name value }
+{
+    match find(rows, &name) {
+        Ok(place) => rows[place] = (name, value),
+        Err(place) => {
+            if rows.insert(place, (name, value)).is_err() {
+                unreachable!();
+            }
+        }
+    }
+}
+
+/// Takes the value of a name out, if it has one. It takes no memory.
+pub(crate) fn take<T: Drop>(rows: &mut Vec<(Name, T)>, name: &Name)
+    requires { AreOrdered rows.old.items }
+    ensures { rows.new.items ≡ remove_entry (is_at (name_order name.now)) rows.old.items }
+{
+    if let Ok(place) = find(rows, name) {
+        drop(rows.remove(place));
+    }
+}

@@ -1,0 +1,273 @@
+//! What is held: declarations, and units with their answers in the order of their names.
+ghost use Rattle.std.specs.Prelude.{◌≡◌, ◌↔◌, ◌<◌, ◌≤◌, IfOk, IsTrue, OnOk, is_some, length, map};
+ghost use Rattle.std.specs.Option.{option_copied};
+ghost use Rattle.bc_text.specs.Names.{NameParts};
+ghost use Rattle.bc_prov.specs.State.{at_name};
+ghost use Rattle.bc_memo.specs.declared.place.Place.{Place};
+ghost use Rattle.bc_memo.specs.Places.{AreOrdered, IsHeld, MayChange, answer_of, answered, changed, cleared, empty_shelf, part_in, revision_at, revisions_in, unanswered, units_in};
+
+use crate::change::Change;
+use crate::place::Place;
+use crate::rows::{find, put, start, take};
+use bc_prov::{Declared, Outcome, Shared, Snapshot};
+use bc_syntax::Unit;
+use bc_text::Name;
+use std::alloc::{AllocError, Global};
+use std::marker::Model;
+
+/// What is held. Contracts see the declarations with their revision, the places in the order of their names, and for how many more
+/// places there is memory. (Own.)
+#[derive(Drop)]
+pub struct Shelf {
+    types: Shared<Declared>,
+    types_revision: u32,
+    places: Vec<(Name, Place)>,
+}
+
+impl Model for Shelf {
+    ghost use Rattle.std.specs.Prelude.{◌-◌, vec_capacity};
+    ghost use Rattle.bc_memo.specs.Places.{AreKept, ShelfRoom, ShelfView};
+
+    ghost Value = { ShelfRoom };
+
+    ghost view = { λ s. record { held = record { types = s.types; types_revision = s.types_revision; places = s.places.items }; room = vec_capacity s.places - s.places.len } };
+
+    ghost invariant = { λ s. AreKept s.places.items };
+}
+
+/// A name's part of what is held: a snapshot, with the revisions of its declarations and of its units. (Own.)
+#[derive(Drop)]
+pub struct Part {
+    pub snapshot: Snapshot,
+    pub types_revision: u32,
+    pub revisions: Vec<u32>,
+}
+
+impl Shelf {
+    /// A shelf that holds these declarations, at revision 0, and no unit, with memory for so many places. Answers `AllocError` only
+    /// where memory was refused. (Own.)
+    pub fn new(alloc: Global, types: Shared<Declared>, places: usize) -> Result<Shelf, AllocError>
+        ensures held { IfOk result (λ shelf. shelf.held ≡ empty_shelf types) }
+        ensures room { IfOk result (λ shelf. places ≤ shelf.room) }
+    {
+        Ok(Shelf {
+            types,
+            types_revision: 0,
+            places: Vec::with_capacity(alloc, places)?,
+        })
+    }
+
+    /// Makes room for one more place, and changes nothing else. Answers `AllocError` only where memory was refused. (Own.)
+    pub fn reserve(&mut self) -> Result<(), AllocError>
+        ensures same { self.new.held ≡ self.old.held }
+        ensures room { OnOk result (0 < self.new.room) }
+    {
+        self.places.reserve(1)
+    }
+
+    /// Whether a unit is held under a name. (Own.)
+    pub fn is_held(&self, name: &Name) -> bool
+        ensures { result ≡ is_some (at_name self.now.held.places name.now) }
+    {
+        match find(&self.places, name) {
+            Ok(_) => true,
+            Err(_) => false,
+        }
+    }
+
+    /// How many units are held. (Own.)
+    pub fn count(&self) -> usize
+        ensures count { result ≡ length self.now.held.places }
+        ensures ordered { AreOrdered self.now.held.places }
+    {
+        self.places.len()
+    }
+
+    /// The revision of the declarations. (Own.)
+    pub fn types_revision(&self) -> u32
+        ensures { result ≡ self.now.held.types_revision }
+    {
+        self.types_revision
+    }
+
+    /// The revision of the unit of a name; `None` exactly where none is held. (Own.)
+    pub fn revision(&self, name: &Name) -> Option<u32>
+        ensures { result ≡ revision_at self.now.held name.now }
+    {
+        match find(&self.places, name) {
+            Ok(place) => Some(self.places[place].1.revision),
+            Err(_) => None,
+        }
+    }
+
+    /// The answer that is kept for a name, if one is. It takes no memory. (Own.)
+    pub fn answer(&self, name: &Name) -> Option<&Shared<Outcome>>
+        ensures { option_copied result ≡ answer_of (at_name self.now.held.places name.now) }
+    {
+        match find(&self.places, name) {
+            Ok(place) => self.places[place].1.answer.as_ref(),
+            Err(_) => None,
+        }
+    }
+
+    /// A name's part: the declarations, and the units of the name and of the names that begin with it and `/`, all with their
+    /// revisions. Answers `AllocError` only where memory was refused. (Own.)
+    pub fn part(&self, alloc: Global, root: &Name) -> Result<Part, AllocError>
+        ensures snapshot { IfOk result (λ part. (part.snapshot.types ≡ self.now.held.types) × (part.snapshot.root ≡ root.now) × (part.snapshot.units ≡ units_in root.now self.now.held.places)) }
+        ensures revisions { IfOk result (λ part. (part.types_revision ≡ self.now.held.types_revision) × (part.revisions.items ≡ revisions_in root.now self.now.held.places)) }
+    {
+        let types = self.types.clone()?;
+        let (units, revisions) = units(alloc, within(&self.places, root))?;
+        Ok(Part {
+            snapshot: Snapshot::of(types, *root, units),
+            types_revision: self.types_revision,
+            revisions,
+        })
+    }
+
+    /// Whether a snapshot has what is held at its root and at names that begin with it and `/`, and the declarations that are held,
+    /// and whether these are all their revisions. It makes no list and takes no memory; values are compared only where the revisions
+    /// are the same. (Own.)
+    pub fn holds(&self, snapshot: &Snapshot, types_revision: u32, revisions: &[u32]) -> bool
+        ensures { IsTrue result ↔ IsHeld self.now.held snapshot.now types_revision revisions.now }
+    {
+        let part = within(&self.places, snapshot.root());
+        types_revision == self.types_revision
+            && are_revisions(part, revisions)
+            && *snapshot.types() == self.types
+            && are_units(part, snapshot.units())
+    }
+
+    /// Changes what is held, and gives what it writes this revision. Declarations make all answers void; a unit that is put or
+    /// taken away makes void the answers of its name and of those with which this begins, up to a `/`. It takes no memory: it
+    /// asks for room for one place, and that a unit suits the name at which it is put. (Own.)
+    pub fn change(&mut self, change: Change, revision: u32)
+        requires room { 0 < self.old.room }
+        requires suited { MayChange change }
+        ensures { self.new.held ≡ changed self.old.held change revision }
+    {
+        match change {
+            Change::Types(types) => {
+                self.types = types;
+                self.types_revision = revision;
+                clear_all(&mut self.places);
+            }
+            Change::Put(name, unit) => {
+                let place = Place {
+                    unit,
+                    revision,
+                    answer: None,
+                };
+                put(&mut self.places, name, place);
+                clear(&mut self.places, &name);
+            }
+            Change::Remove(name) => {
+                take(&mut self.places, &name);
+                clear(&mut self.places, &name);
+            }
+            Change::Answer(name, outcome) => set_answer(&mut self.places, &name, Some(outcome)),
+            Change::Nothing => {}
+        }
+    }
+}
+
+// The places of a name and of those that begin with it and `/`, which stand together.
+fn within<'a>(places: &'a [(Name, Place)], root: &Name) -> &'a [(Name, Place)]
+    requires { AreOrdered places.now }
+    ensures { result.now ≡ part_in root.now places.now }
+{
+    let rest = &places[start(places, root)..];
+    let len = rest.partition_point(|row| root.holds(&row.0));
+    &rest[..len]
+}
+
+// The units of places, under their names, and their revisions.
+fn units(
+    alloc: Global,
+    places: &[(Name, Place)],
+) -> Result<(Vec<(Name, Shared<Unit>)>, Vec<u32>), AllocError>
+    ensures units { IfOk result (λ r. r.0.items ≡ map (λ (p : NameParts × Place). (p.0, p.1.unit)) places.now) }
+    ensures revisions { IfOk result (λ r. r.1.items ≡ map (λ (p : NameParts × Place). p.1.revision) places.now) }
+{
+    let mut units = Vec::with_capacity(alloc, places.len())?;
+    let mut revisions = Vec::with_capacity(alloc, places.len())?;
+    for row in places {
+        let unit = row.1.unit.clone()?;
+        units.push((row.0, unit))?;
+        revisions.push(row.1.revision)?;
+    }
+    Ok((units, revisions))
+}
+
+// Whether the places have these revisions.
+fn are_revisions(places: &[(Name, Place)], revisions: &[u32]) -> bool
+    ensures { IsTrue result ↔ (revisions.now ≡ map (λ (p : NameParts × Place). p.1.revision) places.now) }
+{
+    if revisions.len() != places.len() {
+        return false;
+    }
+    for (index, row) in places.iter().enumerate() {
+        if revisions[index] != row.1.revision {
+            return false;
+        }
+    }
+    true
+}
+
+// Whether the places have these units, under these names.
+fn are_units(places: &[(Name, Place)], units: &[(Name, Shared<Unit>)]) -> bool
+    ensures { IsTrue result ↔ (units.now ≡ map (λ (p : NameParts × Place). (p.0, p.1.unit)) places.now) }
+{
+    if units.len() != places.len() {
+        return false;
+    }
+    for (index, row) in places.iter().enumerate() {
+        if !is_unit(row, &units[index]) {
+            return false;
+        }
+    }
+    true
+}
+
+// Whether the place has this unit, under this name.
+fn is_unit(row: &(Name, Place), unit: &(Name, Shared<Unit>)) -> bool
+    ensures { IsTrue result ↔ (unit.now ≡ (row.now.0, row.now.1.unit)) }
+{
+    unit.0 == row.0 && unit.1 == row.1.unit
+}
+
+// Gives the place of a name this answer, or none, if the name has a place.
+fn set_answer(places: &mut Vec<(Name, Place)>, name: &Name, answer: Option<Shared<Outcome>>)
+    requires { AreOrdered places.old.items }
+    ensures { places.new.items ≡ answered name.now answer places.old.items }
+{
+    if let Ok(place) = find(places, name) {
+        places[place].1.answer = answer;
+    }
+}
+
+// Takes the answers of a name and of its beginnings away.
+fn clear(places: &mut Vec<(Name, Place)>, name: &Name)
+    requires { AreOrdered places.old.items }
+    ensures { places.new.items ≡ cleared name.now places.old.items }
+{
+    for depth in 0..name.depth() {
+        set_answer(places, &name.beginning(depth), None);
+    }
+    set_answer(places, name, None);
+}
+
+// Takes all answers away.
+fn clear_all(places: &mut Vec<(Name, Place)>)
+    ensures { places.new.items ≡ unanswered places.old.items }
+{
+    clear_rows(places);
+}
+
+fn clear_rows(rows: &mut [(Name, Place)])
+    ensures { rows.new ≡ unanswered rows.old }
+{
+    for row in rows.iter_mut() {
+        row.1.answer = None;
+    }
+}

@@ -1,0 +1,110 @@
+//! Work that is settled by other providers, in another book, or late.
+use crate::counted::refusing;
+use crate::tests::{Found, WRITES_LAST, WRITES_WHILE_BORROWED, found_by, name, shared};
+use bc_analyses::providers;
+use bc_book::{Book, Work};
+use bc_prov::{Providers, Shared};
+use std::alloc::Global;
+use std::test::Fail;
+
+/// A book in which a body is put at `f`.
+fn with_body(alloc: Global, book: Book, text: &[u8]) -> Result<Book, Fail> {
+    let mut book = book;
+    book.put(alloc, 0, name(b"f")?, Shared::new(shared(alloc, text)?))?;
+    Ok(book)
+}
+
+/// A new book with a body at `f`.
+fn book_with(alloc: Global, text: &[u8]) -> Result<Book, Fail> {
+    with_body(alloc, Book::new(alloc, 9)?, text)
+}
+
+/// The work on `f` in a book, by the program's providers.
+fn work_in(alloc: Global, book: &Book) -> Result<Work, Fail> {
+    let begun = book.snapshot(alloc, &name(b"f")?)?;
+    Ok(begun.work(alloc, &providers!(alloc))?)
+}
+
+/// The work on a body at `f` in a book of its own.
+fn work_on(alloc: Global, text: &[u8]) -> Result<Work, Fail> {
+    let book = book_with(alloc, text)?;
+    work_in(alloc, &book)
+}
+
+/// What a book finds where it settles the work.
+fn settles(alloc: Global, book: Book, work: Work, providers: &Providers) -> Result<Found, Fail> {
+    let mut book = book;
+    let (outcome, _mine) = book.settle(alloc, 0, work, providers)?;
+    Ok(found_by(outcome.get()))
+}
+
+/// What a book finds where it settles work on `f` at once.
+fn settles_at_once(alloc: Global, book: Book, providers: &Providers) -> Result<Found, Fail> {
+    let work = work_in(alloc, &book)?;
+    settles(alloc, book, work, providers)
+}
+
+/// What a book finds where a body is put at `f` while the work on it is done.
+fn settles_late(
+    alloc: Global,
+    book: Book,
+    text: &[u8],
+    providers: &Providers,
+) -> Result<Found, Fail> {
+    let work = work_in(alloc, &book)?;
+    let book = with_body(alloc, book, text)?;
+    settles(alloc, book, work, providers)
+}
+
+/// What a book with a body at `f` finds where it settles the work on another body there in another book.
+fn settles_elsewhere(
+    alloc: Global,
+    text: &[u8],
+    other: &[u8],
+    providers: &Providers,
+) -> Result<Found, Fail> {
+    let work = work_on(alloc, other)?;
+    let book = book_with(alloc, text)?;
+    settles(alloc, book, work, providers)
+}
+
+/// Catches the wrong body `settle_always_works_again`: work that stands is settled without a provider.
+#[test]
+fn work_that_stands_is_settled_without_a_provider(rt: HostRuntime) -> Result<(), Fail> {
+    let providers = refusing(rt.alloc())?;
+    let book = book_with(rt.alloc(), WRITES_WHILE_BORROWED)?;
+    assert!(rt; settles_at_once(rt.alloc(), book, &providers)? == Found::Errors(1));
+    Ok(())
+}
+
+/// Catches the wrong body `settle_takes_stale_work`: the body is replaced between.
+#[test]
+fn work_that_does_not_stand_is_done_again(rt: HostRuntime) -> Result<(), Fail> {
+    let providers = providers!(rt.alloc());
+    let book = book_with(rt.alloc(), WRITES_LAST)?;
+    assert!(rt;
+        settles_late(rt.alloc(), book, WRITES_WHILE_BORROWED, &providers)? == Found::Errors(1)
+    );
+    Ok(())
+}
+
+/// Work on a name that is absent then, at which a body is put between.
+#[test]
+fn work_on_an_absent_name_is_done_again_once_it_is_put(rt: HostRuntime) -> Result<(), Fail> {
+    let providers = providers!(rt.alloc());
+    let book = Book::new(rt.alloc(), 9)?;
+    assert!(rt; settles_late(rt.alloc(), book, WRITES_LAST, &providers)? == Found::Errors(0));
+    Ok(())
+}
+
+/// Two books with the same revisions and another body: work of the one does not stand in the other.
+#[test]
+fn work_of_another_book_does_not_stand(rt: HostRuntime) -> Result<(), Fail> {
+    let alloc = rt.alloc();
+    let providers = providers!(alloc);
+    assert!(rt;
+        settles_elsewhere(alloc, WRITES_WHILE_BORROWED, WRITES_LAST, &providers)?
+            == Found::Errors(1)
+    );
+    Ok(())
+}

@@ -1,0 +1,71 @@
+//! Asks for a body that stays as it is.
+use crate::timing::timed;
+use anyhow::bail;
+use bc_analyses::providers;
+use bc_prov::Providers;
+use bc_share::Db;
+use bc_syntax::Unit;
+use bc_text::{Name, read_unit};
+use std::alloc::{AllocError, Global};
+use std::io::Write;
+use std::sync::Arc;
+
+/// How often it is asked for once it is known.
+const AGAIN: u32 = 100;
+
+/// The unit that a text spells, as a put takes it.
+fn shared(alloc: Global, text: &[u8]) -> anyhow::Result<Arc<Unit, Global>> {
+    match Arc::new(alloc, read_unit(alloc, text)?) {
+        Ok(unit) => Ok(unit),
+        Err(_) => Err(AllocError)?,
+    }
+}
+
+/// Puts a unit in a new database and asks for it so often. Gives how many entries the history has.
+fn asked(
+    alloc: Global,
+    providers: &Providers,
+    unit: &Arc<Unit, Global>,
+    times: u32,
+) -> anyhow::Result<usize> {
+    let Some(name) = Name::read(b"f") else {
+        bail!("no name");
+    };
+    let (db, mut sessions) = Db::open(alloc, 0, 1000, 1)?;
+    for session in sessions.iter_mut() {
+        let _reply = session.put(name, Arc::try_clone(unit)?)?;
+        for _ in 0..times {
+            let _outcome = session.ask(&name, providers)?;
+        }
+    }
+    let history = db.close(sessions)?;
+    Ok(history.entries().len())
+}
+
+/// Asks for a body once, and then `AGAIN` times more. Writes how many calls that made to `out`, and the shortest times to `err`.
+pub fn measure_asks<O: Write, E: Write>(
+    rt: &HostRuntime,
+    name: &str,
+    text: &[u8],
+    out: &mut O,
+    err: &mut E,
+) -> anyhow::Result<()> {
+    let providers = providers!(rt.alloc());
+    let unit = shared(rt.alloc(), text)?;
+    write!(err, "{name}: microseconds:")?;
+    let once = timed(
+        rt,
+        "asking once",
+        || asked(rt.alloc(), &providers, &unit, 1),
+        err,
+    )?;
+    let often = timed(
+        rt,
+        "and again",
+        || asked(rt.alloc(), &providers, &unit, 1 + AGAIN),
+        err,
+    )?;
+    writeln!(out, "{name}: {once} and {often} calls")?;
+    writeln!(err)?;
+    Ok(())
+}
