@@ -1,7 +1,7 @@
 -- A history as it is kept, with what it leaves.
-use Rattle.std.specs.Prelude.{◌≡◌, ◌↔◌, ℕ, ◌^◌, ◌<◌, ◌≤◌, Some, IsSome, List, [], ◌∷◌, ◌++◌, length, slice_index}
+use Rattle.std.specs.Prelude.{◌≡◌, ◌↔◌, ℕ, ◌^◌, ◌<◌, ◌≤◌, Option, Some, None, IsSome, List, [], ◌∷◌, ◌++◌, length, slice_index}
 use Rattle.std.specs.Map.{remove_entry}
-use Rattle.std.specs.BTreeMap.{is_at}
+use Rattle.std.specs.BTreeMap.{is_at, insert_entry}
 use Rattle.bc_text.specs.Names.{NameParts, name_order}
 use Rattle.bc_prov.specs.State.{Bodies, at_name}
 use Rattle.bc_memo.specs.declared.memo.Remembered.{Remembered}
@@ -62,6 +62,11 @@ pub record SameLedger (one other : LedgerView) : Type 0 where
 pub record IsRow (shelf : ShelfView) (h : List Entry) (name : NameParts) (row : Remembered) : Type 0 where
   pub held : IsSome (at_name shelf.places name)
   pub right : IsRight shelf h name row
+
+-- what is remembered with one more outcome, where there is one
+abbrev pub remembering : Option (NameParts × Remembered) → List (NameParts × Remembered) → List (NameParts × Remembered)
+remembering None rows = rows
+remembering (Some row) rows = insert_entry name_order rows row.0 row.1
 
 -- what is still remembered after a change: nothing for a name whose body is taken away
 abbrev pub kept_rows : Change → List (NameParts × Remembered) → List (NameParts × Remembered)

@@ -3,9 +3,11 @@ ghost use Rattle.std.specs.Prelude.{◌≡◌, ◌<◌, [], length, IfOk, IfErr,
 ghost use Rattle.std.specs.Option.{ForSome};
 ghost use Rattle.bc_prov.specs.Snapshots.{IsPartOf};
 ghost use Rattle.bc_book.specs.Calls.{IsLegal, IsReply, after};
-ghost use Rattle.bc_book.specs.Ledgers.{Appends, HasPlace, IsFull, IsRow};
+ghost use Rattle.bc_book.specs.Changes.{change_of};
+ghost use Rattle.bc_book.specs.Ledgers.{Appends, HasPlace, IsFull, IsRow, kept_rows, remembering};
 
 use crate::call::{Entry, Event, PutReply, RemoveReply};
+use crate::ending::Ending;
 use crate::ledger::{Ledger, MOST_SESSIONS, Refusal};
 use crate::work::{Begun, Work};
 use bc_memo::Remembered;
@@ -18,11 +20,12 @@ use std::marker::Model;
 /// A book: the history of all calls, what it leaves, and what is remembered of it. Contracts see how many entries it may have, those
 /// that it has, what is held, and what is remembered. (Own.)
 #[derive(Drop)]
-pub struct Book {
+pub struct Book<E: Ending> {
     ledger: Ledger,
+    ending: E,
 }
 
-impl Model for Book {
+impl<E: Ending> Model for Book<E> {
     ghost use Rattle.bc_book.specs.Ledgers.{BookView};
 
     ghost Value = { BookView };
@@ -30,14 +33,14 @@ impl Model for Book {
     ghost view = { λ b. record { capacity = b.ledger.capacity; entries = b.ledger.entries; shelf = b.ledger.shelf; answers = b.ledger.answers } };
 }
 
-impl Book {
-    /// A book without entries, which may have so many, with no declaration and no body. `AllocError` only where memory was refused.
-    /// Own.
-    pub fn new(alloc: Global, capacity: u32) -> Result<Book, AllocError>
+impl<E: Ending> Book<E> {
+    /// A book without entries, which may have so many, with no declaration and no body, and what ends it. `AllocError` only where
+    /// memory was refused. Own.
+    pub fn new(alloc: Global, ending: E, capacity: u32) -> Result<Book<E>, AllocError>
         ensures { IfOk result (λ book. (book.capacity ≡ capacity) × (book.entries ≡ [])) }
     {
         let ledger = Ledger::new(alloc, capacity)?;
-        Ok(Book { ledger })
+        Ok(Book { ledger, ending })
     }
 
     /// Stores a session's declarations in place of those before (own). They were checked before, since that takes memory and time.
@@ -94,7 +97,8 @@ impl Book {
     /// begin with it and `/`, with their revisions; it carries the outcome that is remembered for the name and stands, if there is one.
     /// Nothing is entered. `AllocError` only where memory was refused. Own.
     pub fn snapshot(&self, alloc: Global, name: &Name) -> Result<Begun, AllocError>
-        ensures { IfOk result (λ begun. IsPartOf begun name.now (after self.now.entries)) }
+        ensures part { IfOk result (λ begun. IsPartOf begun name.now (after self.now.entries)) }
+        ensures legal { OnOk result (IsLegal self.now.entries) }
     {
         self.ledger.begin(alloc, name)
     }
@@ -140,6 +144,7 @@ impl Book {
         requires place { HasPlace (length self.old.shelf.places) event }
         requires row { ForSome row (λ r. IsRow self.old.shelf self.old.entries r.0 r.1) }
         ensures step { OnOk result (Appends session event self.old self.new) }
+        ensures answers { OnOk result (self.new.answers ≡ kept_rows (change_of event) (remembering row self.old.answers)) }
         ensures refused { OnErr result (self.new ≡ self.old) }
         ensures full { IfErr result (IsFull self.old) }
         ensures below { OnOk result (length self.old.entries < self.old.capacity) }

@@ -6,7 +6,7 @@ ghost use Rattle.bc_prov.specs.Snapshots.{IsPartOf};
 ghost use Rattle.bc_prov.specs.State.{at_name};
 ghost use Rattle.bc_book.specs.Calls.{IsLegal, IsPutReply, IsRemoveReply, MayComeNext, after, count_of};
 ghost use Rattle.bc_book.specs.Changes.{change_of, writes_after};
-ghost use Rattle.bc_book.specs.Ledgers.{HasPlace, IsRow, SameLedger, kept_rows};
+ghost use Rattle.bc_book.specs.Ledgers.{HasPlace, IsRow, SameLedger, kept_rows, remembering};
 
 use crate::call::{Entry, Event, PutReply, RemoveReply};
 use crate::reply::{put_reply, remove_reply};
@@ -143,7 +143,8 @@ impl Ledger {
 
     /// A name's part of what is held, with its outcome if it is remembered. `AllocError` only where memory was refused.
     pub(crate) fn begin(&self, alloc: Global, name: &Name) -> Result<Begun, AllocError>
-        ensures { IfOk result (λ begun. IsPartOf begun name.now (after self.now.entries)) }
+        ensures part { IfOk result (λ begun. IsPartOf begun name.now (after self.now.entries)) }
+        ensures legal { OnOk result (IsLegal self.now.entries) }
     {
         let answer = self.shared_answer(name)?;
         let part = self.shelf.part(alloc, name)?;
@@ -238,7 +239,8 @@ impl Ledger {
     pub(crate) fn remember(&mut self, row: Option<(Name, Remembered)>)
         requires room { 0 < self.old.rows }
         requires row { ForSome row (λ r. IsRow self.old.shelf self.old.entries r.0 r.1) }
-        ensures { (self.new.capacity ≡ self.old.capacity) × (self.new.entries ≡ self.old.entries) × (self.new.shelf ≡ self.old.shelf) × (self.new.room ≡ self.old.room) × (self.new.places ≡ self.old.places) }
+        ensures same { (self.new.capacity ≡ self.old.capacity) × (self.new.entries ≡ self.old.entries) × (self.new.shelf ≡ self.old.shelf) × (self.new.room ≡ self.old.room) × (self.new.places ≡ self.old.places) }
+        ensures answers { self.new.answers ≡ remembering row self.old.answers }
     {
         if let Some(row) = row {
             self.memo.put(row.0, row.1);
@@ -255,6 +257,7 @@ impl Ledger {
         requires change { change ≡ change_of entry.event }
         ensures same { self.new.capacity ≡ self.old.capacity }
         ensures entries { self.new.entries ≡ self.old.entries ++ entry ∷ [] }
+        ensures answers { self.new.answers ≡ kept_rows change self.old.answers }
         ensures legal { IsLegal self.new.entries }
     {
         self.writes = writes_with(self.writes, &entry.event);

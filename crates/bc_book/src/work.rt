@@ -1,11 +1,13 @@
 //! Snapshots that were begun, and the work on them, which needs no part of the book.
-ghost use Rattle.std.specs.Prelude.{◌≡◌, IfOk, IfSome};
+ghost use Rattle.std.specs.Prelude.{◌≡◌, [], IfOk, IfSome};
 ghost use Rattle.bc_text.specs.Names.{NameParts};
 ghost use Rattle.bc_prov.specs.Outcome.{IsOutcomeIn};
 ghost use Rattle.bc_prov.specs.Snapshots.{IsPartOf};
 ghost use Rattle.bc_prov.specs.State.{State, state_of};
+ghost use Rattle.bc_book.specs.Calls.{after};
 ghost use Rattle.bc_book.specs.Works.{Stood};
 
+use crate::ledger::Ledger;
 use bc_memo::{Part, Shelf};
 use bc_prov::{Outcome, Providers, Shared, Snapshot};
 use bc_text::Name;
@@ -48,6 +50,14 @@ impl Model for Work {
 }
 
 impl Begun {
+    /// The part of a book that has no entry: no declaration and no body. `AllocError` only where memory was refused. (Own.)
+    pub fn of_nothing(alloc: Global, name: &Name) -> Result<Begun, AllocError>
+        ensures { IfOk result (λ begun. IsPartOf begun name.now (after [])) }
+    {
+        let ledger = Ledger::new(alloc, 0)?;
+        ledger.begin(alloc, name)
+    }
+
     /// Finds the outcome of the snapshot's name: the one that the snapshot carries, without a provider, else the one that the providers
     /// give. It is that of the name in each state of which the snapshot is the name's part. Nothing is held meanwhile.
     /// Answers `AllocError` only where memory was refused, as a provider may answer too. (Own.)

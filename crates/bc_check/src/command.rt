@@ -14,7 +14,7 @@ use crate::file::{Change, read_changes};
 use crate::input::read_whole;
 use crate::print::write_report;
 use crate::stop::{Stop, stop_with};
-use bc_book::PutReply;
+use bc_book::{Ending, PutReply, Waiting};
 use bc_prov::{BodyErrors, Outcome, Providers};
 use bc_share::{Db, MOST_ENTRIES, Session};
 use bc_text::Name;
@@ -22,6 +22,7 @@ use std::alloc::Global;
 use std::collections::BTreeSet;
 use std::io;
 use std::io::{BufWriter, Read, Write};
+use std::sync::Wait;
 
 /// The status of a put with this reply.
 fn put_status(reply: PutReply) -> u8
@@ -72,7 +73,12 @@ fn write_answer<O: Write>(name: &Name, outcome: &Outcome, out: &mut O) -> io::Re
 }
 
 /// Makes a change, and tells of a body that is not stored. The status of the call.
-fn make_change<E: Write>(session: &mut Session, change: Change, err: &mut E) -> Result<u8, Stop>
+fn make_change<R: Wait, N: Ending, E: Write>(
+    rt: &R,
+    session: &mut Session<N>,
+    change: Change,
+    err: &mut E,
+) -> Result<u8, Stop>
     ensures no_memory { IsErrOf result Stop.NoMemory → (session.new ≡ session.old) × Keeps (E.contents err.old) (E.contents err.new) }
     ensures served { IfOk result (λ status. Serves (seen change) told status session.old session.new (E.contents err.old) (E.contents err.new)) }
     ensures range { IfOk result (λ status. status ≤ 2) }
@@ -80,11 +86,11 @@ fn make_change<E: Write>(session: &mut Session, change: Change, err: &mut E) -> 
 {
     match change {
         Change::Types(types) => {
-            session.put_types(types)?;
+            session.put_types(rt, types)?;
             Ok(0)
         }
         Change::Put(name, unit) => {
-            let reply = session.put(name, unit)?;
+            let reply = session.put(rt, name, unit)?;
             if write_refusal(&name, reply, err).is_err() {
                 return Err(Stop::CannotTell);
             }
@@ -94,8 +100,9 @@ fn make_change<E: Write>(session: &mut Session, change: Change, err: &mut E) -> 
 }
 
 /// Asks a name, and prints its report. The status of the outcome.
-fn make_ask<O: Write>(
-    session: &mut Session,
+fn make_ask<R: Wait, N: Ending, O: Write>(
+    rt: &R,
+    session: &mut Session<N>,
     providers: &Providers,
     name: &Name,
     out: &mut O,
@@ -105,7 +112,7 @@ fn make_ask<O: Write>(
     ensures range { IfOk result (λ status. status ≤ 2) }
     ensures stop { IfErr result (λ stop. (stop ≡ Stop.CannotWrite) ⊎ (stop ≡ Stop.NoMemory) ⊎ (stop ≡ Stop.HistoryFull)) }
 {
-    let outcome = session.ask(name, providers)?;
+    let outcome = session.ask(rt, name, providers)?;
     if write_answer(name, &outcome, out).is_err() {
         return Err(Stop::CannotWrite);
     }
@@ -113,8 +120,9 @@ fn make_ask<O: Write>(
 }
 
 /// Makes the changes in order. The greatest status of the calls.
-fn make_changes<E: Write>(
-    session: &mut Session,
+fn make_changes<R: Wait, N: Ending, E: Write>(
+    rt: &R,
+    session: &mut Session<N>,
     changes: Vec<Change>,
     err: &mut E,
 ) -> Result<u8, Stop>
@@ -125,14 +133,15 @@ fn make_changes<E: Write>(
 {
     let mut status: u8 = 0;
     for change in changes {
-        status = status.max(make_change(session, change, err)?);
+        status = status.max(make_change(rt, session, change, err)?);
     }
     Ok(status)
 }
 
 /// Asks the names in order, and prints their reports. The greatest status of the outcomes.
-fn make_asks<O: Write>(
-    session: &mut Session,
+fn make_asks<R: Wait, N: Ending, O: Write>(
+    rt: &R,
+    session: &mut Session<N>,
     providers: &Providers,
     names: &BTreeSet<Name>,
     out: &mut O,
@@ -144,7 +153,7 @@ fn make_asks<O: Write>(
 {
     let mut status: u8 = 0;
     for name in names {
-        status = status.max(make_ask(session, providers, name, out)?);
+        status = status.max(make_ask(rt, session, providers, name, out)?);
     }
     Ok(status)
 }
@@ -178,8 +187,9 @@ fn hand_on<O: Write + Drop>(asked: Result<u8, Stop>, out: &mut BufWriter<O>) -> 
 
 /// Asks the names in order, and hands on what is printed of them, also where this stops before its end. The greatest
 /// status of the outcomes.
-fn answer_all<O: Write + Drop>(
-    session: &mut Session,
+fn answer_all<R: Wait, N: Ending, O: Write + Drop>(
+    rt: &R,
+    session: &mut Session<N>,
     providers: &Providers,
     names: &BTreeSet<Name>,
     out: &mut BufWriter<O>,
@@ -190,14 +200,15 @@ fn answer_all<O: Write + Drop>(
     ensures stop { IfErr result (λ stop. (stop ≡ Stop.CannotWrite) ⊎ (stop ≡ Stop.NoMemory) ⊎ (stop ≡ Stop.HistoryFull)) }
     ensures handed_on { (result ≡ Err Stop.CannotWrite) ⊎ (writer_buffer out.new ≡ []) }
 {
-    let asked = make_asks(session, providers, names, out);
+    let asked = make_asks(rt, session, providers, names, out);
     hand_on(asked, out)
 }
 
 /// Makes the changes in order, and then asks the names in order; what is printed of these is handed on. The greatest status
 /// of the calls.
-fn make_all<O: Write + Drop, E: Write>(
-    session: &mut Session,
+fn make_all<R: Wait, N: Ending, O: Write + Drop, E: Write>(
+    rt: &R,
+    session: &mut Session<N>,
     providers: &Providers,
     changes: Vec<Change>,
     names: &BTreeSet<Name>,
@@ -210,8 +221,8 @@ fn make_all<O: Write + Drop, E: Write>(
     ensures stop { IfErr result (λ stop. (stop ≡ Stop.CannotTell) ⊎ (stop ≡ Stop.CannotWrite) ⊎ (stop ≡ Stop.NoMemory) ⊎ (stop ≡ Stop.HistoryFull)) }
     ensures handed_on { writer_buffer out.old ≡ [] → (result ≡ Err Stop.CannotWrite) ⊎ (writer_buffer out.new ≡ []) }
 {
-    let changed = make_changes(session, changes, err)?;
-    let asked = answer_all(session, providers, names, out)?;
+    let changed = make_changes(rt, session, changes, err)?;
+    let asked = answer_all(rt, session, providers, names, out)?;
     Ok(changed.max(asked))
 }
 
@@ -233,7 +244,8 @@ pub(crate) fn find_capacity(changes: usize, names: usize) -> Result<u32, Stop>
 /// where there are more than `MOST_ENTRIES` of them.
 ///
 /// That `out` failed is said before all else, and a fault of the close before a refused call and a line that was not told.
-fn serve<O: Write + Drop, E: Write>(
+fn serve<R: Wait, O: Write + Drop, E: Write>(
+    rt: &R,
     alloc: Global,
     providers: &Providers,
     changes: Vec<Change>,
@@ -249,13 +261,13 @@ fn serve<O: Write + Drop, E: Write>(
     ensures handed_on { writer_buffer out.old ≡ [] → (result ≡ Err Stop.CannotWrite) ⊎ (writer_buffer out.new ≡ []) }
 {
     let capacity = find_capacity(changes.len(), names.len())?;
-    let (db, mut sessions) = Db::open(alloc, 0, capacity, 1)?;
+    let (db, mut sessions) = Db::open(alloc, Waiting::new(rt), 0, capacity, 1)?;
     let Some(mut session) = sessions.pop() else {
         return Err(Stop::Foreign);
     };
-    let made = make_all(&mut session, providers, changes, names, out, err);
+    let made = make_all(rt, &mut session, providers, changes, names, out, err);
     sessions.push_reserved(session);
-    let closed = db.close(sessions);
+    let closed = db.close(rt, sessions);
     if matches!(made, Err(Stop::CannotWrite)) {
         return made;
     }
@@ -269,7 +281,8 @@ fn serve<O: Write + Drop, E: Write>(
 /// Stops with `CannotRead` where the input cannot be read or is over 16 MiB; with `File` at its first fault; with
 /// `TooManyCalls` where it makes more than 1,000,000 calls; with `CannotWrite` or `CannotTell` where a writer
 /// fails; with `NoMemory` where there is no room.
-pub fn check<I: Read, O: Write + Drop, E: Write>(
+pub fn check<R: Wait, I: Read, O: Write + Drop, E: Write>(
+    rt: &R,
     alloc: Global,
     providers: &Providers,
     input: &mut I,
@@ -284,7 +297,7 @@ pub fn check<I: Read, O: Write + Drop, E: Write>(
     let file = read_whole(alloc, input)?;
     let changes = read_changes(alloc, &file)?;
     let names = find_asked(alloc, &changes)?;
-    serve(alloc, providers, changes, &names, out, err)
+    serve(rt, alloc, providers, changes, &names, out, err)
 }
 
 /// The whole command `check` on the input named `file`: writes reports on `out` and faults on `err`, and gives the
@@ -294,7 +307,8 @@ pub fn check<I: Read, O: Write + Drop, E: Write>(
 /// 0 where no report has an error; 1 where one has; 2 where the file has a fault, a put stores nothing or an
 /// outcome is no report; 3 where the command stops for another reason, which is the last line on `err`. The fault of
 /// `err` where that line cannot be written: then nothing more can be said.
-pub fn check_and_tell<I: Read, O: Write + Drop, E: Write>(
+pub fn check_and_tell<R: Wait, I: Read, O: Write + Drop, E: Write>(
+    rt: &R,
     alloc: Global,
     providers: &Providers,
     file: &str,
@@ -306,14 +320,15 @@ pub fn check_and_tell<I: Read, O: Write + Drop, E: Write>(
     ensures ended { IfOk result (λ status. IsEnd file.now (I.remaining input.old) status (writer_contents O.contents out.old) (writer_contents O.contents out.new) (E.contents err.old) (E.contents err.new)) }
     ensures handed_on { writer_buffer out.old ≡ [] → IfOk result (λ status. status < 3 → writer_buffer out.new ≡ []) }
 {
-    match check(alloc, providers, input, out, err) {
+    match check(rt, alloc, providers, input, out, err) {
         Ok(status) => Ok(status),
         Err(stop) => stop_with(file, &stop, err),
     }
 }
 
 /// `check_and_tell` with status 3 where standard error fails (own).
-pub fn check_over<I: Read, O: Write + Drop, E: Write>(
+pub fn check_over<R: Wait, I: Read, O: Write + Drop, E: Write>(
+    rt: &R,
     alloc: Global,
     providers: &Providers,
     file: &str,
@@ -325,7 +340,7 @@ pub fn check_over<I: Read, O: Write + Drop, E: Write>(
     ensures ended { result < 3 → IsEnd file.now (I.remaining input.old) result (writer_contents O.contents out.old) (writer_contents O.contents out.new) (E.contents err.old) (E.contents err.new) }
     ensures handed_on { writer_buffer out.old ≡ [] → result < 3 → writer_buffer out.new ≡ [] }
 {
-    match check_and_tell(alloc, providers, file, input, out, err) {
+    match check_and_tell(rt, alloc, providers, file, input, out, err) {
         Ok(status) => status,
         Err(_) => 3,
     }

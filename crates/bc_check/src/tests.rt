@@ -1,8 +1,10 @@
 //! The command over readers and writers in memory, also such as fail at one call.
 use crate::check_over;
 use bc_analyses::providers;
+use std::alloc::Global;
 use std::io;
 use std::io::{BufWriter, ErrorKind, Read, Write};
+use std::sync::Wait;
 use std::test::Fail;
 
 /// A device that fails at the call of this number, and at no other.
@@ -55,9 +57,9 @@ struct Output {
 }
 
 impl Output {
-    fn new(rt: &HostRuntime, fails_at: u32) -> Self {
+    fn new(alloc: Global, fails_at: u32) -> Self {
         Output {
-            taken: Vec::new(rt.alloc()),
+            taken: Vec::new(alloc),
             is_flushed: false,
             fuse: Fuse::new(fails_at),
         }
@@ -126,16 +128,17 @@ struct Ending {
 
 /// The command on this file over these devices, as the program runs it: its reports behind a buffer, of which what is not
 /// written is let go, and with status 3 where standard error fails.
-fn run(rt: &HostRuntime, file: &[u8], devices: Devices) -> io::Result<Ending> {
+fn run<R: AllocGlobal + Wait>(rt: &R, file: &[u8], devices: Devices) -> io::Result<Ending> {
     let mut input = Input {
         rest: file,
         chunk: devices.chunk,
         fuse: Fuse::new(devices.read),
     };
-    let out = Output::new(rt, devices.write);
+    let out = Output::new(rt.alloc(), devices.write);
     let mut out = BufWriter::with_capacity(rt.alloc(), devices.room, out)?;
-    let mut err = Output::new(rt, devices.tell);
+    let mut err = Output::new(rt.alloc(), devices.tell);
     let status = check_over(
+        rt,
         rt.alloc(),
         &providers!(rt.alloc()),
         "demo",
@@ -162,8 +165,8 @@ fn has_left(ending: &Ending, status: u8, out: &[u8], err: &[u8]) -> bool {
 }
 
 /// Whether the command ends so on a file that is read so many bytes at a time, with devices that never fail.
-fn leaves_in(
-    rt: &HostRuntime,
+fn leaves_in<R: AllocGlobal + Wait>(
+    rt: &R,
     file: &[u8],
     chunk: usize,
     status: u8,
@@ -177,7 +180,13 @@ fn leaves_in(
 }
 
 /// Whether the command ends so on a file, with devices that never fail.
-pub fn leaves_of(rt: &HostRuntime, file: &[u8], status: u8, out: &[u8], err: &[u8]) -> bool {
+pub fn leaves_of<R: AllocGlobal + Wait>(
+    rt: &R,
+    file: &[u8],
+    status: u8,
+    out: &[u8],
+    err: &[u8],
+) -> bool {
     leaves_in(rt, file, 7, status, out, err)
 }
 
@@ -229,14 +238,14 @@ fn holds_256_bodies(rt: HostRuntime) -> Result<(), Fail> {
 }
 
 /// Whether the command says that it cannot read a file of which this read fails.
-fn stops_at_read(rt: &HostRuntime, read: u32) -> io::Result<bool> {
+fn stops_at_read<R: AllocGlobal + Wait>(rt: &R, read: u32) -> io::Result<bool> {
     let cut = run(rt, FILE, Devices { read, ..SOUND })?;
     Ok(has_left(&cut, 3, b"", b"cannot read demo\n"))
 }
 
 /// Whether the command says that it cannot write, and makes no further call, once this write or flush fails behind a
 /// buffer of this size.
-fn stops_at_write(rt: &HostRuntime, room: usize, write: u32) -> io::Result<bool> {
+fn stops_at_write<R: AllocGlobal + Wait>(rt: &R, room: usize, write: u32) -> io::Result<bool> {
     let cut = run(
         rt,
         FILE,
@@ -255,7 +264,12 @@ fn stops_at_write(rt: &HostRuntime, room: usize, write: u32) -> io::Result<bool>
 }
 
 /// Whether the command, which tells this of a file, makes no further call once a line on standard error fails.
-fn stops_at_tell(rt: &HostRuntime, file: &[u8], told: &[u8], tell: u32) -> io::Result<bool> {
+fn stops_at_tell<R: AllocGlobal + Wait>(
+    rt: &R,
+    file: &[u8],
+    told: &[u8],
+    tell: u32,
+) -> io::Result<bool> {
     let cut = run(rt, file, Devices { tell, ..SOUND })?;
     Ok(
         cut.status == 3

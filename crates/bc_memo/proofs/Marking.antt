@@ -1,11 +1,11 @@
 -- What the steps of a change do to places, as the definitions say it.
 use Rattle.std.proofs.Common.{◌≡◌, ℕ, zero, suc, ◌+◌, ◌<◌, ◌≤◌, ◌&&◌, ◌||◌, Bool, true, false, true≢false, [], ◌∷◌, length, get_or, set, take, cond, refl, ap, sym, subst, ◌∙◌, arith, Option, Some, None}
 use Rattle.std.specs.Prelude.{map, nat_lt}
-use Rattle.std.specs.Option.{option_or}
+use Rattle.std.specs.Option.{option_map, option_or}
 use Rattle.std.specs.List.{AllByRecursion}
 use Rattle.std.specs.List.Sorted.{IsStrictlySortedBy}
 use Rattle.std.specs.Map.{keys_of, remove_entry}
-use Rattle.std.specs.BTreeMap.{insert_entry}
+use Rattle.std.specs.BTreeMap.{insert_entry, is_at}
 use Rattle.std.specs.Cmp.{both_ways}
 use Rattle.std.specs.declared.cmp.Ordering.TheVariants.{Less, Equal, Greater}
 use Rattle.std.proofs.lemmas.Bool.{le-ltb, lt-ltb, ltb-false, ltb-true}
@@ -13,13 +13,13 @@ use Rattle.std.proofs.lemmas.List.{length-take-le, length-take}
 use Rattle.bc_syntax.specs.declared.syntax.Body.{Body}
 use Rattle.bc_text.specs.Names.{NameParts, name_order, is_same_name, is_within}
 use Rattle.bc_text.proofs.Equality.{name, exact_names}
-use Rattle.bc_text.proofs.Within.{beginning, beginning_within, within_beginning, within_self}
+use Rattle.bc_text.proofs.Within.{beginning, beginning_within, both, first_of, second_of, within_beginning, within_self}
 use Rattle.bc_prov.specs.State.{Suits, at_name}
 use Rattle.bc_prov.specs.declared.outcome.Outcome.{Outcome}
 use Rattle.bc_memo.specs.declared.place.Place.{Place}
 use Rattle.bc_memo.specs.declared.change.Change.TheVariants.{Put, Remove, Answer, Nothing}
-use Rattle.bc_memo.specs.Places.{Places, ShelfView, AreKept, AreOrdered, IsAbove, IsBelow, IsFoundAt, IsGapAt, answer_of, answered, changed, cleared, marked, unanswered, with_answer}
-use Rattle.bc_memo.proofs.Places.{at_found, at_missed, by_bool, by_ordering, greater_apart, less_apart, ordered-map, ordered-put, ordered-take, put_step}
+use Rattle.bc_memo.specs.Places.{Places, ShelfView, AreKept, AreOrdered, IsAbove, IsBelow, IsFoundAt, IsGapAt, answer_of, answered, changed, cleared, marked, unanswered, with_answer, written}
+use Rattle.bc_memo.proofs.Places.{at_found, at_head, at_missed, at_name-map, at_name-take, at_tail, by_bool, by_ordering, greater_apart, less_apart, ordered-map, ordered-put, ordered-take, put_here, put_step}
 
 -- ---- places stay kept
 
@@ -110,17 +110,6 @@ clears_below n depth m = is_within m n && nat_lt (length m.segments) depth
 abbrev pub cleared_below : NameParts → ℕ → Places → Places
 cleared_below n depth ps = map (λ (p : NameParts × Place). (p.0, cond (clears_below n depth p.0) (with_answer p.1 None) p.1)) ps
 
-both : (a b : Bool) → a ≡ true → b ≡ true → (a && b) ≡ true
-both a b p q = ap (λ x. x && b) p ∙ q
-
-first_of : (a b : Bool) → (a && b) ≡ true → a ≡ true
-first_of true b e = refl
-first_of false b e = e
-
-second_of : (a b : Bool) → (a && b) ≡ true → b ≡ true
-second_of true b e = e
-second_of false b e = absurd (true≢false (sym e))
-
 either_left : (a b : Bool) → a ≡ true → (a || b) ≡ true
 either_left a b p = ap (λ x. x || b) p
 
@@ -189,7 +178,7 @@ cleared_whole n (p ∷ ps) = λ i. (p.0, cond (all (is_within p.0 n) refl i) (wi
     all false is = refl
 
 -- the last step, at the name itself
-pub cleared_all : (n : NameParts) (ps : Places) → answered n None (cleared_below n (length n.segments) ps) ≡ cleared n ps
+cleared_all : (n : NameParts) (ps : Places) → answered n None (cleared_below n (length n.segments) ps) ≡ cleared n ps
 cleared_all n ps =
     ap (λ (m : NameParts). answered m None (cleared_below n (length n.segments) ps)) (within_beginning n n (within_self n))
     ∙ cleared_more n (length n.segments) ps (omega arith)
@@ -197,6 +186,38 @@ cleared_all n ps =
 
 pub ordered-cleared : (n : NameParts) (depth : ℕ) (ps : Places) → AreOrdered ps → AreOrdered (cleared_below n depth ps)
 ordered-cleared n depth ps ordered = ordered-map (λ (m : NameParts) (p : Place). cond (clears_below n depth m) (with_answer p None) p) ps ordered
+
+still_bare : (b : Bool) (place : Option Place) → answer_of place ≡ None → answer_of (option_map (λ (p : Place). cond b (with_answer p None) p) place) ≡ None
+still_bare b None bare = refl
+still_bare true (Some p) bare = refl
+still_bare false (Some p) bare = bare
+
+-- a name without an answer has none to lose
+answered_bare : (ps : Places) (n : NameParts) → AreOrdered ps → answer_of (at_name ps n) ≡ None → answered n None ps ≡ ps
+unfolding IsStrictlySortedBy
+answered_bare [] n ordered bare = refl
+answered_bare (p ∷ ps) n ordered bare = by_bool (is_same_name n p.0)
+    (λ same.
+    let at : n ≡ p.0 = (name n p.0).0 same in
+    let none : p.1.answer ≡ None = sym (ap answer_of (at_head n p.0 p.1 ps at)) ∙ bare in
+    λ i. (p.0, (ap (λ (b : Bool). cond b (with_answer p.1 None) p.1) same ∙ ap (with_answer p.1) (sym none)) i) ∷ sym (all_apart ps n None (subst (λ (m : NameParts). AllByRecursion (λ y. name_order m y ≡ Less) (keys_of ps)) (sym at) ordered.0)) i)
+    (λ other.
+    let apart : n ≡ p.0 → ⊥ = λ at. true≢false (sym ((name n p.0).1 at) ∙ other) in
+    λ i. row_apart n None p apart i ∷ answered_bare ps n ordered.1 (sym (ap answer_of (at_tail n p.0 p.1 ps apart)) ∙ bare) i)
+
+-- all beginnings are done, and the name itself has no answer
+pub cleared_bare : (n : NameParts) (ps : Places) → AreOrdered ps → answer_of (at_name ps n) ≡ None → cleared_below n (length n.segments) ps ≡ cleared n ps
+cleared_bare n ps ordered bare =
+    let depth = length n.segments in
+    let few = cleared_below n depth ps in
+    let none : answer_of (at_name few n) ≡ None = ap answer_of (at_name-map (λ (m : NameParts) (p : Place). cond (clears_below n depth m) (with_answer p None) p) n ps) ∙ still_bare (clears_below n depth n) (at_name ps n) bare in
+    sym (answered_bare few n (ordered-cleared n depth ps ordered) none) ∙ cleared_all n ps
+
+pub bare_put : (n : NameParts) (u : Body) (revision : ℕ) (ps : Places) → answer_of (at_name (insert_entry name_order ps n (written u revision)) n) ≡ None
+bare_put n u revision ps = ap answer_of (put_here n (written u revision) n ps refl)
+
+pub bare_take : (n : NameParts) (ps : Places) → AreOrdered ps → answer_of (at_name (remove_entry (is_at (name_order n)) ps) n) ≡ None
+bare_take n ps ordered = ap answer_of (at_name-take n n ps ordered ∙ ap (λ (b : Bool). cond b None (at_name ps n)) ((name n n).1 refl))
 
 -- ---- the steps of a change make what the definitions say
 

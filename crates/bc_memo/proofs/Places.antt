@@ -11,7 +11,7 @@ use Rattle.std.specs.List.Sorted.{IsBinarySearchResult, IsNonDecreasingBy, IsPar
 use Rattle.std.specs.declared.cmp.Ordering.{Ordering}
 use Rattle.std.specs.declared.cmp.Ordering.TheVariants.{Less, Equal, Greater}
 use Rattle.std.specs.Ordering.{is_eq, is_gt, match_ordering, ordering_index, ordering_reverse}
-use Rattle.std.proofs.lemmas.Cmp.{tied_itself, alike_right}
+use Rattle.std.proofs.lemmas.Cmp.{tied_itself}
 use Rattle.std.proofs.lemmas.Bool.{cases_eq}
 use Rattle.std.proofs.lemmas.List.{get_or_default}
 use Rattle.std.proofs.lemmas.Map.{lookup-remove_entry}
@@ -21,15 +21,11 @@ use Rattle.bc_text.specs.Names.{NameParts, name_order, is_same_name, is_within}
 use Rattle.bc_text.proofs.Equality.{name, exact_names, names_total}
 use Rattle.bc_text.proofs.Within.{within_self}
 use Rattle.bc_prov.specs.State.{at_name}
+use Rattle.bc_prov.proofs.Lookup.{equal_only, index_le}
 use Rattle.bc_memo.specs.declared.place.Place.{Place}
 use Rattle.bc_memo.specs.declared.change.Change.{Change}
 use Rattle.bc_memo.specs.declared.change.Change.TheVariants.{Types, Put, Remove, Answer, Nothing}
 use Rattle.bc_memo.specs.Places.{Places, ShelfView, AreOrdered, IsAbove, IsBelow, IsFoundAt, IsGapAt, IsStartAt, changed, mark, part_in, placed, unit_of, units_in, voids, written}
-
-equal_only : (o : Ordering) → is_eq o ≡ true → o ≡ Equal
-equal_only Less e = absurd (cc)
-equal_only Equal e = refl
-equal_only Greater e = absurd (cc)
 
 pub same_name : (a b : NameParts) → Decides (is_at (name_order a) b) (a ≡ b)
 same_name a b = (λ e. exact_names a b (equal_only (name_order a b) e), λ e. ap (λ (x : NameParts). is_eq (name_order a x)) (sym e) ∙ ap is_eq (tied_itself names_total a))
@@ -81,7 +77,7 @@ at_head n m w rest is = ap (λ (b : Bool). cond b (Some w) (at_name rest n)) ((s
 pub at_tail : {X : Type 0} (n m : NameParts) (w : X) (rest : List (NameParts × X)) → (n ≡ m → ⊥) → at_name ((m, w) ∷ rest) n ≡ at_name rest n
 at_tail n m w rest apart = by_bool (is_at (name_order n) m) (λ is. absurd (apart ((same_name n m).0 is))) (λ is. ap (λ (b : Bool). cond b (Some w) (at_name rest n)) is)
 
-put_here : {X : Type 0} (k : NameParts) (v : X) (n : NameParts) (es : List (NameParts × X)) → n ≡ k → at_name (insert_entry name_order es k v) n ≡ Some v
+pub put_here : {X : Type 0} (k : NameParts) (v : X) (n : NameParts) (es : List (NameParts × X)) → n ≡ k → at_name (insert_entry name_order es k v) n ≡ Some v
 put_here k v n [] is = at_head n k v [] is
 put_here k v n (e ∷ es) is = by_ordering (name_order k e.0)
     (λ r. ap (λ l. at_name l n) (put_step k v e es Less r) ∙ at_head n k v (e ∷ es) is)
@@ -251,16 +247,6 @@ pub ordered-map : {X Y : Type 0} (f : NameParts → X → Y) (es : List (NamePar
 ordered-map f es ordered = subst (λ (ks : List NameParts). IsStrictlySortedBy name_order ks) (sym (keys_of-map f es)) ordered
 
 -- ---- what a binary search answers
-
--- an order to a third name, of two names that ascend
-index_le : (x y n : NameParts) (a b : Ordering) → name_order x n ≡ a → name_order y n ≡ b → name_order x y ≡ Less → ordering_index a ≤ ordering_index b
-index_le x y n Less b xn yn xy = omega arith
-index_le x y n Equal Less xn yn xy = absurd (let e = names_total.trans x y n xy yn in cc)
-index_le x y n Equal Equal xn yn xy = omega arith
-index_le x y n Equal Greater xn yn xy = omega arith
-index_le x y n Greater Less xn yn xy = absurd (let e = names_total.trans x y n xy yn in cc)
-index_le x y n Greater Equal xn yn xy = absurd (let e = alike_right names_total y n x yn in cc)
-index_le x y n Greater Greater xn yn xy = omega arith
 
 pub rising : {X : Type 0} (es : List (NameParts × X)) (k : NameParts) → AreOrdered es → IsNonDecreasingBy (λ (e : NameParts × X). ordering_index (name_order e.0 k)) es
 rising {X} es k ordered i j d upto within = elim (cases_eq i j) [

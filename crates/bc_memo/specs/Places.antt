@@ -45,14 +45,17 @@ pub record AreKept (places : Places) : Type 0 where
   pub ordered : AreOrdered places
   pub suited : AllByRecursion (λ (p : NameParts × Place). Suits p.1.unit p.0) places
 
+-- the unit of a place, where there is one
 abbrev pub unit_of : Option Place → Option Body
 unit_of None = None
 unit_of (Some place) = Some place.unit
 
+-- its revision
 abbrev pub revision_of : Option Place → Option ℕ
 revision_of None = None
 revision_of (Some place) = Some place.revision
 
+-- its answer
 abbrev pub answer_of : Option Place → Option Outcome
 answer_of None = None
 answer_of (Some place) = place.answer
@@ -105,6 +108,7 @@ next_answer change name before = if voids change name then None else option_or (
 abbrev pub with_answer : Place → Option Outcome → Place
 with_answer place answer = record { unit = place.unit; revision = place.revision; answer = answer }
 
+-- the place of a name with its answer after a change
 abbrev pub mark : Change → NameParts → Place → Place
 mark change name place = with_answer place (next_answer change name place.answer)
 

@@ -1,5 +1,5 @@
 //! What is held: declarations, and units with their answers in the order of their names.
-ghost use Rattle.std.specs.Prelude.{◌≡◌, ◌↔◌, ◌<◌, ◌≤◌, IfOk, IsTrue, OnOk, is_some, length, map};
+ghost use Rattle.std.specs.Prelude.{◌≡◌, ◌↔◌, ◌<◌, ◌≤◌, IfOk, IsTrue, None, OnOk, is_some, length, map};
 ghost use Rattle.std.specs.Option.{option_copied};
 ghost use Rattle.bc_text.specs.Names.{NameParts};
 ghost use Rattle.bc_prov.specs.State.{at_name};
@@ -246,15 +246,15 @@ fn set_answer(places: &mut Vec<(Name, Place)>, name: &Name, answer: Option<Share
     }
 }
 
-// Takes the answers of a name and of its beginnings away.
+// Takes the answers of a name and of its beginnings away, where the name was just written or taken away: it has none itself.
 fn clear(places: &mut Vec<(Name, Place)>, name: &Name)
-    requires { AreOrdered places.old.items }
+    requires ordered { AreOrdered places.old.items }
+    requires bare { answer_of (at_name places.old.items name.now) ≡ None }
     ensures { places.new.items ≡ cleared name.now places.old.items }
 {
     for depth in 0..name.depth() {
         set_answer(places, &name.beginning(depth), None);
     }
-    set_answer(places, name, None);
 }
 
 // Takes all answers away.

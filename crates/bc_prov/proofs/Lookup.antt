@@ -19,7 +19,7 @@ use Rattle.bc_text.proofs.Equality.{exact_names, names_total}
 use Rattle.bc_prov.specs.State.{AreSuited, Suits, at_name}
 
 -- an order to a third name, of two names that ascend
-index_le : (x y n : NameParts) (a b : Ordering) → name_order x n ≡ a → name_order y n ≡ b → name_order x y ≡ Less → ordering_index a ≤ ordering_index b
+pub index_le : (x y n : NameParts) (a b : Ordering) → name_order x n ≡ a → name_order y n ≡ b → name_order x y ≡ Less → ordering_index a ≤ ordering_index b
 index_le x y n Less b xn yn xy = omega arith
 index_le x y n Equal Less xn yn xy = absurd (let e = names_total.trans x y n xy yn in cc)
 index_le x y n Equal Equal xn yn xy = omega arith
@@ -28,7 +28,7 @@ index_le x y n Greater Less xn yn xy = absurd (let e = names_total.trans x y n x
 index_le x y n Greater Equal xn yn xy = absurd (let e = alike_right names_total y n x yn in cc)
 index_le x y n Greater Greater xn yn xy = omega arith
 
-equal_only : (o : Ordering) → is_eq o ≡ true → o ≡ Equal
+pub equal_only : (o : Ordering) → is_eq o ≡ true → o ≡ Equal
 equal_only Less e = absurd cc
 equal_only Equal e = refl
 equal_only Greater e = absurd cc

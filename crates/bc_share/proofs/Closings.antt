@@ -1,22 +1,54 @@
--- A history beside one session.
-use Rattle.std.proofs.Common.{◌≡◌, List, [], ◌∷◌, get_or, inl, inr, sym, subst, arith}
+-- A history beside the sessions that made it, element by element.
+use Rattle.std.proofs.Common.{◌≡◌, ◌≢◌, ℕ, zero, suc, ◌+◌, ◌<◌, ◌≤◌, true, false, true≢false, List, [], ◌∷◌, ◌++◌, length, length-append, get_or, below_more, refl, sym, ap, ◌∙◌, subst, arith}
 use Rattle.std.specs.Prelude.{All}
+use Rattle.std.specs.Bool.{Decides}
 use Rattle.std.specs.List.{Contains}
-use Rattle.std.proofs.lemmas.List.Elements.{Contains-push_cases}
-use Rattle.bc_book.specs.declared.call.Entry.{Entry}
-use Rattle.bc_book.specs.Calls.{calls}
-use Rattle.bc_share.specs.Sessions.{SessionView}
-use Rattle.bc_share.specs.Closings.{Agrees}
+use Rattle.std.proofs.lemmas.List.{get_or_default, get_or-map, length-map}
+use Rattle.bc_share.specs.Sessions.{SessionView, new_session, new_sessions}
+use Rattle.bc_share.specs.Closings.{numbers}
 
--- a list of one has nothing else
-the_one : {X : Type 0} (y x : X) → Contains (y ∷ []) x → y ≡ x
-the_one y x h = elim (Contains-push_cases [] y x h) [
-  | inl none ↦ absurd (omega (arith, none.1))
-  | inr same ↦ same
-]
+-- what holds of all elements up to a place holds of one more
+pub each_more : {X : Type 0} (P : X → Type 0) (xs : List X) (i : ℕ) (x : X) → ((k : ℕ) (d : X) → k < i → P (get_or xs k d)) → i < length xs → x ≡ get_or xs i x → P x
+    → (k : ℕ) (d : X) → k < i + 1 → P (get_or xs k d)
+each_more {X} P xs i x before small there here k d h =
+    below_more (λ (j : ℕ). (y : X) → P (get_or xs j y)) i (λ j g y. before j y g) (λ y. subst P (there ∙ get_or_default xs i x y small) here) k h d
 
-pub one_agrees : (sessions : List SessionView) (s : SessionView) (h : List Entry) → sessions ≡ s ∷ [] → Agrees sessions h
-    → (s.own ≡ calls s.number h) × All (λ (e : Entry). e.session ≡ s.number) h
-one_agrees sessions s h one agrees =
-    let a = subst (λ (l : List SessionView). Agrees l h) one agrees in
-    (a.own 0 s (omega arith), λ k d small. sym (the_one s.number (get_or h k d).session (a.others k d small)))
+-- it holds of all, once all are seen
+pub each_all : {X : Type 0} (P : X → Type 0) (xs : List X) (i : ℕ) → ((k : ℕ) (d : X) → k < i → P (get_or xs k d)) → length xs ≤ i → Decides true (All P xs)
+each_all P xs i before done = ((λ yes k d small. before k d (omega (arith, done, small))), λ all. refl)
+
+-- it does not hold of all, where it fails of one
+pub each_fails : {X : Type 0} (P : X → Type 0) (xs : List X) (i : ℕ) (x : X) → i < length xs → x ≡ get_or xs i x → (P x → ⊥) → Decides false (All P xs)
+each_fails P xs i x small there fails = ((λ e. absurd (true≢false (sym e))), λ all. absurd (fails (subst P (sym there) (all i x small))))
+
+-- a session has the number
+pub number_found : (sessions : List SessionView) (number i : ℕ) (s : SessionView) → i < length sessions → s ≡ get_or sessions i s → s.number ≡ number → Decides true (Contains (numbers sessions) number)
+number_found sessions number i s small there is = (
+  (λ yes. (i, (let long = length-map sessions (λ (x : SessionView). x.number) in omega (arith, long, small)), at)),
+  λ has. refl,
+)
+  where
+    at : get_or (numbers sessions) i number ≡ number
+    at = get_or-map (λ (x : SessionView). x.number) sessions i s number small ∙ ap (λ (x : SessionView). x.number) (sym there) ∙ is
+
+-- none has it
+pub number_missed : (sessions : List SessionView) (number i : ℕ) → ((k : ℕ) (d : SessionView) → k < i → (get_or sessions k d).number ≢ number) → length sessions ≤ i → Decides false (Contains (numbers sessions) number)
+number_missed sessions number i before done = (
+  (λ e. absurd (true≢false (sym e))),
+  λ has.
+      let long = length-map sessions (λ (x : SessionView). x.number) in
+      let within = has.1 in
+      let small : has.0 < length sessions = omega (arith, long, within) in
+      absurd (missed sessions has.0 small has.2),
+)
+  where
+    missed : (sessions' : List SessionView) (k : ℕ) → k < length sessions → get_or (numbers sessions) k number ≡ number → ⊥
+    missed sessions' k small at = before k (new_session 0 0) (omega (arith, small, done)) (sym (get_or-map (λ (x : SessionView). x.number) sessions k (new_session 0 0) number small) ∙ at)
+
+-- one more new session
+pub new_more : (tag count : ℕ) → new_sessions tag count ++ new_session tag count ∷ [] ≡ new_sessions tag (count + 1)
+new_more tag count = ap (new_sessions tag) (let e : suc count ≡ count + 1 = omega arith in e)
+
+pub length-new_sessions : (tag count : ℕ) → length (new_sessions tag count) ≡ count
+length-new_sessions tag zero = refl
+length-new_sessions tag (suc count) = length-append (new_sessions tag count) (new_session tag count ∷ []) ∙ (let few = length-new_sessions tag count in omega (arith, few))

@@ -1,2 +1,3 @@
 pub mod Audits
 pub mod Closings
+pub mod Running

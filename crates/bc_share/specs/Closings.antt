@@ -5,8 +5,14 @@ use Rattle.bc_book.specs.declared.call.Entry.{Entry}
 use Rattle.bc_book.specs.Calls.{IsLegal, calls}
 use Rattle.bc_share.specs.Sessions.{SessionView}
 use Rattle.bc_share.specs.declared.db.CloseFault.{CloseFault}
+use Rattle.bc_book.specs.declared.ledger.TheConstants.{MOST_SESSIONS}
 use Rattle.bc_share.specs.declared.db.TheConstants.{MOST_ENTRIES}
 use Rattle.bc_share.specs.declared.db.CloseFault.TheVariants.{Foreign, Audit}
+
+-- the tag of a database, and how many sessions it has
+pub record DbView : Type 0 where
+  pub tag : ℕ
+  pub count : ℕ
 
 -- the numbers of sessions
 abbrev pub numbers : List SessionView → List ℕ
@@ -36,4 +42,4 @@ IsCloseFault tag count sessions (Audit h) = AreSessionsOf tag count sessions × 
 
 -- how many entries and how many sessions a database may have
 abbrev pub IsInRange : ℕ → ℕ → Type 0
-IsInRange capacity sessions = (1 ≤ capacity) × (capacity ≤ MOST_ENTRIES) × (sessions ≡ 1)
+IsInRange capacity sessions = (1 ≤ capacity) × (capacity ≤ MOST_ENTRIES) × (1 ≤ sessions) × (sessions ≤ MOST_SESSIONS)

@@ -1,22 +1,11 @@
-//! Whether a history agrees with the own list of its session.
-ghost use Rattle.std.specs.Prelude.{◌≡◌, ◌≢◌, ◌↔◌, ◌∷◌, All, IsTrue, MatchOption};
+//! Whether a history agrees with the own lists of the sessions that made it.
+ghost use Rattle.std.specs.Prelude.{◌≡◌, ◌≢◌, ◌↔◌, ◌<◌, ◌∷◌, All, IsTrue, MatchOption, ℕ};
+ghost use Rattle.std.specs.List.{Contains};
 ghost use Rattle.bc_book.specs.Calls.{calls};
+ghost use Rattle.bc_share.specs.Closings.{Agrees, AreSessionsOf, numbers};
 
-use bc_book::{Entry, Event};
-
-/// Whether these are a session's events in a history, and the history has no others.
-pub fn agrees(own: &[Event], number: u8, entries: &[Entry]) -> bool
-    ensures { IsTrue result ↔ ((own.now ≡ calls number entries.now) × All (λ e. e.session ≡ number) entries.now) }
-{
-    is_own(own, number, entries) && are_of(number, entries)
-}
-
-// Whether all entries are of this session.
-fn are_of(number: u8, entries: &[Entry]) -> bool
-    ensures { IsTrue result ↔ All (λ e. e.session ≡ number) entries.now }
-{
-    entries.iter().all(|entry| entry.session == number)
-}
+use crate::session::Session;
+use bc_book::{Ending, Entry, Event};
 
 // What follows this event, where it is the first.
 fn after_first<'a>(events: &'a [Event], event: &Event) -> Option<&'a [Event]>
@@ -26,8 +15,8 @@ fn after_first<'a>(events: &'a [Event], event: &Event) -> Option<&'a [Event]>
     if first.is(event) { Some(tail) } else { None }
 }
 
-// Whether these are a session's events in a history.
-fn is_own(own: &[Event], number: u8, entries: &[Entry]) -> bool
+/// Whether these are a session's events in a history.
+pub(crate) fn is_own(own: &[Event], number: u8, entries: &[Entry]) -> bool
     ensures { IsTrue result ↔ (own.now ≡ calls number entries.now) }
 {
     let mut rest = own;
@@ -40,4 +29,68 @@ fn is_own(own: &[Event], number: u8, entries: &[Entry]) -> bool
         }
     }
     rest.is_empty()
+}
+
+// Whether a session has this number.
+fn has_number<E: Ending>(sessions: &[Session<E>], number: u8) -> bool
+    ensures { IsTrue result ↔ Contains (numbers sessions.now) number }
+{
+    for session in sessions {
+        if session.number() == number {
+            return true;
+        }
+    }
+    false
+}
+
+// Whether each number below this one is a session's.
+fn have_numbers<E: Ending>(sessions: &[Session<E>], count: u8) -> bool
+    ensures { IsTrue result ↔ ((number : ℕ) → number < count → Contains (numbers sessions.now) number) }
+{
+    for number in 0..count {
+        if !has_number(sessions, number) {
+            return false;
+        }
+    }
+    true
+}
+
+// Whether all sessions have this tag.
+fn have_tag<E: Ending>(sessions: &[Session<E>], tag: u64) -> bool
+    ensures { IsTrue result ↔ All (λ s. s.tag ≡ tag) sessions.now }
+{
+    sessions.iter().all(|session| session.tag() == tag)
+}
+
+/// Whether these are the sessions of a database with this tag, so many, each once.
+pub(crate) fn are_sessions<E: Ending>(tag: u64, count: u8, sessions: &[Session<E>]) -> bool
+    ensures { IsTrue result ↔ AreSessionsOf tag count sessions.now }
+{
+    sessions.len() == usize::from(count) && have_tag(sessions, tag) && have_numbers(sessions, count)
+}
+
+// Whether each session's own list is what a history has of it.
+fn each_agrees<E: Ending>(sessions: &[Session<E>], entries: &[Entry]) -> bool
+    ensures { IsTrue result ↔ All (λ s. s.own ≡ calls s.number entries.now) sessions.now }
+{
+    sessions.iter().all(|session| session.agrees(entries))
+}
+
+// Whether each entry of a history is of one of the sessions.
+fn each_is_theirs<E: Ending>(sessions: &[Session<E>], entries: &[Entry]) -> bool
+    ensures { IsTrue result ↔ All (λ e. Contains (numbers sessions.now) e.session) entries.now }
+{
+    for entry in entries {
+        if !has_number(sessions, entry.session) {
+            return false;
+        }
+    }
+    true
+}
+
+/// Whether a history agrees with these sessions: each one's own list is what the history has of it, and each entry is of one of them.
+pub(crate) fn agree<E: Ending>(sessions: &[Session<E>], entries: &[Entry]) -> bool
+    ensures { IsTrue result ↔ Agrees sessions.now entries.now }
+{
+    each_agrees(sessions, entries) && each_is_theirs(sessions, entries)
 }

@@ -8,7 +8,7 @@ use crate::tests::{
     WRITES_LAST, all_go, history_by,
 };
 use bc_analyses::{find_live, find_scopes, find_values, providers};
-use bc_book::{PutReply, Refusal};
+use bc_book::{PutReply, Refusal, Waiting};
 use bc_cons::Facts;
 use bc_live::LiveSets;
 use bc_loans::Scopes;
@@ -17,9 +17,9 @@ use bc_prov::{Liveness, Providers, Scoping, Solver};
 use bc_solve::Values;
 use std::alloc::{AllocError, Global};
 use std::process::Abort;
-use std::sync::Arc;
 use std::sync::atomic::AtomicU32;
 use std::sync::atomic::Ordering::SeqCst;
+use std::sync::{Arc, Wait};
 use std::test::Fail;
 
 /// A body that borrows where its result is a number.
@@ -82,8 +82,8 @@ pub(crate) fn refusing(alloc: Global) -> Result<Providers, Fail> {
 
 /// Whether each provider is called so often where a session makes these calls, by providers that count their calls and answer as
 /// the program's do.
-fn are_called(
-    rt: &impl Abort,
+fn are_called<R: Abort + Wait>(
+    rt: &R,
     alloc: Global,
     turns: &[Turn],
     capacity: u32,
@@ -183,12 +183,12 @@ fn a_second_ask_of_an_unchanged_name_calls_no_provider(rt: HostRuntime) -> Resul
         Turn::Put(b"f/0/1", CLOSURE_WRITES, Ok(PutReply::Replaced)),
         Turn::Ask(b"f", Err(Refusal::NoMemory)),
     ];
-    let (db, mut sessions) = Db::open(alloc, 0, 9, 1)?;
+    let (db, mut sessions) = Db::open(alloc, Waiting::new(&rt), 0, 9, 1)?;
     for session in sessions.iter_mut() {
         all_go(&rt, alloc, session, &providers!(alloc), &first)?;
         all_go(&rt, alloc, session, &refusing(alloc)?, &second)?;
     }
-    let history = db.close(sessions)?;
+    let history = db.close(&rt, sessions)?;
     assert!(rt; history.entries().len() == 8, "the refused Ask is no entry");
     Ok(())
 }

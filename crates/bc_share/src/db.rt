@@ -1,14 +1,17 @@
-//! A database: opened for its session, and closed with it, which gives the history.
-ghost use Rattle.std.specs.Prelude.{◌≡◌, ◌↔◌, ◌≤◌, [], ◌∷◌, IfOk, IfErr, IsTrue, OnOk, MatchOption};
+//! A database: opened for its sessions, and closed with them, which gives the history.
+ghost use Rattle.std.specs.Prelude.{◌≡◌, ◌↔◌, ◌≤◌, IfOk, IfErr, IsTrue, OnOk};
 ghost use Rattle.bc_book.specs.Calls.{IsLegal};
-ghost use Rattle.bc_share.specs.Sessions.{new_session};
+ghost use Rattle.bc_book.specs.declared.ledger.TheConstants.{MOST_SESSIONS};
+ghost use Rattle.bc_share.specs.Sessions.{new_sessions};
 ghost use Rattle.bc_share.specs.Closings.{AreSessionsOf, IsCloseFault, IsInRange, IsOneHistory};
 
-use crate::audit::agrees;
+use crate::audit::{agree, are_sessions};
+use crate::desk::Desk;
 use crate::session::Session;
-use bc_book::Entry;
-use std::alloc::Global;
+use bc_book::{Book, Ending, Entry, MOST_SESSIONS};
+use std::alloc::{AllocError, Global};
 use std::marker::Model;
+use std::sync::{Arc, Wait};
 use thiserror::Error;
 
 /// How many entries a history may have at most (own).
@@ -65,64 +68,65 @@ impl History {
     }
 }
 
-/// A database. Contracts see it as its tag.
+/// A database. Contracts see its tag, and how many sessions it has.
 #[derive(Drop)]
-pub struct Db {
+pub struct Db<E: Ending> {
+    alloc: Global,
     tag: u64,
+    count: u8,
+    desk: Arc<Desk<E>, Global>,
 }
 
-impl Model for Db {
-    ghost use Rattle.std.specs.Prelude.{ℕ};
+impl<E: Ending> Model for Db<E> {
+    ghost use Rattle.bc_share.specs.Closings.{DbView};
 
-    ghost Value = { ℕ };
+    ghost Value = { DbView };
 
-    ghost view = { λ db. db.tag };
+    ghost view = { λ db. record { tag = db.tag; count = db.count } };
 }
 
-impl Db {
-    /// Opens a database of this tag, whose history may have so many entries, with so many sessions.
+impl<E: Ending> Db<E> {
+    /// Opens a database of this tag, whose history may have so many entries, with so many sessions, which are numbered from 0. What
+    /// ends it is handed in.
     ///
-    /// `Range` exactly where the capacity is not 1 to 1,000,000 or the sessions are not 1 (own). `NoMemory` only
+    /// `Range` exactly where the capacity is not 1 to 1,000,000 or the sessions are not 1 to 16 (own). `NoMemory` only
     /// where memory was refused.
     pub fn open(
         alloc: Global,
+        ending: E,
         tag: u64,
         capacity: u32,
         sessions: u8,
-    ) -> Result<(Db, Vec<Session>), OpenFault>
+    ) -> Result<(Db<E>, Vec<Session<E>>), OpenFault>
         ensures range { OnOk result (IsInRange capacity sessions) }
-        ensures opened { IfOk result (λ opened. (opened.0 ≡ tag) × (opened.1.items ≡ new_session tag 0 ∷ [])) }
+        ensures opened { IfOk result (λ opened. (opened.0 ≡ record { tag = tag; count = sessions }) × (opened.1.items ≡ new_sessions tag sessions)) }
         ensures fault { IfErr result (λ fault. fault ≡ OpenFault.Range ↔ ¬ IsInRange capacity sessions) }
     {
-        if capacity == 0 || capacity > MOST_ENTRIES || sessions != 1 {
+        if !is_in_range(capacity, sessions) {
             return Err(OpenFault::Range);
         }
-        let Ok(session) = Session::new(alloc, tag, 0, capacity) else {
-            return Err(OpenFault::NoMemory);
-        };
-        let mut opened = Vec::new(alloc);
-        match opened.push(session) {
-            Ok(()) => Ok((Db { tag }, opened)),
+        match opened(alloc, ending, tag, capacity, sessions) {
+            Ok(opened) => Ok(opened),
             Err(_) => Err(OpenFault::NoMemory),
         }
     }
 
-    /// Ends the sessions, and hands out the history. It takes no memory.
+    /// Ends the sessions, and hands out the history. It takes no memory. What sessions it was not given find a full history from then
+    /// on.
     ///
     /// `Foreign` exactly where these are not the database's sessions, each once; `Audit`, with the history, exactly
     /// where they are, and a session's own list is not what the history has of it or an entry is of none of them
     /// (own). The database is gone in each case.
-    pub fn close(self, sessions: Vec<Session>) -> Result<History, CloseFault>
+    pub fn close<R: Wait>(self, rt: &R, sessions: Vec<Session<E>>) -> Result<History, CloseFault>
         ensures one_history { IfOk result (λ h. IsOneHistory sessions.items h) }
-        ensures theirs { OnOk result (AreSessionsOf self 1 sessions.items) }
-        ensures fault { IfErr result (λ fault. IsCloseFault self 1 sessions.items fault) }
+        ensures theirs { OnOk result (AreSessionsOf self.tag self.count sessions.items) }
+        ensures fault { IfErr result (λ fault. IsCloseFault self.tag self.count sessions.items fault) }
     {
-        let Some(session) = only_session(self.tag, sessions) else {
+        if !are_sessions(self.tag, self.count, &sessions) {
             return Err(CloseFault::Foreign);
-        };
-        let number = session.number();
-        let (own, entries) = session.into_lists();
-        let agreed = agrees(&own, number, &entries);
+        }
+        let entries = self.desk.take_history(rt, self.alloc);
+        let agreed = agree(&sessions, &entries);
         let history = History { entries };
         if agreed {
             Ok(history)
@@ -132,24 +136,55 @@ impl Db {
     }
 }
 
-// Whether these are the one session of a database.
-fn is_only_session(tag: u64, sessions: &[Session]) -> bool
-    ensures { IsTrue result ↔ AreSessionsOf tag 1 sessions.now }
+// Whether a history may have so many entries and a database so many sessions.
+fn is_in_range(capacity: u32, sessions: u8) -> bool
+    ensures { IsTrue result ↔ IsInRange capacity sessions }
 {
-    match sessions {
-        [session] => session.tag() == tag && session.number() == 0,
-        [] | [_, _, ..] => false,
-    }
+    1 <= capacity
+        && capacity <= MOST_ENTRIES
+        && 1 <= sessions
+        && usize::from(sessions) <= MOST_SESSIONS
 }
 
-// The one session of a database, where this is handed in.
-fn only_session(tag: u64, sessions: Vec<Session>) -> Option<Session>
-    ensures { MatchOption result (¬ AreSessionsOf tag 1 sessions.items) (λ session. (sessions.items ≡ session ∷ []) × AreSessionsOf tag 1 sessions.items) }
+// A database with its sessions, where the numbers are in range. `AllocError` only where memory was refused.
+fn opened<E: Ending>(
+    alloc: Global,
+    ending: E,
+    tag: u64,
+    capacity: u32,
+    count: u8,
+) -> Result<(Db<E>, Vec<Session<E>>), AllocError>
+    requires { count ≤ MOST_SESSIONS }
+    ensures { IfOk result (λ opened. (opened.0 ≡ record { tag = tag; count = count }) × (opened.1.items ≡ new_sessions tag count)) }
 {
-    let mut sessions = sessions;
-    if is_only_session(tag, &sessions) {
-        sessions.pop()
-    } else {
-        None
+    let book = Book::new(alloc, ending, capacity)?;
+    let Ok(desk) = Arc::new(alloc, Desk::new(book)) else {
+        return Err(AllocError);
+    };
+    let sessions = seated(alloc, &desk, tag, count)?;
+    let db = Db {
+        alloc,
+        tag,
+        count,
+        desk,
+    };
+    Ok((db, sessions))
+}
+
+// So many new sessions at a desk, numbered from 0. `AllocError` only where memory was refused.
+fn seated<E: Ending>(
+    alloc: Global,
+    desk: &Arc<Desk<E>, Global>,
+    tag: u64,
+    count: u8,
+) -> Result<Vec<Session<E>>, AllocError>
+    requires { count ≤ MOST_SESSIONS }
+    ensures { IfOk result (λ sessions. sessions.items ≡ new_sessions tag count) }
+{
+    let mut sessions = Vec::new(alloc);
+    for number in 0..count {
+        let theirs = Arc::try_clone(desk)?;
+        sessions.push(Session::new(alloc, theirs, tag, number))?;
     }
+    Ok(sessions)
 }

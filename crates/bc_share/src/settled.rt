@@ -2,52 +2,62 @@
 use crate::counted::refusing;
 use crate::tests::{Found, WRITES_LAST, WRITES_WHILE_BORROWED, found_by, name, shared};
 use bc_analyses::providers;
-use bc_book::{Book, Work};
+use bc_book::{Book, Ending, Waiting, Work};
 use bc_prov::{Providers, Shared};
 use std::alloc::Global;
+use std::sync::Wait;
 use std::test::Fail;
 
 /// A book in which a body is put at `f`.
-fn with_body(alloc: Global, book: Book, text: &[u8]) -> Result<Book, Fail> {
+fn with_body<E: Ending>(alloc: Global, book: Book<E>, text: &[u8]) -> Result<Book<E>, Fail> {
     let mut book = book;
     book.put(alloc, 0, name(b"f")?, Shared::new(shared(alloc, text)?))?;
     Ok(book)
 }
 
 /// A new book with a body at `f`.
-fn book_with(alloc: Global, text: &[u8]) -> Result<Book, Fail> {
-    with_body(alloc, Book::new(alloc, 9)?, text)
+fn book_with<E: Ending>(alloc: Global, ending: E, text: &[u8]) -> Result<Book<E>, Fail> {
+    with_body(alloc, Book::new(alloc, ending, 9)?, text)
 }
 
 /// The work on `f` in a book, by the program's providers.
-fn work_in(alloc: Global, book: &Book) -> Result<Work, Fail> {
+fn work_in<E: Ending>(alloc: Global, book: &Book<E>) -> Result<Work, Fail> {
     let begun = book.snapshot(alloc, &name(b"f")?)?;
     Ok(begun.work(alloc, &providers!(alloc))?)
 }
 
 /// The work on a body at `f` in a book of its own.
-fn work_on(alloc: Global, text: &[u8]) -> Result<Work, Fail> {
-    let book = book_with(alloc, text)?;
+fn work_on<E: Ending>(alloc: Global, ending: E, text: &[u8]) -> Result<Work, Fail> {
+    let book = book_with(alloc, ending, text)?;
     work_in(alloc, &book)
 }
 
 /// What a book finds where it settles the work.
-fn settles(alloc: Global, book: Book, work: Work, providers: &Providers) -> Result<Found, Fail> {
+fn settles<E: Ending>(
+    alloc: Global,
+    book: Book<E>,
+    work: Work,
+    providers: &Providers,
+) -> Result<Found, Fail> {
     let mut book = book;
     let (outcome, _mine) = book.settle(alloc, 0, work, providers)?;
     Ok(found_by(outcome.get()))
 }
 
 /// What a book finds where it settles work on `f` at once.
-fn settles_at_once(alloc: Global, book: Book, providers: &Providers) -> Result<Found, Fail> {
+fn settles_at_once<E: Ending>(
+    alloc: Global,
+    book: Book<E>,
+    providers: &Providers,
+) -> Result<Found, Fail> {
     let work = work_in(alloc, &book)?;
     settles(alloc, book, work, providers)
 }
 
 /// What a book finds where a body is put at `f` while the work on it is done.
-fn settles_late(
+fn settles_late<E: Ending>(
     alloc: Global,
-    book: Book,
+    book: Book<E>,
     text: &[u8],
     providers: &Providers,
 ) -> Result<Found, Fail> {
@@ -57,14 +67,15 @@ fn settles_late(
 }
 
 /// What a book with a body at `f` finds where it settles the work on another body there in another book.
-fn settles_elsewhere(
+fn settles_elsewhere<R: Wait>(
+    rt: &R,
     alloc: Global,
     text: &[u8],
     other: &[u8],
     providers: &Providers,
 ) -> Result<Found, Fail> {
-    let work = work_on(alloc, other)?;
-    let book = book_with(alloc, text)?;
+    let work = work_on(alloc, Waiting::new(rt), other)?;
+    let book = book_with(alloc, Waiting::new(rt), text)?;
     settles(alloc, book, work, providers)
 }
 
@@ -72,7 +83,7 @@ fn settles_elsewhere(
 #[test]
 fn work_that_stands_is_settled_without_a_provider(rt: HostRuntime) -> Result<(), Fail> {
     let providers = refusing(rt.alloc())?;
-    let book = book_with(rt.alloc(), WRITES_WHILE_BORROWED)?;
+    let book = book_with(rt.alloc(), Waiting::new(&rt), WRITES_WHILE_BORROWED)?;
     assert!(rt; settles_at_once(rt.alloc(), book, &providers)? == Found::Errors(1));
     Ok(())
 }
@@ -81,7 +92,7 @@ fn work_that_stands_is_settled_without_a_provider(rt: HostRuntime) -> Result<(),
 #[test]
 fn work_that_does_not_stand_is_done_again(rt: HostRuntime) -> Result<(), Fail> {
     let providers = providers!(rt.alloc());
-    let book = book_with(rt.alloc(), WRITES_LAST)?;
+    let book = book_with(rt.alloc(), Waiting::new(&rt), WRITES_LAST)?;
     assert!(rt;
         settles_late(rt.alloc(), book, WRITES_WHILE_BORROWED, &providers)? == Found::Errors(1)
     );
@@ -92,7 +103,7 @@ fn work_that_does_not_stand_is_done_again(rt: HostRuntime) -> Result<(), Fail> {
 #[test]
 fn work_on_an_absent_name_is_done_again_once_it_is_put(rt: HostRuntime) -> Result<(), Fail> {
     let providers = providers!(rt.alloc());
-    let book = Book::new(rt.alloc(), 9)?;
+    let book = Book::new(rt.alloc(), Waiting::new(&rt), 9)?;
     assert!(rt; settles_late(rt.alloc(), book, WRITES_LAST, &providers)? == Found::Errors(0));
     Ok(())
 }
@@ -103,7 +114,7 @@ fn work_of_another_book_does_not_stand(rt: HostRuntime) -> Result<(), Fail> {
     let alloc = rt.alloc();
     let providers = providers!(alloc);
     assert!(rt;
-        settles_elsewhere(alloc, WRITES_WHILE_BORROWED, WRITES_LAST, &providers)?
+        settles_elsewhere(&rt, alloc, WRITES_WHILE_BORROWED, WRITES_LAST, &providers)?
             == Found::Errors(1)
     );
     Ok(())

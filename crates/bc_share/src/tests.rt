@@ -1,13 +1,13 @@
 //! Databases: their ranges, their sessions, their histories.
 use crate::{CloseFault, Db, History, OpenFault, Session};
 use bc_analyses::providers;
-use bc_book::{Entry, Event, PutReply, Refusal, RemoveReply};
+use bc_book::{Ending, Entry, Event, PutReply, Refusal, RemoveReply, Waiting};
 use bc_prov::{Outcome, Providers};
 use bc_syntax::{Types, Unit};
 use bc_text::{Name, read_types, read_unit};
 use std::alloc::{AllocError, Global};
 use std::process::Abort;
-use std::sync::Arc;
+use std::sync::{Arc, Wait};
 use std::test::Fail;
 
 /// Writes the local once the borrow of it is used no more: no error.
@@ -107,13 +107,14 @@ pub(crate) fn found_by(outcome: &Outcome) -> Found {
 }
 
 /// Asks for a name, and answers whether that finds this or has its refusal.
-fn finds(
-    session: &mut Session,
+fn finds<R: Wait, E: Ending>(
+    rt: &R,
+    session: &mut Session<E>,
     providers: &Providers,
     asked: &[u8],
     wanted: Result<Found, Refusal>,
 ) -> Result<bool, Fail> {
-    match (session.ask(&name(asked)?, providers), wanted) {
+    match (session.ask(rt, &name(asked)?, providers), wanted) {
         (Ok(outcome), Ok(wanted)) => Ok(found_by(&outcome) == wanted),
         (Err(refused), Err(refusal)) => Ok(refused == refusal),
         (Ok(_), Err(_)) | (Err(_), Ok(_)) => Ok(false),
@@ -121,11 +122,15 @@ fn finds(
 }
 
 /// Whether a unit is new under each of 256 names.
-fn fills(session: &mut Session, unit: &Arc<Unit, Global>) -> Result<bool, Fail> {
+fn fills<R: Wait, E: Ending>(
+    rt: &R,
+    session: &mut Session<E>,
+    unit: &Arc<Unit, Global>,
+) -> Result<bool, Fail> {
     for high in b'a'..b'q' {
         for low in b'a'..b'q' {
             let root = [high, low];
-            if session.put(name(&root)?, Arc::try_clone(unit)?)? != PutReply::Added {
+            if session.put(rt, name(&root)?, Arc::try_clone(unit)?)? != PutReply::Added {
                 return Ok(false);
             }
         }
@@ -143,11 +148,15 @@ fn child_of(letter: u8, number: u8) -> Result<Name, Fail> {
 }
 
 /// Whether a closure is new under the numbers 0 to 62 of each of four roots.
-fn fills_below(session: &mut Session, closure: &Arc<Unit, Global>) -> Result<bool, Fail> {
+fn fills_below<R: Wait, E: Ending>(
+    rt: &R,
+    session: &mut Session<E>,
+    closure: &Arc<Unit, Global>,
+) -> Result<bool, Fail> {
     for letter in b'a'..b'e' {
         for number in 0..63 {
             let child = child_of(letter, number)?;
-            if session.put(child, Arc::try_clone(closure)?)? != PutReply::Added {
+            if session.put(rt, child, Arc::try_clone(closure)?)? != PutReply::Added {
                 return Ok(false);
             }
         }
@@ -156,56 +165,60 @@ fn fills_below(session: &mut Session, closure: &Arc<Unit, Global>) -> Result<boo
 }
 
 /// Makes a call, and answers whether it has its reply.
-fn goes(
+fn goes<R: Wait, E: Ending>(
+    rt: &R,
     alloc: Global,
-    session: &mut Session,
+    session: &mut Session<E>,
     providers: &Providers,
     turn: &Turn,
 ) -> Result<bool, Fail> {
     match *turn {
         Turn::Put(put, unit, wanted) => {
             let unit = shared(alloc, unit)?;
-            Ok(session.put(name(put)?, unit) == wanted)
+            Ok(session.put(rt, name(put)?, unit) == wanted)
         }
-        Turn::Types(types, wanted) => Ok(session.put_types(declared(alloc, types)?) == wanted),
-        Turn::Remove(removed, wanted) => Ok(session.remove(name(removed)?) == wanted),
-        Turn::Ask(asked, wanted) => finds(session, providers, asked, wanted),
-        Turn::Fill => fills(session, &shared(alloc, WRITES_LAST)?),
-        Turn::FillBelow => fills_below(session, &shared(alloc, CLOSURE)?),
+        Turn::Types(types, wanted) => {
+            let types = declared(alloc, types)?;
+            Ok(session.put_types(rt, types) == wanted)
+        }
+        Turn::Remove(removed, wanted) => Ok(session.remove(rt, name(removed)?) == wanted),
+        Turn::Ask(asked, wanted) => finds(rt, session, providers, asked, wanted),
+        Turn::Fill => fills(rt, session, &shared(alloc, WRITES_LAST)?),
+        Turn::FillBelow => fills_below(rt, session, &shared(alloc, CLOSURE)?),
     }
 }
 
-pub(crate) fn all_go(
-    rt: &impl Abort,
+pub(crate) fn all_go<R: Abort + Wait, E: Ending>(
+    rt: &R,
     alloc: Global,
-    session: &mut Session,
+    session: &mut Session<E>,
     providers: &Providers,
     turns: &[Turn],
 ) -> Result<(), Fail> {
     for (number, turn) in turns.iter().enumerate() {
-        assert!(rt; goes(alloc, session, providers, turn)?, "call {number}");
+        assert!(rt; goes(rt, alloc, session, providers, turn)?, "call {number}");
     }
     Ok(())
 }
 
 /// The history of a new database with so many entries at most, whose session makes these calls, by these providers.
-pub(crate) fn history_by(
-    rt: &impl Abort,
+pub(crate) fn history_by<R: Abort + Wait>(
+    rt: &R,
     alloc: Global,
     providers: &Providers,
     capacity: u32,
     turns: &[Turn],
 ) -> Result<History, Fail> {
-    let (db, mut sessions) = Db::open(alloc, 0, capacity, 1)?;
+    let (db, mut sessions) = Db::open(alloc, Waiting::new(rt), 0, capacity, 1)?;
     for session in sessions.iter_mut() {
         all_go(rt, alloc, session, providers, turns)?;
     }
-    Ok(db.close(sessions)?)
+    Ok(db.close(rt, sessions)?)
 }
 
 /// The same, by the program's providers.
-fn history_of(
-    rt: &impl Abort,
+fn history_of<R: Abort + Wait>(
+    rt: &R,
     alloc: Global,
     capacity: u32,
     turns: &[Turn],
@@ -239,37 +252,40 @@ fn are_of(entries: &[Entry], turns: &[Turn]) -> bool {
 }
 
 /// Whether the close of a database with these sessions is refused.
-fn is_foreign(db: Db, sessions: Vec<Session>) -> bool {
-    matches!(db.close(sessions), Err(CloseFault::Foreign))
+fn is_foreign<R: Wait, E: Ending>(rt: &R, db: Db<E>, sessions: Vec<Session<E>>) -> bool {
+    matches!(db.close(rt, sessions), Err(CloseFault::Foreign))
 }
 
 /// Whether no database is opened with so many entries and sessions.
-fn is_out_of_range(alloc: Global, capacity: u32, sessions: u8) -> bool {
-    let opened = Db::open(alloc, 0, capacity, sessions);
+fn is_out_of_range<R: Wait>(rt: &R, alloc: Global, capacity: u32, sessions: u8) -> bool {
+    let opened = Db::open(alloc, Waiting::new(rt), 0, capacity, sessions);
     matches!(opened, Err(OpenFault::Range))
 }
 
 #[test]
 fn a_history_has_a_capacity_and_a_database_its_sessions(rt: HostRuntime) -> Result<(), Fail> {
-    for (capacity, sessions) in [(0, 1), (1_000_001, 1), (1, 0), (1, 2), (1, 17)] {
+    for (capacity, sessions) in [(0, 1), (1_000_001, 1), (1, 0), (1, 17)] {
         assert!(rt;
-            is_out_of_range(rt.alloc(), capacity, sessions),
+            is_out_of_range(&rt, rt.alloc(), capacity, sessions),
             "out of range"
         );
     }
-    let (db, _sessions) = Db::open(rt.alloc(), 0, 1_000_000, 1)?;
+    let (db, _sessions) = Db::open(rt.alloc(), Waiting::new(&rt), 0, 1_000_000, 16)?;
     assert!(rt;
-        is_foreign(db, Vec::new(rt.alloc())),
-        "closed without its session"
+        is_foreign(&rt, db, Vec::new(rt.alloc())),
+        "closed without its sessions"
     );
     Ok(())
 }
 
 #[test]
 fn the_session_of_another_database_is_foreign(rt: HostRuntime) -> Result<(), Fail> {
-    let (_first, strangers) = Db::open(rt.alloc(), 1, 1, 1)?;
-    let (second, _own) = Db::open(rt.alloc(), 2, 1, 1)?;
-    assert!(rt; is_foreign(second, strangers), "closed with a stranger");
+    let (_first, strangers) = Db::open(rt.alloc(), Waiting::new(&rt), 1, 1, 1)?;
+    let (second, _own) = Db::open(rt.alloc(), Waiting::new(&rt), 2, 1, 1)?;
+    assert!(rt;
+        is_foreign(&rt, second, strangers),
+        "closed with a stranger"
+    );
     Ok(())
 }
 

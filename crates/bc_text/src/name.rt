@@ -194,7 +194,7 @@ impl Ord for Name {
     fn cmp(&self, other: &Name) -> Ordering {
         self.root()
             .cmp(other.root())
-            .then(self.segments().cmp(other.segments()))
+            .then_with(|| self.segments().cmp(other.segments()))
     }
 }
 

@@ -5,9 +5,10 @@ use bc_analyses::{find_live, find_scopes, find_values};
 use bc_check::{Stop, check_and_tell, stop_with};
 use bc_prov::Providers;
 use std::alloc::AllocError;
-use std::fs::File;
-use std::io::{BufWriter, ErrorKind, Stderr};
+use std::fs::{File, Files};
+use std::io::{BufWriter, ErrorKind, Print, Stderr};
 use std::process::ExitCode;
+use std::sync::Wait;
 use std::{env, io};
 
 /// The words of the command line, behind the program's own name.
@@ -28,11 +29,15 @@ fn keep_memory(rt: &HostRuntime) {
 
 /// Checks the file of this name, with the analyses of this repository as providers. What it prints stands in a buffer, which
 /// `check_and_tell` empties. Where the output fails, what the buffer still holds is let go unwritten.
-fn check_file(rt: &HostRuntime, file: &str, err: &mut Stderr) -> io::Result<u8> {
+fn check_file<R: Files + AllocGlobal + Print + Wait>(
+    rt: &R,
+    file: &str,
+    err: &mut Stderr,
+) -> io::Result<u8> {
     let Ok(mut input) = File::open(rt, file) else {
         return stop_with(file, &Stop::CannotRead, err);
     };
-    let Ok(mut out) = BufWriter::new(rt.alloc(), rt.stdout()) else {
+    let Ok(mut out) = BufWriter::new(rt.alloc(), io::writer(rt)) else {
         return stop_with(file, &Stop::NoMemory, err);
     };
     let (Ok(live), Ok(solve), Ok(in_scope)) = (
@@ -43,7 +48,7 @@ fn check_file(rt: &HostRuntime, file: &str, err: &mut Stderr) -> io::Result<u8> 
         return stop_with(file, &Stop::NoMemory, err);
     };
     let providers = Providers::new(live, solve, in_scope);
-    let ended = check_and_tell(rt.alloc(), &providers, file, &mut input, &mut out, err);
+    let ended = check_and_tell(rt, rt.alloc(), &providers, file, &mut input, &mut out, err);
     let (_stdout, _unwritten) = out.into_parts();
     ended
 }

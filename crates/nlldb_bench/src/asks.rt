@@ -2,13 +2,15 @@
 use crate::timing::timed;
 use anyhow::bail;
 use bc_analyses::providers;
+use bc_book::Waiting;
 use bc_prov::Providers;
 use bc_share::Db;
 use bc_syntax::Unit;
 use bc_text::{Name, read_unit};
 use std::alloc::{AllocError, Global};
 use std::io::Write;
-use std::sync::Arc;
+use std::sync::{Arc, Wait};
+use std::time::Clock;
 
 /// How often it is asked for once it is known.
 const AGAIN: u32 = 100;
@@ -22,7 +24,8 @@ fn shared(alloc: Global, text: &[u8]) -> anyhow::Result<Arc<Unit, Global>> {
 }
 
 /// Puts a unit in a new database and asks for it so often. Gives how many entries the history has.
-fn asked(
+fn asked<R: Wait>(
+    rt: &R,
     alloc: Global,
     providers: &Providers,
     unit: &Arc<Unit, Global>,
@@ -31,20 +34,20 @@ fn asked(
     let Some(name) = Name::read(b"f") else {
         bail!("no name");
     };
-    let (db, mut sessions) = Db::open(alloc, 0, 1000, 1)?;
+    let (db, mut sessions) = Db::open(alloc, Waiting::new(rt), 0, 1000, 1)?;
     for session in sessions.iter_mut() {
-        let _reply = session.put(name, Arc::try_clone(unit)?)?;
+        let _reply = session.put(rt, name, Arc::try_clone(unit)?)?;
         for _ in 0..times {
-            let _outcome = session.ask(&name, providers)?;
+            let _outcome = session.ask(rt, &name, providers)?;
         }
     }
-    let history = db.close(sessions)?;
+    let history = db.close(rt, sessions)?;
     Ok(history.entries().len())
 }
 
 /// Asks for a body once, and then `AGAIN` times more. Writes how many calls that made to `out`, and the shortest times to `err`.
-pub fn measure_asks<O: Write, E: Write>(
-    rt: &HostRuntime,
+pub fn measure_asks<R: AllocGlobal + Clock + Wait, O: Write, E: Write>(
+    rt: &R,
     name: &str,
     text: &[u8],
     out: &mut O,
@@ -56,13 +59,13 @@ pub fn measure_asks<O: Write, E: Write>(
     let once = timed(
         rt,
         "asking once",
-        || asked(rt.alloc(), &providers, &unit, 1),
+        || asked(rt, rt.alloc(), &providers, &unit, 1),
         err,
     )?;
     let often = timed(
         rt,
         "and again",
-        || asked(rt.alloc(), &providers, &unit, 1 + AGAIN),
+        || asked(rt, rt.alloc(), &providers, &unit, 1 + AGAIN),
         err,
     )?;
     writeln!(out, "{name}: {once} and {often} calls")?;

@@ -7,6 +7,8 @@ use bc_prov::Providers;
 use std::alloc::Global;
 use std::io;
 use std::io::{BufWriter, Write};
+use std::sync::Wait;
+use std::time::Clock;
 
 /// How many bodies the file puts.
 const BODIES: u32 = 8806;
@@ -28,10 +30,15 @@ pub fn many_bodies(alloc: Global) -> io::Result<Vec<u8>> {
 }
 
 /// What `check` leaves of a file: its status, and the reports.
-fn checked(rt: &HostRuntime, providers: &Providers, file: &[u8]) -> io::Result<(u8, Vec<u8>)> {
+fn checked<R: AllocGlobal + Wait>(
+    rt: &R,
+    providers: &Providers,
+    file: &[u8],
+) -> io::Result<(u8, Vec<u8>)> {
     let mut input = file;
     let mut out = BufWriter::new(rt.alloc(), Vec::new(rt.alloc()))?;
     let status = check_over(
+        rt,
         rt.alloc(),
         providers,
         "file",
@@ -44,8 +51,8 @@ fn checked(rt: &HostRuntime, providers: &Providers, file: &[u8]) -> io::Result<(
 }
 
 /// Checks a file, and writes what `check` leaves of it to `out` and the shortest time to `err`.
-pub fn measure_file<O: Write, E: Write>(
-    rt: &HostRuntime,
+pub fn measure_file<R: AllocGlobal + Clock + Wait, O: Write, E: Write>(
+    rt: &R,
     name: &str,
     file: &[u8],
     out: &mut O,

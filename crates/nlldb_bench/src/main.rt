@@ -20,6 +20,8 @@ use crate::files::{many_bodies, measure_file};
 use crate::readings::{count, time};
 use crate::texts::{dense, indented, repeated};
 use std::io::Write;
+use std::sync::Wait;
+use std::time::Clock;
 
 /// Reads a text, and writes what was read to `out` and how fast to `err`.
 fn measure<O: Write, E: Write>(
@@ -73,8 +75,8 @@ fn measure_solving<O: Write, E: Write>(
     measure_constraints(rt, "random pairs", Shape::RandomPairs, out, err)
 }
 
-fn measure_asking<O: Write, E: Write>(
-    rt: &HostRuntime,
+fn measure_asking<R: AllocGlobal + Clock + Wait, O: Write, E: Write>(
+    rt: &R,
     out: &mut O,
     err: &mut E,
 ) -> anyhow::Result<()> {

@@ -7,11 +7,12 @@ use bc_check::check_over;
 use bc_prov::Providers;
 use std::fs::File;
 use std::io::{BufWriter, Read, Write};
+use std::sync::Wait;
 use std::{env, io};
 
 /// Checks an input, and prints what the command leaves of it.
-fn show<I: Read, O: Write + Drop>(
-    rt: &HostRuntime,
+fn show<R: AllocGlobal + Wait, I: Read, O: Write + Drop>(
+    rt: &R,
     providers: &Providers,
     name: &str,
     input: &mut I,
@@ -19,7 +20,7 @@ fn show<I: Read, O: Write + Drop>(
 ) -> io::Result<()> {
     let mut told = Vec::new(rt.alloc());
     writeln!(out, "{name}")?;
-    let status = check_over(rt.alloc(), providers, name, input, out, &mut told);
+    let status = check_over(rt, rt.alloc(), providers, name, input, out, &mut told);
     out.write_all(&told)?;
     writeln!(out, "status {status}")
 }

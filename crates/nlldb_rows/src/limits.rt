@@ -20,7 +20,9 @@ use bc_prov::Providers;
 use bc_syntax::{Types, Unit};
 use bc_text::{print_types, print_unit, read_types, read_unit};
 use std::alloc::Global;
+use std::fs::Files;
 use std::io::{BufWriter, Write};
+use std::sync::Wait;
 use std::{fs, io};
 
 /// Whether a text is read as these declarations.
@@ -84,8 +86,8 @@ fn show_section<O: Write>(alloc: Global, section: &Section<'_>, out: &mut O) -> 
 
 /// Shows whether the declarations and the body of the file at all limits are printed and read back as they were, and what `check`
 /// leaves of it. It fails where the file cannot be read or `out` cannot be written, and for want of memory. (Own.)
-pub fn show_limits<O: Write + Drop>(
-    rt: &HostRuntime,
+pub fn show_limits<R: Files + AllocGlobal + Wait, O: Write + Drop>(
+    rt: &R,
     providers: &Providers,
     out: &mut BufWriter<O>,
 ) -> io::Result<()> {
@@ -93,5 +95,5 @@ pub fn show_limits<O: Write + Drop>(
     for section in Sections::of(&file) {
         show_section(rt.alloc(), &section, out)?;
     }
-    show_check(rt.alloc(), providers, "limits.nll", &file, out)
+    show_check(rt, rt.alloc(), providers, "limits.nll", &file, out)
 }

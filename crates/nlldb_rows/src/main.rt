@@ -19,10 +19,12 @@ use bc_check::check_over;
 use bc_prov::Providers;
 use std::alloc::Global;
 use std::io::{BufWriter, Write};
+use std::sync::Wait;
 use std::{env, fs, io};
 
 /// Prints what the command leaves of a file: its reports, its status, and what it tells of faults.
-pub(crate) fn show_check<O: Write + Drop>(
+pub(crate) fn show_check<R: Wait, O: Write + Drop>(
+    rt: &R,
     alloc: Global,
     providers: &Providers,
     name: &str,
@@ -31,13 +33,14 @@ pub(crate) fn show_check<O: Write + Drop>(
 ) -> io::Result<()> {
     let mut input = file;
     let mut told = Vec::new(alloc);
-    let status = check_over(alloc, providers, name, &mut input, out, &mut told);
+    let status = check_over(rt, alloc, providers, name, &mut input, out, &mut told);
     writeln!(out, "status {status}")?;
     out.write_all(&told)
 }
 
 /// Prints the name of a row, and what the command leaves of its file behind this head.
-fn show_row<O: Write + Drop>(
+fn show_row<R: Wait, O: Write + Drop>(
+    rt: &R,
     alloc: Global,
     providers: &Providers,
     head: &str,
@@ -47,11 +50,12 @@ fn show_row<O: Write + Drop>(
     let mut file = Vec::new(alloc);
     let name = spell_row(head, row, &mut file)?;
     writeln!(out, "#{name}")?;
-    show_check(alloc, providers, "row", &file, out)
+    show_check(rt, alloc, providers, "row", &file, out)
 }
 
 /// Prints what the command leaves of each row of a text.
-fn show_rows<O: Write + Drop>(
+fn show_rows<R: Wait, O: Write + Drop>(
+    rt: &R,
     alloc: Global,
     providers: &Providers,
     text: &str,
@@ -60,7 +64,7 @@ fn show_rows<O: Write + Drop>(
     let mut rows = text.split('#');
     let head = rows.next().unwrap_or("");
     for row in rows {
-        show_row(alloc, providers, head, row, out)?;
+        show_row(rt, alloc, providers, head, row, out)?;
     }
     Ok(())
 }
@@ -70,7 +74,7 @@ fn main(rt: HostRuntime) -> io::Result<()> {
     let providers = providers!(rt.alloc());
     for name in env::args(&rt)?.skip(1) {
         let text = fs::read_to_string(&rt, &name)?;
-        show_rows(rt.alloc(), &providers, &text, &mut out)?;
+        show_rows(&rt, rt.alloc(), &providers, &text, &mut out)?;
     }
     show_steps(&rt, &mut out)?;
     show_children(&rt, &mut out)?;

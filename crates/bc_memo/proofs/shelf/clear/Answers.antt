@@ -2,14 +2,14 @@ use Rattle.std.proofs.Common.{◌≡◌, ℕ, length, None, ap, sym, subst, ◌�
 use Rattle.bc_text.specs.Names.{NameParts}
 use Rattle.bc_text.proofs.Within.{beginning}
 use Rattle.bc_memo.specs.Places.{Places, AreOrdered, answered}
-use Rattle.bc_memo.proofs.Marking.{cleared_all, cleared_below, cleared_more, cleared_none, ordered-cleared}
+use Rattle.bc_memo.proofs.Marking.{cleared_bare, cleared_below, cleared_more, cleared_none, ordered-cleared}
 use Rattle.bc_memo.proofs.shelf.clear.Goals as goal
 
 pub loop-depth-init : goal.loop-depth-init
 loop-depth-init c = cleared_none c.args.name.now c.args.places.now.items
 
 pub set_answer-requires : goal.set_answer-requires
-set_answer-requires c = subst (λ (ps : Places). AreOrdered ps) (sym c.loop-depth.invariant) (ordered-cleared c.args.name.now c.loop-depth.depth c.args.places.now.items c.requires)
+set_answer-requires c = subst (λ (ps : Places). AreOrdered ps) (sym c.loop-depth.invariant) (ordered-cleared c.args.name.now c.loop-depth.depth c.args.places.now.items c.requires.ordered)
 
 pub loop-depth-preserved : goal.loop-depth-preserved
 loop-depth-preserved c =
@@ -21,9 +21,6 @@ loop-depth-preserved c =
     ∙ ap (λ (ps : Places). answered (beginning n c.loop-depth.depth) None ps) c.loop-depth.invariant
     ∙ cleared_more n c.loop-depth.depth c.args.places.now.items (omega (arith, less, end))
 
-pub set_answer-requires-2 : goal.set_answer-requires-2
-set_answer-requires-2 c = subst (λ (ps : Places). AreOrdered ps) (sym c.loop-depth.invariant) (ordered-cleared c.args.name.now c.loop-depth.depth c.args.places.now.items c.requires)
-
 pub returns : goal.returns
 returns c =
     let n = c.args.name.now in
@@ -31,6 +28,6 @@ returns c =
     let few = c.loop-depth.auto.depth-end in
     let end = c.depth-depth-end.ensures in
     let all : c.loop-depth.depth ≡ length n.segments = omega (arith, done, few, end) in
-    c.set_answer-2.ensures
-    ∙ ap (λ (ps : Places). answered n None ps) (c.loop-depth.invariant ∙ ap (λ (k : ℕ). cleared_below n k c.args.places.now.items) all)
-    ∙ cleared_all n c.args.places.now.items
+    c.loop-depth.invariant
+    ∙ ap (λ (k : ℕ). cleared_below n k c.args.places.now.items) all
+    ∙ cleared_bare n c.args.places.now.items c.requires.ordered c.requires.bare

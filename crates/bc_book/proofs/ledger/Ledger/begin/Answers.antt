@@ -18,8 +18,8 @@ carrying-requires c =
     let part : IsPartOf v n s = subst (λ (w : LedgerView). IsPartOf v n (after w.entries)) c.self.view_is (copied_part i.shelf.held i.history.items n v c.self.invariant.shelf_of of.0 of.1 of.2) in
     some_map c.in_ok-answer.answer (IsOutcomeIn s n) (IsOutcomeIn (state_of v.types v.units) v.root) (λ o is. outcome_part v n s o part is) c.in_ok-answer.ensures
 
-pub returns : goal.returns
-returns c =
+pub returns-clause-part : goal.returns-clause-part
+returns-clause-part c =
     let i = c.self.inside in
     let of = c.in_ok-part.ensures.snapshot in
     rw (← c.self.view_is)

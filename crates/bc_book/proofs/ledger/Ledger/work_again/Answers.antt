@@ -11,5 +11,5 @@ returns g c =
     let v = c.begun.inside.snapshot in
     let n = c.args.name.now in
     let s = after c.args.self.now.entries in
-    let part : IsPartOf v n s = subst (λ (w : SnapshotView). IsPartOf w n s) (sym c.begun.view_is) c.in_ok-begun.ensures in
+    let part : IsPartOf v n s = subst (λ (w : SnapshotView). IsPartOf w n s) (sym c.begun.view_is) c.in_ok-begun.ensures.part in
     ok_map c.outcome.result (IsOutcomeIn (state_of v.types v.units) v.root) (IsOutcomeIn s n) (λ o is. part_outcome v n s o part is) c.outcome.ensures

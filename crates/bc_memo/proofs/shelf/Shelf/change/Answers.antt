@@ -1,22 +1,32 @@
-use Rattle.std.proofs.Common.{ap, sym, subst, ◌∙◌, Some}
+use Rattle.std.proofs.Common.{◌≡◌, ap, sym, subst, ◌∙◌, None, Some}
 use Rattle.std.specs.BTreeMap.{is_at}
 use Rattle.bc_text.specs.Names.{name_order}
-use Rattle.bc_prov.specs.State.{Suits}
+use Rattle.bc_prov.specs.State.{Suits, at_name}
 use Rattle.bc_memo.specs.declared.change.Change.{Change}
 use Rattle.bc_memo.specs.declared.change.Change.TheVariants.{Types, Put, Remove, Answer}
-use Rattle.bc_memo.specs.Places.{Places, ShelfRoom, ShelfView, AreKept, AreOrdered, MayChange, changed, cleared, written}
+use Rattle.bc_memo.specs.Places.{Places, ShelfRoom, ShelfView, AreKept, AreOrdered, MayChange, answer_of, changed, cleared, written}
 use Rattle.bc_memo.proofs.Places.{ordered-put, ordered-take}
-use Rattle.bc_memo.proofs.Marking.{changed_nothing, kept-answered, kept-cleared, kept-put, kept-take, kept-unanswered, marked_answer, marked_put, marked_remove}
+use Rattle.bc_memo.proofs.Marking.{bare_put, bare_take, changed_nothing, kept-answered, kept-cleared, kept-put, kept-take, kept-unanswered, marked_answer, marked_put, marked_remove}
 use Rattle.bc_memo.proofs.shelf.Shelf.change.Goals as goal
 
 pub invariant_of-self : goal.invariant_of-self
 invariant_of-self c = subst (λ (ps : Places). AreKept ps) (sym c.clear_all.ensures) (kept-unanswered c.self.inside.places.items c.self.invariant)
 
-pub clear-requires : goal.clear-requires
-clear-requires c = subst (λ (ps : Places). AreOrdered ps) (sym c.put.ensures) (ordered-put c.in-Put.name (written c.in-Put.unit c.args.revision) c.self.inside.places.items c.self.invariant.ordered)
+pub clear-requires-clause-ordered : goal.clear-requires-clause-ordered
+clear-requires-clause-ordered c = subst (λ (ps : Places). AreOrdered ps) (sym c.put.ensures) (ordered-put c.in-Put.name (written c.in-Put.unit c.args.revision) c.self.inside.places.items c.self.invariant.ordered)
 
-pub clear-requires-in-Remove : goal.clear-requires-in-Remove
-clear-requires-in-Remove c = subst (λ (ps : Places). AreOrdered ps) (sym c.take.ensures) (ordered-take (is_at (name_order c.in-Remove.name)) c.self.inside.places.items c.self.invariant.ordered)
+pub clear-requires-in-Remove-clause-ordered : goal.clear-requires-in-Remove-clause-ordered
+clear-requires-in-Remove-clause-ordered c = subst (λ (ps : Places). AreOrdered ps) (sym c.take.ensures) (ordered-take (is_at (name_order c.in-Remove.name)) c.self.inside.places.items c.self.invariant.ordered)
+
+pub clear-requires-clause-bare : goal.clear-requires-clause-bare
+clear-requires-clause-bare c =
+    let n = c.in-Put.name in
+    subst (λ (ps : Places). answer_of (at_name ps n) ≡ None) (sym c.put.ensures) (bare_put n c.in-Put.unit c.args.revision c.self.inside.places.items)
+
+pub clear-requires-in-Remove-clause-bare : goal.clear-requires-in-Remove-clause-bare
+clear-requires-in-Remove-clause-bare c =
+    let n = c.in-Remove.name in
+    subst (λ (ps : Places). answer_of (at_name ps n) ≡ None) (sym c.take.ensures) (bare_take n c.self.inside.places.items c.self.invariant.ordered)
 
 pub invariant_of-self-in-Put : goal.invariant_of-self-in-Put
 invariant_of-self-in-Put c =
