@@ -9,7 +9,7 @@ use bc_live::{LiveSets, live};
 use bc_loans::{Scopes, in_scope};
 use bc_mir::Typed;
 pub use bc_prov::Providers;
-use bc_solve::{Values, solve_components};
+use bc_solve::{Values, solve_components, solve_plain};
 use std::alloc::{AllocError, Global};
 
 /// The points on whose entry each local of a body is live: `bc_live::live`, with the fact that a provider owes. Answers
@@ -30,6 +30,14 @@ pub fn find_values(alloc: Global, facts: &Facts) -> Result<Values, AllocError>
     Ok(values)
 }
 
+/// The same values, by `bc_solve::solve_plain`. Answers `AllocError` only where memory was refused. (RFC 2094, "Solving constraints".)
+pub fn find_plain_values(alloc: Global, facts: &Facts) -> Result<Values, AllocError>
+    ensures { IfOk result (AreValues facts.now) }
+{
+    let values = solve_plain(alloc, facts)?;
+    Ok(values)
+}
+
 /// The loans in scope within the values of regions: `bc_loans::in_scope`, with the fact that a provider owes. Answers
 /// `AllocError` only where memory was refused. (RFC 2094, "Borrow checker phase 1: computing loans in scope".)
 pub fn find_scopes(alloc: Global, typed: &Typed, values: &Values) -> Result<Scopes, AllocError>
@@ -39,15 +47,18 @@ pub fn find_scopes(alloc: Global, typed: &Typed, values: &Values) -> Result<Scop
     Ok(scopes)
 }
 
-/// The providers that call these three, made with the allocator that is named; answers `AllocError` from the function in which it
-/// stands, where memory was refused. It is a macro, since no function may hand out a closure that it stores. (rustc-dev-guide,
-/// "Queries": providers.)
+/// The providers that call `find_live`, `find_scopes` and, where no other solver is named, `find_values`, made with the allocator that is
+/// named; answers `AllocError` from the function in which it stands, where memory was refused. It is a macro, since no function may hand
+/// out a closure that it stores. (rustc-dev-guide, "Queries": providers.)
 #[macro_export]
 macro_rules! providers {
     ($alloc:expr) => {
+        $crate::providers!($alloc, $crate::find_values)
+    };
+    ($alloc:expr, $solve:expr) => {
         $crate::Providers::new(
             Box::new($alloc, $crate::find_live)?,
-            Box::new($alloc, $crate::find_values)?,
+            Box::new($alloc, $solve)?,
             Box::new($alloc, $crate::find_scopes)?,
         )
     };
