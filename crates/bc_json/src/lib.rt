@@ -1,0 +1,10 @@
+//! The JSON form of an outcome.
+#![tactic(auto)]
+
+mod errors;
+mod outcomes;
+mod report;
+#[cfg(test)]
+mod tests;
+
+pub use report::json_report;

@@ -1,0 +1,30 @@
+//! The line of an outcome.
+ghost use Rattle.std.specs.Prelude.{◌≡◌, IfOk, string_bytes};
+ghost use Rattle.bc_json.specs.Json.{json_line};
+ghost use Rattle.bc_json.specs.Texts.{HasText};
+
+use crate::outcomes::outcome_value;
+use bc_prov::Outcome;
+use bc_text::Name;
+use serde_json::{Value, json};
+use std::alloc::{AllocError, Global};
+
+/// The value of a root's name and its outcome.
+fn line_value(alloc: Global, name: &Name, outcome: &Outcome) -> Result<Value, AllocError>
+    ensures { IfOk result (λ value. HasText value (json_line name.now outcome.now)) }
+{
+    let name = format!(in alloc; "{name}")?;
+    let outcome = outcome_value(alloc, outcome)?;
+    let value = json!(in alloc; {"ask": name, "outcome": outcome})?;
+    Ok(value)
+}
+
+/// The JSON of what was found of the root of this name, as one line without its line feed: compact, the keys of each object
+/// in byte order, and exactly these bytes. Answers `AllocError` only where memory was refused. (RFC 8259 for the text of
+/// JSON; the objects are own.)
+pub fn json_report(alloc: Global, name: &Name, outcome: &Outcome) -> Result<String, AllocError>
+    ensures { IfOk result (λ line. string_bytes line ≡ json_line name.now outcome.now) }
+{
+    let line = line_value(alloc, name, outcome)?;
+    line.to_string(alloc)
+}

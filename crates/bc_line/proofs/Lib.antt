@@ -1,0 +1,5 @@
+pub mod Telling
+pub mod Words
+pub mod Giving
+pub mod Parts
+pub mod Examples

@@ -1,0 +1,10 @@
+use Rattle.std.proofs.lemmas.Result.{IfOk-weaker}
+use Rattle.bc_line.specs.Commands.{nlldb}
+use Rattle.bc_line.proofs.Telling.{command_told}
+use Rattle.bc_line.proofs.arguments.nlldb_command.Goals as goal
+
+pub returns : goal.returns
+unfolding nlldb
+returns c =
+    let one = command_told _ _ _ _ _ c.program.ensures c.in_ok-check_command.ensures c.in_ok-subcommand.ensures in
+    IfOk-weaker c.subcommand-2.result _ _ (λ r h. command_told _ _ _ _ _ one c.in_ok-run_command.ensures h) c.subcommand-2.ensures

@@ -1,0 +1,45 @@
+-- The command line as the parser sees it: two commands, with their arguments.
+use Rattle.std.specs.Prelude.{◌≡◌, [], ◌∷◌, Some, true, false, codes}
+use Rattle.clap.specs.Walk.{Rule}
+use Rattle.clap.specs.Simple.{App, app_of, new_app, new_rule, with_rule, with_subcommand}
+use Rattle.clap.specs.declared.builder.action.ArgAction.TheVariants.{SetTrue}
+use Rattle.clap.specs.declared.builder.command.Command.{Command}
+use Rattle.clap.specs.declared.builder.command.Command.TheViews.{out-Command}
+
+-- FILE, which must stand
+abbrev pub file_rule : Rule
+file_rule = record (new_rule (codes "FILE")) { required = true }
+
+-- `--json`, which takes no value
+abbrev pub json_rule : Rule
+json_rule = record (new_rule (codes "json")) { long = Some (codes "json"); action = Some SetTrue }
+
+-- `--sessions N`, 1 where it does not stand
+abbrev pub sessions_rule : Rule
+sessions_rule = record (new_rule (codes "sessions")) { long = Some (codes "sessions"); defaults = codes "1" ∷ [] }
+
+-- `--solver S`, `components` where it does not stand
+abbrev pub solver_rule : Rule
+solver_rule = record (new_rule (codes "solver")) { long = Some (codes "solver"); defaults = codes "components" ∷ [] }
+
+-- `check FILE [--json] [--solver S]`
+unfoldable pub check_app : App
+check_app = with_rule (with_rule (with_rule (new_app (codes "check")) file_rule) json_rule) solver_rule
+
+-- `run FILE [--sessions N] [--solver S]`
+unfoldable pub run_app : App
+run_app = with_rule (with_rule (with_rule (new_app (codes "run")) file_rule) sessions_rule) solver_rule
+
+-- the program, before it has commands: its name is not among the words, one of its commands must stand, and `help` is none
+unfoldable pub program : App
+program =
+    let named = new_app (codes "nlldb") in
+    record named { top = record named.top { no_binary_name = true; subcommand_required = true; disable_help_subcommand = true } }
+
+-- the program with its commands
+unfoldable pub nlldb : App
+nlldb = with_subcommand (with_subcommand program check_app.top) run_app.top
+
+-- a command that the parser sees so, with no argument that is handed down
+abbrev pub IsCommand : App → Command → Type 0
+IsCommand app command = (app_of command ≡ app) × ((out-Command command).has_globals ≡ false)

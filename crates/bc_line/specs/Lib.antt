@@ -1,0 +1,6 @@
+pub mod Parts
+pub mod Values
+pub mod Faults
+pub mod Lines
+pub mod Commands
+pub mod Written

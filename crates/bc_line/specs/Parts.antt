@@ -1,0 +1,15 @@
+-- What a line holds.
+use Rattle.std.specs.Prelude.{ℕ, Bool, List}
+use Rattle.bc_line.specs.declared.solver.Solver.{Solver}
+
+-- the parts of a line of `check`
+pub record CheckParts : Type 0 where
+  pub file : List ℕ
+  pub json : Bool
+  pub solver : Solver
+
+-- the parts of a line of `run`
+pub record RunParts : Type 0 where
+  pub file : List ℕ
+  pub sessions : ℕ
+  pub solver : Solver

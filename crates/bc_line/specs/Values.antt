@@ -1,0 +1,23 @@
+-- What the words behind the options say.
+use Rattle.std.specs.Prelude.{◌&&◌, ℕ, Bool, List, Option, Some, None, codes, nat_le, if◌then◌else◌}
+use Rattle.std.specs.Str.{bytes_eq}
+use Rattle.clap.specs.Walk.{byte_or_zero}
+use Rattle.bc_line.specs.declared.solver.Solver.{Solver}
+use Rattle.bc_line.specs.declared.solver.Solver.TheVariants.{Plain, Components}
+
+-- the solver of this name
+abbrev pub solver_named : List ℕ → Option Solver
+solver_named word =
+    if bytes_eq word (codes "plain") then Some Plain
+    else if bytes_eq word (codes "components") then Some Components
+    else None
+
+-- a run may have so many sessions
+abbrev pub is_session_count : ℕ → Bool
+is_session_count count = nat_le 1 count && nat_le count 16
+
+-- the number of sessions that a word writes: in decimal digits, and a `+` may stand before them
+abbrev pub sessions_named : List ℕ → Option ℕ
+sessions_named word =
+    let count = byte_or_zero word in
+    if is_session_count count then Some count else None

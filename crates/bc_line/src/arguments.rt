@@ -1,0 +1,85 @@
+//! The commands and their arguments, as the parser is told of them.
+ghost use Rattle.std.specs.Prelude.{◌≡◌, IfOk, false};
+ghost use Rattle.clap.specs.Words.{rule_of};
+ghost use Rattle.bc_line.specs.Commands.{IsCommand, check_app, file_rule, json_rule, nlldb, program};
+ghost use Rattle.bc_line.specs.Commands.{run_app, sessions_rule, solver_rule};
+
+use clap::{Arg, ArgAction, Command};
+use std::alloc::{AllocError, Global};
+
+// FILE, which must stand.
+fn file_argument<'a>(alloc: Global) -> Arg<'a>
+    ensures rule { rule_of result ≡ file_rule }
+    ensures local { result.global ≡ false }
+{
+    Arg::new(alloc, "FILE").required(true)
+}
+
+// `--json`.
+fn json_option<'a>(alloc: Global) -> Arg<'a>
+    ensures rule { rule_of result ≡ json_rule }
+    ensures local { result.global ≡ false }
+{
+    Arg::new(alloc, "json")
+        .long("json")
+        .action(ArgAction::SetTrue)
+}
+
+// `--sessions N`.
+fn sessions_option<'a>(alloc: Global) -> Arg<'a>
+    ensures rule { rule_of result ≡ sessions_rule }
+    ensures local { result.global ≡ false }
+{
+    Arg::new(alloc, "sessions")
+        .long("sessions")
+        .default_value("1")
+}
+
+// `--solver S`.
+fn solver_option<'a>(alloc: Global) -> Arg<'a>
+    ensures rule { rule_of result ≡ solver_rule }
+    ensures local { result.global ≡ false }
+{
+    Arg::new(alloc, "solver")
+        .long("solver")
+        .default_value("components")
+}
+
+// `check FILE [--json] [--solver S]`.
+fn check_command<'a>(alloc: Global) -> Result<Command<'a>, AllocError>
+    ensures { IfOk result (IsCommand check_app) }
+{
+    Command::new(alloc, "check")
+        .arg(file_argument(alloc))?
+        .arg(json_option(alloc))?
+        .arg(solver_option(alloc))
+}
+
+// `run FILE [--sessions N] [--solver S]`.
+fn run_command<'a>(alloc: Global) -> Result<Command<'a>, AllocError>
+    ensures { IfOk result (IsCommand run_app) }
+{
+    Command::new(alloc, "run")
+        .arg(file_argument(alloc))?
+        .arg(sessions_option(alloc))?
+        .arg(solver_option(alloc))
+}
+
+// The program, before it has its commands.
+fn program<'a>(alloc: Global) -> Command<'a>
+    ensures { IsCommand program result }
+{
+    Command::new(alloc, "nlldb")
+        .no_binary_name(true)
+        .subcommand_required(true)
+        .disable_help_subcommand(true)
+}
+
+/// The program's command, whose words are those behind its own name. `AllocError` only where memory was refused. (Own.)
+pub(crate) fn nlldb_command<'a>(alloc: Global) -> Result<Command<'a>, AllocError>
+    ensures { IfOk result (IsCommand nlldb) }
+{
+    program(alloc)
+        .subcommand(check_command(alloc)?)?
+        .subcommand(run_command(alloc)?)
+}

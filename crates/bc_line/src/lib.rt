@@ -1,0 +1,17 @@
+//! The words of the command line: which command they give, on which file, with which options.
+#![tactic(auto)]
+
+mod arguments;
+mod fault;
+mod line;
+mod reading;
+mod solver;
+#[cfg(test)]
+mod tests;
+mod usage;
+
+pub use fault::LineFault;
+pub use line::{CheckLine, Line, MOST_SESSIONS, RunLine};
+pub use reading::read_line;
+pub use solver::Solver;
+pub use usage::{USAGE, write_usage};

@@ -1,0 +1,128 @@
+//! Words are read as a line.
+ghost use Rattle.std.specs.Prelude.{◌≡◌, IfOk, option_map, map};
+ghost use Rattle.clap.specs.Words.{first_of, found_of, rows_of};
+ghost use Rattle.bc_line.specs.Values.{is_session_count, sessions_named};
+ghost use Rattle.bc_line.specs.Lines.{IsInRange};
+ghost use Rattle.bc_line.specs.Written.{is_set, solver_given, sessions_given, check_given, run_given};
+ghost use Rattle.bc_line.specs.Written.{line_given, GivesLine, GivesParts};
+
+use crate::arguments::nlldb_command;
+use crate::solver::solver_named;
+use crate::{CheckLine, Line, LineFault, MOST_SESSIONS, RunLine, Solver};
+use clap::ArgMatches;
+use std::alloc::Global;
+
+// The first value of an argument.
+fn value_of<'a>(matches: &ArgMatches<'a>, id: &str) -> Option<&'a str>
+    ensures { option_map (λ text. text.now) result ≡ first_of id.now (rows_of (found_of matches.now)) }
+{
+    matches.get_str(id)
+}
+
+// Whether a flag stands: its value is then `true`, and else `false`.
+fn is_set(matches: &ArgMatches<'_>, id: &str) -> bool
+    ensures { result ≡ is_set id.now (rows_of (found_of matches.now)) }
+{
+    match value_of(matches, id) {
+        Some(text) => text == "true",
+        None => false,
+    }
+}
+
+// Whether a run may have so many sessions.
+fn is_session_count(count: u8) -> bool
+    ensures { result ≡ is_session_count count }
+{
+    1 <= count && count <= MOST_SESSIONS
+}
+
+// The number that a word writes, where a run may have so many sessions. A word that writes no number counts as 0.
+fn sessions_named(word: &str) -> Option<u8>
+    ensures { result ≡ sessions_named word.now }
+{
+    let count = word.parse::<u8>().unwrap_or(0);
+    if is_session_count(count) {
+        Some(count)
+    } else {
+        None
+    }
+}
+
+// The solver that the arguments name.
+fn solver_given(matches: &ArgMatches<'_>) -> Option<Solver>
+    ensures { result ≡ solver_given (rows_of (found_of matches.now)) }
+{
+    solver_named(value_of(matches, "solver")?)
+}
+
+// The number of sessions that the arguments name.
+fn sessions_given(matches: &ArgMatches<'_>) -> Option<u8>
+    ensures { result ≡ sessions_given (rows_of (found_of matches.now)) }
+{
+    sessions_named(value_of(matches, "sessions")?)
+}
+
+// The line of `check` with these arguments.
+fn read_check(alloc: Global, matches: &ArgMatches<'_>) -> Result<CheckLine, LineFault>
+    ensures { GivesParts (check_given (rows_of (found_of matches.now))) result }
+{
+    let Some(file) = value_of(matches, "FILE") else {
+        return Err(LineFault::WrongUse);
+    };
+    let Some(solver) = solver_given(matches) else {
+        return Err(LineFault::WrongUse);
+    };
+    let file = String::from_str(alloc, file)?;
+    Ok(CheckLine::new(file, is_set(matches, "json"), solver))
+}
+
+// The line of `run` with these arguments.
+fn read_run(alloc: Global, matches: &ArgMatches<'_>) -> Result<RunLine, LineFault>
+    ensures { GivesParts (run_given (rows_of (found_of matches.now))) result }
+{
+    let Some(file) = value_of(matches, "FILE") else {
+        return Err(LineFault::WrongUse);
+    };
+    let Some(sessions) = sessions_given(matches) else {
+        return Err(LineFault::WrongUse);
+    };
+    let Some(solver) = solver_given(matches) else {
+        return Err(LineFault::WrongUse);
+    };
+    let file = String::from_str(alloc, file)?;
+    Ok(RunLine::new(file, sessions, solver))
+}
+
+// The line of the command of this name.
+fn read_command(alloc: Global, name: &str, matches: &ArgMatches<'_>) -> Result<Line, LineFault>
+    ensures line { GivesParts (line_given (name.now, rows_of (found_of matches.now))) result }
+    ensures range { IfOk result IsInRange }
+{
+    if name == "check" {
+        Ok(Line::Check(read_check(alloc, matches)?))
+    } else if name == "run" {
+        Ok(Line::Run(read_run(alloc, matches)?))
+    } else {
+        Err(LineFault::WrongUse)
+    }
+}
+
+/// Reads the words of the command line, those behind the program's own name: `check FILE [--json] [--solver S]` or
+/// `run FILE [--sessions N] [--solver S]`, where S is `plain` or `components` (the default) and N is 1 to 16 (1 by default).
+/// Options stand behind the command, before FILE or behind it, and take their value as the next word or behind a `=`. N is
+/// written in decimal digits, with leading zeros or none and a `+` before them or none. Behind a word `--` each word is FILE,
+/// so that its name may begin with `-`. (Own; how words are split into options and values is the rule of the crate `clap`.)
+///
+/// `Help` where the words ask for it by `--help` or `-h`, also behind a command, before a word that is wrong. `NoMemory`
+/// only where memory was refused. `WrongUse` where the words write no line: no words, another command, no FILE or two, an
+/// option that the command does not have, that stands twice, or whose value is missing or none of those above.
+pub fn read_line<'a>(alloc: Global, words: &'a [&'a str]) -> Result<Line, LineFault>
+    ensures line { GivesLine (map (λ word. word.now) words.now) result }
+    ensures range { IfOk result IsInRange }
+{
+    let matches = nlldb_command(alloc)?.try_get_matches_from(words)?;
+    match matches.subcommand() {
+        Some((name, matches)) => read_command(alloc, name, matches),
+        None => Err(LineFault::WrongUse),
+    }
+}

@@ -1,0 +1,57 @@
+//! The text of `--help`.
+ghost use Rattle.std.specs.Prelude.{OnOk};
+ghost use Rattle.std.specs.Io.KnownBytes.{Appends};
+ghost use Rattle.bc_line.specs.declared.usage.TheConstants.{USAGE};
+
+use std::io;
+use std::io::Write;
+
+/// What `--help` prints. (Own.)
+pub const USAGE: &str = "nlldb checks the borrows of functions and closures in a textual MIR.
+
+Usage:
+  nlldb check FILE [--json] [--solver S]
+  nlldb run FILE [--sessions N] [--solver S]
+  nlldb --help
+
+Commands:
+  check    Stores what FILE puts, then asks each root name that it puts, and
+           prints a report for each. A section of FILE begins with a line
+           '@types' (declarations follow) or '@put NAME' (a body follows).
+  run      Makes the calls that FILE lists for each session, and prints what
+           they answer. A section begins with '@K types', '@K put NAME',
+           '@K remove NAME' or '@K ask NAME', where K is the session, from 0.
+
+Options:
+  --json         (check) Print the reports as JSON. Default: as plain text.
+  --sessions N   (run) How many sessions there are, 1 to 16. Default: 1.
+  --solver S     'plain' or 'components': how the regions are solved, which
+                 changes no report. Default: components.
+  -h, --help     Print this text.
+
+Exit status, the greatest that applies:
+  0   No error.
+  1   A report has an error.
+  2   A text or the form of FILE was refused, a put replied 'full' or
+      'wrongkind', or an outcome is no report.
+  3   Wrong use, a file that cannot be read, too many calls, a failed output,
+      want of memory, a refused call or close, or a session that did not end.
+
+Example: conflict.nll writes _1 while a borrow of it is used later.
+  @put f
+  fn () -> int {
+      let _1: int; let _2: &'?0 int;
+      bb0 { _1 = 1; _2 = &'?1 _1; _1 = 2; _0 = copy _2.*; return; }
+  }
+'nlldb check conflict.nll' prints this, and ends with 1:
+  ask f
+  f 1
+    conflict bb0[2] access 0 loan bb0[1]
+";
+
+/// Writes the text of `--help`, exactly its bytes (own), or answers the writer's fault. It takes no memory.
+pub fn write_usage<W: Write>(out: &mut W) -> io::Result<()>
+    ensures { OnOk result (Appends (W.contents out.old) (W.contents out.new) USAGE.now) }
+{
+    out.write_all(USAGE.as_bytes())
+}
