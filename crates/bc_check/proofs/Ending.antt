@@ -1,5 +1,5 @@
 -- How the command ends.
-use Rattle.std.proofs.Common.{◌≡◌, ℕ, ◌≤◌, ◌<◌, ◌+◌, max, List, [], ◌∷◌, ◌++◌, Option, Some, None, inr, get_or, length, map, refl, sym, ap, ◌∙◌, subst, append_assoc, append-nil, arith}
+use Rattle.std.proofs.Common.{◌≡◌, ℕ, Bool, ◌≤◌, ◌+◌, max, List, [], ◌∷◌, ◌++◌, Option, Some, None, inl, inr, get_or, length, map, refl, sym, ap, ◌∙◌, subst, append_assoc, append-nil, arith}
 use Rattle.std.specs.Prelude.{Result, Ok, Err, IfOk, IfSome}
 use Rattle.std.specs.List.{flat_map}
 use Rattle.std.specs.Io.KnownBytes.{Appends}
@@ -20,8 +20,9 @@ use Rattle.bc_check.specs.declared.file.Change.{Change}
 use Rattle.bc_check.specs.declared.file.Change.TheVariants as changes
 use Rattle.bc_check.specs.Changes.{seen}
 use Rattle.bc_check.specs.Run.{calls_of, told, shown, greatest, AreLegal}
-use Rattle.bc_check.specs.Served.{Adds, Served, ServedPart, ServedAll, ServedFirst, Runs, Begins}
+use Rattle.bc_check.specs.Served.{Adds, Served, ServedPart, ServedAll, ServedFirst, Runs, Begins, IsAtMostOneMore}
 use Rattle.bc_check.proofs.Members.{Contains-one}
+use Rattle.bc_check.proofs.Shorter.{the_last, legal_shorter}
 use Rattle.bc_check.proofs.Serving.{nothing_added, adds_then}
 
 -- nothing is told of an Ask
@@ -40,20 +41,20 @@ told_asks (name ∷ names) (e ∷ events) ahead h =
     ap (λ (text : List ℕ). text ++ flat_map told events) (told_ask e name one) ∙ told_asks names events ahead rest
 
 -- nothing is shown of a change
-shown_change : (e : Event) (change : Change) → call_of e ≡ seen change → shown e ≡ []
-shown_change (Types types) change is = refl
-shown_change (Put name body reply) change is = refl
-shown_change (Remove name reply) change is = refl
-shown_change (Ask name outcome) (changes.Types types) is = absurd cc
-shown_change (Ask name outcome) (changes.Put other unit) is = absurd cc
+shown_change : (json : Bool) (e : Event) (change : Change) → call_of e ≡ seen change → shown json e ≡ []
+shown_change json (Types types) change is = refl
+shown_change json (Put name body reply) change is = refl
+shown_change json (Remove name reply) change is = refl
+shown_change json (Ask name outcome) (changes.Types types) is = absurd cc
+shown_change json (Ask name outcome) (changes.Put other unit) is = absurd cc
 
-shown_changes : (list : List Change) (events : List Event) (ahead : List Call) → map call_of events ++ ahead ≡ map seen list → flat_map shown events ≡ []
-shown_changes list [] ahead h = refl
-shown_changes [] (e ∷ events) ahead h = absurd cc
-shown_changes (change ∷ list) (e ∷ events) ahead h =
+shown_changes : (json : Bool) (list : List Change) (events : List Event) (ahead : List Call) → map call_of events ++ ahead ≡ map seen list → flat_map (shown json) events ≡ []
+shown_changes json list [] ahead h = refl
+shown_changes json [] (e ∷ events) ahead h = absurd cc
+shown_changes json (change ∷ list) (e ∷ events) ahead h =
     let one : call_of e ≡ seen change = cc in
     let rest : map call_of events ++ ahead ≡ map seen list = cc in
-    ap (λ (text : List ℕ). text ++ flat_map shown events) (shown_change e change one) ∙ shown_changes list events ahead rest
+    ap (λ (text : List ℕ). text ++ flat_map (shown json) events) (shown_change json e change one) ∙ shown_changes json list events ahead rest
 
 greatest-append : (a b : List Event) → greatest (a ++ b) ≡ max (greatest a) (greatest b)
 greatest-append [] b = omega arith
@@ -73,18 +74,25 @@ legal_added : (events : List Event) (s t : SessionView) (h : List Entry) → s �
 legal_added events s t h is adds one =
     legal_of t h events one (adds.number ∙ ap (λ (x : SessionView). x.number) is) (adds.own ∙ ap (λ (x : SessionView). x.own ++ events) is)
 
+-- the calls that were answered and printed, of a session that answered at most one more
+legal_begun : (events : List Event) (s between t : SessionView) (h : List Entry) → s ≡ new_session 0 0 → Adds events s between → IsAtMostOneMore between t → IsOneHistory (t ∷ []) h → AreLegal events
+legal_begun events s between t h is adds last one = elim last [
+  | inl same ↦ legal_added events s t h is (subst (λ (x : SessionView). Adds events s x) (sym same) adds) one
+  | inr more ↦ (let event : Event = more.0 in let answered = more.1 in legal_shorter events event (legal_added (events ++ event ∷ []) s t h is (adds_then events (event ∷ []) s between t adds (record { tag = answered.tag; number = answered.number; own = answered.own })) one))
+]
+
 -- nothing stands anywhere in an empty history
 legal_none : IsLegal []
 legal_none [] e rest is = absurd cc
 legal_none (b ∷ bs) e rest is = absurd cc
 
 -- all changes and all Asks
-pub served_all : (list : List Change) (names : List NameParts) (m n : ℕ) (s0 s1 s2 : SessionView) (o0 o1 e0 e1 : Option (List ℕ)) → Served (map seen list) told m s0 s1 e0 e1 → Served (map calls_made.Ask names) shown n s1 s2 o0 o1 → ServedAll (map seen list) names (max m n) s0 s2 o0 o1 e0 e1
-served_all list names m n s0 s1 s2 o0 o1 e0 e1 p a =
+pub served_all : (json : Bool) (list : List Change) (names : List NameParts) (m n : ℕ) (s0 s1 s2 : SessionView) (o0 o1 e0 e1 : Option (List ℕ)) → Served (map seen list) told m s0 s1 e0 e1 → Served (map calls_made.Ask names) (shown json) n s1 s2 o0 o1 → ServedAll json (map seen list) names (max m n) s0 s2 o0 o1 e0 e1
+served_all json list names m n s0 s1 s2 o0 o1 e0 e1 p a =
     let silent : flat_map told p.events ≡ flat_map told (p.events ++ a.events) =
     sym (flat_map-append told p.events a.events ∙ ap (λ (t : List ℕ). flat_map told p.events ++ t) (told_asks names a.events [] (append-nil _ ∙ a.made)) ∙ append-nil _) in
-    let hidden : flat_map shown a.events ≡ flat_map shown (p.events ++ a.events) =
-    sym (flat_map-append shown p.events a.events ∙ ap (λ (t : List ℕ). t ++ flat_map shown a.events) (shown_changes list p.events [] (append-nil _ ∙ p.made))) in
+    let hidden : flat_map (shown json) a.events ≡ flat_map (shown json) (p.events ++ a.events) =
+    sym (flat_map-append (shown json) p.events a.events ∙ ap (λ (t : List ℕ). t ++ flat_map (shown json) a.events) (shown_changes json list p.events [] (append-nil _ ∙ p.made))) in
     record {
       events = p.events ++ a.events;
       made = map-append call_of p.events a.events ∙ ap (λ (cs : List Call). cs ++ map call_of a.events) p.made ∙ ap (λ (cs : List Call). map seen list ++ cs) a.made;
@@ -95,43 +103,41 @@ served_all list names m n s0 s1 s2 o0 o1 e0 e1 p a =
     }
 
 -- some of the changes
-pub first_changes : (list : List Change) (names : List NameParts) (s0 s1 : SessionView) (o e0 e1 : Option (List ℕ)) → ServedPart (map seen list) told s0 s1 e0 e1 → ServedFirst (map seen list) names s0 s1 o o e0 e1
-first_changes list names s0 s1 o e0 e1 h =
+pub first_changes : (json : Bool) (list : List Change) (names : List NameParts) (s0 s1 : SessionView) (o e0 e1 : Option (List ℕ)) → ServedPart (map seen list) told s0 s1 e0 e1 → ServedFirst json (map seen list) names s0 s1 o o e0 e1
+first_changes json list names s0 s1 o e0 e1 h =
     let cut : map call_of h.served.events ++ h.ahead ≡ map seen list = ap (λ (cs : List Call). cs ++ h.ahead) h.served.made ∙ h.cut in
     record {
       events = h.served.events;
       ahead = h.ahead ++ map calls_made.Ask names;
       made = sym (append_assoc (map call_of h.served.events) h.ahead (map calls_made.Ask names)) ∙ ap (λ (cs : List Call). cs ++ map calls_made.Ask names) cut;
+      between = h.between;
       adds = h.served.adds;
-      output = subst (λ (t : List ℕ). Appends o o t) (sym (shown_changes list h.served.events h.ahead cut)) (nothing_added o);
+      last = h.last;
+      output = subst (λ (t : List ℕ). Appends o o t) (sym (shown_changes json list h.served.events h.ahead cut)) (nothing_added o);
       errors = h.served.printed;
     }
 
 -- all changes and some of the Asks
-pub first_asks : (list : List Change) (names : List NameParts) (m : ℕ) (s0 s1 s2 : SessionView) (o0 o1 e0 e1 : Option (List ℕ)) → Served (map seen list) told m s0 s1 e0 e1 → ServedPart (map calls_made.Ask names) shown s1 s2 o0 o1 → ServedFirst (map seen list) names s0 s2 o0 o1 e0 e1
-first_asks list names m s0 s1 s2 o0 o1 e0 e1 p h =
+pub first_asks : (json : Bool) (list : List Change) (names : List NameParts) (m : ℕ) (s0 s1 s2 : SessionView) (o0 o1 e0 e1 : Option (List ℕ)) → Served (map seen list) told m s0 s1 e0 e1 → ServedPart (map calls_made.Ask names) (shown json) s1 s2 o0 o1 → ServedFirst json (map seen list) names s0 s2 o0 o1 e0 e1
+first_asks json list names m s0 s1 s2 o0 o1 e0 e1 p h =
     let asks : List Event = h.served.events in
     let cut : map call_of asks ++ h.ahead ≡ map calls_made.Ask names = ap (λ (cs : List Call). cs ++ h.ahead) h.served.made ∙ h.cut in
     let silent : flat_map told p.events ≡ flat_map told (p.events ++ asks) =
     sym (flat_map-append told p.events asks ∙ ap (λ (t : List ℕ). flat_map told p.events ++ t) (told_asks names asks h.ahead cut) ∙ append-nil _) in
-    let hidden : flat_map shown asks ≡ flat_map shown (p.events ++ asks) =
-    sym (flat_map-append shown p.events asks ∙ ap (λ (t : List ℕ). t ++ flat_map shown asks) (shown_changes list p.events [] (append-nil _ ∙ p.made))) in
+    let hidden : flat_map (shown json) asks ≡ flat_map (shown json) (p.events ++ asks) =
+    sym (flat_map-append (shown json) p.events asks ∙ ap (λ (t : List ℕ). t ++ flat_map (shown json) asks) (shown_changes json list p.events [] (append-nil _ ∙ p.made))) in
     record {
       events = p.events ++ asks;
       ahead = h.ahead;
       made = ap (λ (cs : List Call). cs ++ h.ahead) (map-append call_of p.events asks ∙ ap (λ (cs : List Call). cs ++ map call_of asks) p.made)
           ∙ append_assoc (map seen list) (map call_of asks) h.ahead
           ∙ ap (λ (cs : List Call). map seen list ++ cs) cut;
-      adds = adds_then p.events asks s0 s1 s2 p.adds h.served.adds;
+      between = h.between;
+      adds = adds_then p.events asks s0 s1 h.between p.adds h.served.adds;
+      last = h.last;
       output = subst (λ (t : List ℕ). Appends o0 o1 t) hidden h.served.printed;
       errors = subst (λ (t : List ℕ). Appends e0 e1 t) silent p.printed;
     }
-
--- what is taken from the end of a list of one
-the_last : {X : Type 0} (x y : X) (rest : List X) → x ∷ [] ≡ rest ++ y ∷ [] → (rest ≡ []) × (y ≡ x)
-the_last x y [] h = (refl, cc)
-the_last x y (z ∷ []) h = absurd cc
-the_last x y (z ∷ w ∷ rest) h = absurd cc
 
 -- the one new session of a database, taken out of its list and put back after its calls, with which the database closed
 pub closed_with : (opened left handed : List SessionView) (s t : SessionView) (h : List Entry) → opened ≡ new_session 0 0 ∷ [] → opened ≡ left ++ s ∷ [] → handed ≡ left ++ t ∷ [] → IsOneHistory handed h → (s ≡ new_session 0 0) × IsOneHistory (t ∷ []) h
@@ -140,8 +146,8 @@ closed_with opened left handed s t h new popped pushed one =
     (last.1, subst (λ (ss : List SessionView). IsOneHistory ss h) (pushed ∙ ap (λ (ss : List SessionView). ss ++ t ∷ []) last.0) one)
 
 -- the database closed well behind the calls that a new session made
-pub runs_of : (first : List Call) (names : List NameParts) (s t : SessionView) (o o' e e' : Option (List ℕ)) (h : List Entry) (r : Result ℕ Stop) → s ≡ new_session 0 0 → length first + length names ≤ MOST_ENTRIES → IsOneHistory (t ∷ []) h → IfOk r (λ exit. ServedAll first names exit s t o o' e e') → IfOk r (λ exit. Runs first names exit o o' e e')
-runs_of first names s t o o' e e' h (Ok exit) is few one all = record {
+pub runs_of : (json : Bool) (first : List Call) (names : List NameParts) (s t : SessionView) (o o' e e' : Option (List ℕ)) (h : List Entry) (r : Result ℕ Stop) → s ≡ new_session 0 0 → length first + length names ≤ MOST_ENTRIES → IsOneHistory (t ∷ []) h → IfOk r (λ exit. ServedAll json first names exit s t o o' e e') → IfOk r (λ exit. Runs json first names exit o o' e e')
+runs_of json first names s t o o' e e' h (Ok exit) is few one all = record {
   events = all.events;
   made = all.made;
   few = few;
@@ -150,21 +156,21 @@ runs_of first names s t o o' e e' h (Ok exit) is few one all = record {
   errors = all.errors;
   status = all.status;
 }
-runs_of first names s t o o' e e' h (Err stop) is few one all = tt
+runs_of json first names s t o o' e e' h (Err stop) is few one all = tt
 
-pub begins_of : (first : List Call) (names : List NameParts) (s t : SessionView) (o o' e e' : Option (List ℕ)) (h : List Entry) → s ≡ new_session 0 0 → IsOneHistory (t ∷ []) h → ServedFirst first names s t o o' e e' → Begins first names o o' e e'
-begins_of first names s t o o' e e' h is one some = record {
+pub begins_of : (json : Bool) (first : List Call) (names : List NameParts) (s t : SessionView) (o o' e e' : Option (List ℕ)) (h : List Entry) → s ≡ new_session 0 0 → IsOneHistory (t ∷ []) h → ServedFirst json first names s t o o' e e' → Begins json first names o o' e e'
+begins_of json first names s t o o' e e' h is one some = record {
   events = some.events;
   ahead = some.ahead;
   made = some.made;
-  legal = legal_added some.events s t h is some.adds one;
+  legal = legal_begun some.events s some.between t h is some.adds some.last one;
   output = some.output;
   errors = some.errors;
 }
 
 -- no call was made
-pub begins_none : (first : List Call) (names : List NameParts) (o e : Option (List ℕ)) → Begins first names o o e e
-begins_none first names o e = record {
+pub begins_none : (json : Bool) (first : List Call) (names : List NameParts) (o e : Option (List ℕ)) → Begins json first names o o e e
+begins_none json first names o e = record {
   events = [];
   ahead = calls_of first names;
   made = refl;

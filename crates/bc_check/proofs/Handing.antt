@@ -25,7 +25,7 @@ handed_served list text old new u v w asked result either h k = elim either [
 ]
 
 part_kept : (list : List Call) (text : Event → List ℕ) (old new : SessionView) (u v w : Option (List ℕ)) → ServedPart list text old new u v → Keeps v w → ServedPart list text old new u w
-part_kept list text old new u v w h k = record { front = h.front; ahead = h.ahead; cut = h.cut; exit = h.exit; served = served_kept h.front text h.exit old new u v w h.served k }
+part_kept list text old new u v w h k = record { front = h.front; ahead = h.ahead; cut = h.cut; exit = h.exit; between = h.between; served = served_kept h.front text h.exit old h.between u v w h.served k; last = h.last }
 
 pub handed_part : (list : List Call) (text : Event → List ℕ) (old new : SessionView) (u v w : Option (List ℕ)) (asked result : Result ℕ Stop) → Handed asked result → (IsErrOf asked NoMemory → ServedPart list text old new u v) → Keeps v w → IsErrOf result NoMemory → ServedPart list text old new u w
 handed_part list text old new u v w asked result either h k e = elim either [

@@ -1,60 +1,79 @@
 -- Sections that are read one after another.
-use Rattle.std.proofs.Common.{◌≡◌, List, [], ◌∷◌, ◌++◌, refl, sym, ap, ◌∙◌, append_assoc, append-nil, subst}
-use Rattle.std.specs.Prelude.{◌≢◌, Err}
+use Rattle.std.proofs.Common.{◌≡◌, ℕ, List, [], ◌∷◌, ◌++◌, refl, sym, ap, ◌∙◌, append_assoc, append-nil, subst, inr}
+use Rattle.std.specs.Prelude.{◌≢◌, Result, Err}
+use Rattle.std.specs.List.{AllZip}
 use Rattle.bc_text.specs.declared.fault.ReadFault.{ReadFault}
 use Rattle.bc_text.specs.declared.fault.ReadFault.TheVariants as read_faults
-use Rattle.bc_book.specs.declared.call.Call.{Call}
+use Rattle.bc_text.specs.Names.{NameParts}
+use Rattle.bc_text.specs.Reading.{read, read_types}
+use Rattle.bc_check.specs.declared.fault.FaultKind.{FaultKind}
 use Rattle.bc_check.specs.declared.fault.FileFault.{FileFault}
+use Rattle.bc_check.specs.declared.heading.Heading.{Heading}
+use Rattle.bc_check.specs.declared.heading.Heading.TheVariants as headings
 use Rattle.bc_check.specs.Parts.{Part}
-use Rattle.bc_check.specs.Changes.{HeaderLine, IsHeader, Makes, IsUnread, IsFault, MakeAll, IsFirstFault, text_stop, GivesCall}
+use Rattle.bc_check.specs.Sections.{IsUnread, IsTextFault, IsFault, IsFirstFault, Answers, stop_of}
 
--- of all sections those that are not left make these calls
-pub record HasRead (all left : List Part) (made : List Call) : Type 0 where
+-- of all sections those that are not left give these
+pub record HasRead {Given : Type 0} (Gives : Part → Given → Type 0) (all left : List Part) (given : List Given) : Type 0 where
   pub before : List Part
   pub cut : all ≡ before ++ left
-  pub good : MakeAll before made
+  pub good : AllZip Gives before given
 
-made_more : (sections : List Part) (made : List Call) (section : Part) (call : Call) → MakeAll sections made → Makes section call → MakeAll (sections ++ section ∷ []) (made ++ call ∷ [])
-made_more [] [] section call h one = (one, tt)
-made_more [] (q ∷ made) section call h one = absurd h
-made_more (s ∷ sections) [] section call h one = absurd h
-made_more (s ∷ sections) (q ∷ made) section call h one = (h.0, made_more sections made section call h.1 one)
+given_more : {Given : Type 0} (Gives : Part → Given → Type 0) (sections : List Part) (given : List Given) (section : Part) (one : Given) → AllZip Gives sections given → Gives section one → AllZip Gives (sections ++ section ∷ []) (given ++ one ∷ [])
+given_more Gives [] [] section one h is = (is, tt)
+given_more Gives [] (g ∷ given) section one h is = absurd h
+given_more Gives (s ∷ sections) [] section one h is = absurd h
+given_more Gives (s ∷ sections) (g ∷ given) section one h is = (h.0, given_more Gives sections given section one h.1 is)
 
-pub read_none : (all : List Part) → HasRead all all []
-read_none all = record { before = []; cut = refl; good = tt }
+pub read_none : {Given : Type 0} (Gives : Part → Given → Type 0) (all : List Part) → HasRead Gives all all []
+read_none Gives all = record { before = []; cut = refl; good = tt }
 
 -- one section more
-pub read_more : (all left rest : List Part) (made : List Call) (section : Part) (call : Call) → HasRead all left made → left ≡ section ∷ rest → Makes section call → HasRead all rest (made ++ call ∷ [])
-read_more all left rest made section call h next one = record {
+pub read_more : {Given : Type 0} (Gives : Part → Given → Type 0) (all left rest : List Part) (given : List Given) (section : Part) (one : Given) → HasRead Gives all left given → left ≡ section ∷ rest → Gives section one → HasRead Gives all rest (given ++ one ∷ [])
+read_more Gives all left rest given section one h next is = record {
   before = h.before ++ section ∷ [];
   cut = h.cut ∙ ap (λ (ss : List Part). h.before ++ ss) next ∙ sym (append_assoc h.before (section ∷ []) rest);
-  good = made_more h.before made section call h.good one;
+  good = given_more Gives h.before given section one h.good is;
 }
 
 -- all sections
-pub read_all : (all left : List Part) (made : List Call) → HasRead all left made → left ≡ [] → MakeAll all made
-read_all all left made h none =
+pub read_all : {Given : Type 0} (Gives : Part → Given → Type 0) (all left : List Part) (given : List Given) → HasRead Gives all left given → left ≡ [] → AllZip Gives all given
+read_all Gives all left given h none =
     let same : all ≡ h.before = h.cut ∙ ap (λ (ss : List Part). h.before ++ ss) none ∙ append-nil h.before in
-    subst (λ (ss : List Part). MakeAll ss made) (sym same) h.good
+    subst (λ (ss : List Part). AllZip Gives ss given) (sym same) h.good
 
--- a section that makes no call
-pub read_fault : (all left rest : List Part) (made : List Call) (section : Part) (fault : FileFault) → HasRead all left made → left ≡ section ∷ rest → fault.line ≡ section.line → IsFault section fault.kind → IsFirstFault all fault
-read_fault all left rest made section fault h next line kind = record {
+-- a section with a fault
+pub read_fault : {Given : Type 0} (Gives : Part → Given → Type 0) (Takes : Heading → List ℕ → Type 0) (all left rest : List Part) (given : List Given) (section : Part) (fault : FileFault) → HasRead Gives all left given → left ≡ section ∷ rest → fault.line ≡ section.line → IsFault Takes section fault.kind → IsFirstFault Gives Takes all fault
+read_fault Gives Takes all left rest given section fault h next line kind = record {
   before = h.before;
   section = section;
   behind = rest;
-  made = made;
+  given = given;
   cut = h.cut ∙ ap (λ (ss : List Part). h.before ++ ss) next;
   good = h.good;
   line = line;
   kind = kind;
 }
 
--- the text of a section with this header cannot be read
-pub told_fault : (section : Part) (header : HeaderLine) (fault : ReadFault) → IsHeader header section.header → (fault ≢ read_faults.NoMemory → IsUnread header section.text fault) → GivesCall section (Err (text_stop section.line fault))
-told_fault section header read_faults.TooLong is unread = (refl, (header, is, unread (λ e. absurd cc)))
-told_fault section header (read_faults.NotAscii at) is unread = (refl, (header, is, unread (λ e. absurd cc)))
-told_fault section header (read_faults.Token at) is unread = (refl, (header, is, unread (λ e. absurd cc)))
-told_fault section header (read_faults.Grammar at) is unread = (refl, (header, is, unread (λ e. absurd cc)))
-told_fault section header (read_faults.Limit at) is unread = (refl, (header, is, unread (λ e. absurd cc)))
-told_fault section header read_faults.NoMemory is unread = tt
+-- this fault of a section is told, at its line
+abbrev pub Tells : (Heading → List ℕ → Type 0) → Part → FileFault → Type 0
+Tells Takes section fault = (fault.line ≡ section.line) × IsFault Takes section fault.kind
+
+-- the text behind a header line that is taken cannot be read
+told_unread : {T V : Type 0} (Good : T → Type 0) (Takes : Heading → List ℕ → Type 0) (section : Part) (heading : Heading) (found : Result V ReadFault) (fault : ReadFault)
+    → Takes heading section.header → ((kind : FaultKind) → IsUnread found kind → IsTextFault heading section.text kind)
+    → (fault ≢ read_faults.NoMemory → found ≡ Err fault) → Answers Good (Tells Takes section) (Err (stop_of section.line fault))
+told_unread Good Takes section heading found read_faults.TooLong taken wrong unread = (refl, inr (heading, taken, wrong _ (_, unread (λ e. absurd cc), refl)))
+told_unread Good Takes section heading found (read_faults.NotAscii at) taken wrong unread = (refl, inr (heading, taken, wrong _ (_, unread (λ e. absurd cc), refl)))
+told_unread Good Takes section heading found (read_faults.Token at) taken wrong unread = (refl, inr (heading, taken, wrong _ (_, unread (λ e. absurd cc), refl)))
+told_unread Good Takes section heading found (read_faults.Grammar at) taken wrong unread = (refl, inr (heading, taken, wrong _ (_, unread (λ e. absurd cc), refl)))
+told_unread Good Takes section heading found (read_faults.Limit at) taken wrong unread = (refl, inr (heading, taken, wrong _ (_, unread (λ e. absurd cc), refl)))
+told_unread Good Takes section heading found read_faults.NoMemory taken wrong unread = tt
+
+pub told_types : {T : Type 0} (Good : T → Type 0) (Takes : Heading → List ℕ → Type 0) (section : Part) (fault : ReadFault)
+    → Takes headings.Types section.header → (fault ≢ read_faults.NoMemory → read_types section.text ≡ Err fault) → Answers Good (Tells Takes section) (Err (stop_of section.line fault))
+told_types Good Takes section fault taken unread = told_unread Good Takes section headings.Types (read_types section.text) fault taken (λ kind is. is) unread
+
+pub told_body : {T : Type 0} (Good : T → Type 0) (Takes : Heading → List ℕ → Type 0) (section : Part) (name : NameParts) (fault : ReadFault)
+    → Takes (headings.Put name) section.header → (fault ≢ read_faults.NoMemory → read section.text ≡ Err fault) → Answers Good (Tells Takes section) (Err (stop_of section.line fault))
+told_body Good Takes section name fault taken unread = told_unread Good Takes section (headings.Put name) (read section.text) fault taken (λ kind is. is) unread

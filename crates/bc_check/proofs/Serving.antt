@@ -1,5 +1,5 @@
 -- Calls that are made one after another.
-use Rattle.std.proofs.Common.{◌≡◌, ℕ, max, List, [], ◌∷◌, ◌++◌, Option, Some, None, map, refl, sym, ap, ◌∙◌, subst, append_assoc, append-nil, arith}
+use Rattle.std.proofs.Common.{◌≡◌, ℕ, max, List, [], ◌∷◌, ◌++◌, Option, Some, None, map, refl, sym, ap, ◌∙◌, subst, append_assoc, append-nil, arith, inl}
 use Rattle.std.specs.Prelude.{Result, Ok, Err, IsErrAnd, IsErrOf}
 use Rattle.std.specs.List.{flat_map}
 use Rattle.std.specs.Io.KnownBytes.{Appends, Keeps}
@@ -11,7 +11,7 @@ use Rattle.bc_book.specs.Calls.{call_of}
 use Rattle.bc_share.specs.Sessions.{SessionView}
 use Rattle.bc_check.specs.declared.stop.Stop.{Stop}
 use Rattle.bc_check.specs.Run.{event_status, greatest}
-use Rattle.bc_check.specs.Served.{Adds, Serves, Served, ServedPart}
+use Rattle.bc_check.specs.Served.{Adds, Serves, Served, ServedPart, IsAtMostOneMore}
 
 pub nothing_added : (u : Option (List ℕ)) → Appends u u []
 nothing_added None = tt
@@ -99,17 +99,19 @@ served_kept list text exit old new u v w h k = record {
 }
 
 -- the calls that were made where one more was refused
-pub making_part : {X : Type 0} (call_at : X → Call) (all left : List X) (text : Event → List ℕ) (exit : ℕ) (old mid new : SessionView) (u v w : Option (List ℕ)) → Making call_at all left text exit old mid u v → new ≡ mid → Keeps v w → ServedPart (map call_at all) text old new u w
-making_part {X} call_at all left text exit old mid new u v w h same k = record {
+pub making_part : {X : Type 0} (call_at : X → Call) (all left : List X) (text : Event → List ℕ) (exit : ℕ) (old mid new : SessionView) (u v w : Option (List ℕ)) → Making call_at all left text exit old mid u v → IsAtMostOneMore mid new → Keeps v w → ServedPart (map call_at all) text old new u w
+making_part {X} call_at all left text exit old mid new u v w h last k = record {
   front = map call_at h.front;
   ahead = map call_at left;
   cut = sym (map-append call_at h.front left) ∙ ap (λ (xs : List X). map call_at xs) (sym h.cut);
   exit = exit;
-  served = subst (λ (s : SessionView). Served (map call_at h.front) text exit old s u w) (sym same) (served_kept (map call_at h.front) text exit old mid u v w h.served k);
+  between = mid;
+  served = served_kept (map call_at h.front) text exit old mid u v w h.served k;
+  last = last;
 }
 
 pub part_of_all : (list : List Call) (text : Event → List ℕ) (exit : ℕ) (old new : SessionView) (u v : Option (List ℕ)) → Served list text exit old new u v → ServedPart list text old new u v
-part_of_all list text exit old new u v h = record { front = list; ahead = []; cut = append-nil list; exit = exit; served = h }
+part_of_all list text exit old new u v h = record { front = list; ahead = []; cut = append-nil list; exit = exit; between = new; served = h; last = inl refl }
 
 -- a stop that is passed on is the one that came
 pub same_stop : {A B : Type 0} (r : Result A Stop) (x n : Stop) → IsErrAnd r (λ y. y ≡ x) → r ≡ Err n → IsErrOf {T = B} (Err x) n

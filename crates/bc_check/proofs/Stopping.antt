@@ -1,6 +1,6 @@
 -- What is found and left where the command stops.
 use Rattle.std.proofs.Common.{◌≡◌, ◌≤◌, ◌<◌, ◌+◌, ℕ, List, length, Option, refl, ap, arith, inl, inr}
-use Rattle.std.specs.Prelude.{◌⊎◌, Result, Ok, Err, IfOk, OnOk, IfErr, IsErrOf, IfSome, true}
+use Rattle.std.specs.Prelude.{◌⊎◌, Bool, Result, Ok, Err, IfOk, OnOk, IfErr, IsErrOf, IfSome, true}
 use Rattle.std.specs.Io.KnownBytes.{Appends}
 use Rattle.bc_text.specs.Names.{NameParts}
 use Rattle.bc_book.specs.declared.call.Call.{Call}
@@ -13,42 +13,49 @@ use Rattle.bc_check.specs.Changes.{MakeAll}
 use Rattle.bc_check.specs.Asked.{AreAsked}
 use Rattle.bc_check.specs.Stops.{is_of_calls, last_line, stop_status}
 use Rattle.bc_check.specs.Served.{Begins}
-use Rattle.bc_check.specs.Ends.{HasBegun, HasTooManyCalls, IsEnd, IsSilent, IsWell, Leaves, OfFile}
+use Rattle.bc_check.specs.Ends.{HasBegun, HasTooManyCalls, IsEnd, IsSilent, IsWell, Leaves, OfFile, StopsWith}
 use Rattle.bc_check.proofs.Ending.{known_is}
 
 -- the calls of a file, that is one without a fault, were not all made
-pub record Broken (r : Result ℕ Stop) (file : List ℕ) (made : List Call) (names : List NameParts) (o o' e e' : Option (List ℕ)) : Type 0 where
+pub record Broken (json : Bool) (r : Result ℕ Stop) (file : List ℕ) (made : List Call) (names : List NameParts) (o o' e e' : Option (List ℕ)) : Type 0 where
   pub short : length file ≤ LIMIT
   pub good : MakeAll (sections_of file) made
   pub asked : AreAsked made names
   pub other : IfErr r (λ stop. is_of_calls stop ≡ true)
   pub many : IsErrOf r TooManyCalls → MOST_ENTRIES < length made + length names
   pub quiet : IsErrOf r TooManyCalls → IsSilent o o' e e'
-  pub no_memory : IsErrOf r NoMemory → Begins made names o o' e e'
+  pub no_memory : IsErrOf r NoMemory → Begins json made names o o' e e'
 
-well : (r : Result ℕ Stop) (known o o' e e' : Option (List ℕ)) (file : List ℕ) (made : List Call) (names : List NameParts) → IfSome known (λ bytes. file ≡ bytes) → Broken r file made names o o' e e' → OfFile known IsWell
-well r known o o' e e' file made names whole h =
+well : (json : Bool) (r : Result ℕ Stop) (known o o' e e' : Option (List ℕ)) (file : List ℕ) (made : List Call) (names : List NameParts) → IfSome known (λ bytes. file ≡ bytes) → Broken json r file made names o o' e e' → OfFile known IsWell
+well json r known o o' e e' file made names whole h =
     known_is known file (λ (f : List ℕ). (length f ≤ LIMIT) × IsWell f) whole (h.short, record { made = made; names = names; good = h.good; asked = h.asked })
 
-pub broken : (r : Result ℕ Stop) (known o o' e e' : Option (List ℕ)) (file : List ℕ) (made : List Call) (names : List NameParts) → IfSome known (λ bytes. file ≡ bytes) → Broken r file made names o o' e e' → IfErr r (λ stop. Leaves stop known o o' e e')
-broken (Ok n) known o o' e e' file made names whole h = tt
-broken (Err WrongUse) known o o' e e' file made names whole h = (let never = h.other in absurd cc)
-broken (Err CannotRead) known o o' e e' file made names whole h = (let never = h.other in absurd cc)
-broken (Err CannotWrite) known o o' e e' file made names whole h = well _ known o o' e e' file made names whole h
-broken (Err CannotTell) known o o' e e' file made names whole h = well _ known o o' e e' file made names whole h
-broken (Err NoMemory) known o o' e e' file made names whole h =
-    inr (known_is known file (λ (f : List ℕ). (length f ≤ LIMIT) × HasBegun f o o' e e') whole (h.short, record { made = made; names = names; good = h.good; asked = h.asked; begins = h.no_memory refl }))
-broken (Err (File fault)) known o o' e e' file made names whole h = (let never = h.other in absurd cc)
-broken (Err TooManyCalls) known o o' e e' file made names whole h =
+pub broken : (json : Bool) (r : Result ℕ Stop) (known o o' e e' : Option (List ℕ)) (file : List ℕ) (made : List Call) (names : List NameParts) → IfSome known (λ bytes. file ≡ bytes) → Broken json r file made names o o' e e' → IfErr r (λ stop. Leaves json stop known o o' e e')
+broken json (Ok n) known o o' e e' file made names whole h = tt
+broken json (Err WrongUse) known o o' e e' file made names whole h = (let never = h.other in absurd cc)
+broken json (Err CannotRead) known o o' e e' file made names whole h = (let never = h.other in absurd cc)
+broken json (Err CannotWrite) known o o' e e' file made names whole h = well json _ known o o' e e' file made names whole h
+broken json (Err CannotTell) known o o' e e' file made names whole h = well json _ known o o' e e' file made names whole h
+broken json (Err NoMemory) known o o' e e' file made names whole h =
+    inr (known_is known file (λ (f : List ℕ). (length f ≤ LIMIT) × HasBegun json f o o' e e') whole (h.short, record { made = made; names = names; good = h.good; asked = h.asked; begins = h.no_memory refl }))
+broken json (Err (File fault)) known o o' e e' file made names whole h = (let never = h.other in absurd cc)
+broken json (Err TooManyCalls) known o o' e e' file made names whole h =
     (known_is known file (λ (f : List ℕ). (length f ≤ LIMIT) × HasTooManyCalls f) whole (h.short, record { made = made; names = names; good = h.good; asked = h.asked; many = h.many refl }), h.quiet refl)
-broken (Err HistoryFull) known o o' e e' file made names whole h = well _ known o o' e e' file made names whole h
-broken (Err Foreign) known o o' e e' file made names whole h = well _ known o o' e e' file made names whole h
-broken (Err Audit) known o o' e e' file made names whole h = well _ known o o' e e' file made names whole h
+broken json (Err HistoryFull) known o o' e e' file made names whole h = well json _ known o o' e e' file made names whole h
+broken json (Err Foreign) known o o' e e' file made names whole h = well json _ known o o' e e' file made names whole h
+broken json (Err Audit) known o o' e e' file made names whole h = well json _ known o o' e e' file made names whole h
+
+pub IfOk-map : {T E : Type 0} {P Q : T → Type 0} (r : Result T E) → ((x : T) → P x → Q x) → IfOk r P → IfOk r Q
+IfOk-map (Ok x) f p = f x p
+IfOk-map (Err e) f p = tt
 
 -- the last line is written
-pub stopped_end : {E : Type 0} (name : List ℕ) (known o o' e told e' : Option (List ℕ)) (stop : Stop) (r : Result ℕ E) → Leaves stop known o o' e told → IfOk r (λ n. n ≡ stop_status stop) → OnOk r (Appends told e' (last_line name stop)) → IfOk r (λ n. IsEnd name known n o o' e e')
-stopped_end name known o o' e told e' stop (Ok n) left status said = inr (record { stop = stop; told = told; left = left; said = said; status = status })
-stopped_end name known o o' e told e' stop (Err fault) left status said = tt
+pub stops : {E : Type 0} (Left : Stop → Option (List ℕ) → Type 0) (name : List ℕ) (told err : Option (List ℕ)) (stop : Stop) (r : Result ℕ E) → Left stop told → IfOk r (λ n. n ≡ stop_status stop) → OnOk r (Appends told err (last_line name stop)) → IfOk r (λ n. StopsWith Left name n err)
+stops Left name told err stop (Ok n) left status said = record { stop = stop; told = told; left = left; said = said; status = status }
+stops Left name told err stop (Err fault) left status said = tt
+
+pub stopped_end : {E : Type 0} (json : Bool) (name : List ℕ) (known o o' e told e' : Option (List ℕ)) (stop : Stop) (r : Result ℕ E) → Leaves json stop known o o' e told → IfOk r (λ n. n ≡ stop_status stop) → OnOk r (Appends told e' (last_line name stop)) → IfOk r (λ n. IsEnd json name known n o o' e e')
+stopped_end json name known o o' e told e' stop r left status said = IfOk-map r (λ n h. inr h) (stops (λ s t. Leaves json s known o o' e t) name told e' stop r left status said)
 
 -- below status 3 the writer has not failed
 pub handed_end : {E : Type 0} (P : Type 0) (stop : Stop) (q : Result ℕ Stop) (r : Result ℕ E) → q ≡ Err stop → (q ≡ Err CannotWrite) ⊎ P → IfOk r (λ n. n ≡ stop_status stop) → IfOk r (λ n. n < 3 → P)

@@ -1,9 +1,11 @@
 -- How the command ends, and what it leaves where it stops.
-use Rattle.std.specs.Prelude.{◌≡◌, ◌⊎◌, ℕ, ◌+◌, ◌<◌, ◌≤◌, Option, List, IfSome, length}
+use Rattle.std.specs.Prelude.{◌≡◌, ◌⊎◌, ℕ, Bool, ◌+◌, ◌<◌, ◌≤◌, Option, List, IfSome, length}
 use Rattle.std.specs.Io.KnownBytes.{Appends, Keeps}
 use Rattle.bc_text.specs.Names.{NameParts}
 use Rattle.bc_book.specs.declared.call.Call.{Call}
 use Rattle.bc_share.specs.declared.db.TheConstants.{MOST_ENTRIES}
+use Rattle.bc_line.specs.declared.line.Line.{Line}
+use Rattle.bc_line.specs.declared.line.Line.TheVariants.{Check, Run}
 use Rattle.bc_check.specs.declared.input.TheConstants.{LIMIT}
 use Rattle.bc_check.specs.declared.stop.Stop.{Stop}
 use Rattle.bc_check.specs.declared.stop.Stop.TheVariants.{WrongUse, CannotRead, CannotWrite, CannotTell, NoMemory, File, TooManyCalls, HistoryFull, Foreign, Audit}
@@ -15,12 +17,12 @@ use Rattle.bc_check.specs.Served.{Runs, Begins}
 
 -- each section made its call, each root name under which one put a body was asked, and what belongs to these calls was
 -- printed
-pub record Checked (file : List ℕ) (exit : ℕ) (out out' err err' : Option (List ℕ)) : Type 0 where
+pub record Checked (json : Bool) (file : List ℕ) (exit : ℕ) (out out' err err' : Option (List ℕ)) : Type 0 where
   pub made : List Call
   pub names : List NameParts
   pub good : MakeAll (sections_of file) made
   pub asked : AreAsked made names
-  pub runs : Runs made names exit out out' err err'
+  pub runs : Runs json made names exit out out' err err'
 
 -- a file without a fault that makes more calls than a history may have
 pub record HasTooManyCalls (file : List ℕ) : Type 0 where
@@ -30,13 +32,13 @@ pub record HasTooManyCalls (file : List ℕ) : Type 0 where
   pub asked : AreAsked made names
   pub many : MOST_ENTRIES < length made + length names
 
--- a file without a fault of whose calls a beginning was made, and what belongs to these was printed
-pub record HasBegun (file : List ℕ) (out out' err err' : Option (List ℕ)) : Type 0 where
+-- a file without a fault, of a beginning of whose calls was printed what belongs to them
+pub record HasBegun (json : Bool) (file : List ℕ) (out out' err err' : Option (List ℕ)) : Type 0 where
   pub made : List Call
   pub names : List NameParts
   pub good : MakeAll (sections_of file) made
   pub asked : AreAsked made names
-  pub begins : Begins made names out out' err err'
+  pub begins : Begins json made names out out' err err'
 
 -- a file without a fault
 pub record IsWell (file : List ℕ) : Type 0 where
@@ -55,26 +57,31 @@ IsSilent out out' err err' = Keeps out out' × Keeps err err'
 
 -- What the command finds and leaves where it stops, but for the line that says so. What a writer that failed took is
 -- not known.
-abbrev pub Leaves : Stop → Option (List ℕ) → Option (List ℕ) → Option (List ℕ) → Option (List ℕ) → Option (List ℕ) → Type 0
-Leaves WrongUse known out out' err err' = ⊥
-Leaves CannotRead known out out' err err' = IsSilent out out' err err'
-Leaves CannotWrite known out out' err err' = OfFile known IsWell
-Leaves CannotTell known out out' err err' = OfFile known IsWell
-Leaves NoMemory known out out' err err' = IsSilent out out' err err' ⊎ OfFile known (λ file. HasBegun file out out' err err')
-Leaves (File fault) known out out' err err' = OfFile known (λ file. IsFirstFault (sections_of file) fault) × IsSilent out out' err err'
-Leaves TooManyCalls known out out' err err' = OfFile known HasTooManyCalls × IsSilent out out' err err'
-Leaves HistoryFull known out out' err err' = OfFile known IsWell
-Leaves Foreign known out out' err err' = OfFile known IsWell
-Leaves Audit known out out' err err' = OfFile known IsWell
+abbrev pub Leaves : Bool → Stop → Option (List ℕ) → Option (List ℕ) → Option (List ℕ) → Option (List ℕ) → Option (List ℕ) → Type 0
+Leaves json WrongUse known out out' err err' = ⊥
+Leaves json CannotRead known out out' err err' = IsSilent out out' err err'
+Leaves json CannotWrite known out out' err err' = OfFile known IsWell
+Leaves json CannotTell known out out' err err' = OfFile known IsWell
+Leaves json NoMemory known out out' err err' = IsSilent out out' err err' ⊎ OfFile known (λ file. HasBegun json file out out' err err')
+Leaves json (File fault) known out out' err err' = OfFile known (λ file. IsFirstFault (sections_of file) fault) × IsSilent out out' err err'
+Leaves json TooManyCalls known out out' err err' = OfFile known HasTooManyCalls × IsSilent out out' err err'
+Leaves json HistoryFull known out out' err err' = OfFile known IsWell
+Leaves json Foreign known out out' err err' = OfFile known IsWell
+Leaves json Audit known out out' err err' = OfFile known IsWell
 
--- the command stopped with this status: its line is written behind all else
-pub record Stopped (name : List ℕ) (known : Option (List ℕ)) (exit : ℕ) (out out' err err' : Option (List ℕ)) : Type 0 where
+-- the command stopped with this status: its line is written behind all else, of which this holds
+pub record StopsWith (Left : Stop → Option (List ℕ) → Type 0) (name : List ℕ) (exit : ℕ) (err : Option (List ℕ)) : Type 0 where
   pub stop : Stop
   pub told : Option (List ℕ)
-  pub left : Leaves stop known out out' err told
-  pub said : Appends told err' (last_line name stop)
+  pub left : Left stop told
+  pub said : Appends told err (last_line name stop)
   pub status : exit ≡ stop_status stop
 
 -- the command on the file of this name ended with this status: at its end, or where it stopped
-abbrev pub IsEnd : List ℕ → Option (List ℕ) → ℕ → Option (List ℕ) → Option (List ℕ) → Option (List ℕ) → Option (List ℕ) → Type 0
-IsEnd name known exit out out' err err' = OfFile known (λ file. Checked file exit out out' err err') ⊎ Stopped name known exit out out' err err'
+abbrev pub IsEnd : Bool → List ℕ → Option (List ℕ) → ℕ → Option (List ℕ) → Option (List ℕ) → Option (List ℕ) → Option (List ℕ) → Type 0
+IsEnd json name known exit out out' err err' = OfFile known (λ file. Checked json file exit out out' err err') ⊎ StopsWith (λ stop told. Leaves json stop known out out' err told) name exit err'
+
+-- the same, of a line of `check`
+abbrev pub IsEndOf : Line → Option (List ℕ) → ℕ → Option (List ℕ) → Option (List ℕ) → Option (List ℕ) → Option (List ℕ) → Type 0
+IsEndOf (Check line) known exit out out' err err' = IsEnd line.json line.file known exit out out' err err'
+IsEndOf (Run line) known exit out out' err err' = ⊥

@@ -1,12 +1,13 @@
 -- How faults of a file are printed.
 use Rattle.std.specs.Prelude.{ℕ, List, ◌++◌, decimal, codes}
 use Rattle.bc_check.specs.declared.fault.FaultKind.{FaultKind}
-use Rattle.bc_check.specs.declared.fault.FaultKind.TheVariants.{BadHeader, TooLong, NotAscii, Token, Grammar, Limit}
+use Rattle.bc_check.specs.declared.fault.FaultKind.TheVariants.{BadHeader, TextAfterCall, TooLong, NotAscii, Token, Grammar, Limit}
 use Rattle.bc_check.specs.declared.fault.FileFault.{FileFault}
 
 -- what is wrong with a section
 abbrev pub kind_text : FaultKind → List ℕ
 kind_text BadHeader = codes "bad header"
+kind_text TextAfterCall = codes "text after call"
 kind_text TooLong = codes "too long"
 kind_text (NotAscii at) = codes "not ascii at " ++ decimal at
 kind_text (Token at) = codes "token at " ++ decimal at

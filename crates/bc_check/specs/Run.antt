@@ -15,6 +15,7 @@ use Rattle.bc_book.specs.declared.call.Entry.{Entry}
 use Rattle.bc_book.specs.Calls.{IsLegal, calls}
 use Rattle.bc_check.specs.Text.{line}
 use Rattle.bc_check.specs.Report.{report}
+use Rattle.bc_json.specs.Json.{json_line}
 
 -- the calls of a file: those of its sections, then an Ask of each of its names
 abbrev pub calls_of : List Call → List NameParts → List Call
@@ -27,9 +28,10 @@ refused_line name Replaced = []
 refused_line name Full = line (codes "put " ++ name_text name ++ codes " full")
 refused_line name WrongKind = line (codes "put " ++ name_text name ++ codes " wrongkind")
 
--- the line of an Ask, and its report
-abbrev pub answer_lines : NameParts → Outcome → List ℕ
-answer_lines name outcome = line (codes "ask " ++ name_text name) ++ report outcome
+-- an Ask: its line and its report, or where JSON is wanted one line that has both
+abbrev pub answer_lines : Bool → NameParts → Outcome → List ℕ
+answer_lines json name outcome =
+    if json then line (json_line name outcome) else line (codes "ask " ++ name_text name) ++ report outcome
 
 -- what is printed of a call on standard error
 abbrev pub told : Event → List ℕ
@@ -39,11 +41,11 @@ told (Remove name reply) = []
 told (Ask name outcome) = []
 
 -- what is printed of a call on standard output
-abbrev pub shown : Event → List ℕ
-shown (Types types) = []
-shown (Put name body reply) = []
-shown (Remove name reply) = []
-shown (Ask name outcome) = answer_lines name outcome
+abbrev pub shown : Bool → Event → List ℕ
+shown json (Types types) = []
+shown json (Put name body reply) = []
+shown json (Remove name reply) = []
+shown json (Ask name outcome) = answer_lines json name outcome
 
 -- 2 for a put that stored nothing
 abbrev pub put_status : PutReply → ℕ

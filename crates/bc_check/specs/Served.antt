@@ -1,5 +1,5 @@
 -- Calls that a session answered, and what was printed of them.
-use Rattle.std.specs.Prelude.{◌≡◌, ℕ, ◌+◌, ◌≤◌, Option, List, ◌++◌, map, flat_map, length}
+use Rattle.std.specs.Prelude.{◌≡◌, ◌⊎◌, ℕ, Bool, ◌+◌, ◌≤◌, Option, List, ◌++◌, map, flat_map, length}
 use Rattle.std.specs.Io.KnownBytes.{Appends}
 use Rattle.bc_text.specs.Names.{NameParts}
 use Rattle.bc_book.specs.declared.call.Call.{Call}
@@ -23,6 +23,10 @@ pub record Adds (events : List Event) (old new : SessionView) : Type 0 where
   pub number : new.number ≡ old.number
   pub own : new.own ≡ old.own ++ events
 
+-- nothing of the session has changed, or one call more was answered
+abbrev pub IsAtMostOneMore : SessionView → SessionView → Type 0
+IsAtMostOneMore old new = (new ≡ old) ⊎ ((event : Event) × IsAnswered event old new)
+
 -- some calls were answered and printed, in this order; the greatest of their statuses
 pub record Served (list : List Call) (text : Event → List ℕ) (exit : ℕ) (old new : SessionView) (before after : Option (List ℕ)) : Type 0 where
   pub events : List Event
@@ -31,49 +35,53 @@ pub record Served (list : List Call) (text : Event → List ℕ) (exit : ℕ) (o
   pub printed : Appends before after (flat_map text events)
   pub status : exit ≡ greatest events
 
--- a beginning of some calls was answered and printed
+-- a beginning of some calls was answered and printed, and at most one call more was answered
 pub record ServedPart (list : List Call) (text : Event → List ℕ) (old new : SessionView) (before after : Option (List ℕ)) : Type 0 where
   pub front : List Call
   pub ahead : List Call
   pub cut : front ++ ahead ≡ list
   pub exit : ℕ
-  pub served : Served front text exit old new before after
+  pub between : SessionView
+  pub served : Served front text exit old between before after
+  pub last : IsAtMostOneMore between new
 
 -- the calls of the sections were answered and the names asked; of each call was printed what belongs to it, and the status is the
 -- greatest of theirs
-pub record ServedAll (first : List Call) (names : List NameParts) (exit : ℕ) (old new : SessionView) (out out' err err' : Option (List ℕ)) : Type 0 where
+pub record ServedAll (json : Bool) (first : List Call) (names : List NameParts) (exit : ℕ) (old new : SessionView) (out out' err err' : Option (List ℕ)) : Type 0 where
   pub events : List Event
   pub made : map call_of events ≡ calls_of first names
   pub adds : Adds events old new
-  pub output : Appends out out' (flat_map shown events)
+  pub output : Appends out out' (flat_map (shown json) events)
   pub errors : Appends err err' (flat_map told events)
   pub status : exit ≡ greatest events
 
--- the same, where only a beginning of the calls was answered
-pub record ServedFirst (first : List Call) (names : List NameParts) (old new : SessionView) (out out' err err' : Option (List ℕ)) : Type 0 where
+-- the same, where only a beginning of the calls was answered and printed, and at most one call more was answered
+pub record ServedFirst (json : Bool) (first : List Call) (names : List NameParts) (old new : SessionView) (out out' err err' : Option (List ℕ)) : Type 0 where
   pub events : List Event
   pub ahead : List Call
   pub made : map call_of events ++ ahead ≡ calls_of first names
-  pub adds : Adds events old new
-  pub output : Appends out out' (flat_map shown events)
+  pub between : SessionView
+  pub adds : Adds events old between
+  pub last : IsAtMostOneMore between new
+  pub output : Appends out out' (flat_map (shown json) events)
   pub errors : Appends err err' (flat_map told events)
 
 -- The calls of the sections were made and the names asked, at most as many as a history may have, as one session's legal history; of
 -- each call was printed what belongs to it, and the status is the greatest of theirs.
-pub record Runs (first : List Call) (names : List NameParts) (exit : ℕ) (out out' err err' : Option (List ℕ)) : Type 0 where
+pub record Runs (json : Bool) (first : List Call) (names : List NameParts) (exit : ℕ) (out out' err err' : Option (List ℕ)) : Type 0 where
   pub events : List Event
   pub made : map call_of events ≡ calls_of first names
   pub few : length first + length names ≤ MOST_ENTRIES
   pub legal : AreLegal events
-  pub output : Appends out out' (flat_map shown events)
+  pub output : Appends out out' (flat_map (shown json) events)
   pub errors : Appends err err' (flat_map told events)
   pub status : exit ≡ greatest events
 
--- The same, where only a beginning of the calls was made.
-pub record Begins (first : List Call) (names : List NameParts) (out out' err err' : Option (List ℕ)) : Type 0 where
+-- The same, where only of a beginning of the calls was printed what belongs to it.
+pub record Begins (json : Bool) (first : List Call) (names : List NameParts) (out out' err err' : Option (List ℕ)) : Type 0 where
   pub events : List Event
   pub ahead : List Call
   pub made : map call_of events ++ ahead ≡ calls_of first names
   pub legal : AreLegal events
-  pub output : Appends out out' (flat_map shown events)
+  pub output : Appends out out' (flat_map (shown json) events)
   pub errors : Appends err err' (flat_map told events)

@@ -1,21 +1,25 @@
 //! The calls of a file, and what is printed of them.
-ghost use Rattle.std.specs.Prelude.{◌≡◌, ◌≤◌, ◌<◌, ◌+◌, ◌⊎◌, [], true, Err, OnOk, IfOk, IfErr, IsErrOf, length, map, max};
+ghost use Rattle.std.specs.Prelude.{◌≡◌, ◌≤◌, ◌<◌, ◌+◌, ◌⊎◌, [], true, false, Err, OnOk, IfOk, IfErr, IsErrOf, length, map, max};
 ghost use Rattle.std.specs.Io.Buffered.{writer_buffer, writer_contents};
 ghost use Rattle.std.specs.Io.KnownBytes.{Appends, Keeps};
 ghost use Rattle.bc_book.specs.declared.call.Call.TheVariants as calls;
 ghost use Rattle.bc_check.specs.Changes.{seen};
 ghost use Rattle.bc_check.specs.Stops.{is_of_calls};
-ghost use Rattle.bc_check.specs.Ends.{Checked, IsEnd, Leaves, OfFile};
-ghost use Rattle.bc_check.specs.Run.{refused_line, answer_lines, told, shown, put_status, are_clean, outcome_status};
-ghost use Rattle.bc_check.specs.Served.{Serves, Served, ServedPart, ServedAll, ServedFirst, Runs, Begins};
+ghost use Rattle.bc_check.specs.Ends.{Checked, IsEnd, IsEndOf, Leaves, OfFile};
+ghost use Rattle.bc_check.specs.Run.{refused_line, answer_lines, told, shown};
+ghost use Rattle.bc_check.specs.Served.{Serves, Served, ServedPart, ServedAll, ServedFirst, Runs, Begins, IsAtMostOneMore};
+ghost use Rattle.bc_line.specs.Lines.{is_check};
 
 use crate::asked::find_asked;
 use crate::file::{Change, read_changes};
 use crate::input::read_whole;
 use crate::print::write_report;
+use crate::status::{outcome_status, put_status};
 use crate::stop::{Stop, stop_with};
 use bc_book::{Ending, PutReply, Waiting};
-use bc_prov::{BodyErrors, Outcome, Providers};
+use bc_json::json_report;
+use bc_line::{CheckLine, Line};
+use bc_prov::{Outcome, Providers};
 use bc_share::{Db, MOST_ENTRIES, Session};
 use bc_text::Name;
 use std::alloc::Global;
@@ -23,35 +27,6 @@ use std::collections::BTreeSet;
 use std::io;
 use std::io::{BufWriter, Read, Write};
 use std::sync::Wait;
-
-/// The status of a put with this reply.
-fn put_status(reply: PutReply) -> u8
-    ensures value { result ≡ put_status reply }
-    ensures range { result ≤ 2 }
-{
-    match reply {
-        PutReply::Added | PutReply::Replaced => 0,
-        PutReply::Full | PutReply::WrongKind => 2,
-    }
-}
-
-/// Whether no body has an error.
-fn are_clean(bodies: &[BodyErrors]) -> bool
-    ensures { result ≡ are_clean bodies.now }
-{
-    bodies.iter().all(|body| body.errors.len() == 0)
-}
-
-/// The status of an Ask with this outcome.
-fn outcome_status(outcome: &Outcome) -> u8
-    ensures value { result ≡ outcome_status outcome.now }
-    ensures range { result ≤ 2 }
-{
-    match outcome {
-        Outcome::NoBody | Outcome::Missing(_) | Outcome::BadTypes(_) | Outcome::Ill(_, _) => 2,
-        Outcome::Report(bodies) => { if are_clean(bodies.as_slice()) { 0 } else { 1 } }
-    }
-}
 
 /// Writes the line of a put that stored nothing.
 fn write_refusal<E: Write>(name: &Name, reply: PutReply, err: &mut E) -> io::Result<()>
@@ -65,11 +40,52 @@ fn write_refusal<E: Write>(name: &Name, reply: PutReply, err: &mut E) -> io::Res
 }
 
 /// Writes the line of an Ask, and its report.
-fn write_answer<O: Write>(name: &Name, outcome: &Outcome, out: &mut O) -> io::Result<()>
-    ensures { OnOk result (Appends (O.contents out.old) (O.contents out.new) (answer_lines name.now outcome.now)) }
+fn write_text<O: Write>(name: &Name, outcome: &Outcome, out: &mut O) -> io::Result<()>
+    ensures { OnOk result (Appends (O.contents out.old) (O.contents out.new) (answer_lines false name.now outcome.now)) }
 {
     writeln!(out, "ask {name}")?;
     write_report(outcome, out)
+}
+
+/// Writes the JSON line of an Ask. `NoMemory`, with nothing written, where there is no room for it.
+fn write_json<O: Write>(
+    alloc: Global,
+    name: &Name,
+    outcome: &Outcome,
+    out: &mut O,
+) -> Result<(), Stop>
+    ensures written { OnOk result (Appends (O.contents out.old) (O.contents out.new) (answer_lines true name.now outcome.now)) }
+    ensures no_memory { IsErrOf result Stop.NoMemory → Keeps (O.contents out.old) (O.contents out.new) }
+    ensures stop { IfErr result (λ stop. (stop ≡ Stop.CannotWrite) ⊎ (stop ≡ Stop.NoMemory)) }
+{
+    let Ok(text) = json_report(alloc, name, outcome) else {
+        return Err(Stop::NoMemory);
+    };
+    if writeln!(out, "{text}").is_err() {
+        return Err(Stop::CannotWrite);
+    }
+    Ok(())
+}
+
+/// Writes an Ask with its outcome, as text or as JSON. `NoMemory`, with nothing written, where there is no room for it.
+fn write_answer<O: Write>(
+    alloc: Global,
+    json: bool,
+    name: &Name,
+    outcome: &Outcome,
+    out: &mut O,
+) -> Result<(), Stop>
+    ensures written { OnOk result (Appends (O.contents out.old) (O.contents out.new) (answer_lines json name.now outcome.now)) }
+    ensures no_memory { IsErrOf result Stop.NoMemory → Keeps (O.contents out.old) (O.contents out.new) }
+    ensures stop { IfErr result (λ stop. (stop ≡ Stop.CannotWrite) ⊎ (stop ≡ Stop.NoMemory)) }
+{
+    if json {
+        return write_json(alloc, name, outcome, out);
+    }
+    if write_text(name, outcome, out).is_err() {
+        return Err(Stop::CannotWrite);
+    }
+    Ok(())
 }
 
 /// Makes a change, and tells of a body that is not stored. The status of the call.
@@ -86,11 +102,11 @@ fn make_change<R: Wait, N: Ending, E: Write>(
 {
     match change {
         Change::Types(types) => {
-            session.put_types(rt, types)?;
+            session.put_types(rt, types.into_arc())?;
             Ok(0)
         }
         Change::Put(name, unit) => {
-            let reply = session.put(rt, name, unit)?;
+            let reply = session.put(rt, name, unit.into_arc())?;
             if write_refusal(&name, reply, err).is_err() {
                 return Err(Stop::CannotTell);
             }
@@ -99,23 +115,23 @@ fn make_change<R: Wait, N: Ending, E: Write>(
     }
 }
 
-/// Asks a name, and prints its report. The status of the outcome.
+/// Asks a name, and prints its report, or its JSON line. The status of the outcome.
 fn make_ask<R: Wait, N: Ending, O: Write>(
     rt: &R,
+    alloc: Global,
     session: &mut Session<N>,
     providers: &Providers,
+    json: bool,
     name: &Name,
     out: &mut O,
 ) -> Result<u8, Stop>
-    ensures no_memory { IsErrOf result Stop.NoMemory → (session.new ≡ session.old) × Keeps (O.contents out.old) (O.contents out.new) }
-    ensures served { IfOk result (λ status. Serves (calls.Ask name.now) shown status session.old session.new (O.contents out.old) (O.contents out.new)) }
+    ensures no_memory { IsErrOf result Stop.NoMemory → IsAtMostOneMore session.old session.new × Keeps (O.contents out.old) (O.contents out.new) }
+    ensures served { IfOk result (λ status. Serves (calls.Ask name.now) (shown json) status session.old session.new (O.contents out.old) (O.contents out.new)) }
     ensures range { IfOk result (λ status. status ≤ 2) }
     ensures stop { IfErr result (λ stop. (stop ≡ Stop.CannotWrite) ⊎ (stop ≡ Stop.NoMemory) ⊎ (stop ≡ Stop.HistoryFull)) }
 {
     let outcome = session.ask(rt, name, providers)?;
-    if write_answer(name, &outcome, out).is_err() {
-        return Err(Stop::CannotWrite);
-    }
+    write_answer(alloc, json, name, &outcome, out)?;
     Ok(outcome_status(&outcome))
 }
 
@@ -141,19 +157,21 @@ fn make_changes<R: Wait, N: Ending, E: Write>(
 /// Asks the names in order, and prints their reports. The greatest status of the outcomes.
 fn make_asks<R: Wait, N: Ending, O: Write>(
     rt: &R,
+    alloc: Global,
     session: &mut Session<N>,
     providers: &Providers,
+    json: bool,
     names: &BTreeSet<Name>,
     out: &mut O,
 ) -> Result<u8, Stop>
-    ensures served { IfOk result (λ status. Served (map calls.Ask names.now.keys) shown status session.old session.new (O.contents out.old) (O.contents out.new)) }
-    ensures no_memory { IsErrOf result Stop.NoMemory → ServedPart (map calls.Ask names.now.keys) shown session.old session.new (O.contents out.old) (O.contents out.new) }
+    ensures served { IfOk result (λ status. Served (map calls.Ask names.now.keys) (shown json) status session.old session.new (O.contents out.old) (O.contents out.new)) }
+    ensures no_memory { IsErrOf result Stop.NoMemory → ServedPart (map calls.Ask names.now.keys) (shown json) session.old session.new (O.contents out.old) (O.contents out.new) }
     ensures range { IfOk result (λ status. status ≤ 2) }
     ensures stop { IfErr result (λ stop. (stop ≡ Stop.CannotWrite) ⊎ (stop ≡ Stop.NoMemory) ⊎ (stop ≡ Stop.HistoryFull)) }
 {
     let mut status: u8 = 0;
     for name in names {
-        status = status.max(make_ask(rt, session, providers, name, out)?);
+        status = status.max(make_ask(rt, alloc, session, providers, json, name, out)?);
     }
     Ok(status)
 }
@@ -189,18 +207,20 @@ fn hand_on<O: Write + Drop>(asked: Result<u8, Stop>, out: &mut BufWriter<O>) -> 
 /// status of the outcomes.
 fn answer_all<R: Wait, N: Ending, O: Write + Drop>(
     rt: &R,
+    alloc: Global,
     session: &mut Session<N>,
     providers: &Providers,
+    json: bool,
     names: &BTreeSet<Name>,
     out: &mut BufWriter<O>,
 ) -> Result<u8, Stop>
-    ensures served { IfOk result (λ status. Served (map calls.Ask names.now.keys) shown status session.old session.new (writer_contents O.contents out.old) (writer_contents O.contents out.new)) }
-    ensures no_memory { IsErrOf result Stop.NoMemory → ServedPart (map calls.Ask names.now.keys) shown session.old session.new (writer_contents O.contents out.old) (writer_contents O.contents out.new) }
+    ensures served { IfOk result (λ status. Served (map calls.Ask names.now.keys) (shown json) status session.old session.new (writer_contents O.contents out.old) (writer_contents O.contents out.new)) }
+    ensures no_memory { IsErrOf result Stop.NoMemory → ServedPart (map calls.Ask names.now.keys) (shown json) session.old session.new (writer_contents O.contents out.old) (writer_contents O.contents out.new) }
     ensures range { IfOk result (λ status. status ≤ 2) }
     ensures stop { IfErr result (λ stop. (stop ≡ Stop.CannotWrite) ⊎ (stop ≡ Stop.NoMemory) ⊎ (stop ≡ Stop.HistoryFull)) }
     ensures handed_on { (result ≡ Err Stop.CannotWrite) ⊎ (writer_buffer out.new ≡ []) }
 {
-    let asked = make_asks(rt, session, providers, names, out);
+    let asked = make_asks(rt, alloc, session, providers, json, names, out);
     hand_on(asked, out)
 }
 
@@ -208,27 +228,29 @@ fn answer_all<R: Wait, N: Ending, O: Write + Drop>(
 /// of the calls.
 fn make_all<R: Wait, N: Ending, O: Write + Drop, E: Write>(
     rt: &R,
+    alloc: Global,
     session: &mut Session<N>,
     providers: &Providers,
+    json: bool,
     changes: Vec<Change>,
     names: &BTreeSet<Name>,
     out: &mut BufWriter<O>,
     err: &mut E,
 ) -> Result<u8, Stop>
-    ensures served { IfOk result (λ status. ServedAll (map seen changes.items) names.now.keys status session.old session.new (writer_contents O.contents out.old) (writer_contents O.contents out.new) (E.contents err.old) (E.contents err.new)) }
-    ensures no_memory { IsErrOf result Stop.NoMemory → ServedFirst (map seen changes.items) names.now.keys session.old session.new (writer_contents O.contents out.old) (writer_contents O.contents out.new) (E.contents err.old) (E.contents err.new) }
+    ensures served { IfOk result (λ status. ServedAll json (map seen changes.items) names.now.keys status session.old session.new (writer_contents O.contents out.old) (writer_contents O.contents out.new) (E.contents err.old) (E.contents err.new)) }
+    ensures no_memory { IsErrOf result Stop.NoMemory → ServedFirst json (map seen changes.items) names.now.keys session.old session.new (writer_contents O.contents out.old) (writer_contents O.contents out.new) (E.contents err.old) (E.contents err.new) }
     ensures range { IfOk result (λ status. status ≤ 2) }
     ensures stop { IfErr result (λ stop. (stop ≡ Stop.CannotTell) ⊎ (stop ≡ Stop.CannotWrite) ⊎ (stop ≡ Stop.NoMemory) ⊎ (stop ≡ Stop.HistoryFull)) }
     ensures handed_on { writer_buffer out.old ≡ [] → (result ≡ Err Stop.CannotWrite) ⊎ (writer_buffer out.new ≡ []) }
 {
     let changed = make_changes(rt, session, changes, err)?;
-    let asked = answer_all(rt, session, providers, names, out)?;
+    let asked = answer_all(rt, alloc, session, providers, json, names, out)?;
     Ok(changed.max(asked))
 }
 
-/// How many entries the history may have: one for each change and each Ask, and one at least. `TooManyCalls` exactly
-/// where there are more than `MOST_ENTRIES` of them.
-pub(crate) fn find_capacity(changes: usize, names: usize) -> Result<u32, Stop>
+/// How many entries the history may have: one for each change and each further call, and one at least. `TooManyCalls` exactly
+/// where there are more than `MOST_ENTRIES` of them. (Own.)
+pub fn find_capacity(changes: usize, names: usize) -> Result<u32, Stop>
     ensures fits { IfOk result (λ capacity. (capacity ≡ max 1 (changes + names)) × (changes + names ≤ MOST_ENTRIES)) }
     ensures stop { IfErr result (λ stop. (stop ≡ Stop.TooManyCalls) × (MOST_ENTRIES < changes + names)) }
 {
@@ -248,15 +270,16 @@ fn serve<R: Wait, O: Write + Drop, E: Write>(
     rt: &R,
     alloc: Global,
     providers: &Providers,
+    json: bool,
     changes: Vec<Change>,
     names: &BTreeSet<Name>,
     out: &mut BufWriter<O>,
     err: &mut E,
 ) -> Result<u8, Stop>
-    ensures done { IfOk result (λ status. Runs (map seen changes.items) names.now.keys status (writer_contents O.contents out.old) (writer_contents O.contents out.new) (E.contents err.old) (E.contents err.new)) }
+    ensures done { IfOk result (λ status. Runs json (map seen changes.items) names.now.keys status (writer_contents O.contents out.old) (writer_contents O.contents out.new) (E.contents err.old) (E.contents err.new)) }
     ensures range { IfOk result (λ status. status ≤ 2) }
     ensures too_many { IsErrOf result Stop.TooManyCalls → (MOST_ENTRIES < length changes.items + length names.now.keys) × Keeps (writer_contents O.contents out.old) (writer_contents O.contents out.new) × Keeps (E.contents err.old) (E.contents err.new) }
-    ensures no_memory { IsErrOf result Stop.NoMemory → Begins (map seen changes.items) names.now.keys (writer_contents O.contents out.old) (writer_contents O.contents out.new) (E.contents err.old) (E.contents err.new) }
+    ensures no_memory { IsErrOf result Stop.NoMemory → Begins json (map seen changes.items) names.now.keys (writer_contents O.contents out.old) (writer_contents O.contents out.new) (E.contents err.old) (E.contents err.new) }
     ensures other { IfErr result (λ stop. is_of_calls stop ≡ true) }
     ensures handed_on { writer_buffer out.old ≡ [] → (result ≡ Err Stop.CannotWrite) ⊎ (writer_buffer out.new ≡ []) }
 {
@@ -265,7 +288,17 @@ fn serve<R: Wait, O: Write + Drop, E: Write>(
     let Some(mut session) = sessions.pop() else {
         return Err(Stop::Foreign);
     };
-    let made = make_all(rt, &mut session, providers, changes, names, out, err);
+    let made = make_all(
+        rt,
+        alloc,
+        &mut session,
+        providers,
+        json,
+        changes,
+        names,
+        out,
+        err,
+    );
     sessions.push_reserved(session);
     let closed = db.close(rt, sessions);
     if matches!(made, Err(Stop::CannotWrite)) {
@@ -275,8 +308,9 @@ fn serve<R: Wait, O: Write + Drop, E: Write>(
     made
 }
 
-/// Reads the whole input, makes its changes and asks its names, and prints what belongs to each call. The greatest
-/// status of the calls. A buffer that held nothing holds nothing then, but where the writer behind it failed. (Own.)
+/// Reads the whole input, makes its changes and asks its names, and prints what belongs to each call: of an Ask its line and its
+/// report, or with `json` one line that has both. The greatest status of the calls. A buffer that held nothing holds nothing then, but
+/// where the writer behind it failed. (Own.)
 ///
 /// Stops with `CannotRead` where the input cannot be read or is over 16 MiB; with `File` at its first fault; with
 /// `TooManyCalls` where it makes more than 1,000,000 calls; with `CannotWrite` or `CannotTell` where a writer
@@ -285,24 +319,25 @@ pub fn check<R: Wait, I: Read, O: Write + Drop, E: Write>(
     rt: &R,
     alloc: Global,
     providers: &Providers,
+    json: bool,
     input: &mut I,
     out: &mut BufWriter<O>,
     err: &mut E,
 ) -> Result<u8, Stop>
-    ensures done { IfOk result (λ status. OfFile (I.remaining input.old) (λ file. Checked file status (writer_contents O.contents out.old) (writer_contents O.contents out.new) (E.contents err.old) (E.contents err.new))) }
+    ensures done { IfOk result (λ status. OfFile (I.remaining input.old) (λ file. Checked json file status (writer_contents O.contents out.old) (writer_contents O.contents out.new) (E.contents err.old) (E.contents err.new))) }
     ensures range { IfOk result (λ status. status ≤ 2) }
-    ensures stopped { IfErr result (λ stop. Leaves stop (I.remaining input.old) (writer_contents O.contents out.old) (writer_contents O.contents out.new) (E.contents err.old) (E.contents err.new)) }
+    ensures stopped { IfErr result (λ stop. Leaves json stop (I.remaining input.old) (writer_contents O.contents out.old) (writer_contents O.contents out.new) (E.contents err.old) (E.contents err.new)) }
     ensures handed_on { writer_buffer out.old ≡ [] → (result ≡ Err Stop.CannotWrite) ⊎ (writer_buffer out.new ≡ []) }
 {
     let file = read_whole(alloc, input)?;
     let changes = read_changes(alloc, &file)?;
     let names = find_asked(alloc, &changes)?;
-    serve(rt, alloc, providers, changes, &names, out, err)
+    serve(rt, alloc, providers, json, changes, &names, out, err)
 }
 
-/// The whole command `check` on the input named `file`: writes reports on `out` and faults on `err`, and gives the
-/// exit status, the greatest that applies (own). Before a line on `err` says why the command stops, `out` has handed on
-/// what was printed; after `cannot write` it still holds what the writer behind it did not take.
+/// The whole command `check` on the input of the file that the line names: writes reports on
+/// `out` and faults on `err`, and gives the exit status, the greatest that applies (own). Before a line on `err` says why the command
+/// stops, `out` has handed on what was printed; after `cannot write` it still holds what the writer behind it did not take.
 ///
 /// 0 where no report has an error; 1 where one has; 2 where the file has a fault, a put stores nothing or an
 /// outcome is no report; 3 where the command stops for another reason, which is the last line on `err`. The fault of
@@ -311,36 +346,41 @@ pub fn check_and_tell<R: Wait, I: Read, O: Write + Drop, E: Write>(
     rt: &R,
     alloc: Global,
     providers: &Providers,
-    file: &str,
+    line: &CheckLine,
     input: &mut I,
     out: &mut BufWriter<O>,
     err: &mut E,
 ) -> io::Result<u8>
     ensures range { IfOk result (λ status. status ≤ 3) }
-    ensures ended { IfOk result (λ status. IsEnd file.now (I.remaining input.old) status (writer_contents O.contents out.old) (writer_contents O.contents out.new) (E.contents err.old) (E.contents err.new)) }
+    ensures ended { IfOk result (λ status. IsEnd line.now.json line.now.file (I.remaining input.old) status (writer_contents O.contents out.old) (writer_contents O.contents out.new) (E.contents err.old) (E.contents err.new)) }
     ensures handed_on { writer_buffer out.old ≡ [] → IfOk result (λ status. status < 3 → writer_buffer out.new ≡ []) }
 {
-    match check(rt, alloc, providers, input, out, err) {
+    match check(rt, alloc, providers, line.json(), input, out, err) {
         Ok(status) => Ok(status),
-        Err(stop) => stop_with(file, &stop, err),
+        Err(stop) => stop_with(line.file(), &stop, err),
     }
 }
 
-/// `check_and_tell` with status 3 where standard error fails (own).
+/// The whole command `check` on the input of the file that the line names; it asks that the line is one of `check`. As
+/// `check_and_tell`, with status 3 where standard error fails (own).
 pub fn check_over<R: Wait, I: Read, O: Write + Drop, E: Write>(
     rt: &R,
     alloc: Global,
     providers: &Providers,
-    file: &str,
+    line: &Line,
     input: &mut I,
     out: &mut BufWriter<O>,
     err: &mut E,
 ) -> u8
+    requires { is_check line.now ≡ true }
     ensures range { result ≤ 3 }
-    ensures ended { result < 3 → IsEnd file.now (I.remaining input.old) result (writer_contents O.contents out.old) (writer_contents O.contents out.new) (E.contents err.old) (E.contents err.new) }
+    ensures ended { result < 3 → IsEndOf line.now (I.remaining input.old) result (writer_contents O.contents out.old) (writer_contents O.contents out.new) (E.contents err.old) (E.contents err.new) }
     ensures handed_on { writer_buffer out.old ≡ [] → result < 3 → writer_buffer out.new ≡ [] }
 {
-    match check_and_tell(rt, alloc, providers, file, input, out, err) {
+    let Line::Check(line) = line else {
+        unreachable!()
+    };
+    match check_and_tell(rt, alloc, providers, line, input, out, err) {
         Ok(status) => status,
         Err(_) => 3,
     }

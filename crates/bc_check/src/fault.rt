@@ -4,11 +4,13 @@ ghost use Rattle.bc_check.specs.Faults.{kind_text, message};
 
 use std::fmt;
 
-/// What is wrong with a section: its header line is neither `@types` nor `@put` and a name, or its text is refused for one
-/// of the reader's reasons. A place counts bytes from the beginning of the section's text. (Own.)
+/// What is wrong with a section: its header line is none of the command's; it removes or asks a name, and its text is more than spaces
+/// and line feeds; or its text is refused for one of the reader's reasons. A place counts bytes from the beginning of the section's
+/// text. (Own.)
 #[derive(Clone, Copy, Debug, PartialEq, Eq)]
 pub enum FaultKind {
     BadHeader,
+    TextAfterCall,
     TooLong,
     NotAscii { at: usize },
     Token { at: usize },
@@ -29,6 +31,7 @@ impl fmt::Display for FaultKind {
     fn fmt<W: fmt::Write>(&self, f: &mut fmt::Formatter<W>) -> fmt::Result {
         match *self {
             FaultKind::BadHeader => write!(f, "bad header"),
+            FaultKind::TextAfterCall => write!(f, "text after call"),
             FaultKind::TooLong => write!(f, "too long"),
             FaultKind::NotAscii { at } => write!(f, "not ascii at {at}"),
             FaultKind::Token { at } => write!(f, "token at {at}"),

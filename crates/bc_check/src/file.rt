@@ -1,13 +1,18 @@
 //! The changes that a file makes.
-ghost use Rattle.std.specs.Prelude.{◌≡◌, ◌↔◌, IsTrue, IfSome, IfNone};
-ghost use Rattle.bc_text.specs.Names.{NameParts};
+ghost use Rattle.std.specs.Prelude.{◌≡◌, ◌≢◌, ◌↔◌, IsTrue, IfOk, IfErr, IfSome, IfNone, None, Ok, Err, List, map, codes};
+ghost use Rattle.bc_text.specs.Reading.{read, read_types};
+ghost use Rattle.bc_check.specs.declared.heading.Heading.{Heading};
 ghost use Rattle.bc_check.specs.Parts.{sections_of};
 ghost use Rattle.bc_check.specs.Left.{part_of};
-ghost use Rattle.bc_check.specs.Changes.{IsHeader, TypesLine, PutLine, text_stop, GivesCall, GivesCalls};
+ghost use Rattle.bc_check.specs.Headings.{IsHeader};
+ghost use Rattle.bc_check.specs.Sections.{IsBlank, stop_of};
+ghost use Rattle.bc_check.specs.Changes.{GivesChange, GivesChanges};
 
 use crate::fault::{FaultKind, FileFault};
+use crate::heading::{Heading, behind, read_heading};
 use crate::section::{Section, Sections};
 use crate::stop::Stop;
+use bc_prov::Shared;
 use bc_syntax::{Types, Unit};
 use bc_text::{Name, ReadFault, read_types, read_unit};
 use std::alloc::Global;
@@ -16,28 +21,37 @@ use std::sync::Arc;
 /// A change that a section makes: its declarations are held from then on, or its body under a name. (Own.)
 #[derive(Drop)]
 pub enum Change {
-    Types(Arc<Types>),
-    Put(Name, Arc<Unit>),
+    Types(Shared<Types>),
+    Put(Name, Shared<Unit>),
 }
 
-/// The name in a header line `@put NAME`, or `None` exactly where the line is no such header.
-fn read_put(header: &[u8]) -> Option<Name>
-    ensures found { IfSome result (λ name. IsHeader (PutLine name) header.now) }
-    ensures none { IfNone result ((name : NameParts) → ¬ IsHeader (PutLine name) header.now) }
+/// The declarations of a text, to be held by several owners; or its fault, or `NoMemory` where there is no room. (Own.)
+pub fn read_declarations(alloc: Global, text: &[u8]) -> Result<Shared<Types>, ReadFault>
+    ensures read { IfOk result (λ types. read_types text.now ≡ Ok types) }
+    ensures unread { IfErr result (λ fault. fault ≢ ReadFault.NoMemory → read_types text.now ≡ Err fault) }
 {
-    Name::read(header.strip_prefix(b"@put ")?)
+    let types = read_types(alloc, text)?;
+    match Arc::new(alloc, types) {
+        Ok(types) => Ok(Shared::new(types)),
+        Err(_) => Err(ReadFault::NoMemory),
+    }
 }
 
-/// Whether a line is the header `@types`.
-fn is_types(header: &[u8]) -> bool
-    ensures { IsTrue result ↔ IsHeader TypesLine header.now }
+/// The body of a text, to be held by several owners; or its fault, or `NoMemory` where there is no room. (Own.)
+pub fn read_body(alloc: Global, text: &[u8]) -> Result<Shared<Unit>, ReadFault>
+    ensures read { IfOk result (λ unit. read text.now ≡ Ok unit) }
+    ensures unread { IfErr result (λ fault. fault ≢ ReadFault.NoMemory → read text.now ≡ Err fault) }
 {
-    header == b"@types".as_slice()
+    let unit = read_unit(alloc, text)?;
+    match Arc::new(alloc, unit) {
+        Ok(unit) => Ok(Shared::new(unit)),
+        Err(_) => Err(ReadFault::NoMemory),
+    }
 }
 
-/// Why the section at this line makes no change, where its text cannot be read.
-fn text_stop(line: usize, fault: ReadFault) -> Stop
-    ensures { result ≡ text_stop line fault }
+/// Why the section at this line makes no call, where its text cannot be read. (Own.)
+pub fn text_stop(line: usize, fault: ReadFault) -> Stop
+    ensures { result ≡ stop_of line fault }
 {
     let kind = match fault {
         ReadFault::TooLong => FaultKind::TooLong,
@@ -50,53 +64,72 @@ fn text_stop(line: usize, fault: ReadFault) -> Stop
     Stop::File(FileFault { line, kind })
 }
 
-/// The declarations that a section stores.
-fn read_declarations(alloc: Global, section: &Section<'_>) -> Result<Change, Stop>
-    requires { IsHeader TypesLine section.now.header.now }
-    ensures { GivesCall (part_of section.now) result }
+/// What a header line asks for that names no session, or `None` exactly where it asks for nothing.
+fn read_header(header: &[u8]) -> Option<Heading>
+    ensures found { IfSome result (λ heading. IsHeader None heading header.now) }
+    ensures none { IfNone result ((heading : Heading) → ¬ IsHeader None heading header.now) }
 {
-    match read_types(alloc, section.text) {
-        Ok(types) => {
-            let types = Arc::new(alloc, types)?;
-            Ok(Change::Types(types))
-        }
+    read_heading(behind(header, b"@")?)
+}
+
+/// The change of a section with the header line `@types`.
+fn read_stored(alloc: Global, section: &Section<'_>) -> Result<Change, Stop>
+    requires { IsHeader None Heading.Types section.now.header.now }
+    ensures { GivesChange (part_of section.now) result }
+{
+    match read_declarations(alloc, section.text) {
+        Ok(types) => Ok(Change::Types(types)),
         Err(fault) => Err(text_stop(section.line, fault)),
     }
 }
 
-/// The body that a section puts under this name.
-fn read_body(alloc: Global, section: &Section<'_>, name: Name) -> Result<Change, Stop>
-    requires { IsHeader (PutLine name) section.now.header.now }
-    ensures { GivesCall (part_of section.now) result }
+/// The change of a section with the header line `@put` and this name.
+fn read_put(alloc: Global, section: &Section<'_>, name: Name) -> Result<Change, Stop>
+    requires { IsHeader None (Heading.Put name) section.now.header.now }
+    ensures { GivesChange (part_of section.now) result }
 {
-    match read_unit(alloc, section.text) {
-        Ok(unit) => {
-            let unit = Arc::new(alloc, unit)?;
-            Ok(Change::Put(name, unit))
-        }
+    match read_body(alloc, section.text) {
+        Ok(unit) => Ok(Change::Put(name, unit)),
         Err(fault) => Err(text_stop(section.line, fault)),
     }
+}
+
+/// The change of a section whose header line asks for this.
+fn read_asked(alloc: Global, section: &Section<'_>, heading: Heading) -> Result<Change, Stop>
+    requires { IsHeader None heading section.now.header.now }
+    ensures { GivesChange (part_of section.now) result }
+{
+    match heading {
+        Heading::Types => read_stored(alloc, section),
+        Heading::Put(name) => read_put(alloc, section, name),
+        Heading::Remove(_) => Err(bad_header(section)),
+        Heading::Ask(_) => Err(bad_header(section)),
+    }
+}
+
+/// Why a section whose header line is none makes no change.
+fn bad_header(section: &Section<'_>) -> Stop
+    ensures { result ≡ Stop.File (record { line = section.now.line; kind = FaultKind.BadHeader }) }
+{
+    let line = section.line;
+    let kind = FaultKind::BadHeader;
+    Stop::File(FileFault { line, kind })
 }
 
 /// The change that a section makes.
 fn read_change(alloc: Global, section: &Section<'_>) -> Result<Change, Stop>
-    ensures { GivesCall (part_of section.now) result }
+    ensures { GivesChange (part_of section.now) result }
 {
-    if is_types(section.header) {
-        return read_declarations(alloc, section);
+    match read_header(section.header) {
+        Some(heading) => read_asked(alloc, section, heading),
+        None => Err(bad_header(section)),
     }
-    let Some(name) = read_put(section.header) else {
-        let line = section.line;
-        let kind = FaultKind::BadHeader;
-        return Err(Stop::File(FileFault { line, kind }));
-    };
-    read_body(alloc, section, name)
 }
 
 /// The changes that a file makes, in the order of its sections; `File` with its first fault where it has one,
 /// `NoMemory` where there is no room.
 pub fn read_changes(alloc: Global, file: &[u8]) -> Result<Vec<Change>, Stop>
-    ensures { GivesCalls (sections_of file.now) result }
+    ensures { GivesChanges (sections_of file.now) result }
 {
     let mut changes = Vec::new(alloc);
     for section in Sections::of(file) {

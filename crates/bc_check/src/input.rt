@@ -9,7 +9,7 @@ use std::io::{ErrorKind, Read};
 pub const LIMIT: usize = 16_777_216;
 
 /// The whole of the input. `CannotRead` where a read fails or the input is over 16 MiB; `NoMemory` where there is
-/// no room for it.
+/// no room for it. (Own.)
 pub fn read_whole<I: Read>(alloc: Global, input: &mut I) -> Result<Vec<u8>, Stop>
     ensures whole { IfOk result (λ file. IfSome (I.remaining input.old) (λ bytes. file.items ≡ bytes)) }
     ensures short { IfOk result (λ file. length file.items ≤ LIMIT) }

@@ -5,18 +5,23 @@ mod asked;
 mod command;
 mod fault;
 mod file;
+mod heading;
 mod input;
 mod print;
 #[cfg(test)]
 mod rows;
 mod section;
+mod status;
 mod stop;
 #[cfg(test)]
 mod tests;
 
-pub use command::{check, check_and_tell, check_over};
+pub use command::{check, check_and_tell, check_over, find_capacity};
 pub use fault::{FaultKind, FileFault};
-pub use file::Change;
+pub use file::{Change, read_body, read_declarations, text_stop};
+pub use heading::{Heading, behind, read_heading};
+pub use input::read_whole;
 pub use print::write_report;
 pub use section::{Section, Sections};
+pub use status::event_status;
 pub use stop::{Stop, stop_with};

@@ -1,8 +1,9 @@
 //! A file of many bodies, checked as the command does.
 use crate::readings::checksum;
 use crate::timing::timed;
+use anyhow::bail;
 use bc_analyses::providers;
-use bc_check::check_over;
+use bc_check::check;
 use bc_prov::Providers;
 use std::alloc::Global;
 use std::io;
@@ -34,18 +35,14 @@ fn checked<R: AllocGlobal + Wait>(
     rt: &R,
     providers: &Providers,
     file: &[u8],
-) -> io::Result<(u8, Vec<u8>)> {
+) -> anyhow::Result<(u8, Vec<u8>)> {
+    let alloc = rt.alloc();
     let mut input = file;
-    let mut out = BufWriter::new(rt.alloc(), Vec::new(rt.alloc()))?;
-    let status = check_over(
-        rt,
-        rt.alloc(),
-        providers,
-        "file",
-        &mut input,
-        &mut out,
-        &mut io::sink(),
-    );
+    let mut out = BufWriter::new(alloc, Vec::new(alloc))?;
+    let mut err = io::sink();
+    let Ok(status) = check(rt, alloc, providers, false, &mut input, &mut out, &mut err) else {
+        bail!("the file was not checked");
+    };
     let (reports, _unwritten) = out.into_parts();
     Ok((status, reports))
 }
@@ -60,7 +57,7 @@ pub fn measure_file<R: AllocGlobal + Clock + Wait, O: Write, E: Write>(
 ) -> anyhow::Result<()> {
     let providers = providers!(rt.alloc());
     write!(err, "{name}: microseconds:")?;
-    let (status, reports) = timed(rt, "checking", || Ok(checked(rt, &providers, file)?), err)?;
+    let (status, reports) = timed(rt, "checking", || checked(rt, &providers, file), err)?;
     let bytes = file.len();
     let sum = checksum(&reports);
     writeln!(

@@ -14,9 +14,8 @@
 //!
 //! Nothing else has an error: each other borrow is one of `_17.*` that is put into `_17`, which ends its loan at once, and nothing
 //! else is demanded of a declared region.
-use crate::show_check;
+use crate::{Solvers, show_check};
 use bc_check::{Section, Sections};
-use bc_prov::Providers;
 use bc_syntax::{Types, Unit};
 use bc_text::{print_types, print_unit, read_types, read_unit};
 use std::alloc::Global;
@@ -88,12 +87,12 @@ fn show_section<O: Write>(alloc: Global, section: &Section<'_>, out: &mut O) -> 
 /// leaves of it. It fails where the file cannot be read or `out` cannot be written, and for want of memory. (Own.)
 pub fn show_limits<R: Files + AllocGlobal + Wait, O: Write + Drop>(
     rt: &R,
-    providers: &Providers,
+    solvers: &Solvers,
     out: &mut BufWriter<O>,
 ) -> io::Result<()> {
     let file = fs::read(rt, "limits.nll")?;
     for section in Sections::of(&file) {
         show_section(rt.alloc(), &section, out)?;
     }
-    show_check(rt, rt.alloc(), providers, "limits.nll", &file, out)
+    show_check(rt, rt.alloc(), solvers, "limits.nll", &file, out)
 }

@@ -8,7 +8,7 @@ pub returns-clause-stopped : goal.returns-clause-stopped
 returns-clause-stopped g c =
     let good = rw c.deref.ensures.value at c.in_ok-changes.ensures in
     let asked = rw c.deref-2.ensures.value at c.in_ok-names.ensures.asked in
-    broken c.serve.result _ _ _ _ _ c.in_ok-file.file.items (map seen c.in_ok-changes.changes.items) c.in_ok-names.names.keys c.in_ok-file.ensures.whole (record {
+    broken c.args.json c.serve.result _ _ _ _ _ c.in_ok-file.file.items (map seen c.in_ok-changes.changes.items) c.in_ok-names.names.keys c.in_ok-file.ensures.whole (record {
       short = c.in_ok-file.ensures.short;
       good = good;
       asked = asked;

@@ -8,7 +8,7 @@ use Rattle.bc_check.proofs.command.make_asks.Goals as goal
 pub loop-name-init : goal.loop-name-init
 loop-name-init g c =
     let same : c.into_iter-name-iterator.result ≡ c.args.names.now.keys = c.into_iter-name-iterator.ensures.into_iter_gives.0 in
-    record { made = making_none Ask _ _ shown _ _ same; range = omega arith }
+    record { made = making_none Ask _ _ (shown c.args.json) _ _ same; range = omega arith }
 
 pub loop-name-preserved : goal.loop-name-preserved
 loop-name-preserved g c = record {
@@ -19,4 +19,4 @@ loop-name-preserved g c = record {
 pub returns-in_err-make_ask-clause-no_memory : goal.returns-in_err-make_ask-clause-no_memory
 returns-in_err-make_ask-clause-no_memory g c e =
     let kept = c.in_err-make_ask.ensures.no_memory (same_stop c.from_residual.result c.in_err-make_ask.field-0.0 NoMemory c.from_residual.ensures.1 e) in
-    making_part Ask _ _ shown _ _ _ _ _ _ _ c.loop-name.invariant.made kept.0 kept.1
+    making_part Ask _ _ (shown c.args.json) _ _ _ _ _ _ _ c.loop-name.invariant.made kept.0 kept.1

@@ -1,0 +1,191 @@
+//! Readers and writers in memory that fail at one call, for tests of commands.
+#![tactic(auto)]
+
+use std::alloc::Global;
+use std::io;
+use std::io::{ErrorKind, Read, Write};
+
+/// What has a device fail at the call of one number, and at no other. (Own.)
+#[derive(Clone, Copy)]
+pub struct Fuse {
+    calls: u32,
+    fails_at: u32,
+}
+
+impl Fuse {
+    /// Fails at the call of this number, from 0. (Own.)
+    pub fn new(fails_at: u32) -> Self {
+        Fuse { calls: 0, fails_at }
+    }
+
+    /// How many calls there were. (Own.)
+    pub fn calls(&self) -> u32 {
+        self.calls
+    }
+
+    fn burn(&mut self) -> io::Result<()> {
+        let call = self.calls;
+        self.calls = call.saturating_add(1);
+        if call == self.fails_at {
+            return Err(ErrorKind::Other.into());
+        }
+        Ok(())
+    }
+}
+
+/// A reader of so many bytes at a time. (Own.)
+#[derive(Drop)]
+pub struct Input<'a> {
+    rest: &'a [u8],
+    chunk: usize,
+    fuse: Fuse,
+}
+
+impl<'a> Input<'a> {
+    /// Reads these bytes, as these devices behave. (Own.)
+    pub fn new(bytes: &'a [u8], devices: Devices) -> Self {
+        Input {
+            rest: bytes,
+            chunk: devices.chunk,
+            fuse: Fuse::new(devices.read),
+        }
+    }
+
+    /// How many reads there were. (Own.)
+    pub fn calls(&self) -> u32 {
+        self.fuse.calls()
+    }
+}
+
+impl Read for Input<'_> {
+    fn read(&mut self, buf: &mut [u8]) -> io::Result<usize> {
+        self.fuse.burn()?;
+        let count = buf.len().min(self.rest.len()).min(self.chunk);
+        let (front, rest) = self.rest.split_at(count);
+        buf[..count].copy_from_slice(front);
+        self.rest = rest;
+        Ok(count)
+    }
+}
+
+/// A writer that takes a few bytes at a time, and knows whether it was flushed since. (Own.)
+#[derive(Drop)]
+pub struct Output {
+    taken: Vec<u8>,
+    is_flushed: bool,
+    fuse: Fuse,
+}
+
+impl Output {
+    /// Has taken nothing, and fails at the write or flush of this number, from 0. (Own.)
+    pub fn new(alloc: Global, fails_at: u32) -> Self {
+        Output {
+            taken: Vec::new(alloc),
+            is_flushed: false,
+            fuse: Fuse::new(fails_at),
+        }
+    }
+
+    /// Whether it was flushed after all that it took. (Own.)
+    pub fn is_flushed(&self) -> bool {
+        self.is_flushed
+    }
+
+    /// How many writes and flushes there were. (Own.)
+    pub fn calls(&self) -> u32 {
+        self.fuse.calls()
+    }
+
+    /// What it took. (Own.)
+    pub fn into_taken(self) -> Vec<u8> {
+        self.taken
+    }
+}
+
+impl Write for Output {
+    fn write(&mut self, buf: &[u8]) -> io::Result<usize> {
+        self.fuse.burn()?;
+        let count = buf.len().min(5);
+        self.taken.extend_from_slice(&buf[..count])?;
+        self.is_flushed = false;
+        Ok(count)
+    }
+
+    fn flush(&mut self) -> io::Result<()> {
+        self.fuse.burn()?;
+        self.is_flushed = true;
+        Ok(())
+    }
+}
+
+/// The number of no call.
+const NEVER: u32 = u32::MAX;
+
+/// How the devices of a run behave: how many bytes are read at a time, how many the buffer of the reports holds, and at
+/// which call each device fails.
+#[derive(Clone, Copy)]
+pub struct Devices {
+    pub chunk: usize,
+    pub room: usize,
+    pub read: u32,
+    pub write: u32,
+    pub tell: u32,
+}
+
+/// Devices that never fail. (Own.)
+pub const SOUND: Devices = Devices {
+    chunk: 7,
+    room: 8192,
+    read: NEVER,
+    write: NEVER,
+    tell: NEVER,
+};
+
+/// What a command left, whether standard output was flushed last, and how many calls of each device it made. (Own.)
+#[derive(Drop)]
+pub struct Left {
+    pub status: u8,
+    pub is_flushed: bool,
+    pub out: Vec<u8>,
+    pub err: Vec<u8>,
+    pub reads: u32,
+    pub writes: u32,
+    pub tells: u32,
+}
+
+impl Left {
+    /// What was left by a command that ended with this status. (Own.)
+    pub fn of(status: u8, input: &Input<'_>, out: Output, err: Output) -> Left {
+        Left {
+            status,
+            is_flushed: out.is_flushed(),
+            reads: input.calls(),
+            writes: out.calls(),
+            tells: err.calls(),
+            out: out.into_taken(),
+            err: err.into_taken(),
+        }
+    }
+
+    /// Whether the command ended with this status, and left this on its two writers. (Own.)
+    pub fn is(&self, status: u8, out: &[u8], err: &[u8]) -> bool {
+        self.status == status && self.out.as_slice() == out && self.err.as_slice() == err
+    }
+
+    /// Whether the command could write no more, when it had told this, and made no further call once this write or flush had failed,
+    /// and what it wrote till then is a beginning of this. (Own.)
+    pub fn stopped_at_write(&self, write: u32, whole: &[u8], told: &[u8]) -> bool {
+        self.status == 3
+            && self.err.as_slice() == told
+            && whole.starts_with(self.out.as_slice())
+            && self.writes == write.saturating_add(1)
+    }
+
+    /// Whether the command made no further call on standard error once this one had failed, and told a beginning of this till then.
+    /// (Own.)
+    pub fn stopped_at_tell(&self, tell: u32, told: &[u8]) -> bool {
+        self.status == 3
+            && told.starts_with(self.err.as_slice())
+            && self.tells == tell.saturating_add(1)
+    }
+}

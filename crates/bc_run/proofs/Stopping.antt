@@ -1,0 +1,11 @@
+-- What is found and left where the command stops.
+use Rattle.std.proofs.Common.{◌≡◌, ◌≤◌, ◌<◌, ℕ, List, length, Option, inr}
+use Rattle.std.specs.Prelude.{◌⊎◌, Result, Ok, Err, IfOk, OnOk, IfSome}
+use Rattle.std.specs.Io.KnownBytes.{Appends}
+use Rattle.bc_check.specs.declared.stop.Stop.{Stop}
+use Rattle.bc_check.specs.Stops.{last_line, stop_status}
+use Rattle.bc_check.proofs.Stopping.{stops, IfOk-map}
+use Rattle.bc_run.specs.Ends.{IsEnd, Leaves}
+
+pub stopped_end : {E : Type 0} (sessions : ℕ) (name : List ℕ) (known o o' e told e' : Option (List ℕ)) (stop : Stop) (r : Result ℕ E) → Leaves sessions stop known o o' e told → IfOk r (λ n. n ≡ stop_status stop) → OnOk r (Appends told e' (last_line name stop)) → IfOk r (λ n. IsEnd sessions name known n o o' e e')
+stopped_end sessions name known o o' e told e' stop r left status said = IfOk-map r (λ n h. inr h) (stops (λ s t. Leaves sessions s known o o' e t) name told e' stop r left status said)

@@ -1,0 +1,4 @@
+pub mod Calls
+pub mod Print
+pub mod Runs
+pub mod Ends

@@ -1,0 +1,65 @@
+-- What is printed of a history, and of sessions that did not end.
+use Rattle.std.specs.Prelude.{ℕ, ◌+◌, List, [], ◌∷◌, ◌++◌, codes, decimal}
+use Rattle.bc_text.specs.Names.{name_text}
+use Rattle.bc_book.specs.declared.call.Entry.{Entry}
+use Rattle.bc_book.specs.declared.call.Event.{Event}
+use Rattle.bc_book.specs.declared.call.Event.TheVariants.{Types, Put, Remove, Ask}
+use Rattle.bc_book.specs.declared.call.PutReply.{PutReply}
+use Rattle.bc_book.specs.declared.call.PutReply.TheVariants.{Added, Replaced, Full, WrongKind}
+use Rattle.bc_book.specs.declared.call.RemoveReply.{RemoveReply}
+use Rattle.bc_book.specs.declared.call.RemoveReply.TheVariants.{Removed, Absent}
+use Rattle.bc_book.specs.declared.ledger.Refusal.{Refusal}
+use Rattle.bc_book.specs.declared.ledger.Refusal.TheVariants as refusals
+use Rattle.bc_share.specs.declared.run.End.{End}
+use Rattle.bc_share.specs.declared.run.End.TheVariants.{Done, Stopped}
+use Rattle.bc_check.specs.Text.{line}
+use Rattle.bc_check.specs.Report.{report}
+
+-- the word of a put's reply
+abbrev pub put_word : PutReply → List ℕ
+put_word Added = codes "added"
+put_word Replaced = codes "replaced"
+put_word Full = codes "full"
+put_word WrongKind = codes "wrongkind"
+
+-- the word of a removal's reply
+abbrev pub remove_word : RemoveReply → List ℕ
+remove_word Removed = codes "removed"
+remove_word Absent = codes "absent"
+
+-- a call with its reply, in words
+abbrev pub event_text : Event → List ℕ
+event_text (Types types) = codes "types stored"
+event_text (Put name body reply) = codes "put " ++ name_text name ++ codes " " ++ put_word reply
+event_text (Remove name reply) = codes "remove " ++ name_text name ++ codes " " ++ remove_word reply
+event_text (Ask name outcome) = codes "ask " ++ name_text name
+
+-- the line of an entry: the session, how many calls it had made before, and the call
+abbrev pub entry_line : Entry → List ℕ
+entry_line entry = decimal entry.session ++ codes " " ++ decimal entry.number ++ codes " " ++ line (event_text entry.event)
+
+-- the report of an Ask
+abbrev pub outcome_lines : Event → List ℕ
+outcome_lines (Types types) = []
+outcome_lines (Put name body reply) = []
+outcome_lines (Remove name reply) = []
+outcome_lines (Ask name outcome) = report outcome
+
+-- the lines of an entry
+abbrev pub entry_lines : Entry → List ℕ
+entry_lines entry = entry_line entry ++ outcome_lines entry.event
+
+-- why a call was refused
+abbrev pub refusal_text : Refusal → List ℕ
+refusal_text refusals.NoMemory = codes "no memory"
+refusal_text refusals.HistoryFull = codes "history full"
+
+-- the line of a session that did not end
+abbrev pub stopped_line : ℕ → End → List ℕ
+stopped_line session Done = []
+stopped_line session (Stopped number refusal) = line (codes "session " ++ decimal session ++ codes " stopped: " ++ refusal_text refusal)
+
+-- the lines of the sessions that did not end, of which the first has this number
+abbrev pub stopped_lines : ℕ → List End → List ℕ
+stopped_lines session [] = []
+stopped_lines session (end ∷ ends) = stopped_line session end ++ stopped_lines (session + 1) ends

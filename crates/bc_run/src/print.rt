@@ -1,0 +1,126 @@
+//! What is printed of a history, and of sessions that did not end.
+ghost use Rattle.std.specs.Prelude.{◌≡◌, ◌≤◌, OnOk, length};
+ghost use Rattle.std.specs.List.{flat_map};
+ghost use Rattle.std.specs.Io.KnownBytes.{Appends};
+ghost use Rattle.bc_check.specs.Text.{line};
+ghost use Rattle.bc_run.specs.Print.{put_word, remove_word, event_text, entry_line, outcome_lines, refusal_text, entry_lines, stopped_line, stopped_lines};
+
+use bc_book::{Entry, Event, PutReply, Refusal, RemoveReply};
+use bc_check::write_report;
+use bc_share::End;
+use std::io;
+use std::io::Write;
+
+/// The word of a put's reply.
+fn put_word(reply: PutReply) -> &'static str
+    ensures { result.now ≡ put_word reply }
+{
+    match reply {
+        PutReply::Added => "added",
+        PutReply::Replaced => "replaced",
+        PutReply::Full => "full",
+        PutReply::WrongKind => "wrongkind",
+    }
+}
+
+/// The word of a removal's reply.
+fn remove_word(reply: RemoveReply) -> &'static str
+    ensures { result.now ≡ remove_word reply }
+{
+    match reply {
+        RemoveReply::Removed => "removed",
+        RemoveReply::Absent => "absent",
+    }
+}
+
+/// Writes the words of a call with its reply, to the end of the line.
+fn write_event<O: Write>(event: &Event, out: &mut O) -> io::Result<()>
+    ensures { OnOk result (Appends (O.contents out.old) (O.contents out.new) (line (event_text event.now))) }
+{
+    match event {
+        Event::Types(_) => writeln!(out, "types stored"),
+        Event::Put(name, _, reply) => {
+            let word = put_word(*reply);
+            writeln!(out, "put {name} {word}")
+        }
+        Event::Remove(name, reply) => {
+            let word = remove_word(*reply);
+            writeln!(out, "remove {name} {word}")
+        }
+        Event::Ask(name, _) => writeln!(out, "ask {name}"),
+    }
+}
+
+/// Writes the line of an entry.
+fn write_line<O: Write>(entry: &Entry, out: &mut O) -> io::Result<()>
+    ensures { OnOk result (Appends (O.contents out.old) (O.contents out.new) (entry_line entry.now)) }
+{
+    let session = entry.session;
+    let number = entry.number;
+    write!(out, "{session} {number} ")?;
+    write_event(&entry.event, out)
+}
+
+/// Writes the report of an Ask, and nothing of another call.
+fn write_outcome<O: Write>(event: &Event, out: &mut O) -> io::Result<()>
+    ensures { OnOk result (Appends (O.contents out.old) (O.contents out.new) (outcome_lines event.now)) }
+{
+    match event {
+        Event::Types(_) | Event::Put(_, _, _) | Event::Remove(_, _) => Ok(()),
+        Event::Ask(_, outcome) => write_report(outcome.get(), out),
+    }
+}
+
+/// Writes the line of an entry, and behind the line of an Ask its report.
+fn write_entry<O: Write>(entry: &Entry, out: &mut O) -> io::Result<()>
+    ensures { OnOk result (Appends (O.contents out.old) (O.contents out.new) (entry_lines entry.now)) }
+{
+    write_line(entry, out)?;
+    write_outcome(&entry.event, out)
+}
+
+/// Writes the entries of a history in their order, exactly their bytes, or answers the writer's fault.
+pub fn write_history<O: Write>(entries: &[Entry], out: &mut O) -> io::Result<()>
+    ensures { OnOk result (Appends (O.contents out.old) (O.contents out.new) (flat_map entry_lines entries.now)) }
+{
+    for entry in entries {
+        write_entry(entry, out)?;
+    }
+    Ok(())
+}
+
+/// Why a call was refused.
+fn refusal_word(refusal: Refusal) -> &'static str
+    ensures { result.now ≡ refusal_text refusal }
+{
+    match refusal {
+        Refusal::NoMemory => "no memory",
+        Refusal::HistoryFull => "history full",
+    }
+}
+
+/// Writes that a session did not end, where it did not.
+fn write_stopped<E: Write>(session: u8, end: &End, err: &mut E) -> io::Result<()>
+    ensures { OnOk result (Appends (E.contents err.old) (E.contents err.new) (stopped_line session end.now)) }
+{
+    match end {
+        End::Done => Ok(()),
+        End::Stopped { number: _, refusal } => {
+            let why = refusal_word(*refusal);
+            writeln!(err, "session {session} stopped: {why}")
+        }
+    }
+}
+
+/// Writes which sessions did not end, in the order of the sessions, which are at most 16; or answers the writer's fault.
+pub fn write_all_stopped<E: Write>(ends: &[End], err: &mut E) -> io::Result<()>
+    requires { length ends.now ≤ 16 }
+    ensures { OnOk result (Appends (E.contents err.old) (E.contents err.new) (stopped_lines 0 ends.now)) }
+{
+    let mut session: u8 = 0;
+    for end in ends {
+        write_stopped(session, end, err)?;
+        session += 1;
+    }
+    Ok(())
+}
