@@ -4,9 +4,9 @@ use Rattle.std.specs.Prelude.{◌==◌}
 use Rattle.std.proofs.lemmas.Bool.{cases_eq, eq-eqb, ne_eqb}
 use Rattle.std.proofs.lemmas.List.{get_or-set_same, get_or-set_other}
 use Rattle.std.proofs.lemmas.List.Sums.{sum_by-append}
-use Rattle.bc_book.specs.declared.call.Entry.{Entry}
+use Rattle.bc_calls.specs.declared.call.Entry.{Entry}
 use Rattle.bc_book.specs.declared.ledger.TheConstants.{MOST_SESSIONS}
-use Rattle.bc_book.specs.Calls.{count_of}
+use Rattle.bc_calls.specs.Calls.{count_of}
 
 -- how many entries the last one counts for
 abbrev last_of : ℕ → Entry → ℕ

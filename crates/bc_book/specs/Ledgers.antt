@@ -8,16 +8,17 @@ use Rattle.bc_memo.specs.declared.memo.Remembered.{Remembered}
 use Rattle.bc_memo.specs.declared.change.Change.{Change}
 use Rattle.bc_memo.specs.declared.change.Change.TheVariants as changes
 use Rattle.bc_memo.specs.Places.{ShelfView, AreOrdered, unit_of}
-use Rattle.bc_book.specs.declared.call.PutReply.TheVariants.{Added}
-use Rattle.bc_book.specs.declared.call.Event.{Event}
-use Rattle.bc_book.specs.declared.call.Event.TheVariants.{Types, Put, Remove, Ask}
-use Rattle.bc_book.specs.declared.call.Entry.{Entry}
+use Rattle.bc_calls.specs.declared.call.PutReply.TheVariants.{Added}
+use Rattle.bc_calls.specs.declared.call.Event.{Event}
+use Rattle.bc_calls.specs.declared.call.Event.TheVariants.{Types, Put, Remove, Ask}
+use Rattle.bc_calls.specs.declared.call.Entry.{Entry}
 use Rattle.bc_book.specs.declared.ledger.Refusal.{Refusal}
 use Rattle.bc_book.specs.declared.ledger.Refusal.TheVariants.{HistoryFull}
-use Rattle.bc_book.specs.declared.ledger.TheConstants.{MOST_BODIES, MOST_SESSIONS}
-use Rattle.bc_book.specs.Calls.{after, count_of, IsReply, IsLegal}
-use Rattle.bc_book.specs.Changes.{writes_of}
-use Rattle.bc_book.specs.Answers.{IsShelfOf}
+use Rattle.bc_calls.specs.declared.call.TheConstants.{MOST_BODIES}
+use Rattle.bc_book.specs.declared.ledger.TheConstants.{MOST_SESSIONS}
+use Rattle.bc_calls.specs.Calls.{after, count_of, IsReply, IsLegal}
+use Rattle.bc_calls.specs.Changes.{writes_of}
+use Rattle.bc_calls.specs.Answers.{IsShelfOf}
 use Rattle.bc_book.specs.Memory.{IsRight, ArePast}
 
 -- how many entries there may be, those that there are, what is held, what is remembered, and for how many more entries, places and

@@ -1,6 +1,2 @@
-pub mod Calls
-pub mod Changes
-pub mod Answers
-pub mod Works
-pub mod Memory
 pub mod Ledgers
+pub mod Memory

@@ -6,9 +6,9 @@ use Rattle.bc_prov.specs.Outcome.{IsOutcomeIn}
 use Rattle.bc_prov.specs.Laws.{IsUsed}
 use Rattle.bc_memo.specs.declared.memo.Remembered.{Remembered}
 use Rattle.bc_memo.specs.Places.{ShelfView, revision_at}
-use Rattle.bc_book.specs.declared.call.Entry.{Entry}
-use Rattle.bc_book.specs.Calls.{after}
-use Rattle.bc_book.specs.Changes.{writes_of}
+use Rattle.bc_calls.specs.declared.call.Entry.{Entry}
+use Rattle.bc_calls.specs.Calls.{after}
+use Rattle.bc_calls.specs.Changes.{writes_of}
 
 -- The outcome was found in a state. All that it rests on there is recorded, each with its revision, and whatever has that revision
 -- now is as it was there. No recorded revision is above the count of accepted writes.

@@ -1,67 +1,95 @@
-//! What lies under the lock: the history, what it leaves, and what is remembered.
-ghost use Rattle.std.specs.Prelude.{◌≡◌, ◌<◌, [], length, IfOk, IfErr, OnErr, OnOk};
+//! What lies under the lock: the history, what it leaves, what is remembered, and what publishes it.
+ghost use Rattle.std.specs.Prelude.{◌≡◌, ◌<◌, ◌^◌, [], length, IfOk, IfErr, OnErr, OnOk};
 ghost use Rattle.std.specs.Option.{ForSome};
 ghost use Rattle.bc_prov.specs.Snapshots.{IsPartOf};
-ghost use Rattle.bc_book.specs.Calls.{IsLegal, IsReply, after};
-ghost use Rattle.bc_book.specs.Changes.{change_of};
+ghost use Rattle.bc_calls.specs.Calls.{IsLegal, IsReply, after};
+ghost use Rattle.bc_calls.specs.Changes.{change_of};
 ghost use Rattle.bc_book.specs.Ledgers.{Appends, HasPlace, IsFull, IsRow, kept_rows, remembering};
 
-use crate::call::{Entry, Event, PutReply, RemoveReply};
-use crate::ending::Ending;
 use crate::ledger::{Ledger, MOST_SESSIONS, Refusal};
-use crate::work::{Begun, Work};
+use bc_calls::{Begun, Entry, Event, PutReply, RemoveReply, Work, no_declarations};
 use bc_memo::Remembered;
 use bc_prov::{Declared, Outcome, Providers, Shared};
 use bc_syntax::Unit;
 use bc_text::Name;
+use bc_versions::{Ending, Fronts, Press};
 use std::alloc::{AllocError, Global};
 use std::marker::Model;
+use std::sync::Wait;
 
-/// A book: the history of all calls, what it leaves, and what is remembered of it. Contracts see how many entries it may have, those
-/// that it has, what is held, and what is remembered. (Own.)
+/// A book: the history of all calls, what it leaves, what is remembered of it, and the writer that publishes it. Contracts see how many
+/// entries it may have, those that it has, what is held, and what is remembered. The entries that it has are those that were
+/// published: its type keeps it. (Own.)
 #[derive(Drop)]
 pub struct Book<E: Ending> {
     ledger: Ledger,
-    ending: E,
+    press: Press<E>,
 }
 
 impl<E: Ending> Model for Book<E> {
+    ghost use Rattle.std.specs.Prelude.{◌≡◌};
     ghost use Rattle.bc_book.specs.Ledgers.{BookView};
 
     ghost Value = { BookView };
 
     ghost view = { λ b. record { capacity = b.ledger.capacity; entries = b.ledger.entries; shelf = b.ledger.shelf; answers = b.ledger.answers } };
+
+    ghost invariant = { λ b. b.press ≡ b.ledger.entries };
 }
 
 impl<E: Ending> Book<E> {
-    /// A book without entries, which may have so many, with no declaration and no body, and what ends it. `AllocError` only where
-    /// memory was refused. Own.
-    pub fn new(alloc: Global, ending: E, capacity: u32) -> Result<Book<E>, AllocError>
+    /// A book without entries, which may have so many, with no declaration and no body, for so many readers of what it publishes, and
+    /// what ends its writer. Answers `AllocError` only where memory was refused. Own.
+    pub fn new(
+        alloc: Global,
+        ending: E,
+        capacity: u32,
+        readers: usize,
+    ) -> Result<Book<E>, AllocError>
+        requires { (0 < readers) × (readers < 2 ^ 32) }
         ensures { IfOk result (λ book. (book.capacity ≡ capacity) × (book.entries ≡ [])) }
     {
         let ledger = Ledger::new(alloc, capacity)?;
-        Ok(Book { ledger, ending })
+        let first = no_declarations(alloc)?;
+        let second = no_declarations(alloc)?;
+        Ok(Book {
+            ledger,
+            press: Press::open(alloc, ending, first, second, readers)?,
+        })
+    }
+
+    /// What makes the fronts at which sessions read what is published. Answers `AllocError` only where one more owner of it was
+    /// refused. Own.
+    pub fn fronts(&self) -> Result<Fronts, AllocError> {
+        self.press.fronts()
     }
 
     /// Stores a session's declarations in place of those before (own). They were checked before, since that takes memory and time.
+    /// What is entered is published; it waits for those who still read what was published before.
     ///
     /// Refused with `HistoryFull` exactly where the history has as many entries as it may have, which is tested first, and with
     /// `NoMemory` only where memory was refused. Then nothing has changed.
-    pub fn put_types(&mut self, session: u8, types: Shared<Declared>) -> Result<(), Refusal>
+    pub fn put_types<R: Wait>(
+        &mut self,
+        rt: &R,
+        session: u8,
+        types: Shared<Declared>,
+    ) -> Result<(), Refusal>
         requires session { session < MOST_SESSIONS }
         ensures step { OnOk result (Appends session (Event.Types types) self.old self.new) }
         ensures refused { OnErr result (self.new ≡ self.old) }
         ensures full { IfErr result (IsFull self.old) }
         ensures below { OnOk result (length self.old.entries < self.old.capacity) }
     {
-        self.append(session, Event::Types(types), None)
+        self.append(rt, session, Event::Types(types), None)
     }
 
     /// Stores a session's unit under a name, where the reply says so: `WrongKind` where the name is not one for such a unit (a
     /// function's a root, a closure's any other, and a name of seven segments is none for a unit with a child), else `Full` where the
-    /// name is new and `MOST_BODIES` are held, else `Replaced` or `Added` (own). Refused as `put_types` is.
-    pub fn put(
+    /// name is new and `MOST_BODIES` are held, else `Replaced` or `Added` (own). Published and refused as `put_types` is.
+    pub fn put<R: Wait>(
         &mut self,
+        rt: &R,
         alloc: Global,
         session: u8,
         name: Name,
@@ -75,12 +103,17 @@ impl<E: Ending> Book<E> {
     {
         self.ledger.reserve()?;
         let reply = self.ledger.put_reply(alloc, &name, unit.get())?;
-        self.append(session, Event::Put(name, unit, reply), None)?;
+        self.append(rt, session, Event::Put(name, unit, reply), None)?;
         Ok(reply)
     }
 
-    /// Takes the unit of a name away: `Removed`, or `Absent` where none is held (own). Refused as `put_types` is.
-    pub fn remove(&mut self, session: u8, name: Name) -> Result<RemoveReply, Refusal>
+    /// Takes the unit of a name away: `Removed`, or `Absent` where none is held (own). Published and refused as `put_types` is.
+    pub fn remove<R: Wait>(
+        &mut self,
+        rt: &R,
+        session: u8,
+        name: Name,
+    ) -> Result<RemoveReply, Refusal>
         requires session { session < MOST_SESSIONS }
         ensures step { IfOk result (λ reply. Appends session (Event.Remove name reply) self.old self.new) }
         ensures refused { OnErr result (self.new ≡ self.old) }
@@ -89,7 +122,7 @@ impl<E: Ending> Book<E> {
     {
         self.ledger.reserve()?;
         let reply = self.ledger.remove_reply(&name);
-        self.append(session, Event::Remove(name, reply), None)?;
+        self.append(rt, session, Event::Remove(name, reply), None)?;
         Ok(reply)
     }
 
@@ -105,10 +138,11 @@ impl<E: Ending> Book<E> {
 
     /// Enters a session's Ask of the name of a work, and answers its outcome: the one that is remembered and stands, else the work's
     /// own where its revisions, declarations and units are those held, else the one that the providers give of what is held. The
-    /// outcome of a name that is held is remembered (own). It answers two owners of it, one for the session's own list. Refused as
-    /// `put_types` is, and with `NoMemory` where a provider wants memory.
-    pub fn settle(
+    /// outcome of a name that is held is remembered, and published with the entry (own). It answers two owners of it, one for the
+    /// session's own list. Published and refused as `put_types` is, and with `NoMemory` where a provider wants memory.
+    pub fn settle<R: Wait>(
         &mut self,
+        rt: &R,
         alloc: Global,
         session: u8,
         work: Work,
@@ -127,14 +161,15 @@ impl<E: Ending> Book<E> {
         let mine = outcome.clone()?;
         let answer = outcome.clone()?;
         let row = self.ledger.row(alloc, &name, &outcome)?;
-        self.append(session, Event::Ask(name, outcome), row)?;
+        self.append(rt, session, Event::Ask(name, outcome), row)?;
         Ok((mine, answer))
     }
 
-    // Adds a session's event, whose reply is the one that what is held gives it, and remembers an outcome, where there is one. All
-    // that may be refused comes first.
-    fn append(
+    // Adds a session's event, whose reply is the one that what is held gives it, publishes it, and remembers an outcome, where there is
+    // one. The capacity is tested first, all that may be refused comes next, and of that the writer's own room is the last.
+    fn append<R: Wait>(
         &mut self,
+        rt: &R,
         session: u8,
         event: Event,
         row: Option<(Name, Remembered)>,
@@ -152,15 +187,16 @@ impl<E: Ending> Book<E> {
         self.ledger.reserve()?;
         let change = event.change()?;
         let number = self.ledger.number(session);
+        let revision = self.ledger.revision(&event);
+        let entry = Entry {
+            session,
+            number,
+            event,
+        };
+        let published = entry.copy()?;
+        self.press.add(rt, published, revision)?;
         self.ledger.remember(row);
-        self.ledger.record(
-            Entry {
-                session,
-                number,
-                event,
-            },
-            change,
-        );
+        self.ledger.record(entry, change, revision);
         Ok(())
     }
 

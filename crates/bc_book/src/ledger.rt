@@ -4,24 +4,19 @@ ghost use Rattle.std.specs.Option.{ForSome};
 ghost use Rattle.bc_prov.specs.Outcome.{IsOutcomeIn};
 ghost use Rattle.bc_prov.specs.Snapshots.{IsPartOf};
 ghost use Rattle.bc_prov.specs.State.{at_name};
-ghost use Rattle.bc_book.specs.Calls.{IsLegal, IsPutReply, IsRemoveReply, MayComeNext, after, count_of};
-ghost use Rattle.bc_book.specs.Changes.{change_of, writes_after};
+ghost use Rattle.bc_calls.specs.Calls.{IsLegal, IsPutReply, IsRemoveReply, MayComeNext, after, count_of};
+ghost use Rattle.bc_calls.specs.Changes.{change_of, writes_after, writes_of};
 ghost use Rattle.bc_book.specs.Ledgers.{HasPlace, IsRow, SameLedger, kept_rows, remembering};
 
-use crate::call::{Entry, Event, PutReply, RemoveReply};
 use crate::reply::{put_reply, remove_reply};
-use crate::work::{Begun, Work, carrying};
+use bc_calls::{Begun, Entry, Event, MOST_BODIES, PutReply, RemoveReply, Work, no_declarations};
 use bc_memo::{Change, Memo, Remembered, Shelf};
-use bc_prov::{Declared, Outcome, Providers, Shared};
-use bc_syntax::{Sequence, Types, Unit};
+use bc_prov::{Outcome, Providers, Shared};
+use bc_syntax::Unit;
 use bc_text::Name;
 use std::alloc::{AllocError, Global};
 use std::marker::Model;
-use std::sync::Arc;
 use thiserror::Error;
-
-/// How many bodies may be held (own).
-pub const MOST_BODIES: usize = 256;
 
 /// How many sessions a database may have (own).
 pub const MOST_SESSIONS: usize = 16;
@@ -73,7 +68,7 @@ impl Ledger {
     pub(crate) fn new(alloc: Global, capacity: u32) -> Result<Ledger, AllocError>
         ensures { IfOk result (λ ledger. (ledger.capacity ≡ capacity) × (ledger.entries ≡ [])) }
     {
-        let types = declared(alloc, no_types(alloc)?)?;
+        let types = no_declarations(alloc)?;
         Ok(Ledger {
             capacity,
             history: Vec::new(alloc),
@@ -148,7 +143,7 @@ impl Ledger {
     {
         let answer = self.shared_answer(name)?;
         let part = self.shelf.part(alloc, name)?;
-        Ok(carrying(part, answer))
+        Ok(Begun::carrying(part, answer))
     }
 
     /// The outcome of the name of a work: what is remembered for it; else the work's own where it stands; else it is worked out
@@ -181,7 +176,7 @@ impl Ledger {
         ensures { IfOk result (IsOutcomeIn (after self.now.entries) name.now) }
     {
         let begun = self.begin(alloc, name)?;
-        begun.snapshot.outcome(alloc, providers)
+        begun.outcome(alloc, providers)
     }
 
     /// What is to be remembered of an outcome of a name, where the name is held and nothing that stands is remembered for it.
@@ -235,6 +230,14 @@ impl Ledger {
         self.counts[usize::from(session)]
     }
 
+    /// The revision that an event gives to what it writes, as the next one: the count of accepted writes with it.
+    pub(crate) fn revision(&self, event: &Event) -> u32
+        requires { length self.now.entries < self.now.capacity }
+        ensures { result ≡ writes_after (writes_of self.now.entries) event.now }
+    {
+        writes_with(self.writes, event)
+    }
+
     /// Remembers an outcome of a name that is held, where there is one. It takes no memory.
     pub(crate) fn remember(&mut self, row: Option<(Name, Remembered)>)
         requires room { 0 < self.old.rows }
@@ -247,22 +250,24 @@ impl Ledger {
         }
     }
 
-    /// Takes in the entry that comes next, given what it changes. It takes no memory.
-    pub(crate) fn record(&mut self, entry: Entry, change: Change)
+    /// Takes in the entry that comes next, given what it changes, and the revision that it gives to what it writes. It takes no
+    /// memory.
+    pub(crate) fn record(&mut self, entry: Entry, change: Change, revision: u32)
         requires session { entry.session < MOST_SESSIONS }
         requires room { (0 < self.old.room) × (0 < self.old.places) }
         requires below { length self.old.entries < self.old.capacity }
         requires next { MayComeNext self.old.entries entry }
         requires place { HasPlace (length self.old.shelf.places) entry.event }
         requires change { change ≡ change_of entry.event }
+        requires revision { revision ≡ writes_after (writes_of self.old.entries) entry.event }
         ensures same { self.new.capacity ≡ self.old.capacity }
         ensures entries { self.new.entries ≡ self.old.entries ++ entry ∷ [] }
         ensures answers { self.new.answers ≡ kept_rows change self.old.answers }
         ensures legal { IsLegal self.new.entries }
     {
-        self.writes = writes_with(self.writes, &entry.event);
+        self.writes = revision;
         forget_removed(&mut self.memo, &change);
-        self.shelf.change(change, self.writes);
+        self.shelf.change(change, revision);
         self.counts[usize::from(entry.session)] = entry.number + 1;
         self.history.push_reserved(entry);
     }
@@ -273,28 +278,6 @@ impl Ledger {
         ensures legal { IsLegal self.entries }
     {
         self.history
-    }
-}
-
-// No declarations.
-fn no_types(alloc: Global) -> Result<Shared<Types>, AllocError>
-    ensures { IfOk result (λ types. types ≡ []) }
-{
-    let types = Types::of_fitting(Sequence::new(alloc));
-    match Arc::new(alloc, types) {
-        Ok(types) => Ok(Shared::new(types)),
-        Err(_) => Err(AllocError),
-    }
-}
-
-// Declarations, checked.
-fn declared(alloc: Global, types: Shared<Types>) -> Result<Shared<Declared>, AllocError>
-    ensures { IfOk result (λ declared. declared ≡ types) }
-{
-    let declared = Declared::of(alloc, types)?;
-    match Arc::new(alloc, declared) {
-        Ok(declared) => Ok(Shared::new(declared)),
-        Err(_) => Err(AllocError),
     }
 }
 

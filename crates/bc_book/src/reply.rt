@@ -1,11 +1,10 @@
 //! The replies to puts and removals.
 ghost use Rattle.std.specs.Prelude.{◌≡◌, ◌↔◌, ◌<◌, ◌≤◌, IfOk, IsTrue, length};
 ghost use Rattle.bc_prov.specs.State.{HasRoom, Suits, SuitsKind};
-ghost use Rattle.bc_book.specs.Calls.{IsPutReply, IsRemoveReply};
+ghost use Rattle.bc_calls.specs.Calls.{IsPutReply, IsRemoveReply};
 ghost use Rattle.bc_book.specs.Ledgers.{bodies_of};
 
-use crate::call::{PutReply, RemoveReply};
-use crate::ledger::MOST_BODIES;
+use bc_calls::{MOST_BODIES, PutReply, RemoveReply};
 use bc_memo::Shelf;
 use bc_syntax::{Unit, UnitKind};
 use bc_text::Name;

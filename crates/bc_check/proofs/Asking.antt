@@ -10,7 +10,7 @@ use Rattle.std.proofs.lemmas.Map.Lookups.{CmpEqualImpliesEq}
 use Rattle.std.proofs.lemmas.Map.Views.{All-insert_key}
 use Rattle.bc_text.specs.Names.{NameParts, name_order}
 use Rattle.bc_text.specs.Laws.{NamesAreToldApart}
-use Rattle.bc_book.specs.declared.call.Call.{Call}
+use Rattle.bc_calls.specs.declared.call.Call.{Call}
 use Rattle.bc_check.specs.Asked.{root_put, AreAsked}
 use Rattle.bc_check.proofs.Members.{Contains-one, Contains-head, Contains-later}
 

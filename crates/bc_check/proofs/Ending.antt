@@ -6,12 +6,12 @@ use Rattle.std.specs.Io.KnownBytes.{Appends}
 use Rattle.std.proofs.lemmas.List.{map-append}
 use Rattle.std.proofs.lemmas.Grind.{flat_map-append}
 use Rattle.bc_text.specs.Names.{NameParts}
-use Rattle.bc_book.specs.declared.call.Call.{Call}
-use Rattle.bc_book.specs.declared.call.Call.TheVariants as calls_made
-use Rattle.bc_book.specs.declared.call.Event.{Event}
-use Rattle.bc_book.specs.declared.call.Event.TheVariants.{Types, Put, Remove, Ask}
-use Rattle.bc_book.specs.declared.call.Entry.{Entry}
-use Rattle.bc_book.specs.Calls.{IsLegal, calls, call_of}
+use Rattle.bc_calls.specs.declared.call.Call.{Call}
+use Rattle.bc_calls.specs.declared.call.Call.TheVariants as calls_made
+use Rattle.bc_calls.specs.declared.call.Event.{Event}
+use Rattle.bc_calls.specs.declared.call.Event.TheVariants.{Types, Put, Remove, Ask}
+use Rattle.bc_calls.specs.declared.call.Entry.{Entry}
+use Rattle.bc_calls.specs.Calls.{IsLegal, calls, call_of}
 use Rattle.bc_share.specs.Sessions.{SessionView, new_session}
 use Rattle.bc_share.specs.Closings.{IsOneHistory}
 use Rattle.bc_share.specs.declared.db.TheConstants.{MOST_ENTRIES}
@@ -77,7 +77,7 @@ legal_added events s t h is adds one =
 -- the calls that were answered and printed, of a session that answered at most one more
 legal_begun : (events : List Event) (s between t : SessionView) (h : List Entry) → s ≡ new_session 0 0 → Adds events s between → IsAtMostOneMore between t → IsOneHistory (t ∷ []) h → AreLegal events
 legal_begun events s between t h is adds last one = elim last [
-  | inl same ↦ legal_added events s t h is (subst (λ (x : SessionView). Adds events s x) (sym same) adds) one
+  | inl same ↦ legal_added events s t h is (record { tag = same.tag ∙ adds.tag; number = same.number ∙ adds.number; own = same.own ∙ adds.own }) one
   | inr more ↦ (let event : Event = more.0 in let answered = more.1 in legal_shorter events event (legal_added (events ++ event ∷ []) s t h is (adds_then events (event ∷ []) s between t adds (record { tag = answered.tag; number = answered.number; own = answered.own })) one))
 ]
 

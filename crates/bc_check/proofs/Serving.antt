@@ -5,9 +5,9 @@ use Rattle.std.specs.List.{flat_map}
 use Rattle.std.specs.Io.KnownBytes.{Appends, Keeps}
 use Rattle.std.proofs.lemmas.List.{map-append}
 use Rattle.std.proofs.lemmas.Grind.{flat_map-append}
-use Rattle.bc_book.specs.declared.call.Call.{Call}
-use Rattle.bc_book.specs.declared.call.Event.{Event}
-use Rattle.bc_book.specs.Calls.{call_of}
+use Rattle.bc_calls.specs.declared.call.Call.{Call}
+use Rattle.bc_calls.specs.declared.call.Event.{Event}
+use Rattle.bc_calls.specs.Calls.{call_of}
 use Rattle.bc_share.specs.Sessions.{SessionView}
 use Rattle.bc_check.specs.declared.stop.Stop.{Stop}
 use Rattle.bc_check.specs.Run.{event_status, greatest}
@@ -111,7 +111,7 @@ making_part {X} call_at all left text exit old mid new u v w h last k = record {
 }
 
 pub part_of_all : (list : List Call) (text : Event → List ℕ) (exit : ℕ) (old new : SessionView) (u v : Option (List ℕ)) → Served list text exit old new u v → ServedPart list text old new u v
-part_of_all list text exit old new u v h = record { front = list; ahead = []; cut = append-nil list; exit = exit; between = new; served = h; last = inl refl }
+part_of_all list text exit old new u v h = record { front = list; ahead = []; cut = append-nil list; exit = exit; between = new; served = h; last = inl (record { tag = refl; number = refl; own = refl }) }
 
 -- a stop that is passed on is the one that came
 pub same_stop : {A B : Type 0} (r : Result A Stop) (x n : Stop) → IsErrAnd r (λ y. y ≡ x) → r ≡ Err n → IsErrOf {T = B} (Err x) n

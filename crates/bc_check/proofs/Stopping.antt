@@ -3,7 +3,7 @@ use Rattle.std.proofs.Common.{◌≡◌, ◌≤◌, ◌<◌, ◌+◌, ℕ, List,
 use Rattle.std.specs.Prelude.{◌⊎◌, Bool, Result, Ok, Err, IfOk, OnOk, IfErr, IsErrOf, IfSome, true}
 use Rattle.std.specs.Io.KnownBytes.{Appends}
 use Rattle.bc_text.specs.Names.{NameParts}
-use Rattle.bc_book.specs.declared.call.Call.{Call}
+use Rattle.bc_calls.specs.declared.call.Call.{Call}
 use Rattle.bc_share.specs.declared.db.TheConstants.{MOST_ENTRIES}
 use Rattle.bc_check.specs.declared.input.TheConstants.{LIMIT}
 use Rattle.bc_check.specs.declared.stop.Stop.{Stop}

@@ -3,8 +3,8 @@ use Rattle.std.specs.Prelude.{◌↔◌, ◌==◌, Option, Some, None, List, len
 use Rattle.std.specs.List.{Contains}
 use Rattle.std.specs.List.Sorted.{IsStrictlySortedBy}
 use Rattle.bc_text.specs.Names.{NameParts, name_order}
-use Rattle.bc_book.specs.declared.call.Call.{Call}
-use Rattle.bc_book.specs.declared.call.Call.TheVariants.{Types, Put, Remove, Ask}
+use Rattle.bc_calls.specs.declared.call.Call.{Call}
+use Rattle.bc_calls.specs.declared.call.Call.TheVariants.{Types, Put, Remove, Ask}
 
 -- the root name under which a call puts a body, if it puts one under a root
 abbrev pub root_put : Call → Option NameParts

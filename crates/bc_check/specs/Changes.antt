@@ -2,8 +2,8 @@
 use Rattle.std.specs.Prelude.{◌≡◌, ℕ, Bool, true, false, None, List, Result, map, Vec}
 use Rattle.std.specs.List.{AllZip}
 use Rattle.std.specs.declared.alloc.Global.{Global}
-use Rattle.bc_book.specs.declared.call.Call.{Call}
-use Rattle.bc_book.specs.declared.call.Call.TheVariants as calls
+use Rattle.bc_calls.specs.declared.call.Call.{Call}
+use Rattle.bc_calls.specs.declared.call.Call.TheVariants as calls
 use Rattle.bc_check.specs.declared.heading.Heading.{Heading}
 use Rattle.bc_check.specs.declared.heading.Heading.TheVariants as headings
 use Rattle.bc_check.specs.declared.fault.FileFault.{FileFault}

@@ -1,8 +1,8 @@
 -- Header lines, for every command.
 use Rattle.std.specs.Prelude.{◌≡◌, ℕ, List, [], ◌++◌, Option, Some, None, codes, decimal}
 use Rattle.bc_text.specs.Names.{IsName, name_text}
-use Rattle.bc_book.specs.declared.call.Call.{Call}
-use Rattle.bc_book.specs.declared.call.Call.TheVariants as calls
+use Rattle.bc_calls.specs.declared.call.Call.{Call}
+use Rattle.bc_calls.specs.declared.call.Call.TheVariants as calls
 use Rattle.bc_check.specs.declared.heading.Heading.{Heading}
 use Rattle.bc_check.specs.declared.heading.Heading.TheVariants.{Types, Put, Remove, Ask}
 

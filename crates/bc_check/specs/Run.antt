@@ -5,14 +5,14 @@ use Rattle.bc_text.specs.Names.{NameParts, name_text}
 use Rattle.bc_prov.specs.declared.outcome.BodyErrors.{BodyErrors}
 use Rattle.bc_prov.specs.declared.outcome.Outcome.{Outcome}
 use Rattle.bc_prov.specs.declared.outcome.Outcome.TheVariants.{NoBody, Missing, BadTypes, Ill, Report}
-use Rattle.bc_book.specs.declared.call.Call.{Call}
-use Rattle.bc_book.specs.declared.call.Call.TheVariants as calls_made
-use Rattle.bc_book.specs.declared.call.PutReply.{PutReply}
-use Rattle.bc_book.specs.declared.call.PutReply.TheVariants.{Added, Replaced, Full, WrongKind}
-use Rattle.bc_book.specs.declared.call.Event.{Event}
-use Rattle.bc_book.specs.declared.call.Event.TheVariants.{Types, Put, Remove, Ask}
-use Rattle.bc_book.specs.declared.call.Entry.{Entry}
-use Rattle.bc_book.specs.Calls.{IsLegal, calls}
+use Rattle.bc_calls.specs.declared.call.Call.{Call}
+use Rattle.bc_calls.specs.declared.call.Call.TheVariants as calls_made
+use Rattle.bc_calls.specs.declared.call.PutReply.{PutReply}
+use Rattle.bc_calls.specs.declared.call.PutReply.TheVariants.{Added, Replaced, Full, WrongKind}
+use Rattle.bc_calls.specs.declared.call.Event.{Event}
+use Rattle.bc_calls.specs.declared.call.Event.TheVariants.{Types, Put, Remove, Ask}
+use Rattle.bc_calls.specs.declared.call.Entry.{Entry}
+use Rattle.bc_calls.specs.Calls.{IsLegal, calls}
 use Rattle.bc_check.specs.Text.{line}
 use Rattle.bc_check.specs.Report.{report}
 use Rattle.bc_json.specs.Json.{json_line}

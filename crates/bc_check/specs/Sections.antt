@@ -4,8 +4,8 @@ use Rattle.std.specs.List.{AllZip, list_all}
 use Rattle.bc_text.specs.declared.fault.ReadFault.{ReadFault}
 use Rattle.bc_text.specs.declared.fault.ReadFault.TheVariants as read_faults
 use Rattle.bc_text.specs.Reading.{read, read_types}
-use Rattle.bc_book.specs.declared.call.Call.{Call}
-use Rattle.bc_book.specs.declared.call.Call.TheVariants as calls
+use Rattle.bc_calls.specs.declared.call.Call.{Call}
+use Rattle.bc_calls.specs.declared.call.Call.TheVariants as calls
 use Rattle.bc_check.specs.declared.heading.Heading.{Heading}
 use Rattle.bc_check.specs.declared.heading.Heading.TheVariants as headings
 use Rattle.bc_check.specs.declared.fault.FaultKind.{FaultKind}

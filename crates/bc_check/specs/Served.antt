@@ -2,10 +2,10 @@
 use Rattle.std.specs.Prelude.{◌≡◌, ◌⊎◌, ℕ, Bool, ◌+◌, ◌≤◌, Option, List, ◌++◌, map, flat_map, length}
 use Rattle.std.specs.Io.KnownBytes.{Appends}
 use Rattle.bc_text.specs.Names.{NameParts}
-use Rattle.bc_book.specs.declared.call.Call.{Call}
-use Rattle.bc_book.specs.declared.call.Event.{Event}
-use Rattle.bc_book.specs.Calls.{call_of}
-use Rattle.bc_share.specs.Sessions.{SessionView, IsAnswered}
+use Rattle.bc_calls.specs.declared.call.Call.{Call}
+use Rattle.bc_calls.specs.declared.call.Event.{Event}
+use Rattle.bc_calls.specs.Calls.{call_of}
+use Rattle.bc_share.specs.Sessions.{SessionView, IsAnswered, IsSame}
 use Rattle.bc_share.specs.declared.db.TheConstants.{MOST_ENTRIES}
 use Rattle.bc_check.specs.Run.{event_status, greatest, calls_of, shown, told, AreLegal}
 
@@ -17,15 +17,15 @@ pub record Serves (call : Call) (text : Event → List ℕ) (exit : ℕ) (old ne
   pub printed : Appends before after (text event)
   pub status : exit ≡ event_status event
 
--- the session's own list is longer by these calls, and nothing else of it has changed
+-- the session's own list is longer by these calls, and it is the same session
 pub record Adds (events : List Event) (old new : SessionView) : Type 0 where
   pub tag : new.tag ≡ old.tag
   pub number : new.number ≡ old.number
   pub own : new.own ≡ old.own ++ events
 
--- nothing of the session has changed, or one call more was answered
+-- no call more was answered, or one
 abbrev pub IsAtMostOneMore : SessionView → SessionView → Type 0
-IsAtMostOneMore old new = (new ≡ old) ⊎ ((event : Event) × IsAnswered event old new)
+IsAtMostOneMore old new = IsSame old new ⊎ ((event : Event) × IsAnswered event old new)
 
 -- some calls were answered and printed, in this order; the greatest of their statuses
 pub record Served (list : List Call) (text : Event → List ℕ) (exit : ℕ) (old new : SessionView) (before after : Option (List ℕ)) : Type 0 where

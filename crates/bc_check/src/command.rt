@@ -2,7 +2,7 @@
 ghost use Rattle.std.specs.Prelude.{◌≡◌, ◌≤◌, ◌<◌, ◌+◌, ◌⊎◌, [], true, false, Err, OnOk, IfOk, IfErr, IsErrOf, length, map, max};
 ghost use Rattle.std.specs.Io.Buffered.{writer_buffer, writer_contents};
 ghost use Rattle.std.specs.Io.KnownBytes.{Appends, Keeps};
-ghost use Rattle.bc_book.specs.declared.call.Call.TheVariants as calls;
+ghost use Rattle.bc_calls.specs.declared.call.Call.TheVariants as calls;
 ghost use Rattle.bc_check.specs.Changes.{seen};
 ghost use Rattle.bc_check.specs.Stops.{is_of_calls};
 ghost use Rattle.bc_check.specs.Ends.{Checked, IsEnd, IsEndOf, Leaves, OfFile};
@@ -16,12 +16,13 @@ use crate::input::read_whole;
 use crate::print::write_report;
 use crate::status::{outcome_status, put_status};
 use crate::stop::{Stop, stop_with};
-use bc_book::{Ending, PutReply, Waiting};
+use bc_calls::PutReply;
 use bc_json::json_report;
 use bc_line::{CheckLine, Line};
 use bc_prov::{Outcome, Providers};
 use bc_share::{Db, MOST_ENTRIES, Session};
 use bc_text::Name;
+use bc_versions::{Ending, Waiting};
 use std::alloc::Global;
 use std::collections::BTreeSet;
 use std::io;
@@ -95,7 +96,7 @@ fn make_change<R: Wait, N: Ending, E: Write>(
     change: Change,
     err: &mut E,
 ) -> Result<u8, Stop>
-    ensures no_memory { IsErrOf result Stop.NoMemory → (session.new ≡ session.old) × Keeps (E.contents err.old) (E.contents err.new) }
+    ensures no_memory { IsErrOf result Stop.NoMemory → IsAtMostOneMore session.old session.new × Keeps (E.contents err.old) (E.contents err.new) }
     ensures served { IfOk result (λ status. Serves (seen change) told status session.old session.new (E.contents err.old) (E.contents err.new)) }
     ensures range { IfOk result (λ status. status ≤ 2) }
     ensures stop { IfErr result (λ stop. (stop ≡ Stop.CannotTell) ⊎ (stop ≡ Stop.NoMemory) ⊎ (stop ≡ Stop.HistoryFull)) }

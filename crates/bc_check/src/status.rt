@@ -2,7 +2,7 @@
 ghost use Rattle.std.specs.Prelude.{◌≡◌, ◌≤◌};
 ghost use Rattle.bc_check.specs.Run.{put_status, are_clean, outcome_status, event_status};
 
-use bc_book::{Event, PutReply};
+use bc_calls::{Event, PutReply};
 use bc_prov::{BodyErrors, Outcome};
 
 /// The status of a put with this reply.

@@ -4,9 +4,9 @@ use Rattle.std.specs.List.{All, Contains}
 use Rattle.std.proofs.Math.Seq.{get_or-append_seam}
 use Rattle.std.proofs.lemmas.Bool.{cases_lt}
 use Rattle.std.proofs.lemmas.List.{get_or_append_left, get_or-map, length-map}
-use Rattle.bc_book.specs.declared.call.Call.{Call}
-use Rattle.bc_book.specs.declared.call.Entry.{Entry}
-use Rattle.bc_book.specs.Calls.{calls, call_of}
+use Rattle.bc_calls.specs.declared.call.Call.{Call}
+use Rattle.bc_calls.specs.declared.call.Entry.{Entry}
+use Rattle.bc_calls.specs.Calls.{calls, call_of}
 use Rattle.bc_share.specs.declared.run.End.{End}
 use Rattle.bc_share.specs.declared.run.End.TheVariants.{Done, Stopped}
 use Rattle.bc_share.specs.Sessions.{SessionView, new_session, new_sessions}

@@ -1,7 +1,7 @@
 -- The greatest status, call by call and session by session.
 use Rattle.std.proofs.Common.{◌≡◌, ◌<◌, ℕ, suc, max, List, [], ◌∷◌, ◌++◌, ◌+◌, length, take, get_or, ap, sym, ◌∙◌, append_assoc, append-nil, arith}
 use Rattle.std.proofs.lemmas.List.{take_more}
-use Rattle.bc_book.specs.declared.call.Entry.{Entry}
+use Rattle.bc_calls.specs.declared.call.Entry.{Entry}
 use Rattle.bc_share.specs.declared.run.End.{End}
 use Rattle.bc_check.specs.Run.{event_status, greatest}
 use Rattle.bc_run.specs.Print.{stopped_line, stopped_lines}

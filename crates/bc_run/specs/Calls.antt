@@ -2,7 +2,7 @@
 use Rattle.std.specs.Prelude.{◌≡◌, ◌<◌, ◌==◌, ℕ, zero, suc, List, [], ◌∷◌, ◌++◌, Some, Result, Vec, if◌then◌else◌}
 use Rattle.std.specs.List.{AllZip, flat_map}
 use Rattle.std.specs.declared.alloc.Global.{Global}
-use Rattle.bc_book.specs.declared.call.Call.{Call}
+use Rattle.bc_calls.specs.declared.call.Call.{Call}
 use Rattle.bc_check.specs.declared.heading.Heading.{Heading}
 use Rattle.bc_check.specs.declared.fault.FileFault.{FileFault}
 use Rattle.bc_check.specs.declared.stop.Stop.{Stop}

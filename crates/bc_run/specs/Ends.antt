@@ -2,7 +2,7 @@
 use Rattle.std.specs.Prelude.{◌≡◌, ◌⊎◌, ◌<◌, ◌≤◌, ℕ, max, Option, List, length}
 use Rattle.std.specs.List.{flat_map}
 use Rattle.std.specs.Io.KnownBytes.{Appends}
-use Rattle.bc_book.specs.declared.call.Entry.{Entry}
+use Rattle.bc_calls.specs.declared.call.Entry.{Entry}
 use Rattle.bc_share.specs.declared.db.TheConstants.{MOST_ENTRIES}
 use Rattle.bc_share.specs.declared.run.End.{End}
 use Rattle.bc_line.specs.declared.line.Line.{Line}

@@ -1,13 +1,13 @@
 -- What is printed of a history, and of sessions that did not end.
 use Rattle.std.specs.Prelude.{ℕ, ◌+◌, List, [], ◌∷◌, ◌++◌, codes, decimal}
 use Rattle.bc_text.specs.Names.{name_text}
-use Rattle.bc_book.specs.declared.call.Entry.{Entry}
-use Rattle.bc_book.specs.declared.call.Event.{Event}
-use Rattle.bc_book.specs.declared.call.Event.TheVariants.{Types, Put, Remove, Ask}
-use Rattle.bc_book.specs.declared.call.PutReply.{PutReply}
-use Rattle.bc_book.specs.declared.call.PutReply.TheVariants.{Added, Replaced, Full, WrongKind}
-use Rattle.bc_book.specs.declared.call.RemoveReply.{RemoveReply}
-use Rattle.bc_book.specs.declared.call.RemoveReply.TheVariants.{Removed, Absent}
+use Rattle.bc_calls.specs.declared.call.Entry.{Entry}
+use Rattle.bc_calls.specs.declared.call.Event.{Event}
+use Rattle.bc_calls.specs.declared.call.Event.TheVariants.{Types, Put, Remove, Ask}
+use Rattle.bc_calls.specs.declared.call.PutReply.{PutReply}
+use Rattle.bc_calls.specs.declared.call.PutReply.TheVariants.{Added, Replaced, Full, WrongKind}
+use Rattle.bc_calls.specs.declared.call.RemoveReply.{RemoveReply}
+use Rattle.bc_calls.specs.declared.call.RemoveReply.TheVariants.{Removed, Absent}
 use Rattle.bc_book.specs.declared.ledger.Refusal.{Refusal}
 use Rattle.bc_book.specs.declared.ledger.Refusal.TheVariants as refusals
 use Rattle.bc_share.specs.declared.run.End.{End}

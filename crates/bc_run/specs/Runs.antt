@@ -1,10 +1,10 @@
 -- The history that sessions leave which make the calls of a file, and its status.
 use Rattle.std.specs.Prelude.{◌≡◌, ◌<◌, ℕ, max, List, [], ◌∷◌, length, map, take, slice_index_or}
 use Rattle.std.specs.List.{All}
-use Rattle.bc_book.specs.declared.call.Call.{Call}
-use Rattle.bc_book.specs.declared.call.Event.{Event}
-use Rattle.bc_book.specs.declared.call.Entry.{Entry}
-use Rattle.bc_book.specs.Calls.{IsLegal, calls, call_of}
+use Rattle.bc_calls.specs.declared.call.Call.{Call}
+use Rattle.bc_calls.specs.declared.call.Event.{Event}
+use Rattle.bc_calls.specs.declared.call.Entry.{Entry}
+use Rattle.bc_calls.specs.Calls.{IsLegal, calls, call_of}
 use Rattle.bc_share.specs.declared.run.End.{End}
 use Rattle.bc_share.specs.declared.run.End.TheVariants.{Done, Stopped}
 use Rattle.bc_share.specs.Sessions.{SessionView}

@@ -13,7 +13,7 @@ ghost use Rattle.bc_run.specs.Ends.{Ran, Leaves, IsEnd, IsEndOf};
 use crate::file::read_calls;
 use crate::make::make_calls;
 use crate::print::{write_all_stopped, write_history};
-use bc_book::Entry;
+use bc_calls::Entry;
 use bc_check::{Stop, event_status, read_whole, stop_with};
 use bc_line::{Line, RunLine};
 use bc_prov::Providers;

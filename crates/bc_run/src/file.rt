@@ -6,7 +6,7 @@ ghost use Rattle.std.specs.List.{list_all};
 ghost use Rattle.bc_run.specs.Calls.{GivesText, GivesOne, GivesAll};
 
 use crate::header::read_header;
-use bc_book::Call;
+use bc_calls::Call;
 use bc_check::{
     FaultKind, FileFault, Heading, Section, Sections, Stop, read_body, read_declarations, text_stop,
 };

@@ -5,10 +5,10 @@ ghost use Rattle.bc_run.specs.Runs.{AreMade, sessions_of, ends_of};
 
 use crate::file::SessionCall;
 use crate::script::scripts_of;
-use bc_book::{Ending, Waiting};
 use bc_check::{Stop, find_capacity};
 use bc_prov::Providers;
 use bc_share::{Db, End, Gate, History, Session, Stage, run_sessions};
+use bc_versions::{Ending, Waiting};
 use std::alloc::Global;
 use std::sync::Wait;
 use std::thread::Threads;

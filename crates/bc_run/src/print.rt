@@ -5,7 +5,8 @@ ghost use Rattle.std.specs.Io.KnownBytes.{Appends};
 ghost use Rattle.bc_check.specs.Text.{line};
 ghost use Rattle.bc_run.specs.Print.{put_word, remove_word, event_text, entry_line, outcome_lines, refusal_text, entry_lines, stopped_line, stopped_lines};
 
-use bc_book::{Entry, Event, PutReply, Refusal, RemoveReply};
+use bc_book::Refusal;
+use bc_calls::{Entry, Event, PutReply, RemoveReply};
 use bc_check::write_report;
 use bc_share::End;
 use std::io;

@@ -3,7 +3,7 @@ ghost use Rattle.std.specs.Prelude.{◌≡◌, ◌++◌, IfOk, OnOk};
 ghost use Rattle.bc_run.specs.Calls.{calls_for, own_call, scripts};
 
 use crate::file::SessionCall;
-use bc_book::Call;
+use bc_calls::Call;
 use bc_share::Script;
 use std::alloc::{AllocError, Global};
 

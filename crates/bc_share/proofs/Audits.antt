@@ -4,16 +4,11 @@ use Rattle.std.specs.Prelude.{map, filter}
 use Rattle.std.specs.Bool.{Decides}
 use Rattle.std.proofs.Math.Seq.{split_at}
 use Rattle.std.proofs.lemmas.Bool.Decides.{Decides-like, Decides-eqb, Decides-at}
-use Rattle.std.proofs.lemmas.List.{append-nil, append_cancel_left, map-append, nil_from_length, take_more, take_all}
-use Rattle.std.proofs.lemmas.List.Elements.{filter-append}
-use Rattle.bc_book.specs.declared.call.Event.{Event}
-use Rattle.bc_book.specs.declared.call.Entry.{Entry}
-use Rattle.bc_book.specs.Calls.{calls}
-
-pub calls-append : (session : ℕ) (g h : List Entry) → calls session (g ++ h) ≡ calls session g ++ calls session h
-calls-append session g h =
-    ap (map (λ (e : Entry). e.event)) (filter-append (λ (e : Entry). e.session == session) g h)
-    ∙ map-append (λ (e : Entry). e.event) (filter (λ (e : Entry). e.session == session) g) (filter (λ (e : Entry). e.session == session) h)
+use Rattle.std.proofs.lemmas.List.{append-nil, append_cancel_left, nil_from_length, take_more, take_all}
+use Rattle.bc_calls.specs.declared.call.Event.{Event}
+use Rattle.bc_calls.specs.declared.call.Entry.{Entry}
+use Rattle.bc_calls.specs.Calls.{calls}
+use Rattle.bc_calls.proofs.Beginnings.{calls-append}
 
 one_call : (number : ℕ) (e : Entry) (rest : List Entry) → e.session ≡ number → calls number (e ∷ rest) ≡ e.event ∷ calls number rest
 one_call number e rest mine = ap (λ (b : Bool). map (λ (x : Entry). x.event) (cond b (e ∷ filter (λ (x : Entry). x.session == number) rest) (filter (λ (x : Entry). x.session == number) rest))) (eq-eqb e.session number mine)

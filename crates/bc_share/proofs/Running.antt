@@ -2,9 +2,9 @@
 use Rattle.std.proofs.Common.{◌≡◌, ℕ, ◌+◌, ◌<◌, ◌≤◌, List, [], ◌∷◌, ◌++◌, length, take, drop, get_or, append_assoc, refl, sym, ap, ◌∙◌, subst, arith}
 use Rattle.std.specs.Prelude.{map}
 use Rattle.std.proofs.lemmas.List.{append-nil, drop_all, length-map, map-append, take_all, take_more}
-use Rattle.bc_book.specs.declared.call.Call.{Call}
-use Rattle.bc_book.specs.Calls.{call_of}
-use Rattle.bc_share.specs.Sessions.{SessionView}
+use Rattle.bc_calls.specs.declared.call.Call.{Call}
+use Rattle.bc_calls.specs.Calls.{call_of}
+use Rattle.bc_share.specs.Sessions.{SessionView, IsSame}
 use Rattle.bc_share.specs.declared.run.End.{End}
 use Rattle.bc_share.specs.declared.run.End.TheVariants.{Done}
 use Rattle.bc_share.specs.Runs.{AreRuns, HasMade, Makes, seats}
@@ -23,8 +23,14 @@ made_more old mid new script i call ran small there made =
       made = map-append call_of ran.events (event ∷ []) ∙ ap (λ l. l ++ call_of event ∷ []) ran.made ∙ ap (λ c. take i script ++ c ∷ []) (made.1 ∙ there) ∙ sym (take_more script i call small);
     }
 
-pub made_kept : (old mid new : SessionView) (calls : List Call) → HasMade old mid calls → new ≡ mid → HasMade old new calls
-made_kept old mid new calls ran same = subst (λ (s : SessionView). HasMade old s calls) (sym same) ran
+pub made_kept : (old mid new : SessionView) (calls : List Call) → HasMade old mid calls → IsSame mid new → HasMade old new calls
+made_kept old mid new calls ran same = record {
+  tag = same.tag ∙ ran.tag;
+  number = same.number ∙ ran.number;
+  events = ran.events;
+  own = same.own ∙ ran.own;
+  made = ran.made;
+}
 
 pub made_all : (old new : SessionView) (script : List Call) (i : ℕ) → HasMade old new (take i script) → length script ≤ i → HasMade old new script
 made_all old new script i ran done = subst (HasMade old new) (take_all i script done) ran

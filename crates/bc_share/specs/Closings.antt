@@ -1,8 +1,8 @@
 -- A history beside the sessions that made it.
 use Rattle.std.specs.Prelude.{◌≡◌, ◌<◌, ◌≤◌, ℕ, List, length, map, All}
 use Rattle.std.specs.List.{Contains}
-use Rattle.bc_book.specs.declared.call.Entry.{Entry}
-use Rattle.bc_book.specs.Calls.{IsLegal, calls}
+use Rattle.bc_calls.specs.declared.call.Entry.{Entry}
+use Rattle.bc_calls.specs.Calls.{IsLegal, calls}
 use Rattle.bc_share.specs.Sessions.{SessionView}
 use Rattle.bc_share.specs.declared.db.CloseFault.{CloseFault}
 use Rattle.bc_book.specs.declared.ledger.TheConstants.{MOST_SESSIONS}

@@ -1,8 +1,8 @@
 -- What scripts leave of the sessions that made their calls.
 use Rattle.std.specs.Prelude.{◌≡◌, ◌<◌, ℕ, List, ◌++◌, length, map, take, slice_index_or}
-use Rattle.bc_book.specs.declared.call.Call.{Call}
-use Rattle.bc_book.specs.declared.call.Event.{Event}
-use Rattle.bc_book.specs.Calls.{call_of}
+use Rattle.bc_calls.specs.declared.call.Call.{Call}
+use Rattle.bc_calls.specs.declared.call.Event.{Event}
+use Rattle.bc_calls.specs.Calls.{call_of}
 use Rattle.bc_share.specs.declared.run.End.{End}
 use Rattle.bc_share.specs.declared.run.End.TheVariants.{Done, Stopped}
 use Rattle.bc_share.specs.Sessions.{SessionView, IsAnswered}
@@ -11,7 +11,7 @@ use Rattle.bc_share.specs.Sessions.{SessionView, IsAnswered}
 abbrev pub Makes : SessionView → SessionView → Call → Type 0
 Makes old new call = (event : Event) × (call_of event ≡ call) × IsAnswered event old new
 
--- the session made these calls, in their order: its own list is longer by them, each with a reply, and nothing else of it has changed
+-- the session made these calls, in their order: its own list is longer by them, each with a reply, and it is the same session
 pub record HasMade (old new : SessionView) (calls : List Call) : Type 0 where
   pub tag : new.tag ≡ old.tag
   pub number : new.number ≡ old.number

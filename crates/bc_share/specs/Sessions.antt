@@ -1,32 +1,61 @@
 -- What a session knows, and what a call leaves of it.
-use Rattle.std.specs.Prelude.{◌≡◌, ℕ, zero, suc, List, [], ◌∷◌, ◌++◌}
-use Rattle.bc_text.specs.Names.{NameParts}
-use Rattle.bc_prov.specs.Snapshots.{SnapshotView, IsPartOf}
-use Rattle.bc_book.specs.declared.call.Entry.{Entry}
-use Rattle.bc_book.specs.Calls.{IsLegal, after}
-use Rattle.bc_book.specs.declared.call.Event.{Event}
+use Rattle.std.specs.Prelude.{◌≡◌, ℕ, ◌<◌, zero, suc, Some, List, [], ◌∷◌, ◌++◌, length}
+use Rattle.bc_calls.specs.declared.call.Entry.{Entry}
+use Rattle.bc_calls.specs.declared.call.Event.{Event}
+use Rattle.bc_calls.specs.Calls.{IsLegal, StartsWith, calls, last_of}
+use Rattle.bc_book.specs.declared.ledger.TheConstants.{MOST_SESSIONS}
 
--- the tag of its database, its number, and its own calls with their replies
+-- the tag of its database, its number, its own calls with their replies, and the entries that it has seen
 pub record SessionView : Type 0 where
   pub tag : ℕ
   pub number : ℕ
   pub own : List Event
+  pub seen : List Entry
+
+-- a session, and for how many more calls its own list has memory
+pub record NotesView : Type 0 where
+  pub session : SessionView
+  pub room : ℕ
 
 -- the session before any call
 abbrev pub new_session : ℕ → ℕ → SessionView
-new_session tag number = record { tag = tag; number = number; own = [] }
+new_session tag number = record { tag = tag; number = number; own = []; seen = [] }
 
 -- so many sessions before any call, numbered from 0
 abbrev pub new_sessions : ℕ → ℕ → List SessionView
 new_sessions tag zero = []
 new_sessions tag (suc count) = new_sessions tag count ++ new_session tag count ∷ []
 
--- a name's part of what some history of one thread leaves
-abbrev pub IsBegun : NameParts → SnapshotView → Type 0
-IsBegun name begun = (h : List Entry) × IsLegal h × IsPartOf begun name (after h)
+-- what a session has seen is legal, and in some beginning of it the session's calls are its own list
+pub record IsNoted (number : ℕ) (own : List Event) (seen : List Entry) : Type 0 where
+  pub range : number < MOST_SESSIONS
+  pub legal : IsLegal seen
+  pub noted : List Entry
+  pub begins : StartsWith seen noted
+  pub listed : calls number noted ≡ own
 
--- the call was answered with this reply: the session's own list is longer by the two, and nothing else of it has changed
+-- it is the same session, with the same list of its own
+pub record IsSame (old new : SessionView) : Type 0 where
+  pub tag : new.tag ≡ old.tag
+  pub number : new.number ≡ old.number
+  pub own : new.own ≡ old.own
+
+-- the session's own list is as it was, and what it has seen begins with what it had seen and is legal
+pub record Stays (old new : SessionView) : Type 0 where
+  pub tag : new.tag ≡ old.tag
+  pub number : new.number ≡ old.number
+  pub own : new.own ≡ old.own
+  pub later : StartsWith new.seen old.seen
+  pub legal : IsLegal new.seen
+
+-- The call was answered with this reply: the session's own list is longer by the two. What it has seen begins with what it had seen, is
+-- legal, and ends with an entry of this session, of the two, with the length that its own list had as its number; so the session's
+-- calls in what it has seen are its own list.
 pub record IsAnswered (event : Event) (old new : SessionView) : Type 0 where
   pub tag : new.tag ≡ old.tag
   pub number : new.number ≡ old.number
   pub own : new.own ≡ old.own ++ event ∷ []
+  pub later : StartsWith new.seen old.seen
+  pub legal : IsLegal new.seen
+  pub last : last_of new.seen ≡ Some (record { session = old.number; number = length old.own; event = event })
+  pub mine : calls new.number new.seen ≡ new.own

@@ -1,11 +1,12 @@
 //! Whether a history agrees with the own lists of the sessions that made it.
 ghost use Rattle.std.specs.Prelude.{◌≡◌, ◌≢◌, ◌↔◌, ◌<◌, ◌∷◌, All, IsTrue, MatchOption, ℕ};
 ghost use Rattle.std.specs.List.{Contains};
-ghost use Rattle.bc_book.specs.Calls.{calls};
+ghost use Rattle.bc_calls.specs.Calls.{calls};
 ghost use Rattle.bc_share.specs.Closings.{Agrees, AreSessionsOf, numbers};
 
 use crate::session::Session;
-use bc_book::{Ending, Entry, Event};
+use bc_calls::{Entry, Event};
+use bc_versions::Ending;
 
 // What follows this event, where it is the first.
 fn after_first<'a>(events: &'a [Event], event: &Event) -> Option<&'a [Event]>

@@ -8,13 +8,15 @@ use crate::tests::{
     WRITES_LAST, all_go, history_by,
 };
 use bc_analyses::{find_live, find_scopes, find_values, providers};
-use bc_book::{PutReply, Refusal, Waiting};
+use bc_book::Refusal;
+use bc_calls::PutReply;
 use bc_cons::Facts;
 use bc_live::LiveSets;
 use bc_loans::Scopes;
 use bc_mir::Typed;
 use bc_prov::{Liveness, Providers, Scoping, Solver};
 use bc_solve::Values;
+use bc_versions::Waiting;
 use std::alloc::{AllocError, Global};
 use std::process::Abort;
 use std::sync::atomic::AtomicU32;

@@ -1,6 +1,6 @@
 //! A database: opened for its sessions, and closed with them, which gives the history.
-ghost use Rattle.std.specs.Prelude.{◌≡◌, ◌↔◌, ◌≤◌, IfOk, IfErr, IsTrue, OnOk};
-ghost use Rattle.bc_book.specs.Calls.{IsLegal};
+ghost use Rattle.std.specs.Prelude.{◌≡◌, ◌↔◌, ◌<◌, ◌≤◌, IfOk, IfErr, IsTrue, OnOk};
+ghost use Rattle.bc_calls.specs.Calls.{IsLegal};
 ghost use Rattle.bc_book.specs.declared.ledger.TheConstants.{MOST_SESSIONS};
 ghost use Rattle.bc_share.specs.Sessions.{new_sessions};
 ghost use Rattle.bc_share.specs.Closings.{AreSessionsOf, IsCloseFault, IsInRange, IsOneHistory};
@@ -8,7 +8,9 @@ ghost use Rattle.bc_share.specs.Closings.{AreSessionsOf, IsCloseFault, IsInRange
 use crate::audit::{agree, are_sessions};
 use crate::desk::Desk;
 use crate::session::Session;
-use bc_book::{Book, Ending, Entry, MOST_SESSIONS};
+use bc_book::{Book, MOST_SESSIONS};
+use bc_calls::Entry;
+use bc_versions::{Ending, Fronts};
 use std::alloc::{AllocError, Global};
 use std::marker::Model;
 use std::sync::{Arc, Wait};
@@ -47,11 +49,11 @@ pub struct History {
 
 impl Model for History {
     ghost use Rattle.std.specs.Prelude.{List};
-    ghost use Rattle.bc_book.specs.declared.call.Entry.{Entry};
+    ghost use Rattle.bc_calls.specs.declared.call.Entry.{Entry};
 
     ghost Value = { List Entry };
 
-    ghost use Rattle.bc_book.specs.Calls.{IsLegal};
+    ghost use Rattle.bc_calls.specs.Calls.{IsLegal};
 
     ghost view = { λ h. h.entries.items };
 
@@ -112,7 +114,7 @@ impl<E: Ending> Db<E> {
     }
 
     /// Ends the sessions, and hands out the history. It takes no memory. What sessions it was not given find a full history from then
-    /// on.
+    /// on, and nothing to read.
     ///
     /// `Foreign` exactly where these are not the database's sessions, each once; `Audit`, with the history, exactly
     /// where they are, and a session's own list is not what the history has of it or an entry is of none of them
@@ -154,14 +156,16 @@ fn opened<E: Ending>(
     capacity: u32,
     count: u8,
 ) -> Result<(Db<E>, Vec<Session<E>>), AllocError>
-    requires { count ≤ MOST_SESSIONS }
+    requires some { 0 < count }
+    requires few { count ≤ MOST_SESSIONS }
     ensures { IfOk result (λ opened. (opened.0 ≡ record { tag = tag; count = count }) × (opened.1.items ≡ new_sessions tag count)) }
 {
-    let book = Book::new(alloc, ending, capacity)?;
+    let book = Book::new(alloc, ending, capacity, usize::from(count))?;
+    let fronts = book.fronts()?;
     let Ok(desk) = Arc::new(alloc, Desk::new(book)) else {
         return Err(AllocError);
     };
-    let sessions = seated(alloc, &desk, tag, count)?;
+    let sessions = seated(alloc, &desk, &fronts, tag, count)?;
     let db = Db {
         alloc,
         tag,
@@ -171,10 +175,11 @@ fn opened<E: Ending>(
     Ok((db, sessions))
 }
 
-// So many new sessions at a desk, numbered from 0. `AllocError` only where memory was refused.
+// So many new sessions at a desk, numbered from 0, each with a front. `AllocError` only where memory was refused.
 fn seated<E: Ending>(
     alloc: Global,
     desk: &Arc<Desk<E>, Global>,
+    fronts: &Fronts,
     tag: u64,
     count: u8,
 ) -> Result<Vec<Session<E>>, AllocError>
@@ -184,7 +189,8 @@ fn seated<E: Ending>(
     let mut sessions = Vec::new(alloc);
     for number in 0..count {
         let theirs = Arc::try_clone(desk)?;
-        sessions.push(Session::new(alloc, theirs, tag, number))?;
+        let front = fronts.front()?;
+        sessions.push(Session::new(alloc, theirs, tag, number, front))?;
     }
     Ok(sessions)
 }

@@ -1,18 +1,20 @@
 //! What the sessions of a database share: its book, under a lock.
-ghost use Rattle.std.specs.Prelude.{◌≡◌, ◌<◌, IfOk};
-ghost use Rattle.bc_book.specs.Calls.{IsLegal};
-ghost use Rattle.bc_book.specs.declared.ledger.TheConstants.{MOST_SESSIONS};
-ghost use Rattle.bc_share.specs.Sessions.{IsBegun};
+ghost use Rattle.std.specs.Prelude.{◌≡◌, ◌<◌, IfOk, OnErr, OnOk};
+ghost use Rattle.bc_calls.specs.Calls.{IsLegal};
+ghost use Rattle.bc_share.specs.Sessions.{IsAnswered};
 
-use bc_book::{Begun, Book, Ending, Entry, PutReply, Refusal, RemoveReply, Work};
+use crate::notes::Notes;
+use bc_book::{Book, Refusal};
+use bc_calls::{Entry, Event, PutReply, RemoveReply, Work};
 use bc_prov::{Declared, Outcome, Providers, Shared};
 use bc_syntax::Unit;
 use bc_text::Name;
-use std::alloc::{AllocError, Global};
+use bc_versions::Ending;
+use std::alloc::Global;
 use std::sync::{Mutex, Wait};
 
 /// A book under a lock, which each call takes for one step, until the database is closed and the book taken out: what comes later
-/// finds a full history, and nothing held.
+/// finds a full history. A call that is entered is noted under the lock too, once its session has read it.
 #[derive(Drop)]
 pub(crate) struct Desk<E: Ending> {
     book: Mutex<Option<Book<E>>>,
@@ -26,34 +28,48 @@ impl<E: Ending> Desk<E> {
         }
     }
 
-    /// Enters a session's declarations.
+    /// Enters a session's declarations, of which the session keeps an owner of its own.
     pub(crate) fn put_types<R: Wait>(
         &self,
         rt: &R,
-        session: u8,
+        notes: &mut Notes,
         types: Shared<Declared>,
+        mine: Shared<Declared>,
     ) -> Result<(), Refusal>
-        requires { session < MOST_SESSIONS }
+        requires { 0 < notes.old.room }
+        ensures told { OnOk result (IsAnswered (Event.Types mine) notes.old.session notes.new.session) }
+        ensures refused { OnErr result (notes.new ≡ notes.old) }
     {
         match &mut *self.book.lock(rt) {
-            Some(book) => book.put_types(session, types),
+            Some(book) => {
+                book.put_types(rt, notes.number(), types)?;
+                notes.note(rt, Event::Types(mine));
+                Ok(())
+            }
             None => Err(Refusal::HistoryFull),
         }
     }
 
-    /// Enters a session's put, and replies to it.
+    /// Enters a session's put, of whose unit the session keeps an owner of its own, and replies to it.
     pub(crate) fn put<R: Wait>(
         &self,
         rt: &R,
         alloc: Global,
-        session: u8,
+        notes: &mut Notes,
         name: Name,
         unit: Shared<Unit>,
+        mine: Shared<Unit>,
     ) -> Result<PutReply, Refusal>
-        requires { session < MOST_SESSIONS }
+        requires { 0 < notes.old.room }
+        ensures told { IfOk result (λ reply. IsAnswered (Event.Put name mine reply) notes.old.session notes.new.session) }
+        ensures refused { OnErr result (notes.new ≡ notes.old) }
     {
         match &mut *self.book.lock(rt) {
-            Some(book) => book.put(alloc, session, name, unit),
+            Some(book) => {
+                let reply = book.put(rt, alloc, notes.number(), name, unit)?;
+                notes.note(rt, Event::Put(name, mine, reply));
+                Ok(reply)
+            }
             None => Err(Refusal::HistoryFull),
         }
     }
@@ -62,46 +78,43 @@ impl<E: Ending> Desk<E> {
     pub(crate) fn remove<R: Wait>(
         &self,
         rt: &R,
-        session: u8,
+        notes: &mut Notes,
         name: Name,
     ) -> Result<RemoveReply, Refusal>
-        requires { session < MOST_SESSIONS }
+        requires { 0 < notes.old.room }
+        ensures told { IfOk result (λ reply. IsAnswered (Event.Remove name reply) notes.old.session notes.new.session) }
+        ensures refused { OnErr result (notes.new ≡ notes.old) }
     {
         match &mut *self.book.lock(rt) {
-            Some(book) => book.remove(session, name),
+            Some(book) => {
+                let reply = book.remove(rt, notes.number(), name)?;
+                notes.note(rt, Event::Remove(name, reply));
+                Ok(reply)
+            }
             None => Err(Refusal::HistoryFull),
         }
     }
 
-    /// A name's part of what is held. `AllocError` only where memory was refused.
-    pub(crate) fn snapshot<R: Wait>(
-        &self,
-        rt: &R,
-        alloc: Global,
-        name: &Name,
-    ) -> Result<Begun, AllocError>
-        ensures { IfOk result (IsBegun name.now) }
-    {
-        match &*self.book.lock(rt) {
-            Some(book) => book.snapshot(alloc, name),
-            None => Begun::of_nothing(alloc, name),
-        }
-    }
-
-    /// Enters a session's Ask, and answers two owners of its outcome.
+    /// Enters a session's Ask of the name of a work, and answers its outcome.
     pub(crate) fn settle<R: Wait>(
         &self,
         rt: &R,
         alloc: Global,
-        session: u8,
+        notes: &mut Notes,
         work: Work,
         providers: &Providers,
-    ) -> Result<(Shared<Outcome>, Shared<Outcome>), Refusal>
-        requires { session < MOST_SESSIONS }
-        ensures { IfOk result (λ told. told.1 ≡ told.0) }
+    ) -> Result<Shared<Outcome>, Refusal>
+        requires { 0 < notes.old.room }
+        ensures told { IfOk result (λ outcome. IsAnswered (Event.Ask work.snapshot.root outcome) notes.old.session notes.new.session) }
+        ensures refused { OnErr result (notes.new ≡ notes.old) }
     {
         match &mut *self.book.lock(rt) {
-            Some(book) => book.settle(alloc, session, work, providers),
+            Some(book) => {
+                let name = *work.name();
+                let (mine, answer) = book.settle(rt, alloc, notes.number(), work, providers)?;
+                notes.note(rt, Event::Ask(name, mine));
+                Ok(answer)
+            }
             None => Err(Refusal::HistoryFull),
         }
     }

@@ -7,7 +7,10 @@ mod audit;
 mod counted;
 mod db;
 mod desk;
+mod notes;
 mod run;
+#[cfg(test)]
+mod seen;
 mod session;
 #[cfg(test)]
 mod settled;

@@ -1,14 +1,17 @@
 //! Scripts of calls, which sessions make on threads of their own.
 ghost use Rattle.std.specs.Prelude.{◌≡◌, ◌<◌, ◌≤◌, [], List, IfErr, IfOk, OnErr, OnOk, length, map, slice_index_or, vec_capacity};
-ghost use Rattle.bc_book.specs.declared.call.Call.{Call};
-ghost use Rattle.bc_book.specs.declared.call.Call.TheVariants as calls;
+ghost use Rattle.bc_calls.specs.declared.call.Call.{Call};
+ghost use Rattle.bc_calls.specs.declared.call.Call.TheVariants as calls;
 ghost use Rattle.bc_share.specs.Runs.{AreRuns, IsRun, Makes, seats};
+ghost use Rattle.bc_share.specs.Sessions.{IsSame};
 
 use crate::db::Db;
 use crate::session::Session;
-use bc_book::{Call, Ending, Refusal};
+use bc_book::Refusal;
+use bc_calls::Call;
 use bc_prov::Providers;
 use bc_text::Name;
+use bc_versions::Ending;
 use std::alloc::Global;
 use std::marker::Model;
 use std::sync::Wait;
@@ -36,7 +39,7 @@ pub struct Script {
 
 impl Model for Script {
     ghost use Rattle.std.specs.Prelude.{List};
-    ghost use Rattle.bc_book.specs.declared.call.Call.{Call};
+    ghost use Rattle.bc_calls.specs.declared.call.Call.{Call};
 
     ghost Value = { List Call };
 
@@ -166,7 +169,7 @@ fn make_call<R: Wait, E: Ending, G: Gate>(
     gate: &G,
 ) -> Result<(), Refusal>
     ensures made { OnOk result (Makes session.old session.new call.now) }
-    ensures refused { OnErr result (session.new ≡ session.old) }
+    ensures refused { OnErr result (IsSame session.old session.new) }
 {
     match call {
         Call::Types(types) => {
@@ -193,9 +196,9 @@ fn ask_pausing<R: Wait, E: Ending, G: Gate>(
     gate: &G,
 ) -> Result<(), Refusal>
     ensures made { OnOk result (Makes session.old session.new (calls.Ask name.now)) }
-    ensures refused { OnErr result (session.new ≡ session.old) }
+    ensures refused { OnErr result (IsSame session.old session.new) }
 {
-    let begun = session.begin(rt, name)?;
+    let begun = session.begin(name)?;
     gate.pause(session.number(), Stage::Begun);
     let work = begun.work(alloc, providers)?;
     gate.pause(session.number(), Stage::Worked);

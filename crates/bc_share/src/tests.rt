@@ -1,10 +1,12 @@
 //! Databases: their ranges, their sessions, their histories.
 use crate::{CloseFault, Db, History, OpenFault, Session};
 use bc_analyses::providers;
-use bc_book::{Ending, Entry, Event, PutReply, Refusal, RemoveReply, Waiting};
+use bc_book::Refusal;
+use bc_calls::{Entry, Event, PutReply, RemoveReply};
 use bc_prov::{Outcome, Providers};
 use bc_syntax::{Types, Unit};
 use bc_text::{Name, read_types, read_unit};
+use bc_versions::{Ending, Waiting};
 use std::alloc::{AllocError, Global};
 use std::process::Abort;
 use std::sync::{Arc, Wait};
@@ -39,16 +41,17 @@ const REQUIRES: &[u8] =
 
 pub(crate) const INVARIANT_BUT_MARKED_COVARIANT: &[u8] = b"struct H<+'a> { &'static mut &'a int; }";
 
-const MARKED_INVARIANT: &[u8] = b"struct H<='a> { &'static mut &'a int; }";
+pub(crate) const MARKED_INVARIANT: &[u8] = b"struct H<='a> { &'static mut &'a int; }";
 
 /// What an Ask finds: no body, a missing closure, whose name has so many segments, the first bad declaration, one body with so
-/// many errors, three with so many each, or something else.
+/// many errors, two or three with so many each, or something else.
 #[derive(Clone, Copy, PartialEq)]
 pub(crate) enum Found {
     NoBody,
     Missing(usize),
     BadTypes(usize),
     Errors(usize),
+    Two(usize, usize),
     Three(usize, usize, usize),
     Other,
 }
@@ -98,6 +101,7 @@ pub(crate) fn found_by(outcome: &Outcome) -> Found {
         Outcome::Ill(_, _) => Found::Other,
         Outcome::Report(bodies) => match bodies.as_slice() {
             [body] => Found::Errors(body.errors.len()),
+            [outer, inner] => Found::Two(outer.errors.len(), inner.errors.len()),
             [outer, middle, inner] => {
                 Found::Three(outer.errors.len(), middle.errors.len(), inner.errors.len())
             }
@@ -165,7 +169,7 @@ fn fills_below<R: Wait, E: Ending>(
 }
 
 /// Makes a call, and answers whether it has its reply.
-fn goes<R: Wait, E: Ending>(
+pub(crate) fn goes<R: Wait, E: Ending>(
     rt: &R,
     alloc: Global,
     session: &mut Session<E>,

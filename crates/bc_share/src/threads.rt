@@ -2,8 +2,10 @@
 use crate::tests::{Found, WRITES_LAST, WRITES_WHILE_BORROWED, found_by, name, shared};
 use crate::{Db, End, Gate, History, Script, Session, Stage, run_sessions};
 use bc_analyses::providers;
-use bc_book::{Call, Ending, Entry, Event, PutReply, Refusal, Waiting};
+use bc_book::Refusal;
+use bc_calls::{Call, Entry, Event, PutReply};
 use bc_prov::{Providers, Shared};
+use bc_versions::{Ending, Waiting};
 use std::alloc::Global;
 use std::sync::Wait;
 use std::sync::atomic::AtomicU32;
@@ -266,7 +268,7 @@ fn a_refused_call_ends_its_script(rt: HostRuntime) -> Result<(), Fail> {
     Ok(())
 }
 
-/// Whether a session finds a full history, and nothing held.
+/// Whether a session finds a full history where it puts a body, and cannot begin an Ask.
 fn is_late<R: Wait, E: Ending>(
     rt: &R,
     alloc: Global,
@@ -275,13 +277,7 @@ fn is_late<R: Wait, E: Ending>(
 ) -> Result<bool, Fail> {
     let put = session.put(rt, name(b"f")?, shared(alloc, WRITES_LAST)?);
     let asked = session.ask(rt, &name(b"f")?, providers);
-    let begun = session.begin(rt, &name(b"f")?)?;
-    let work = begun.work(alloc, providers)?;
-    Ok(
-        put == Err(Refusal::HistoryFull)
-            && matches!(asked, Err(Refusal::HistoryFull))
-            && found_by(work.outcome()) == Found::NoBody,
-    )
+    Ok(put == Err(Refusal::HistoryFull) && matches!(asked, Err(Refusal::NoMemory)))
 }
 
 /// Two databases may have one tag: the one closed with the other's session leaves its own, which comes too late.

@@ -2,11 +2,11 @@
 use crate::timing::timed;
 use anyhow::bail;
 use bc_analyses::providers;
-use bc_book::Waiting;
 use bc_prov::Providers;
 use bc_share::Db;
 use bc_syntax::Unit;
 use bc_text::{Name, read_unit};
+use bc_versions::Waiting;
 use std::alloc::{AllocError, Global};
 use std::io::Write;
 use std::sync::{Arc, Wait};
@@ -16,7 +16,7 @@ use std::time::Clock;
 const AGAIN: u32 = 100;
 
 /// The unit that a text spells, as a put takes it.
-fn shared(alloc: Global, text: &[u8]) -> anyhow::Result<Arc<Unit, Global>> {
+pub fn shared(alloc: Global, text: &[u8]) -> anyhow::Result<Arc<Unit, Global>> {
     match Arc::new(alloc, read_unit(alloc, text)?) {
         Ok(unit) => Ok(unit),
         Err(_) => Err(AllocError)?,

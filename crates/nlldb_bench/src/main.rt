@@ -1,5 +1,5 @@
 //! Reads three long texts, analyses three large bodies, solves constraints between many regions, asks for a body
-//! again and checks a file of many bodies, many times. What was read and found goes to standard output and is the same at each run; how fast goes to standard error.
+//! again, checks a file of many bodies, and reads names while others are written, many times. What was read and found goes to standard output and is the same at each run; how fast goes to standard error.
 #![tactic(auto)]
 
 mod analyses;
@@ -7,8 +7,10 @@ mod asks;
 mod bodies;
 mod chains;
 mod files;
+mod glances;
 mod random;
 mod readings;
+mod reads;
 mod texts;
 mod timing;
 
@@ -17,7 +19,9 @@ use crate::asks::measure_asks;
 use crate::bodies::{borrows_and_reads, borrows_and_writes, branches};
 use crate::chains::{Shape, measure_constraints};
 use crate::files::{many_bodies, measure_file};
+use crate::glances::measure_names;
 use crate::readings::{count, time};
+use crate::reads::measure_reads;
 use crate::texts::{dense, indented, repeated};
 use std::io::Write;
 use std::sync::Wait;
@@ -99,5 +103,7 @@ fn main(rt: HostRuntime) -> anyhow::Result<()> {
     measure_solving(&rt, &mut out, &mut err)?;
     measure_asking(&rt, &mut out, &mut err)?;
     let file = many_bodies(rt.alloc())?;
-    measure_file(&rt, "many bodies", &file, &mut out, &mut err)
+    measure_file(&rt, "many bodies", &file, &mut out, &mut err)?;
+    measure_names(&rt, &mut out, &mut err)?;
+    measure_reads(&rt, &mut out, &mut err)
 }

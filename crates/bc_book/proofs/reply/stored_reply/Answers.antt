@@ -1,7 +1,7 @@
 use Rattle.std.proofs.Common.{◌≡◌, length, sym, ◌∙◌, subst, arith}
-use Rattle.bc_book.specs.Calls.{HoldsCount}
+use Rattle.bc_calls.specs.Calls.{HoldsCount}
 use Rattle.bc_book.specs.Ledgers.{bodies_of}
-use Rattle.bc_book.specs.declared.ledger.TheConstants.{MOST_BODIES}
+use Rattle.bc_calls.specs.declared.call.TheConstants.{MOST_BODIES}
 use Rattle.bc_book.proofs.Keeping.{absent_none, counted}
 use Rattle.bc_book.proofs.reply.stored_reply.Goals as goal
 

@@ -1,6 +1,6 @@
 use Rattle.std.proofs.Common.{map, sym, ap, ◌∙◌, arith, length, ◌<◌}
 use Rattle.std.proofs.lemmas.List.{get_or-map, length-map}
-use Rattle.bc_book.specs.declared.call.Call.{Call}
+use Rattle.bc_calls.specs.declared.call.Call.{Call}
 use Rattle.bc_check.specs.Changes.{seen}
 use Rattle.bc_check.proofs.Asking.{asked_more, asked_same, asked_all}
 use Rattle.bc_check.proofs.asked.find_asked.Goals as goal

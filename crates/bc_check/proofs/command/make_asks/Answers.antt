@@ -1,5 +1,5 @@
 use Rattle.std.proofs.Common.{arith, ◌≡◌}
-use Rattle.bc_book.specs.declared.call.Call.TheVariants.{Ask}
+use Rattle.bc_calls.specs.declared.call.Call.TheVariants.{Ask}
 use Rattle.bc_check.specs.declared.stop.Stop.TheVariants.{NoMemory}
 use Rattle.bc_check.specs.Run.{shown}
 use Rattle.bc_check.proofs.Serving.{making_none, making_more, making_part, same_stop}

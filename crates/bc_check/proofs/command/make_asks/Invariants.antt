@@ -1,5 +1,5 @@
 use Rattle.std.proofs.Common.{◌≤◌}
-use Rattle.bc_book.specs.declared.call.Call.TheVariants.{Ask}
+use Rattle.bc_calls.specs.declared.call.Call.TheVariants.{Ask}
 use Rattle.bc_check.specs.Run.{shown}
 use Rattle.bc_check.proofs.Serving.{Making}
 use Rattle.bc_check.proofs.command.make_asks.Given as goal

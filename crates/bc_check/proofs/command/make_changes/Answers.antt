@@ -1,4 +1,4 @@
-use Rattle.std.proofs.Common.{arith, rules, inl, ◌≡◌}
+use Rattle.std.proofs.Common.{arith, rules, ◌≡◌}
 use Rattle.bc_check.specs.declared.stop.Stop.TheVariants.{NoMemory}
 use Rattle.bc_check.specs.Changes.{seen}
 use Rattle.bc_check.specs.Run.{told}
@@ -19,4 +19,4 @@ loop-change-init g c =
 pub returns-in_err-make_change-clause-no_memory : goal.returns-in_err-make_change-clause-no_memory
 returns-in_err-make_change-clause-no_memory g c e =
     let kept = c.in_err-make_change.ensures.no_memory (same_stop c.from_residual.result c.in_err-make_change.field-0.0 NoMemory c.from_residual.ensures.1 e) in
-    making_part seen _ _ told _ _ _ _ _ _ _ c.loop-change.invariant.made (inl kept.0) kept.1
+    making_part seen _ _ told _ _ _ _ _ _ _ c.loop-change.invariant.made kept.0 kept.1

@@ -1,6 +1,6 @@
 use Rattle.std.proofs.Common.{true≢false, sym, ◌∙◌}
 use Rattle.std.specs.List.{Contains}
-use Rattle.bc_book.specs.declared.call.Entry.{Entry}
+use Rattle.bc_calls.specs.declared.call.Entry.{Entry}
 use Rattle.bc_share.specs.Closings.{numbers}
 use Rattle.bc_share.proofs.Closings.{each_fails, each_more}
 use Rattle.bc_share.proofs.audit.each_is_theirs.Goals as goal

@@ -1,5 +1,5 @@
 use Rattle.std.proofs.Common.{◌≡◌, ◌++◌, take}
-use Rattle.bc_book.specs.Calls.{calls}
+use Rattle.bc_calls.specs.Calls.{calls}
 use Rattle.bc_share.proofs.audit.is_own.Given as goal
 
 abbrev pub invariant-loop-entry : goal.invariant-loop-entry

@@ -1,6 +1,6 @@
 use Rattle.std.proofs.Common.{List, subst}
 use Rattle.std.specs.Prelude.{map}
-use Rattle.bc_book.specs.declared.call.Call.{Call}
+use Rattle.bc_calls.specs.declared.call.Call.{Call}
 use Rattle.bc_share.specs.declared.run.End.{End}
 use Rattle.bc_share.specs.Sessions.{SessionView}
 use Rattle.bc_share.specs.Runs.{AreRuns}

@@ -1,7 +1,7 @@
 use Rattle.std.proofs.Common.{subst}
 use Rattle.std.specs.Prelude.{IfSome}
 use Rattle.bc_prov.specs.Outcome.{IsOutcomeIn}
-use Rattle.bc_book.specs.Calls.{after}
+use Rattle.bc_calls.specs.Calls.{after}
 use Rattle.bc_book.specs.Ledgers.{LedgerView}
 use Rattle.bc_book.proofs.Keeping.{answer_right, some_map}
 use Rattle.bc_book.proofs.ledger.Ledger.answer.Goals as goal

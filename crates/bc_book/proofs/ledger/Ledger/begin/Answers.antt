@@ -2,10 +2,10 @@ use Rattle.std.proofs.Common.{subst}
 use Rattle.bc_prov.specs.Outcome.{IsOutcomeIn}
 use Rattle.bc_prov.specs.Snapshots.{IsPartOf}
 use Rattle.bc_prov.specs.State.{state_of}
-use Rattle.bc_book.specs.Calls.{after}
+use Rattle.bc_calls.specs.Calls.{after}
 use Rattle.bc_book.specs.Ledgers.{LedgerView}
 use Rattle.bc_book.proofs.Keeping.{some_map}
-use Rattle.bc_book.proofs.Parts.{copied_part, outcome_part, same_part_of}
+use Rattle.bc_calls.proofs.Parts.{copied_part, outcome_part, same_part_of}
 use Rattle.bc_book.proofs.ledger.Ledger.begin.Goals as goal
 
 pub carrying-requires : goal.carrying-requires

@@ -1,8 +1,8 @@
 use Rattle.std.proofs.Common.{subst}
 use Rattle.bc_prov.specs.Outcome.{IsOutcomeIn}
-use Rattle.bc_book.specs.Calls.{after}
+use Rattle.bc_calls.specs.Calls.{after}
 use Rattle.bc_book.specs.Ledgers.{LedgerView}
-use Rattle.bc_book.proofs.Parts.{stood_outcome}
+use Rattle.bc_calls.proofs.Parts.{stood_outcome}
 use Rattle.bc_book.proofs.ledger.Ledger.outcome.Goals as goal
 
 pub returns-in-Some-standing : goal.returns-in-Some-standing

@@ -1,7 +1,7 @@
 use Rattle.std.proofs.Common.{subst}
 use Rattle.std.specs.Prelude.{IfOk}
 use Rattle.bc_prov.specs.State.{Bodies}
-use Rattle.bc_book.specs.Calls.{after, IsPutReply}
+use Rattle.bc_calls.specs.Calls.{after, IsPutReply}
 use Rattle.bc_book.specs.Ledgers.{LedgerView}
 use Rattle.bc_book.proofs.Keeping.{same_bodies}
 use Rattle.bc_book.proofs.ledger.Ledger.put_reply.Goals as goal

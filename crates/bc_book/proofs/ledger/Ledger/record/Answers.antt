@@ -1,23 +1,14 @@
-use Rattle.std.proofs.Common.{◌≡◌, ℕ, ◌+◌, ◌<◌, List, [], ◌∷◌, ◌++◌, length, set, sym, ap, ◌∙◌, subst, arith}
+use Rattle.std.proofs.Common.{◌≡◌, ℕ, ◌+◌, ◌<◌, List, [], ◌∷◌, ◌++◌, length, set, sym, ap, ◌∙◌, subst}
 use Rattle.bc_memo.specs.declared.change.Change.{Change}
 use Rattle.bc_memo.specs.Places.{MayChange, changed}
-use Rattle.bc_book.specs.declared.call.Entry.{Entry}
-use Rattle.bc_book.specs.Calls.{IsLegal, MayComeNext, after}
-use Rattle.bc_book.specs.Changes.{writes_after, writes_of}
+use Rattle.bc_calls.specs.declared.call.Entry.{Entry}
+use Rattle.bc_calls.specs.Calls.{IsLegal, MayComeNext, after}
+use Rattle.bc_calls.specs.Changes.{writes_after, writes_of}
 use Rattle.bc_book.specs.Ledgers.{LedgerView, HasPlace, IsKept, kept_rows}
-use Rattle.bc_book.proofs.Changing.{may_change}
-use Rattle.bc_book.proofs.Histories.{legal_snoc, writes-snoc, writes_few}
+use Rattle.bc_calls.proofs.Changing.{may_change}
+use Rattle.bc_calls.proofs.Histories.{legal_snoc, writes-snoc}
 use Rattle.bc_book.proofs.Keeping.{kept_snoc}
 use Rattle.bc_book.proofs.ledger.Ledger.record.Goals as goal
-
-pub writes_with-self-inside-requires : goal.writes_with-self-inside-requires
-writes_with-self-inside-requires c =
-    let i = c.self.inside in
-    let below : length i.history.items < i.capacity = subst (λ (v : LedgerView). length v.entries < v.capacity) (sym c.self.view_is) c.requires.below in
-    let few = writes_few i.history.items in
-    let written = c.self.invariant.written in
-    let bounded = c.self.invariant.bounded in
-    omega (arith, below, few, written, bounded)
 
 pub change-requires-clause-suited : goal.change-requires-clause-suited
 change-requires-clause-suited c =
@@ -32,11 +23,12 @@ invariant_of-self c =
     let fits : MayComeNext i.history.items e = subst (λ (v : LedgerView). MayComeNext v.entries e) is c.requires.next in
     let below : length i.history.items < i.capacity = subst (λ (v : LedgerView). length v.entries < v.capacity) is c.requires.below in
     let place : HasPlace (length i.shelf.held.places) e.event = subst (λ (v : LedgerView). HasPlace (length v.shelf.places) e.event) is c.requires.place in
-    let count : c.writes_with-self-inside.result ≡ writes_of (i.history.items ++ e ∷ []) = c.writes_with-self-inside.ensures ∙ ap (λ (n : ℕ). writes_after n e.event) c.self.invariant.written ∙ sym (writes-snoc i.history.items e) in
-    let held = c.change.ensures ∙ ap (λ (x : Change). changed i.shelf.held x c.writes_with-self-inside.result) c.requires.change in
+    let given : c.args.revision ≡ writes_after (writes_of i.history.items) e.event = subst (λ (v : LedgerView). c.args.revision ≡ writes_after (writes_of v.entries) e.event) is c.requires.revision in
+    let count : c.args.revision ≡ writes_of (i.history.items ++ e ∷ []) = given ∙ sym (writes-snoc i.history.items e) in
+    let held = c.change.ensures ∙ ap (λ (x : Change). changed i.shelf.held x c.args.revision) c.requires.change in
     let rows = c.forget_removed.ensures ∙ ap (λ (x : Change). kept_rows x i.memo.rows) c.requires.change in
-    let kept = kept_snoc i.capacity i.history.items i.counts i.writes c.writes_with-self-inside.result i.shelf.held c.change.new.self.held i.memo.rows c.forget_removed.new.memo.rows e c.self.invariant below fits c.requires.session place count held rows in
-    subst (λ (x : List Entry × ℕ). IsKept i.capacity x.0 (set i.counts x.1 (e.number + 1)) c.writes_with-self-inside.result c.change.new.self.held c.forget_removed.new.memo.rows)
+    let kept = kept_snoc i.capacity i.history.items i.counts i.writes c.args.revision i.shelf.held c.change.new.self.held i.memo.rows c.forget_removed.new.memo.rows e c.self.invariant below fits c.requires.session place count held rows in
+    subst (λ (x : List Entry × ℕ). IsKept i.capacity x.0 (set i.counts x.1 (e.number + 1)) c.args.revision c.change.new.self.held c.forget_removed.new.memo.rows)
     (λ k. (sym c.push_reserved.ensures.items k, sym c.from.ensures k)) kept
 
 pub returns-clause-legal : goal.returns-clause-legal

@@ -4,7 +4,7 @@ use Rattle.bc_prov.specs.Outcome.{IsOutcomeIn}
 use Rattle.bc_prov.specs.State.{at_name}
 use Rattle.bc_text.specs.Names.{NameParts}
 use Rattle.bc_memo.specs.Memos.{IsRowOf}
-use Rattle.bc_book.specs.Calls.{after}
+use Rattle.bc_calls.specs.Calls.{after}
 use Rattle.bc_book.specs.Ledgers.{LedgerView, IsRow}
 use Rattle.bc_book.proofs.Keeping.{row_of}
 use Rattle.bc_book.proofs.ledger.Ledger.remembered.Goals as goal

@@ -1,5 +1,0 @@
-use Rattle.bc_book.proofs.Equality.{event}
-use Rattle.bc_book.proofs.call.Event.is.Goals as goal
-
-pub returns : goal.returns
-returns c = rw c.eq.ensures (event c.args.self.now c.args.other.now)

@@ -1,0 +1,52 @@
+-- Which names are answered after a history.
+use Rattle.std.specs.Prelude.{◌≡◌, ◌&&◌, Bool, true, false, Option, Some, None, IsSome, List, ◌∷◌, ◌++◌, if◌then◌else◌, MatchOption}
+use Rattle.std.specs.List.{list_any}
+use Rattle.bc_text.specs.Names.{NameParts, is_same_name, is_within}
+use Rattle.bc_prov.specs.declared.outcome.Outcome.{Outcome}
+use Rattle.bc_prov.specs.Outcome.{IsOutcomeIn}
+use Rattle.bc_memo.specs.Places.{ShelfView, AreOrdered, unit_of, answer_of}
+use Rattle.bc_prov.specs.State.{at_name}
+use Rattle.bc_calls.specs.declared.call.Event.{Event}
+use Rattle.bc_calls.specs.declared.call.Event.TheVariants.{Types, Put, Remove, Ask}
+use Rattle.bc_calls.specs.declared.call.Entry.{Entry}
+use Rattle.bc_calls.specs.Calls.{after, stores, takes}
+
+-- the event makes an answer of the name void: it stored declarations, or added, replaced or removed the name or one that
+-- begins with it and `/`
+abbrev pub clears : NameParts → Event → Bool
+clears name (Types types) = true
+clears name (Put other body reply) = stores reply && is_within name other
+clears name (Remove other reply) = takes reply && is_within name other
+clears name (Ask other outcome) = false
+
+-- the answer that an event gives for the name: an Ask of it, its outcome
+abbrev pub found : NameParts → Event → Option Outcome
+found name (Types types) = None
+found name (Put other body reply) = None
+found name (Remove other reply) = None
+found name (Ask other outcome) = if is_same_name other name then Some outcome else None
+
+-- the event asks for the name
+abbrev pub asks : NameParts → Event → Bool
+asks name (Types types) = false
+asks name (Put other body reply) = false
+asks name (Remove other reply) = false
+asks name (Ask other outcome) = is_same_name other name
+
+-- the name is held, and was asked for since an answer of it was made void last
+abbrev pub IsAnswered : List Entry → NameParts → Type 0
+IsAnswered h name =
+    IsSome ((after h).bodies name)
+    × ((before : List Entry) × (asked : Entry) × (rest : List Entry)
+    × (h ≡ before ++ asked ∷ rest) × (asks name asked.event ≡ true) × (list_any (λ (e : Entry). clears name e.event) rest ≡ false))
+
+-- the answer of a name after a history: where it is answered, its outcome, else none
+abbrev pub IsAnswer : List Entry → NameParts → Option Outcome → Type 0
+IsAnswer h name answer = MatchOption answer (¬ IsAnswered h name) (λ outcome. IsAnswered h name × IsOutcomeIn (after h) name outcome)
+
+-- What a history leaves. A name has an answer exactly where it is answered, and then it is its outcome.
+pub record IsShelfOf (shelf : ShelfView) (h : List Entry) : Type 0 where
+  pub types : shelf.types ≡ (after h).types
+  pub ordered : AreOrdered shelf.places
+  pub bodies : (name : NameParts) → unit_of (at_name shelf.places name) ≡ (after h).bodies name
+  pub answers : (name : NameParts) → IsAnswer h name (answer_of (at_name shelf.places name))

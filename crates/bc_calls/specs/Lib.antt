@@ -1,0 +1,4 @@
+pub mod Calls
+pub mod Changes
+pub mod Answers
+pub mod Works

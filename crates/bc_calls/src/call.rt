@@ -1,0 +1,159 @@
+//! Calls, calls with their replies, and the entries of a history.
+ghost use Rattle.std.specs.Prelude.{◌≡◌, ◌↔◌, IfOk, IsTrue};
+ghost use Rattle.bc_calls.specs.Calls.{stores, takes};
+ghost use Rattle.bc_calls.specs.Changes.{change_of, writes};
+
+use bc_memo::Change;
+use bc_prov::{Declared, Outcome, Shared};
+use bc_syntax::{Types, Unit};
+use bc_text::Name;
+use std::alloc::AllocError;
+
+/// How many bodies may be held (own).
+pub const MOST_BODIES: usize = 256;
+
+/// What a session asks for: to store declarations in place of those before, to put a unit under a name, to take the unit of a name
+/// away, or the outcome of a name. (Own.)
+#[derive(Drop)]
+pub enum Call {
+    Types(Shared<Types>),
+    Put(Name, Shared<Unit>),
+    Remove(Name),
+    Ask(Name),
+}
+
+/// The reply to a put: the body is new, or in place of another; or the name is new and `MOST_BODIES` are held; or
+/// the name is not one for such a unit. The last two store nothing. (Own.)
+#[derive(Clone, Copy, Debug, PartialEq, Eq)]
+pub enum PutReply {
+    Added,
+    Replaced,
+    Full,
+    WrongKind,
+}
+
+/// The reply to a removal: the body is taken away, or none was held. (Own.)
+#[derive(Clone, Copy, Debug, PartialEq, Eq)]
+pub enum RemoveReply {
+    Removed,
+    Absent,
+}
+
+impl PutReply {
+    /// Whether the put stored its body. Own.
+    pub fn stores(self) -> bool
+        ensures { result ≡ stores self }
+    {
+        match self {
+            PutReply::Added | PutReply::Replaced => true,
+            PutReply::Full | PutReply::WrongKind => false,
+        }
+    }
+}
+
+impl RemoveReply {
+    /// Whether the removal took a body away. Own.
+    pub fn takes(self) -> bool
+        ensures { result ≡ takes self }
+    {
+        match self {
+            RemoveReply::Removed => true,
+            RemoveReply::Absent => false,
+        }
+    }
+}
+
+/// A call with its reply: declarations, which are stored; a put or a removal with its reply; or an Ask with its outcome. (Own.)
+#[derive(Drop, PartialEq)]
+pub enum Event {
+    Types(Shared<Declared>),
+    Put(Name, Shared<Unit>, PutReply),
+    Remove(Name, RemoveReply),
+    Ask(Name, Shared<Outcome>),
+}
+
+/// An event of a session, and how many events that session had before it. (Own.)
+#[derive(Drop)]
+pub struct Entry {
+    pub session: u8,
+    pub number: u32,
+    pub event: Event,
+}
+
+impl Entry {
+    /// The same entry, as one more owner of what it brings. `AllocError` only where memory was refused. Own.
+    pub fn copy(&self) -> Result<Entry, AllocError>
+        ensures { IfOk result (λ copy. copy ≡ self.now) }
+    {
+        let event = self.event.copy()?;
+        Ok(Entry {
+            session: self.session,
+            number: self.number,
+            event,
+        })
+    }
+
+    /// Whether it is this event of this session, and the session had so many entries before it. Own.
+    pub fn is(&self, session: u8, number: usize, event: &Event) -> bool
+        ensures { IsTrue result ↔ (self.now ≡ record { session = session; number = number; event = event.now }) }
+    {
+        self.session == session && self.number as usize == number && self.event.is(event)
+    }
+}
+
+impl Event {
+    /// Whether another event has the same call and the same reply. Own.
+    pub fn is(&self, other: &Event) -> bool
+        ensures { IsTrue result ↔ (self.now ≡ other.now) }
+    {
+        self == other
+    }
+
+    /// The same event, as one more owner of what it brings. `AllocError` only where memory was refused. Own.
+    pub fn copy(&self) -> Result<Event, AllocError>
+        ensures { IfOk result (λ copy. copy ≡ self.now) }
+    {
+        match self {
+            Event::Types(types) => Ok(Event::Types(types.clone()?)),
+            Event::Put(name, unit, reply) => Ok(Event::Put(*name, unit.clone()?, *reply)),
+            Event::Remove(name, reply) => Ok(Event::Remove(*name, *reply)),
+            Event::Ask(name, outcome) => Ok(Event::Ask(*name, outcome.clone()?)),
+        }
+    }
+
+    /// Whether it is an accepted write: declarations that were stored, or a body that was added, replaced or removed. Own.
+    pub fn writes(&self) -> bool
+        ensures { result ≡ writes self.now }
+    {
+        match self {
+            Event::Types(_) => true,
+            Event::Put(_, _, reply) => reply.stores(),
+            Event::Remove(_, reply) => reply.takes(),
+            Event::Ask(_, _) => false,
+        }
+    }
+
+    /// What it changes in what is held, as one more owner of what it brings. `AllocError` only where memory was refused. Own.
+    pub fn change(&self) -> Result<Change, AllocError>
+        ensures { IfOk result (λ change. change ≡ change_of self.now) }
+    {
+        match self {
+            Event::Types(types) => Ok(Change::Types(types.clone()?)),
+            Event::Put(name, unit, reply) => {
+                if reply.stores() {
+                    Ok(Change::Put(*name, unit.clone()?))
+                } else {
+                    Ok(Change::Nothing)
+                }
+            }
+            Event::Remove(name, reply) => {
+                if reply.takes() {
+                    Ok(Change::Remove(*name))
+                } else {
+                    Ok(Change::Nothing)
+                }
+            }
+            Event::Ask(name, outcome) => Ok(Change::Answer(*name, outcome.clone()?)),
+        }
+    }
+}

@@ -1,0 +1,134 @@
+//! Snapshots that were begun, and the work on them, which needs no part of what they were taken from.
+ghost use Rattle.std.specs.Prelude.{◌≡◌, IfOk, IfSome};
+ghost use Rattle.bc_text.specs.Names.{NameParts};
+ghost use Rattle.bc_prov.specs.Outcome.{IsOutcomeIn};
+ghost use Rattle.bc_prov.specs.Snapshots.{IsPartOf};
+ghost use Rattle.bc_prov.specs.State.{State, state_of};
+ghost use Rattle.bc_calls.specs.Works.{Stood};
+
+use bc_memo::{Part, Shelf};
+use bc_prov::{Outcome, Providers, Shared, Snapshot};
+use bc_text::Name;
+use std::alloc::{AllocError, Global};
+use std::marker::Model;
+
+/// A name's part of what was held, with the revisions of its declarations and of its units. Contracts see the snapshot. (Own.)
+#[derive(Drop)]
+pub struct Begun {
+    snapshot: Snapshot,
+    types_revision: u32,
+    revisions: Vec<u32>,
+}
+
+impl Model for Begun {
+    ghost use Rattle.bc_prov.specs.Snapshots.{SnapshotView};
+
+    ghost Value = { SnapshotView };
+
+    ghost view = { λ b. b.snapshot };
+}
+
+/// A snapshot with its outcome. Contracts see both. (Own.)
+#[derive(Drop)]
+pub struct Work {
+    snapshot: Snapshot,
+    types_revision: u32,
+    revisions: Vec<u32>,
+    outcome: Shared<Outcome>,
+}
+
+impl Model for Work {
+    ghost use Rattle.bc_calls.specs.Works.{WorkView, IsDone};
+
+    ghost Value = { WorkView };
+
+    ghost view = { λ w. record { snapshot = w.snapshot; outcome = w.outcome } };
+
+    ghost invariant = { λ w. IsDone w.snapshot w.outcome };
+}
+
+impl Begun {
+    /// A part, which carries an answer of its name where there is one: the part's outcome, which it asks of its caller. It takes no
+    /// memory. (Own.)
+    pub fn carrying(part: Part, answer: Option<Shared<Outcome>>) -> Begun
+        requires { IfSome answer (IsOutcomeIn (state_of part.snapshot.types part.snapshot.units) part.snapshot.root) }
+        ensures { (result.types ≡ part.snapshot.types) × (result.root ≡ part.snapshot.root) × (result.units ≡ part.snapshot.units) }
+    {
+        let Part {
+            snapshot,
+            types_revision,
+            revisions,
+        } = part;
+        let snapshot = match answer {
+            Some(outcome) => snapshot.carry(outcome),
+            None => snapshot,
+        };
+        Begun {
+            snapshot,
+            types_revision,
+            revisions,
+        }
+    }
+
+    /// The outcome of the snapshot's name in the snapshot: the one that the snapshot carries, without a provider, else the one that the
+    /// providers give. Answers `AllocError` only where memory was refused, as a provider may answer too. (Own.)
+    pub fn outcome(
+        &self,
+        alloc: Global,
+        providers: &Providers,
+    ) -> Result<Shared<Outcome>, AllocError>
+        ensures { IfOk result (IsOutcomeIn (state_of self.now.types self.now.units) self.now.root) }
+    {
+        self.snapshot.outcome(alloc, providers)
+    }
+
+    /// Finds the outcome of the snapshot's name: the one that the snapshot carries, without a provider, else the one that the providers
+    /// give. It is that of the name in each state of which the snapshot is the name's part. Nothing is held meanwhile.
+    /// Answers `AllocError` only where memory was refused, as a provider may answer too. (Own.)
+    pub fn work(self, alloc: Global, providers: &Providers) -> Result<Work, AllocError>
+        ensures same { IfOk result (λ work. work.snapshot ≡ self) }
+        ensures outcome { (name : NameParts) (state : State) → IsPartOf self name state → IfOk result (λ work. IsOutcomeIn state name work.outcome) }
+    {
+        let outcome = self.outcome(alloc, providers)?;
+        Ok(Work {
+            snapshot: self.snapshot,
+            types_revision: self.types_revision,
+            revisions: self.revisions,
+            outcome,
+        })
+    }
+}
+
+impl Work {
+    /// The name whose outcome it is. Own.
+    pub fn name(&self) -> &Name
+        ensures { result.now ≡ self.now.snapshot.root }
+    {
+        self.snapshot.root()
+    }
+
+    /// Its outcome. Own.
+    pub fn outcome(&self) -> &Outcome
+        ensures value { result.now ≡ self.now.outcome }
+        ensures right { IsOutcomeIn (state_of self.now.snapshot.types self.now.snapshot.units) self.now.snapshot.root self.now.outcome }
+    {
+        self.outcome.get()
+    }
+
+    /// Its outcome, where its snapshot has the revisions that a shelf has and is what the shelf holds. It takes no memory. (Own.)
+    pub fn standing(self, shelf: &Shelf) -> Option<Shared<Outcome>>
+        ensures { IfSome result (λ outcome. Stood shelf.now.held self outcome) }
+    {
+        let Work {
+            snapshot,
+            types_revision,
+            revisions,
+            outcome,
+        } = self;
+        if shelf.holds(&snapshot, types_revision, &revisions) {
+            Some(outcome)
+        } else {
+            None
+        }
+    }
+}

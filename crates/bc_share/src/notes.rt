@@ -1,0 +1,108 @@
+//! What a session notes: its own list, and what it has seen of what is published.
+ghost use Rattle.std.specs.Prelude.{◌≡◌, ◌↔◌, ◌<◌, IfOk, IsTrue, OnOk, []};
+ghost use Rattle.bc_book.specs.declared.ledger.TheConstants.{MOST_SESSIONS};
+ghost use Rattle.bc_prov.specs.Snapshots.{IsPartOf};
+ghost use Rattle.bc_calls.specs.Answers.{IsAnswer};
+ghost use Rattle.bc_calls.specs.Calls.{after, calls};
+ghost use Rattle.bc_share.specs.Sessions.{IsAnswered, Stays, new_session};
+
+use crate::audit::is_own;
+use bc_calls::{Begun, Entry, Event};
+use bc_prov::{Outcome, Shared};
+use bc_text::Name;
+use bc_versions::Front;
+use std::alloc::{AllocError, Global};
+use std::marker::Model;
+use std::sync::Wait;
+
+/// What a session knows of itself, and what it has seen. Contracts see the session, and for how many more calls its own list has
+/// memory. What it has seen is legal, and up to some entry its calls are its own list: the type keeps it.
+#[derive(Drop)]
+pub(crate) struct Notes {
+    tag: u64,
+    number: u8,
+    own: Vec<Event>,
+    front: Front,
+}
+
+impl Model for Notes {
+    ghost use Rattle.std.specs.Prelude.{◌-◌, vec_capacity};
+    ghost use Rattle.bc_share.specs.Sessions.{IsNoted, NotesView};
+
+    ghost Value = { NotesView };
+
+    ghost view = { λ n. record { session = record { tag = n.tag; number = n.number; own = n.own.items; seen = n.front }; room = vec_capacity n.own - n.own.len } };
+
+    ghost invariant = { λ n. IsNoted n.number n.own.items n.front };
+}
+
+impl Notes {
+    /// The notes of a session that has made no call and seen nothing. It takes no memory.
+    pub(crate) fn new(alloc: Global, tag: u64, number: u8, front: Front) -> Notes
+        requires range { number < MOST_SESSIONS }
+        requires nothing { front ≡ [] }
+        ensures { result.session ≡ new_session tag number }
+    {
+        Notes {
+            tag,
+            number,
+            own: Vec::new(alloc),
+            front,
+        }
+    }
+
+    /// Makes room for one call in the session's own list. `AllocError` only where memory was refused.
+    pub(crate) fn reserve(&mut self) -> Result<(), AllocError>
+        ensures kept { Stays self.old.session self.new.session }
+        ensures room { OnOk result (0 < self.new.room) }
+    {
+        self.own.reserve(1)
+    }
+
+    /// Reads what is published until it ends with this event, as the session's next, and enters it in the session's own list.
+    pub(crate) fn note<R: Wait>(&mut self, rt: &R, event: Event)
+        requires { 0 < self.old.room }
+        ensures { IsAnswered event self.old.session self.new.session }
+    {
+        self.front.reach(rt, self.number, self.own.len(), &event);
+        self.own.push_reserved(event);
+    }
+
+    /// A name's part of what is published. `AllocError` only where memory or the reading was refused.
+    pub(crate) fn begin(&mut self, alloc: Global, name: &Name) -> Result<Begun, AllocError>
+        ensures kept { Stays self.old.session self.new.session }
+        ensures part { IfOk result (λ begun. IsPartOf begun name.now (after self.new.session.seen)) }
+    {
+        self.front.begin(alloc, name)
+    }
+
+    /// The answer that is published for a name. `AllocError` only where an owner or the reading was refused.
+    pub(crate) fn glance(&mut self, name: &Name) -> Result<Option<Shared<Outcome>>, AllocError>
+        ensures kept { Stays self.old.session self.new.session }
+        ensures answer { IfOk result (IsAnswer self.new.session.seen name.now) }
+    {
+        self.front.glance(name)
+    }
+
+    /// The tag of the session's database.
+    pub(crate) fn tag(&self) -> u64
+        ensures { result ≡ self.now.session.tag }
+    {
+        self.tag
+    }
+
+    /// The session's number among those of its database.
+    pub(crate) fn number(&self) -> u8
+        ensures value { result ≡ self.now.session.number }
+        ensures range { self.now.session.number < MOST_SESSIONS }
+    {
+        self.number
+    }
+
+    /// Whether the session's own list is what a history has of it.
+    pub(crate) fn agrees(&self, entries: &[Entry]) -> bool
+        ensures { IsTrue result ↔ (self.now.session.own ≡ calls self.now.session.number entries.now) }
+    {
+        is_own(&self.own, self.number, entries)
+    }
+}

@@ -1,0 +1,180 @@
+//! What a session has seen of the published table. Reading waits for nobody.
+ghost use Rattle.std.specs.Prelude.{◌≡◌, [], Some, IfOk, IfSome, IsTrue};
+ghost use Rattle.left_right.specs.Sides.{view};
+ghost use Rattle.bc_prov.specs.Snapshots.{IsPartOf};
+ghost use Rattle.bc_calls.specs.Calls.{IsLegal, StartsWith, after, last_of};
+ghost use Rattle.bc_calls.specs.Answers.{IsAnswer};
+
+use crate::rule::{Look, Published, Seen, TableReader};
+use crate::table::Table;
+use bc_calls::{Begun, Event};
+use bc_prov::{Outcome, Shared};
+use bc_text::Name;
+use core::mem::replace_with;
+use left_right::reader::Factory;
+use std::alloc::{AllocError, Global};
+use std::marker::Model;
+use std::sync::Wait;
+
+/// What makes fronts, as many as the press was opened for. (Own.)
+#[derive(Drop)]
+pub struct Fronts {
+    factory: Factory<Table, Seen, Published>,
+}
+
+impl Fronts {
+    /// What makes fronts of these readers. It takes no memory.
+    pub(crate) fn new(factory: Factory<Table, Seen, Published>) -> Fronts {
+        Fronts { factory }
+    }
+
+    /// A front that has seen nothing. Answers `AllocError` where an owner, or one reader more than there may be, is refused. (Own.)
+    pub fn front(&self) -> Result<Front, AllocError>
+        ensures { IfOk result (λ front. front ≡ []) }
+    {
+        let reader = self.factory.reader()?;
+        Ok(Front::new(reader))
+    }
+}
+
+/// A reader of the published table. Contracts see it as the list of the entries that it has seen. (Own.)
+#[derive(Drop)]
+pub struct Front {
+    reader: TableReader,
+}
+
+impl Model for Front {
+    ghost use Rattle.std.specs.Prelude.{List};
+    ghost use Rattle.left_right.specs.Sides.{view as seen_of};
+    ghost use Rattle.bc_calls.specs.declared.call.Entry.{Entry};
+    ghost use Rattle.bc_calls.specs.Calls.{IsLegal};
+
+    ghost Value = { List Entry };
+
+    ghost view = { λ f. seen_of f.reader.place };
+
+    ghost invariant = { λ f. IsLegal (seen_of f.reader.place) };
+}
+
+impl Front {
+    /// A front that has seen nothing. It takes no memory.
+    pub(crate) fn new(reader: TableReader) -> Front
+        requires { view reader.place ≡ [] }
+        ensures { result ≡ [] }
+    {
+        Front { reader }
+    }
+
+    /// The answer that is published for a name: its outcome, where it is answered, else none. What was seen only grows. Answers
+    /// `AllocError` where the reading or an owner is refused, as once the writer is gone. It waits for nobody. (Own.)
+    pub fn glance(&mut self, name: &Name) -> Result<Option<Shared<Outcome>>, AllocError>
+        ensures later { StartsWith self.new self.old }
+        ensures legal { IsLegal self.new }
+        ensures answer { IfOk result (IsAnswer self.new name.now) }
+    {
+        replace_with(&mut self.reader, *name, read_answer).ok_or(AllocError)
+    }
+
+    /// A name's part of what is published, which carries the name's answer if one is published. What was seen only grows. Answers
+    /// `AllocError` where memory or the reading is refused, as once the writer is gone. It waits for nobody. (Own.)
+    pub fn begin(&mut self, alloc: Global, name: &Name) -> Result<Begun, AllocError>
+        ensures later { StartsWith self.new self.old }
+        ensures legal { IsLegal self.new }
+        ensures part { IfOk result (λ begun. IsPartOf begun name.now (after self.new)) }
+    {
+        replace_with(&mut self.reader, (alloc, *name), read_part).ok_or(AllocError)
+    }
+
+    /// Reads until the last entry that is published is this event, of this session, which had so many entries before it. What was seen
+    /// only grows. It takes no memory. (Own.)
+    pub fn reach<R: Wait>(&mut self, rt: &R, session: u8, number: usize, event: &Event)
+        ensures later { StartsWith self.new self.old }
+        ensures legal { IsLegal self.new }
+        ensures last { last_of self.new ≡ Some (record { session = session; number = number; event = event.now }) }
+    {
+        replace_with(&mut self.reader, (), |reader, ()| {
+            (look_until(rt, reader, session, number, event), ())
+        })
+    }
+}
+
+// Reads a name's answer. There is none to be had where the writer is gone, or an owner is refused.
+fn read_answer(reader: TableReader, name: Name) -> (TableReader, Option<Option<Shared<Outcome>>>)
+    ensures later { StartsWith (view result.0.place) (view reader.place) }
+    ensures legal { IsLegal (view reader.place) → IsLegal (view result.0.place) }
+    ensures answer { IfSome result.1 (IsAnswer (view result.0.place) name) }
+{
+    match reader.enter_as::<Look>() {
+        Ok(reading) => {
+            let answer = reading.get().answer(&name).ok();
+            (reading.leave(), answer)
+        }
+        Err(reader) => (reader, None),
+    }
+}
+
+// Reads a name's part, with its answer. There is none to be had where the writer is gone, or memory is refused.
+fn read_part(reader: TableReader, of: (Global, Name)) -> (TableReader, Option<Begun>)
+    ensures later { StartsWith (view result.0.place) (view reader.place) }
+    ensures legal { IsLegal (view reader.place) → IsLegal (view result.0.place) }
+    ensures part { IfSome result.1 (λ begun. IsPartOf begun of.1 (after (view result.0.place))) }
+{
+    let (alloc, name) = of;
+    match reader.enter_as::<Look>() {
+        Ok(reading) => {
+            let answer = reading.get().answer(&name);
+            let part = reading.get().part(alloc, &name);
+            let reader = reading.leave();
+            let Ok(answer) = answer else {
+                return (reader, None);
+            };
+            match part {
+                Ok(part) => (reader, Some(Begun::carrying(part, answer))),
+                Err(_) => (reader, None),
+            }
+        }
+        Err(reader) => (reader, None),
+    }
+}
+
+// Reads, and says whether the last entry is this one.
+fn read_last(reader: TableReader, session: u8, number: usize, event: &Event) -> (TableReader, bool)
+    ensures later { StartsWith (view result.0.place) (view reader.place) }
+    ensures legal { IsLegal (view reader.place) → IsLegal (view result.0.place) }
+    ensures last { IsTrue result.1 → last_of (view result.0.place) ≡ Some (record { session = session; number = number; event = event.now }) }
+{
+    match reader.enter_as::<Look>() {
+        Ok(reading) => {
+            let reached = match reading.get().last() {
+                Some(last) => last.is(session, number, event),
+                None => false,
+            };
+            (reading.leave(), reached)
+        }
+        Err(reader) => (reader, false),
+    }
+}
+
+// Reads until the last entry is this one.
+fn look_until<R: Wait>(
+    rt: &R,
+    reader: TableReader,
+    session: u8,
+    number: usize,
+    event: &Event,
+) -> TableReader
+    requires { IsLegal (view reader.place) }
+    ensures later { StartsWith (view result.place) (view reader.place) }
+    ensures legal { IsLegal (view result.place) }
+    ensures last { last_of (view result.place) ≡ Some (record { session = session; number = number; event = event.now }) }
+{
+    let mut reader = reader;
+    for _ in rt.forever() {
+        let (next, reached) = read_last(reader, session, number, event);
+        if reached {
+            return next;
+        }
+        reader = next;
+    }
+    unreachable!()
+}

@@ -1,0 +1,111 @@
+//! What publishes: the writer of the table.
+ghost use Rattle.std.specs.Prelude.{◌≡◌, ◌<◌, ◌^◌, [], ◌∷◌, ◌++◌, drop, IfOk, MatchResult};
+ghost use Rattle.left_right.specs.Sides.{view};
+ghost use Rattle.bc_calls.specs.Calls.{MayComeNext, last_of};
+ghost use Rattle.bc_versions.specs.Rules.{IsDue, entries_of};
+
+use crate::ending::Ending;
+use crate::front::Fronts;
+use crate::rule::{Add, TableWriter};
+use crate::table::{Table, Update};
+use bc_calls::Entry;
+use bc_prov::{Declared, Shared};
+use core::mem::replace_with;
+use std::alloc::{AllocError, Global};
+use std::marker::Model;
+use std::sync::Wait;
+
+/// The writer of the published table, and what ends it. Contracts see it as the list of the entries that were published. (Own.)
+pub struct Press<E: Ending> {
+    writer: TableWriter,
+    ending: E,
+}
+
+impl<E: Ending> Drop for Press<E> {
+    fn drop(self) {
+        let Self { writer, ending } = self;
+        ending.end(writer);
+    }
+}
+
+impl<E: Ending> Model for Press<E> {
+    ghost use Rattle.std.specs.Prelude.{◌≡◌, List, [], drop};
+    ghost use Rattle.left_right.specs.Sides.{view as seen_of};
+    ghost use Rattle.bc_calls.specs.declared.call.Entry.{Entry};
+    ghost use Rattle.bc_calls.specs.Calls.{last_of};
+
+    ghost Value = { List Entry };
+
+    ghost view = { λ p. seen_of p.writer.desk.place };
+
+    ghost invariant = { λ p. (p.writer.desk.shown.value.last ≡ last_of (seen_of p.writer.desk.place)) × (drop p.writer.behind p.writer.log.items ≡ []) };
+}
+
+impl<E: Ending> Press<E> {
+    /// A press that has published nothing: no declarations, which are handed in for each of the two copies of the table, and no body.
+    /// There may be so many readers at most; what ends the writer is handed in. Answers `AllocError` only where memory was refused. (Own.)
+    pub fn open(
+        alloc: Global,
+        ending: E,
+        first: Shared<Declared>,
+        second: Shared<Declared>,
+        readers: usize,
+    ) -> Result<Press<E>, AllocError>
+        requires types { (first ≡ []) × (second ≡ []) }
+        requires readers { (0 < readers) × (readers < 2 ^ 32) }
+        ensures { IfOk result (λ press. press ≡ []) }
+    {
+        let first = Table::new(alloc, first)?;
+        let second = Table::new(alloc, second)?;
+        Ok(Press {
+            writer: TableWriter::new(alloc, first, second, readers)?,
+            ending,
+        })
+    }
+
+    /// What makes the fronts at which this is read. Answers `AllocError` only where one more owner of it was refused. (Own.)
+    pub fn fronts(&self) -> Result<Fronts, AllocError> {
+        Ok(Fronts::new(self.writer.factory().another()?))
+    }
+
+    /// Publishes the entry that comes next, with the revision that it gives to what it writes; it waits for those who still read what
+    /// was published before. Answers `AllocError` only where memory for it was refused, and then nothing is published; what can be
+    /// refused behind that is tried again until it is not. (Own.)
+    pub fn add<R: Wait>(&mut self, rt: &R, entry: Entry, revision: u32) -> Result<(), AllocError>
+        requires { MayComeNext self.old entry }
+        ensures { MatchResult result (λ _. self.new ≡ self.old ++ entry ∷ []) (λ _. self.new ≡ self.old) }
+    {
+        self.add_update(rt, Update::new(entry, revision))
+    }
+
+    // Publishes an update whose entry comes next.
+    fn add_update<R: Wait>(&mut self, rt: &R, update: Update) -> Result<(), AllocError>
+        requires { MayComeNext self.old update.entry }
+        ensures { MatchResult result (λ _. self.new ≡ self.old ++ update.entry ∷ []) (λ _. self.new ≡ self.old) }
+    {
+        if self.writer.append(update).is_err() {
+            return Err(AllocError);
+        }
+        replace_with(&mut self.writer, rt, |writer, rt| (publish(rt, writer), ()));
+        Ok(())
+    }
+}
+
+// Publishes what waits. A publication that is refused is made again.
+fn publish<R: Wait>(rt: &R, writer: TableWriter) -> TableWriter
+    requires due { IsDue (view writer.desk.place) (drop writer.behind writer.log.items) }
+    requires last { writer.desk.shown.value.last ≡ last_of (view writer.desk.place) }
+    ensures seen { view result.desk.place ≡ view writer.desk.place ++ entries_of (drop writer.behind writer.log.items) }
+    ensures last { result.desk.shown.value.last ≡ last_of (view result.desk.place) }
+    ensures rest { drop result.behind result.log.items ≡ [] }
+{
+    let mut writer = writer;
+    for _ in rt.forever() {
+        let (next, published) = writer.publish_as::<Add, R>(rt);
+        writer = next;
+        if published.is_ok() {
+            break;
+        }
+    }
+    writer
+}

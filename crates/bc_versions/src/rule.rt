@@ -1,0 +1,43 @@
+//! The rule of the published table: what each thread may rely on, and the two kinds of step under it.
+ghost use Rattle.std.specs.Prelude.{[]};
+ghost use Rattle.bc_versions.specs.Rules.{Adds, IsPublished, Looks};
+
+use crate::table::{Table, Update};
+use bc_calls::Entry;
+use crossbeam_utils::rule::{Outcome, Protocol};
+use left_right::reader::Reader;
+use left_right::writer::Writer;
+use std::collections::LinkedList;
+
+/// What a thread has seen: a beginning of the list of the entries that were published. No value of it is made. (Own.)
+pub type Seen = LinkedList<Entry>;
+
+/// The rule of the published table: there is one legal list of what was published, the table is that list's, and what each thread has
+/// seen is a beginning of it. (Own.)
+pub struct Published;
+
+impl Protocol<Table, Seen> for Published {
+    ghost holds = { IsPublished };
+
+    ghost first = { [] };
+}
+
+/// A reading: it changes what its session has seen alone.
+pub(crate) struct Look;
+
+impl Outcome<Table, Seen> for Look {
+    ghost then = { Looks };
+}
+
+/// A publication of one entry: it changes what the writer has seen alone.
+pub(crate) struct Add;
+
+impl Outcome<Table, Seen> for Add {
+    ghost then = { Adds };
+}
+
+/// A reader of the published table. (Own.)
+pub type TableReader = Reader<Table, Seen, Published>;
+
+/// The writer of the published table. (Own.)
+pub type TableWriter = Writer<Table, Update, Seen, Published>;

@@ -1,0 +1,121 @@
+//! What is published: the last entry, and what is held after it.
+ghost use Rattle.std.specs.Prelude.{◌≡◌, [], IfOk, OnErr, OnOk};
+ghost use Rattle.bc_memo.specs.Places.{MayChange, answer_of, units_in};
+ghost use Rattle.bc_prov.specs.State.{at_name};
+ghost use Rattle.bc_calls.specs.Changes.{change_of};
+ghost use Rattle.bc_versions.specs.Tables.{empty_table, updated};
+
+use bc_calls::{Entry, MOST_BODIES};
+use bc_memo::{Part, Shelf};
+use bc_prov::{Declared, Outcome, Shared};
+use bc_text::Name;
+use left_right::Absorb;
+use std::alloc::{AllocError, Global};
+use std::marker::Model;
+
+/// An entry that is to be published, with the revision that it gives to what it writes. Contracts see both. (Own.)
+#[derive(Drop)]
+pub struct Update {
+    entry: Entry,
+    revision: u32,
+}
+
+impl Model for Update {
+    ghost use Rattle.bc_memo.specs.Places.{MayChange};
+    ghost use Rattle.bc_calls.specs.Changes.{change_of};
+    ghost use Rattle.bc_versions.specs.Tables.{UpdateView};
+
+    ghost Value = { UpdateView };
+
+    ghost view = { λ u. record { entry = u.entry; revision = u.revision } };
+
+    ghost invariant = { λ u. MayChange (change_of u.entry.event) };
+}
+
+impl Update {
+    /// An entry, where a unit that it puts suits its name, with a revision. It takes no memory.
+    pub(crate) fn new(entry: Entry, revision: u32) -> Update
+        requires { MayChange (change_of entry.event) }
+        ensures { result ≡ record { entry = entry; revision = revision } }
+    {
+        Update { entry, revision }
+    }
+}
+
+/// The last entry, and what is held after it with its answers. Contracts see both. (Own.)
+#[derive(Drop)]
+pub struct Table {
+    last: Option<Entry>,
+    shelf: Shelf,
+}
+
+impl Model for Table {
+    ghost use Rattle.bc_versions.specs.Tables.{TableView};
+
+    ghost Value = { TableView };
+
+    ghost view = { λ t. record { last = t.last; shelf = t.shelf.held } };
+}
+
+impl Table {
+    /// A table before any entry, with these declarations, of which there are none, and memory for all places and one to spare, so that
+    /// an update never asks for more. Answers `AllocError` only where memory was refused.
+    pub(crate) fn new(alloc: Global, types: Shared<Declared>) -> Result<Table, AllocError>
+        requires { types ≡ [] }
+        ensures { IfOk result (λ table. table ≡ empty_table) }
+    {
+        Ok(Table {
+            last: None,
+            shelf: Shelf::new(alloc, types, MOST_BODIES + 1)?,
+        })
+    }
+
+    /// The last entry.
+    pub(crate) fn last(&self) -> &Option<Entry>
+        ensures { result.now ≡ self.now.last }
+    {
+        &self.last
+    }
+
+    /// One more owner of the answer of a name, if it has one. `AllocError` only where that is refused.
+    pub(crate) fn answer(&self, name: &Name) -> Result<Option<Shared<Outcome>>, AllocError>
+        ensures { IfOk result (λ answer. answer ≡ answer_of (at_name self.now.shelf.places name.now)) }
+    {
+        match self.shelf.answer(name) {
+            Some(outcome) => Ok(Some(outcome.clone()?)),
+            None => Ok(None),
+        }
+    }
+
+    /// A name's part. `AllocError` only where memory was refused.
+    pub(crate) fn part(&self, alloc: Global, root: &Name) -> Result<Part, AllocError>
+        ensures { IfOk result (λ part. (part.snapshot.types ≡ self.now.shelf.types) × (part.snapshot.root ≡ root.now) × (part.snapshot.units ≡ units_in root.now self.now.shelf.places)) }
+    {
+        self.shelf.part(alloc, root)
+    }
+
+    /// Takes in an entry: all of it, or nothing where an owner is refused. Each entry of a legal history finds memory for its place.
+    pub(crate) fn update(&mut self, update: &Update) -> Result<(), AllocError>
+        ensures taken { OnOk result (self.new ≡ updated self.old update.now) }
+        ensures refused { OnErr result (self.new ≡ self.old) }
+    {
+        let last = update.entry.copy()?;
+        let change = update.entry.event.change()?;
+        self.shelf.reserve()?;
+        self.shelf.change(change, update.revision);
+        self.last = Some(last);
+        Ok(())
+    }
+}
+
+impl Absorb<Update> for Table {
+    type State = Table;
+
+    ghost state = { λ t. t };
+
+    ghost applied = { updated };
+
+    fn absorb_first(&mut self, operation: &Update, _other: &Table) -> Result<(), AllocError> {
+        self.update(operation)
+    }
+}
