@@ -1,5 +1,5 @@
 //! What lies under the lock: the history, what it leaves, what is remembered, and what publishes it.
-ghost use Rattle.std.specs.Prelude.{◌≡◌, ◌<◌, ◌^◌, [], length, IfOk, IfErr, OnErr, OnOk};
+ghost use Rattle.std.specs.Prelude.{◌≡◌, ◌<◌, ◌^◌, [], None, length, IfOk, IfErr, OnErr, OnOk};
 ghost use Rattle.std.specs.Option.{ForSome};
 ghost use Rattle.bc_prov.specs.Snapshots.{IsPartOf};
 ghost use Rattle.bc_calls.specs.Calls.{IsLegal, IsReply, after};
@@ -9,13 +9,34 @@ ghost use Rattle.bc_book.specs.Ledgers.{Appends, HasPlace, IsFull, IsRow, kept_r
 use crate::ledger::{Ledger, MOST_SESSIONS, Refusal};
 use bc_calls::{Begun, Entry, Event, PutReply, RemoveReply, Work, no_declarations};
 use bc_memo::Remembered;
-use bc_prov::{Declared, Outcome, Providers, Shared};
+use bc_prov::{Declared, Found, Outcome, Pieces, Providers, Shared, share_pieces};
 use bc_syntax::Unit;
 use bc_text::Name;
 use bc_versions::{Ending, Fronts, Press};
 use std::alloc::{AllocError, Global};
 use std::marker::Model;
 use std::sync::Wait;
+
+/// What an Ask leaves beside its entry: the outcome that is to be remembered, and pieces that are to be kept and published.
+#[derive(Drop)]
+struct Findings {
+    row: Option<(Name, Remembered)>,
+    kept: Option<Pieces>,
+    published: Option<Pieces>,
+}
+
+impl Findings {
+    /// Nothing is left beside the entry.
+    fn none() -> Findings
+        ensures { result.row ≡ None }
+    {
+        Findings {
+            row: None,
+            kept: None,
+            published: None,
+        }
+    }
+}
 
 /// A book: the history of all calls, what it leaves, what is remembered of it, and the writer that publishes it. Contracts see how many
 /// entries it may have, those that it has, what is held, and what is remembered. The entries that it has are those that were
@@ -81,7 +102,7 @@ impl<E: Ending> Book<E> {
         ensures full { IfErr result (IsFull self.old) }
         ensures below { OnOk result (length self.old.entries < self.old.capacity) }
     {
-        self.append(rt, session, Event::Types(types), None)
+        self.append(rt, session, Event::Types(types), Findings::none())
     }
 
     /// Stores a session's unit under a name, where the reply says so: `WrongKind` where the name is not one for such a unit (a
@@ -103,7 +124,7 @@ impl<E: Ending> Book<E> {
     {
         self.ledger.reserve()?;
         let reply = self.ledger.put_reply(alloc, &name, unit.get())?;
-        self.append(rt, session, Event::Put(name, unit, reply), None)?;
+        self.append(rt, session, Event::Put(name, unit, reply), Findings::none())?;
         Ok(reply)
     }
 
@@ -122,7 +143,7 @@ impl<E: Ending> Book<E> {
     {
         self.ledger.reserve()?;
         let reply = self.ledger.remove_reply(&name);
-        self.append(rt, session, Event::Remove(name, reply), None)?;
+        self.append(rt, session, Event::Remove(name, reply), Findings::none())?;
         Ok(reply)
     }
 
@@ -136,10 +157,11 @@ impl<E: Ending> Book<E> {
         self.ledger.begin(alloc, name)
     }
 
-    /// Enters a session's Ask of the name of a work, and answers its outcome: the one that is remembered and stands, else the work's
-    /// own where its revisions, declarations and units are those held, else the one that the providers give of what is held. The
-    /// outcome of a name that is held is remembered, and published with the entry (own). It answers two owners of it, one for the
-    /// session's own list. Published and refused as `put_types` is, and with `NoMemory` where a provider wants memory.
+    /// Enters a session's Ask of the name of a work, and answers its outcome: the one that is remembered and stands; else the one that
+    /// is put together of the pieces that stand, those that the work made and those that are kept, and that the providers give of the
+    /// other bodies; of a work that made no piece, its own where its revisions, declarations and units are those held. The outcome of a
+    /// name that is held is remembered, and published with the entry, and so are the pieces (own). It answers two owners of it, one for
+    /// the session's own list. Published and refused as `put_types` is, and with `NoMemory` where a provider wants memory.
     pub fn settle<R: Wait>(
         &mut self,
         rt: &R,
@@ -157,29 +179,35 @@ impl<E: Ending> Book<E> {
     {
         self.ledger.reserve()?;
         let name = *work.name();
-        let outcome = self.ledger.outcome(alloc, work, providers)?;
+        let Found { outcome, pieces } = self.ledger.outcome(alloc, work, providers)?;
         let mine = outcome.clone()?;
         let answer = outcome.clone()?;
-        let row = self.ledger.row(alloc, &name, &outcome)?;
-        self.append(rt, session, Event::Ask(name, outcome), row)?;
+        let published = share_pieces(alloc, &pieces)?;
+        let findings = Findings {
+            row: self.ledger.row(alloc, &name, &outcome)?,
+            kept: Some(pieces),
+            published: Some(published),
+        };
+        self.append(rt, session, Event::Ask(name, outcome), findings)?;
         Ok((mine, answer))
     }
 
-    // Adds a session's event, whose reply is the one that what is held gives it, publishes it, and remembers an outcome, where there is
-    // one. The capacity is tested first, all that may be refused comes next, and of that the writer's own room is the last.
+    // Adds a session's event, whose reply is the one that what is held gives it, publishes it, and remembers an outcome and keeps pieces,
+    // where there are any. The capacity is tested first, all that may be refused comes next, and of that the writer's own room is the
+    // last.
     fn append<R: Wait>(
         &mut self,
         rt: &R,
         session: u8,
         event: Event,
-        row: Option<(Name, Remembered)>,
+        findings: Findings,
     ) -> Result<(), Refusal>
         requires session { session < MOST_SESSIONS }
         requires reply { IsReply (after self.old.entries) event }
         requires place { HasPlace (length self.old.shelf.places) event }
-        requires row { ForSome row (λ r. IsRow self.old.shelf self.old.entries r.0 r.1) }
+        requires row { ForSome findings.row (λ r. IsRow self.old.shelf self.old.entries r.0 r.1) }
         ensures step { OnOk result (Appends session event self.old self.new) }
-        ensures answers { OnOk result (self.new.answers ≡ kept_rows (change_of event) (remembering row self.old.answers)) }
+        ensures answers { OnOk result (self.new.answers ≡ kept_rows (change_of event) (remembering findings.row self.old.answers)) }
         ensures refused { OnErr result (self.new ≡ self.old) }
         ensures full { IfErr result (IsFull self.old) }
         ensures below { OnOk result (length self.old.entries < self.old.capacity) }
@@ -193,10 +221,16 @@ impl<E: Ending> Book<E> {
             number,
             event,
         };
-        let published = entry.copy()?;
-        self.press.add(rt, published, revision)?;
+        let copy = entry.copy()?;
+        let Findings {
+            row,
+            kept,
+            published,
+        } = findings;
+        self.press.add(rt, copy, revision, published)?;
         self.ledger.remember(row);
         self.ledger.record(entry, change, revision);
+        self.ledger.keep(kept);
         Ok(())
     }
 

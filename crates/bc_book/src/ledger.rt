@@ -11,7 +11,7 @@ ghost use Rattle.bc_book.specs.Ledgers.{HasPlace, IsRow, SameLedger, kept_rows, 
 use crate::reply::{put_reply, remove_reply};
 use bc_calls::{Begun, Entry, Event, MOST_BODIES, PutReply, RemoveReply, Work, no_declarations};
 use bc_memo::{Change, Memo, Remembered, Shelf};
-use bc_prov::{Outcome, Providers, Shared};
+use bc_prov::{Found, Outcome, Pieces, Providers, Shared};
 use bc_syntax::Unit;
 use bc_text::Name;
 use std::alloc::{AllocError, Global};
@@ -74,7 +74,7 @@ impl Ledger {
             history: Vec::new(alloc),
             counts: [0; MOST_SESSIONS],
             writes: 0,
-            shelf: Shelf::new(alloc, types, MOST_BODIES)?,
+            shelf: Shelf::new(alloc, types, MOST_BODIES + 1)?,
             memo: Memo::new(alloc),
         })
     }
@@ -146,37 +146,57 @@ impl Ledger {
         Ok(Begun::carrying(part, answer))
     }
 
-    /// The outcome of the name of a work: what is remembered for it; else the work's own where it stands; else it is worked out
-    /// again. `AllocError` only where memory was refused, as a provider may answer too.
+    /// The outcome of the name of a work: what is remembered for it. Else, where the work made pieces, it is put together of those that
+    /// stand and of those that are kept, and only the other bodies are worked on; else it is the work's own where it stands, or worked
+    /// out again. With it come the pieces that are not kept yet. `AllocError` only where memory was refused, as a provider may answer too.
     pub(crate) fn outcome(
         &self,
         alloc: Global,
         work: Work,
         providers: &Providers,
-    ) -> Result<Shared<Outcome>, AllocError>
-        ensures { IfOk result (IsOutcomeIn (after self.now.entries) work.snapshot.root) }
+    ) -> Result<Found, AllocError>
+        ensures { IfOk result (λ found. IsOutcomeIn (after self.now.entries) work.snapshot.root found.outcome) }
     {
         let name = *work.name();
-        if let Some(outcome) = self.answer(&name) {
-            return outcome.clone();
-        }
-        match work.standing(&self.shelf) {
-            Some(outcome) => Ok(outcome),
-            None => self.work_again(alloc, &name, providers),
+        match self.shared_answer(&name)? {
+            Some(outcome) => Ok(Found::without_pieces(alloc, outcome)),
+            None => self.settled(alloc, &name, work, providers),
         }
     }
 
-    // The outcome of a name, worked out.
+    // The outcome of the name of a work, of which nothing that stands is remembered, with the pieces that are not kept yet.
+    fn settled(
+        &self,
+        alloc: Global,
+        name: &Name,
+        work: Work,
+        providers: &Providers,
+    ) -> Result<Found, AllocError>
+        requires { work.snapshot.root ≡ name.now }
+        ensures { IfOk result (λ found. IsOutcomeIn (after self.now.entries) name.now found.outcome) }
+    {
+        if work.has_pieces() {
+            return self.work_again(alloc, name, work.into_pieces(), providers);
+        }
+        match work.standing(&self.shelf) {
+            Some(outcome) => Ok(Found::without_pieces(alloc, outcome)),
+            None => self.work_again(alloc, name, Vec::new(alloc), providers),
+        }
+    }
+
+    // The outcome of a name, worked out, but for the bodies of which a piece is handed in or kept that stands.
     fn work_again(
         &self,
         alloc: Global,
         name: &Name,
+        pieces: Pieces,
         providers: &Providers,
-    ) -> Result<Shared<Outcome>, AllocError>
-        ensures { IfOk result (IsOutcomeIn (after self.now.entries) name.now) }
+    ) -> Result<Found, AllocError>
+        ensures { IfOk result (λ found. IsOutcomeIn (after self.now.entries) name.now found.outcome) }
     {
         let begun = self.begin(alloc, name)?;
-        begun.outcome(alloc, providers)
+        let with_pieces = begun.carrying_pieces(pieces);
+        with_pieces.find(alloc, providers)
     }
 
     /// What is to be remembered of an outcome of a name, where the name is held and nothing that stands is remembered for it.
@@ -247,6 +267,15 @@ impl Ledger {
     {
         if let Some(row) = row {
             self.memo.put(row.0, row.1);
+        }
+    }
+
+    /// Keeps those pieces, if there are any, that were found from what is held. Contracts do not see them.
+    pub(crate) fn keep(&mut self, pieces: Option<Pieces>)
+        ensures { self.new ≡ self.old }
+    {
+        if let Some(pieces) = pieces {
+            self.shelf.keep_all(&pieces);
         }
     }
 

@@ -7,7 +7,7 @@ ghost use Rattle.bc_prov.specs.State.{State, state_of};
 ghost use Rattle.bc_calls.specs.Works.{Stood};
 
 use bc_memo::{Part, Shelf};
-use bc_prov::{Outcome, Providers, Shared, Snapshot};
+use bc_prov::{Found, Outcome, Pieces, Providers, Shared, Snapshot};
 use bc_text::Name;
 use std::alloc::{AllocError, Global};
 use std::marker::Model;
@@ -28,13 +28,14 @@ impl Model for Begun {
     ghost view = { λ b. b.snapshot };
 }
 
-/// A snapshot with its outcome. Contracts see both. (Own.)
+/// A snapshot with its outcome, and the pieces of its bodies that were made for it. Contracts see the snapshot and the outcome. (Own.)
 #[derive(Drop)]
 pub struct Work {
     snapshot: Snapshot,
     types_revision: u32,
     revisions: Vec<u32>,
     outcome: Shared<Outcome>,
+    pieces: Pieces,
 }
 
 impl Model for Work {
@@ -70,16 +71,25 @@ impl Begun {
         }
     }
 
-    /// The outcome of the snapshot's name in the snapshot: the one that the snapshot carries, without a provider, else the one that the
-    /// providers give. Answers `AllocError` only where memory was refused, as a provider may answer too. (Own.)
-    pub fn outcome(
-        &self,
-        alloc: Global,
-        providers: &Providers,
-    ) -> Result<Shared<Outcome>, AllocError>
-        ensures { IfOk result (IsOutcomeIn (state_of self.now.types self.now.units) self.now.root) }
+    /// The same with pieces of its bodies, which are taken where all that they were found from is there. It takes no memory, and asks
+    /// nothing of its caller. (Own.)
+    pub fn carrying_pieces(self, pieces: Pieces) -> Begun
+        ensures { result ≡ self }
     {
-        self.snapshot.outcome(alloc, providers)
+        Begun {
+            snapshot: self.snapshot.carry_pieces(pieces),
+            types_revision: self.types_revision,
+            revisions: self.revisions,
+        }
+    }
+
+    /// The outcome of the snapshot's name in the snapshot: the one that the snapshot carries, without a provider, else the one that the
+    /// providers and the pieces of its bodies give, with the pieces that were made for it. Answers `AllocError` only where memory was
+    /// refused, as a provider may answer too. (Own.)
+    pub fn find(&self, alloc: Global, providers: &Providers) -> Result<Found, AllocError>
+        ensures { IfOk result (λ found. IsOutcomeIn (state_of self.now.types self.now.units) self.now.root found.outcome) }
+    {
+        self.snapshot.find(alloc, providers)
     }
 
     /// Finds the outcome of the snapshot's name: the one that the snapshot carries, without a provider, else the one that the providers
@@ -89,12 +99,13 @@ impl Begun {
         ensures same { IfOk result (λ work. work.snapshot ≡ self) }
         ensures outcome { (name : NameParts) (state : State) → IsPartOf self name state → IfOk result (λ work. IsOutcomeIn state name work.outcome) }
     {
-        let outcome = self.outcome(alloc, providers)?;
+        let found = self.find(alloc, providers)?;
         Ok(Work {
             snapshot: self.snapshot,
             types_revision: self.types_revision,
             revisions: self.revisions,
-            outcome,
+            outcome: found.outcome,
+            pieces: found.pieces,
         })
     }
 }
@@ -115,6 +126,16 @@ impl Work {
         self.outcome.get()
     }
 
+    /// Whether it has pieces of bodies that were made for it. Own.
+    pub fn has_pieces(&self) -> bool {
+        !self.pieces.is_empty()
+    }
+
+    /// The pieces of bodies that were made for it. Own.
+    pub fn into_pieces(self) -> Pieces {
+        self.pieces
+    }
+
     /// Its outcome, where its snapshot has the revisions that a shelf has and is what the shelf holds. It takes no memory. (Own.)
     pub fn standing(self, shelf: &Shelf) -> Option<Shared<Outcome>>
         ensures { IfSome result (λ outcome. Stood shelf.now.held self outcome) }
@@ -124,6 +145,7 @@ impl Work {
             types_revision,
             revisions,
             outcome,
+            pieces: _,
         } = self;
         if shelf.holds(&snapshot, types_revision, &revisions) {
             Some(outcome)

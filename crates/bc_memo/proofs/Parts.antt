@@ -46,7 +46,7 @@ before_apart : (root n : NameParts) → name_order root n ≡ Greater → is_wit
 before_apart root n greater = by_bool (is_within root n) (λ is. absurd (true≢false (sym (ap is_gt greater) ∙ within_least root n is))) (λ is. is)
 
 -- from the root on, no name within it comes behind one that is not
-pub parted : {X : Type 0} (root : NameParts) (es : List (NameParts × X)) (i : ℕ) → AreOrdered es → IsStartAt es root i → IsPartitionedBy (λ (e : NameParts × X). is_within root e.0) (drop i es)
+parted : {X : Type 0} (root : NameParts) (es : List (NameParts × X)) (i : ℕ) → AreOrdered es → IsStartAt es root i → IsPartitionedBy (λ (e : NameParts × X). is_within root e.0) (drop i es)
 parted {X} root es i ordered start a b d upto less within =
     subst (λ (e : NameParts × X). is_within root e.0 ≡ true) (sym (get_or-drop i es a d))
     (within_between root (get_or es (i + a) d).0 (get_or es (i + b) d).0
@@ -57,19 +57,19 @@ parted {X} root es i ordered start a b d upto less within =
     ])
     (sym (ap (λ (e : NameParts × X). is_within root e.0) (get_or-drop i es b d)) ∙ within))
 
-pub part_range : (root : NameParts) (ps : Places) (i j : ℕ) → IsStartAt ps root i → j ≤ length (drop i ps)
-    → IsPartitionPoint (λ (p : NameParts × Place). is_within root p.0 ≡ true) (λ (p : NameParts × Place). is_within root p.0 ≡ false) (drop i ps) j → take j (drop i ps) ≡ part_in root ps
-part_range root ps i j start bound parts =
-    run_passes (λ (p : NameParts × Place). is_within root p.0) ps i j start.within (λ k d less. before_apart root (get_or ps k d).0 (start.above k d less)) bound
+part_range : {X : Type 0} (root : NameParts) (es : List (NameParts × X)) (i j : ℕ) → IsStartAt es root i → j ≤ length (drop i es)
+    → IsPartitionPoint (λ (e : NameParts × X). is_within root e.0 ≡ true) (λ (e : NameParts × X). is_within root e.0 ≡ false) (drop i es) j → take j (drop i es) ≡ part_in root es
+part_range {X} root es i j start bound parts =
+    run_passes (λ (e : NameParts × X). is_within root e.0) es i j start.within (λ k d less. before_apart root (get_or es k d).0 (start.above k d less)) bound
     (λ k d less. parts.0 k d (omega arith) less) parts.1
 
 -- the range that starts at the root and has all behind it that lie within
-pub part_slice : (root : NameParts) (ps : Places) (i j : ℕ) → AreOrdered ps → IsStartAt ps root i → j ≤ length (take (length ps - i) (drop i ps))
-    → (IsPartitionedBy (λ (p : NameParts × Place). is_within root p.0) (take (length ps - i) (drop i ps)) → IsPartitionPoint (λ (p : NameParts × Place). is_within root p.0 ≡ true) (λ (p : NameParts × Place). is_within root p.0 ≡ false) (take (length ps - i) (drop i ps)) j)
-    → take j (take (length ps - i) (drop i ps)) ≡ part_in root ps
-part_slice root ps i j ordered start =
-    subst (λ (l : Places). j ≤ length l → (IsPartitionedBy (λ (p : NameParts × Place). is_within root p.0) l → IsPartitionPoint (λ (p : NameParts × Place). is_within root p.0 ≡ true) (λ (p : NameParts × Place). is_within root p.0 ≡ false) l j) → take j l ≡ part_in root ps)
-    (sym (take_rest ps i)) (λ bound point. part_range root ps i j start bound (point (parted root ps i ordered start)))
+pub part_slice : {X : Type 0} (root : NameParts) (es : List (NameParts × X)) (i j : ℕ) → AreOrdered es → IsStartAt es root i → j ≤ length (take (length es - i) (drop i es))
+    → (IsPartitionedBy (λ (e : NameParts × X). is_within root e.0) (take (length es - i) (drop i es)) → IsPartitionPoint (λ (e : NameParts × X). is_within root e.0 ≡ true) (λ (e : NameParts × X). is_within root e.0 ≡ false) (take (length es - i) (drop i es)) j)
+    → take j (take (length es - i) (drop i es)) ≡ part_in root es
+part_slice {X} root es i j ordered start =
+    subst (λ (l : List (NameParts × X)). j ≤ length l → (IsPartitionedBy (λ (e : NameParts × X). is_within root e.0) l → IsPartitionPoint (λ (e : NameParts × X). is_within root e.0 ≡ true) (λ (e : NameParts × X). is_within root e.0 ≡ false) l j) → take j l ≡ part_in root es)
+    (sym (take_rest es i)) (λ bound point. part_range root es i j start bound (point (parted root es i ordered start)))
 
 -- ---- the part as a snapshot has it
 

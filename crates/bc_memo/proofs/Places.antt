@@ -310,10 +310,6 @@ take_missed (e ∷ es) k (suc i) above below =
     ∙ sym (ap (λ (b : Bool). cond b es (e ∷ remove_entry (is_at (name_order k)) es)) (ap is_eq (above 0 e (omega arith))))
 
 -- what holds at each place holds of all
-pub all_by_index : {X : Type 0} (P : X → Type 0) (xs : List X) → ((k : ℕ) (d : X) → k < length xs → P (get_or xs k d)) → AllByRecursion P xs
-all_by_index P [] f = tt
-all_by_index P (x ∷ xs) f = (f 0 x (omega arith), all_by_index P xs (λ k d less. f (suc k) d (omega arith)))
-
 pub index_of_all : {X : Type 0} (P : X → Type 0) (xs : List X) (k : ℕ) (d : X) → AllByRecursion P xs → k < length xs → P (get_or xs k d)
 index_of_all P [] k d all less = absurd (omega arith)
 index_of_all P (x ∷ xs) zero d all less = all.0

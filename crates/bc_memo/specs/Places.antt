@@ -11,6 +11,7 @@ use Rattle.bc_syntax.specs.declared.syntax.Declaration.{Declaration}
 use Rattle.bc_syntax.specs.declared.syntax.Body.{Body}
 use Rattle.bc_text.specs.Names.{NameParts, name_order, is_same_name, is_within}
 use Rattle.bc_prov.specs.State.{Suits, at_name}
+use Rattle.bc_prov.specs.Pieces.{PieceView, IsPieceFor}
 use Rattle.bc_prov.specs.Snapshots.{SnapshotView}
 use Rattle.bc_prov.specs.declared.outcome.Outcome.{Outcome}
 use Rattle.bc_memo.specs.declared.place.Place.{Place}
@@ -27,9 +28,14 @@ pub record ShelfView : Type 0 where
   pub types_revision : ℕ
   pub places : Places
 
--- what is held, and for how many more places there is memory
+-- pieces of bodies, by their names
+abbrev pub PieceRows : Type 0
+PieceRows = List (NameParts × PieceView)
+
+-- what is held, the pieces that are kept of it, and for how many more places there is memory
 pub record ShelfRoom : Type 0 where
   pub held : ShelfView
+  pub pieces : PieceRows
   pub room : ℕ
 
 -- these declarations and no unit
@@ -59,6 +65,16 @@ revision_of (Some place) = Some place.revision
 abbrev pub answer_of : Option Place → Option Outcome
 answer_of None = None
 answer_of (Some place) = place.answer
+
+-- each piece was found from these declarations and from the unit that is held at its name
+abbrev pub ArePieces : List Declaration → Places → PieceRows → Type 0
+ArePieces types places pieces = (name : NameParts) (piece : PieceView) → at_name pieces name ≡ Some piece → IsPieceFor types (unit_of (at_name places name)) piece
+
+-- the places are as they should be, and each piece, in the order of their names, was found from what is held
+pub record IsShelf (types : List Declaration) (places : Places) (pieces : PieceRows) : Type 0 where
+  pub kept : AreKept places
+  pub sorted : AreOrdered pieces
+  pub found : ArePieces types places pieces
 
 -- the revision of a name; an absent name has none
 abbrev pub revision_at : ShelfView → NameParts → Option ℕ
@@ -152,9 +168,21 @@ changed shelf change revision = record {
   places = marked change (placed shelf.places change revision);
 }
 
--- the places of a name and of those that begin with it and `/`
-abbrev pub part_in : NameParts → Places → Places
-part_in root places = filter (λ (p : NameParts × Place). is_within root p.0) places
+-- the pieces that are kept after a change: declarations drop all, and a unit that is put or taken away the one of its name alone
+abbrev pub pieces_after : Change → PieceRows → PieceRows
+pieces_after (Types types) pieces = []
+pieces_after (Put name unit) pieces = remove_entry (is_at (name_order name)) pieces
+pieces_after (Remove name) pieces = remove_entry (is_at (name_order name)) pieces
+pieces_after (Answer name outcome) pieces = pieces
+pieces_after Nothing pieces = pieces
+
+-- the pieces with one more, where it was found from what is held
+abbrev pub pieces_with : Bool → NameParts → PieceView → PieceRows → PieceRows
+pieces_with fits name piece pieces = if fits then insert_entry name_order pieces name piece else pieces
+
+-- the entries of a name and of those that begin with it and `/`
+abbrev pub part_in : {V : Type 0} → NameParts → List (NameParts × V) → List (NameParts × V)
+part_in {V} root entries = filter (λ (p : NameParts × V). is_within root p.0) entries
 
 -- their bodies
 abbrev pub units_in : NameParts → Places → List (NameParts × Body)

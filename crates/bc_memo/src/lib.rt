@@ -3,11 +3,13 @@
 
 mod change;
 mod memo;
+mod pieces;
 mod place;
 mod rows;
 mod shelf;
 
 pub use change::Change;
 pub use memo::{Memo, Remembered};
+pub use pieces::PieceMemo;
 pub use place::Place;
 pub use shelf::{Part, Shelf};

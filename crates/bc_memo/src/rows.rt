@@ -3,7 +3,7 @@ ghost use Rattle.std.specs.Prelude.{◌≡◌, ◌<◌, IfErr, IfOk, vec_capacit
 ghost use Rattle.std.specs.BTreeMap.{insert_entry, is_at};
 ghost use Rattle.std.specs.Map.{remove_entry};
 ghost use Rattle.bc_text.specs.Names.{name_order};
-ghost use Rattle.bc_memo.specs.Places.{AreOrdered, IsFoundAt, IsGapAt, IsStartAt};
+ghost use Rattle.bc_memo.specs.Places.{AreOrdered, IsFoundAt, IsGapAt, IsStartAt, part_in};
 
 use bc_text::Name;
 
@@ -51,4 +51,14 @@ pub(crate) fn take<T: Drop>(rows: &mut Vec<(Name, T)>, name: &Name)
     if let Ok(place) = find(rows, name) {
         drop(rows.remove(place));
     }
+}
+
+/// The rows of a name and of those that begin with it and `/`, which stand together.
+pub(crate) fn within<'a, T>(rows: &'a [(Name, T)], root: &Name) -> &'a [(Name, T)]
+    requires { AreOrdered rows.now }
+    ensures { result.now ≡ part_in root.now rows.now }
+{
+    let rest = &rows[start(rows, root)..];
+    let len = rest.partition_point(|row| root.holds(&row.0));
+    &rest[..len]
 }

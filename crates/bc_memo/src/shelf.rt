@@ -1,38 +1,42 @@
 //! What is held: declarations, and units with their answers in the order of their names.
-ghost use Rattle.std.specs.Prelude.{◌≡◌, ◌↔◌, ◌<◌, ◌≤◌, IfOk, IsTrue, None, OnOk, is_some, length, map};
+ghost use Rattle.std.specs.Prelude.{◌≡◌, ◌↔◌, ◌<◌, ◌≤◌, [], IfOk, IsTrue, None, OnErr, OnOk, is_some, length, map};
 ghost use Rattle.std.specs.Option.{option_copied};
 ghost use Rattle.bc_text.specs.Names.{NameParts};
+ghost use Rattle.bc_prov.specs.Pieces.{IsPieceFor};
 ghost use Rattle.bc_prov.specs.State.{at_name};
 ghost use Rattle.bc_memo.specs.declared.place.Place.{Place};
-ghost use Rattle.bc_memo.specs.Places.{AreOrdered, IsHeld, MayChange, answer_of, answered, changed, cleared, empty_shelf, part_in, revision_at, revisions_in, unanswered, units_in};
+ghost use Rattle.bc_memo.specs.Places.{AreOrdered, IsHeld, MayChange, answer_of, answered, changed, cleared, empty_shelf, pieces_after, pieces_with, revision_at, revisions_in, unanswered, unit_of, units_in};
 
 use crate::change::Change;
+use crate::pieces::PieceMemo;
 use crate::place::Place;
-use crate::rows::{find, put, start, take};
-use bc_prov::{Declared, Outcome, Shared, Snapshot};
+use crate::rows::{find, put, take, within};
+use bc_prov::{Declared, Outcome, Piece, Shared, Snapshot};
 use bc_syntax::Unit;
 use bc_text::Name;
 use std::alloc::{AllocError, Global};
 use std::marker::Model;
 
-/// What is held. Contracts see the declarations with their revision, the places in the order of their names, and for how many more
-/// places there is memory. (Own.)
+/// What is held. Contracts see the declarations with their revision, the places in the order of their names, the pieces that are kept of
+/// the bodies, in the order of these, and for how many more places there is memory. Each piece was found from the declarations and from
+/// the unit at its name: the type keeps it. (Own.)
 #[derive(Drop)]
 pub struct Shelf {
     types: Shared<Declared>,
     types_revision: u32,
     places: Vec<(Name, Place)>,
+    pieces: PieceMemo,
 }
 
 impl Model for Shelf {
     ghost use Rattle.std.specs.Prelude.{◌-◌, vec_capacity};
-    ghost use Rattle.bc_memo.specs.Places.{AreKept, ShelfRoom, ShelfView};
+    ghost use Rattle.bc_memo.specs.Places.{IsShelf, ShelfRoom, ShelfView};
 
     ghost Value = { ShelfRoom };
 
-    ghost view = { λ s. record { held = record { types = s.types; types_revision = s.types_revision; places = s.places.items }; room = vec_capacity s.places - s.places.len } };
+    ghost view = { λ s. record { held = record { types = s.types; types_revision = s.types_revision; places = s.places.items }; pieces = s.pieces; room = vec_capacity s.places - s.places.len } };
 
-    ghost invariant = { λ s. AreKept s.places.items };
+    ghost invariant = { λ s. IsShelf s.types s.places.items s.pieces };
 }
 
 /// A name's part of what is held: a snapshot, with the revisions of its declarations and of its units. (Own.)
@@ -48,18 +52,22 @@ impl Shelf {
     /// where memory was refused. (Own.)
     pub fn new(alloc: Global, types: Shared<Declared>, places: usize) -> Result<Shelf, AllocError>
         ensures held { IfOk result (λ shelf. shelf.held ≡ empty_shelf types) }
+        ensures pieces { IfOk result (λ shelf. shelf.pieces ≡ []) }
         ensures room { IfOk result (λ shelf. places ≤ shelf.room) }
     {
+        let rows = Vec::with_capacity(alloc, places)?;
         Ok(Shelf {
             types,
             types_revision: 0,
-            places: Vec::with_capacity(alloc, places)?,
+            places: rows,
+            pieces: PieceMemo::new(alloc, places)?,
         })
     }
 
     /// Makes room for one more place, and changes nothing else. Answers `AllocError` only where memory was refused. (Own.)
     pub fn reserve(&mut self) -> Result<(), AllocError>
         ensures same { self.new.held ≡ self.old.held }
+        ensures pieces { self.new.pieces ≡ self.old.pieces }
         ensures room { OnOk result (0 < self.new.room) }
     {
         self.places.reserve(1)
@@ -111,15 +119,17 @@ impl Shelf {
     }
 
     /// A name's part: the declarations, and the units of the name and of the names that begin with it and `/`, all with their
-    /// revisions. Answers `AllocError` only where memory was refused. (Own.)
+    /// revisions, and with the pieces that are kept of them. Answers `AllocError` only where memory was refused. (Own.)
     pub fn part(&self, alloc: Global, root: &Name) -> Result<Part, AllocError>
         ensures snapshot { IfOk result (λ part. (part.snapshot.types ≡ self.now.held.types) × (part.snapshot.root ≡ root.now) × (part.snapshot.units ≡ units_in root.now self.now.held.places)) }
         ensures revisions { IfOk result (λ part. (part.types_revision ≡ self.now.held.types_revision) × (part.revisions.items ≡ revisions_in root.now self.now.held.places)) }
     {
         let types = self.types.clone()?;
         let (units, revisions) = units(alloc, within(&self.places, root))?;
+        let pieces = self.pieces.part(alloc, root)?;
+        let snapshot = Snapshot::of(types, *root, units);
         Ok(Part {
-            snapshot: Snapshot::of(types, *root, units),
+            snapshot: snapshot.keep_pieces(pieces),
             types_revision: self.types_revision,
             revisions,
         })
@@ -139,18 +149,21 @@ impl Shelf {
     }
 
     /// Changes what is held, and gives what it writes this revision. Declarations make all answers void; a unit that is put or
-    /// taken away makes void the answers of its name and of those with which this begins, up to a `/`. It takes no memory: it
-    /// asks for room for one place, and that a unit suits the name at which it is put. (Own.)
+    /// taken away makes void the answers of its name and of those with which this begins, up to a `/`. Declarations drop all pieces; a
+    /// unit that is put or taken away drops the one of its name alone. It takes no memory: it asks for room for one place, and that a
+    /// unit suits the name at which it is put. (Own.)
     pub fn change(&mut self, change: Change, revision: u32)
         requires room { 0 < self.old.room }
         requires suited { MayChange change }
-        ensures { self.new.held ≡ changed self.old.held change revision }
+        ensures held { self.new.held ≡ changed self.old.held change revision }
+        ensures pieces { self.new.pieces ≡ pieces_after change self.old.pieces }
     {
         match change {
             Change::Types(types) => {
                 self.types = types;
                 self.types_revision = revision;
                 clear_all(&mut self.places);
+                self.pieces.forget_all();
             }
             Change::Put(name, unit) => {
                 let place = Place {
@@ -160,25 +173,65 @@ impl Shelf {
                 };
                 put(&mut self.places, name, place);
                 clear(&mut self.places, &name);
+                self.pieces.forget(&name);
             }
             Change::Remove(name) => {
                 take(&mut self.places, &name);
                 clear(&mut self.places, &name);
+                self.pieces.forget(&name);
             }
             Change::Answer(name, outcome) => set_answer(&mut self.places, &name, Some(outcome)),
             Change::Nothing => {}
         }
     }
-}
 
-// The places of a name and of those that begin with it and `/`, which stand together.
-fn within<'a>(places: &'a [(Name, Place)], root: &Name) -> &'a [(Name, Place)]
-    requires { AreOrdered places.now }
-    ensures { result.now ≡ part_in root.now places.now }
-{
-    let rest = &places[start(places, root)..];
-    let len = rest.partition_point(|row| root.holds(&row.0));
-    &rest[..len]
+    /// Keeps the piece of a name, in the place of one that is kept for it, where it was found from the declarations and from the unit
+    /// that are held; else the piece is left out. They are compared as values. Answers whether it is kept, or `AllocError` only where
+    /// memory was refused, and then nothing is changed; it takes none where there is some for one piece more. (Own.)
+    pub fn keep(&mut self, name: Name, piece: Shared<Piece>) -> Result<bool, AllocError>
+        ensures held { self.new.held ≡ self.old.held }
+        ensures room { self.new.room ≡ self.old.room }
+        ensures fits { IfOk result (λ kept. IsTrue kept ↔ IsPieceFor self.old.held.types (unit_of (at_name self.old.held.places name)) piece) }
+        ensures pieces { IfOk result (λ kept. self.new.pieces ≡ pieces_with kept name piece self.old.pieces) }
+        ensures refused { OnErr result (self.new.pieces ≡ self.old.pieces) }
+    {
+        if !self.fits(&name, &piece) {
+            return Ok(false);
+        }
+        self.pieces.keep(name, piece)?;
+        Ok(true)
+    }
+
+    /// Keeps pieces, each as `keep` does, as one more owner of each. One for which an owner or memory is refused is left out: nothing is
+    /// lost with it but the work to make it again. (Own.)
+    pub fn keep_all(&mut self, pieces: &[(Name, Shared<Piece>)])
+        ensures held { self.new.held ≡ self.old.held }
+        ensures room { self.new.room ≡ self.old.room }
+    {
+        for entry in pieces {
+            self.keep_share(entry);
+        }
+    }
+
+    // Keeps a piece, as one more owner of it.
+    fn keep_share(&mut self, entry: &(Name, Shared<Piece>))
+        ensures held { self.new.held ≡ self.old.held }
+        ensures room { self.new.room ≡ self.old.room }
+    {
+        if let Ok(piece) = entry.1.clone() {
+            let _kept = self.keep(entry.0, piece);
+        }
+    }
+
+    // Whether a piece was found from the declarations and from the unit that is held at a name.
+    fn fits(&self, name: &Name, piece: &Shared<Piece>) -> bool
+        ensures { IsTrue result ↔ IsPieceFor self.now.held.types (unit_of (at_name self.now.held.places name.now)) piece.now }
+    {
+        match find(&self.places, name) {
+            Ok(place) => piece.get().is_over(&self.types, &self.places[place].1.unit),
+            Err(_) => false,
+        }
+    }
 }
 
 // The units of places, under their names, and their revisions.

@@ -6,6 +6,7 @@ use Rattle.std.specs.Option.{option_or, option_map}
 use Rattle.std.proofs.lemmas.List.Sums.{fold-append}
 use Rattle.bc_text.specs.Names.{NameParts}
 use Rattle.bc_syntax.specs.Children.{children_of}
+use Rattle.bc_syntax.specs.declared.syntax.Declaration.{Declaration}
 use Rattle.bc_syntax.specs.declared.syntax.Body.{Body}
 use Rattle.bc_mir.specs.Externals.{external_regions}
 use Rattle.bc_mir.specs.Mir.{Mir}
@@ -14,13 +15,13 @@ use Rattle.bc_cons.specs.declared.requirements.Requirements.{Requirements}
 use Rattle.bc_cons.specs.Requirements.{MayGoUp, AreOfChildren}
 use Rattle.bc_judge.specs.declared.verdict.Verdict.{Verdict}
 use Rattle.bc_prov.specs.declared.outcome.Outcome.TheVariants.{Missing, Ill, Report}
-use Rattle.bc_prov.specs.declared.walk.Visit.{Visit}
-use Rattle.bc_prov.specs.State.{State, AreSuited, child, children_at, mir_at}
+use Rattle.bc_prov.specs.Pieces.{VisitView, PieceView, IsFoundFrom, IsPieceAt, errors_in}
+use Rattle.bc_prov.specs.State.{State, AreSuited, child, children_at, mir_at, number_of_child}
 use Rattle.bc_prov.specs.Verdicts.{IsVerdictAt, IsVerdictOf, requirements_by}
 use Rattle.bc_prov.specs.declared.outcome.BodyErrors.{BodyErrors}
 use Rattle.bc_prov.specs.declared.outcome.Outcome.{Outcome}
 use Rattle.bc_prov.specs.Outcome.{IsOutcomeAfter, IsReported, absent_among, own_fault, first_among, fault_at, units_at}
-use Rattle.bc_prov.specs.Visits.{IsSound, number_of_child, visit_of}
+use Rattle.bc_prov.specs.Visits.{IsSound, visit_of}
 use Rattle.bc_prov.proofs.Steps.{fault-step, units-step, verdict-step}
 
 -- ---- lists
@@ -150,6 +151,10 @@ split state (u ∷ before) rest (r ∷ rs) sound e =
 
 -- ---- the fold
 
+-- a piece under its name
+abbrev pub Entry : Type 0
+Entry = NameParts × PieceView
+
 -- a verdict at the name requires this, which its creator can be asked to meet
 pub record HasRequired (state : State) (name : NameParts) (required : Requirements) : Type 0 where
   pub verdict : Verdict
@@ -157,17 +162,17 @@ pub record HasRequired (state : State) (name : NameParts) (required : Requiremen
   pub requires : verdict.requirements ≡ required
   pub goes_up : (body : Body) → state.bodies name ≡ Some body → MayGoUp (external_regions body.header) required
 
--- These visits are left. The bodies behind them are judged: their errors are found, and what those that come next
+-- These visits are left. The bodies behind them are judged: their pieces are found, and what those that come next
 -- require is there.
-pub record Folds (state : State) (root : NameParts) (left : List Visit) (required : List Requirements) (found : List BodyErrors) : Type 0 where
+pub record Folds (state : State) (root : NameParts) (left : List VisitView) (required : List Requirements) (found : List Entry) : Type 0 where
   pub before : List (NameParts × Body)
   pub is_left : left ≡ map (visit_of state) before
   pub whole : before ++ flat_map (units_at state) (open_after root before) ≡ units_at state root
   pub judged : AllZip (HasRequired state) (open_after root before) required
-  pub reported : AllZip (IsReported state) (flat_map (units_at state) (open_after root before)) found
+  pub reported : AllZip (IsPieceAt state) (flat_map (units_at state) (open_after root before)) found
 
 -- the last of the visits that are left
-pub record Turn (state : State) (root : NameParts) (left : List Visit) (visit : Visit) (required : List Requirements) (found : List BodyErrors) : Type 0 where
+pub record Turn (state : State) (root : NameParts) (left : List VisitView) (visit : VisitView) (required : List Requirements) (found : List Entry) : Type 0 where
   pub before : List (NameParts × Body)
   pub name : NameParts
   pub sound : IsSound state name
@@ -177,9 +182,9 @@ pub record Turn (state : State) (root : NameParts) (left : List Visit) (visit : 
   pub opened : open_after root before ≡ name ∷ rest
   pub whole : before ++ flat_map (units_at state) (name ∷ rest) ≡ units_at state root
   pub judged : AllZip (HasRequired state) (map (child name) (children_of sound.body) ++ rest) required
-  pub reported : AllZip (IsReported state) (flat_map (units_at state) (map (child name) (children_of sound.body) ++ rest)) found
+  pub reported : AllZip (IsPieceAt state) (flat_map (units_at state) (map (child name) (children_of sound.body) ++ rest)) found
 
-pub turn : (state : State) (root : NameParts) (left : List Visit) (visit : Visit) (required : List Requirements) (found : List BodyErrors) → IsSound state root → Folds state root (left ++ visit ∷ []) required found
+pub turn : (state : State) (root : NameParts) (left : List VisitView) (visit : VisitView) (required : List Requirements) (found : List Entry) → IsSound state root → Folds state root (left ++ visit ∷ []) required found
     → Turn state root left visit required found
 turn state root left visit required found sound folds =
     let m = map-snoc (visit_of state) folds.before left visit folds.is_left in
@@ -216,7 +221,7 @@ turn state root left visit required found sound folds =
               ap (λ us. front ++ us) (sym e) ∙ sym (append_assoc front (unit ∷ []) (flat_map (units_at state) (open_after root folds.before)))
               ∙ ap (λ us. us ++ flat_map (units_at state) (open_after root folds.before)) (sym cut) ∙ folds.whole;
           judged = subst (λ (ns : List NameParts). AllZip (HasRequired state) ns required) opens folds.judged;
-          reported = subst (λ (ns : List NameParts). AllZip (IsReported state) (flat_map (units_at state) ns) found) opens folds.reported;
+          reported = subst (λ (ns : List NameParts). AllZip (IsPieceAt state) (flat_map (units_at state) ns) found) opens folds.reported;
         }
 
 zip_back : {A B : Type 0} (xs : List (A × B)) → xs ≡ zip (map (λ (x : A × B). x.0) xs) (map (λ (x : A × B). x.1) xs)
@@ -254,14 +259,14 @@ verdicts_of state name (n ∷ ns) (r ∷ rs) h =
     (h.0.verdict ∷ t.0, (h.0.is_verdict, t.1), (λ i. h.0.requires i ∷ t.2 i))
 
 -- the children of a visit are the closures of its body
-pub turn-numbers : (state : State) (root : NameParts) (left : List Visit) (visit : Visit) (required : List Requirements) (found : List BodyErrors) (t : Turn state root left visit required found)
+pub turn-numbers : (state : State) (root : NameParts) (left : List VisitView) (visit : VisitView) (required : List Requirements) (found : List Entry) (t : Turn state root left visit required found)
     → map number_of_child visit.typed.children ≡ children_of t.sound.body
 turn-numbers state root left visit required found t =
-    ap (λ (v : Visit). map number_of_child v.typed.children) t.is_visit
+    ap (λ (v : VisitView). map number_of_child v.typed.children) t.is_visit
     ∙ header-numbers state t.name (children_of t.sound.body) (sound_kids state t.name t.sound)
 
 -- what the closures require is there
-pub turn-enough : (state : State) (root : NameParts) (left : List Visit) (visit : Visit) (required : List Requirements) (found : List BodyErrors) → Turn state root left visit required found → length visit.typed.children ≤ length required
+pub turn-enough : (state : State) (root : NameParts) (left : List VisitView) (visit : VisitView) (required : List Requirements) (found : List Entry) → Turn state root left visit required found → length visit.typed.children ≤ length required
 turn-enough state root left visit required found t =
     let numbers = ap length (turn-numbers state root left visit required found t) in
     let kids = length-map-of number_of_child visit.typed.children in
@@ -271,7 +276,7 @@ turn-enough state root left visit required found t =
     omega (arith, numbers, kids, names, all, zipped)
 
 -- what was taken is what the children require
-pub turn-taken : (state : State) (root : NameParts) (left : List Visit) (visit : Visit) (required after : List Requirements) (found : List BodyErrors) (taken : List (ℕ × Requirements)) (t : Turn state root left visit required found)
+pub turn-taken : (state : State) (root : NameParts) (left : List VisitView) (visit : VisitView) (required after : List Requirements) (found : List Entry) (taken : List (ℕ × Requirements)) (t : Turn state root left visit required found)
     → map (λ (k : ℕ × Requirements). k.0) taken ≡ map number_of_child visit.typed.children → required ≡ map (λ (k : ℕ × Requirements). k.1) taken ++ after
     → AllZip (HasRequired state) (map (child t.name) (children_of t.sound.body)) (map (λ (k : ℕ × Requirements). k.1) taken) × AllZip (HasRequired state) t.rest after
 turn-taken state root left visit required after found taken t numbered is =
@@ -282,40 +287,42 @@ turn-taken state root left visit required after found taken t numbered is =
     AllZip-cut (HasRequired state) (map (child t.name) kids) t.rest (map (λ (k : ℕ × Requirements). k.1) taken) after sizes
     (subst (AllZip (HasRequired state) (map (child t.name) kids ++ t.rest)) is t.judged)
 
-pub turn-children : (state : State) (root : NameParts) (left : List Visit) (visit : Visit) (required after : List Requirements) (found : List BodyErrors) (taken : List (ℕ × Requirements)) (t : Turn state root left visit required found)
+pub turn-children : (state : State) (root : NameParts) (left : List VisitView) (visit : VisitView) (required after : List Requirements) (found : List Entry) (taken : List (ℕ × Requirements)) (t : Turn state root left visit required found)
     → map (λ (k : ℕ × Requirements). k.0) taken ≡ map number_of_child visit.typed.children → required ≡ map (λ (k : ℕ × Requirements). k.1) taken ++ after
     → AreOfChildren visit.typed.children taken
 turn-children state root left visit required after found taken t numbered is =
-    subst (λ (v : Visit). AreOfChildren v.typed.children taken) (sym t.is_visit)
+    subst (λ (v : VisitView). AreOfChildren v.typed.children taken) (sym t.is_visit)
     (of_children state t.name (children_of t.sound.body) taken (sound_kids state t.name t.sound) (numbered ∙ turn-numbers state root left visit required found t)
     (turn-taken state root left visit required after found taken t numbered is).0)
 
 -- the external regions of a visit are those of the body at its name
-turn-externals : (state : State) (root : NameParts) (left : List Visit) (visit : Visit) (required : List Requirements) (found : List BodyErrors) (t : Turn state root left visit required found) (requirements : Requirements)
+turn-externals : (state : State) (root : NameParts) (left : List VisitView) (visit : VisitView) (required : List Requirements) (found : List Entry) (t : Turn state root left visit required found) (requirements : Requirements)
     → MayGoUp visit.typed.externals requirements → (body : Body) → state.bodies t.name ≡ Some body → MayGoUp (external_regions body.header) requirements
 turn-externals state root left visit required found t requirements goes body held =
     let same : t.sound.body ≡ body = some_same t.sound.body body (sym t.sound.held ∙ held) in
-    subst (λ (b : Body). MayGoUp (external_regions b.header) requirements) same (subst (λ (v : Visit). MayGoUp v.typed.externals requirements) t.is_visit goes)
+    subst (λ (b : Body). MayGoUp (external_regions b.header) requirements) same (subst (λ (v : VisitView). MayGoUp v.typed.externals requirements) t.is_visit goes)
   where
     some_same : (a b : Body) → Some a ≡ Some b → a ≡ b
     some_same a b e = cc
 
 -- one body more is judged
-pub folded : (state : State) (root : NameParts) (left : List Visit) (visit : Visit) (required after : List Requirements) (found : List BodyErrors) (taken : List (ℕ × Requirements)) (verdict : Verdict)
-    → Turn state root left visit required found → map (λ (k : ℕ × Requirements). k.0) taken ≡ map number_of_child visit.typed.children → required ≡ map (λ (k : ℕ × Requirements). k.1) taken ++ after
-    → IsVerdictOf visit.typed taken verdict → MayGoUp visit.typed.externals verdict.requirements
-    → Folds state root left (verdict.requirements ∷ after) (record { name = visit.name; errors = verdict.errors } ∷ found)
-folded state root left visit required after found taken verdict t numbered is right goes =
+pub folded : (state : State) (root : NameParts) (left : List VisitView) (visit : VisitView) (required after : List Requirements) (found : List Entry) (taken : List (ℕ × Requirements)) (entry : Entry) (types : List Declaration)
+    → types ≡ state.types → Turn state root left visit required found → map (λ (k : ℕ × Requirements). k.0) taken ≡ map number_of_child visit.typed.children → required ≡ map (λ (k : ℕ × Requirements). k.1) taken ++ after
+    → entry.0 ≡ visit.name → IsFoundFrom types visit.unit visit.typed taken entry.1
+    → Folds state root left (entry.1.verdict.requirements ∷ after) (entry ∷ found)
+folded state root left visit required after found taken entry types same t numbered is named from =
     let body = t.sound.body in
     let kids = children_of body in
+    let verdict = entry.1.verdict in
     let numbers : map (λ (k : ℕ × Requirements). k.0) taken ≡ kids = numbered ∙ turn-numbers state root left visit required found t in
     let parts = turn-taken state root left visit required after found taken t numbered is in
     let below = verdicts_of state t.name kids (map (λ (k : ℕ × Requirements). k.1) taken) parts.0 in
     let whole : taken ≡ requirements_by kids below.0 = zip_back taken ∙ (λ i. zip (numbers i) (sym below.2 i)) in
+    let typed : entry.1.mir ≡ mir_at state t.name body = from.mir ∙ ap (λ (v : VisitView). v.typed) t.is_visit in
     let judged : IsVerdictOf (mir_at state t.name body) (requirements_by kids below.0) verdict =
-    subst (λ (p : Mir × List (ℕ × Requirements)). IsVerdictOf p.0 p.1 verdict) (λ i. (ap (λ (v : Visit). v.typed) t.is_visit i, whole i)) right in
+    subst (λ (p : Mir × List (ℕ × Requirements)). IsVerdictOf p.0 p.1 verdict) (λ i. (typed i, (from.kids ∙ whole) i)) from.right.judged in
     let at : IsVerdictAt state t.name verdict = verdict-step state t.name body verdict t.sound.short t.sound.held (below.0, below.1, judged) in
-    let one : BodyErrors = record { name = visit.name; errors = verdict.errors } in
+    let goes : MayGoUp visit.typed.externals verdict.requirements = subst (λ (m : Mir). MayGoUp m.externals verdict.requirements) from.mir from.right.goes_up in
     let units : (t.name, body) ∷ flat_map (units_at state) (map (child t.name) kids ++ t.rest) ≡ flat_map (units_at state) (t.name ∷ t.rest) =
     ap (λ us. (t.name, body) ∷ us) (flat_map-append (units_at state) (map (child t.name) kids) t.rest ∙ ap (λ us. us ++ flat_map (units_at state) t.rest) (flat_map-map (units_at state) (child t.name) kids))
     ∙ ap (λ us. us ++ flat_map (units_at state) t.rest) (sym (units-step state t.name body t.sound.short t.sound.held)) in
@@ -327,13 +334,20 @@ folded state root left visit required after found taken verdict t numbered is ri
           subst (λ (ns : List NameParts). AllZip (HasRequired state) ns (verdict.requirements ∷ after)) (sym t.opened)
           (record { verdict = verdict; is_verdict = at; requires = refl; goes_up = turn-externals state root left visit required found t verdict.requirements goes }, parts.1);
       reported =
-          subst (λ (ns : List NameParts). AllZip (IsReported state) (flat_map (units_at state) ns) (one ∷ found)) (sym t.opened)
-          (subst (λ (us : List (NameParts × Body)). AllZip (IsReported state) us (one ∷ found)) units
-          (record { named = ap (λ (v : Visit). v.name) t.is_visit; verdict = verdict; is_verdict = at; errors = refl }, t.reported));
+          subst (λ (ns : List NameParts). AllZip (IsPieceAt state) (flat_map (units_at state) ns) (entry ∷ found)) (sym t.opened)
+          (subst (λ (us : List (NameParts × Body)). AllZip (IsPieceAt state) us (entry ∷ found)) units (
+            record {
+              named = named ∙ ap (λ (v : VisitView). v.name) t.is_visit;
+              held = record { types = from.types ∙ same; unit = ap Some (sym (from.unit ∙ ap (λ (v : VisitView). v.unit) t.is_visit)) };
+              typed = typed;
+              is_verdict = at;
+            },
+            t.reported,
+          ));
     }
 
 -- at the start no body is judged
-pub folds_none : (state : State) (root : NameParts) (visits : List Visit) → IsSound state root → visits ≡ map (visit_of state) (units_at state root) → Folds state root visits [] []
+pub folds_none : (state : State) (root : NameParts) (visits : List VisitView) → IsSound state root → visits ≡ map (visit_of state) (units_at state root) → Folds state root visits [] []
 folds_none state root visits sound are =
     let parts = split state (units_at state root) [] (root ∷ []) (sound, tt) refl in
     let closed = none_open (open_after root (units_at state root)) parts.0 parts.1 in
@@ -342,7 +356,7 @@ folds_none state root visits sound are =
       is_left = are;
       whole = ap (λ ns. units_at state root ++ flat_map (units_at state) ns) closed ∙ append-nil (units_at state root);
       judged = subst (λ (ns : List NameParts). AllZip (HasRequired state) ns []) (sym closed) tt;
-      reported = subst (λ (ns : List NameParts). AllZip (IsReported state) (flat_map (units_at state) ns) []) (sym closed) tt;
+      reported = subst (λ (ns : List NameParts). AllZip (IsPieceAt state) (flat_map (units_at state) ns) []) (sym closed) tt;
     }
   where
     none_open : (roots : List NameParts) → AllByRecursion (IsSound state) roots → [] ≡ flat_map (units_at state) roots → roots ≡ []
@@ -354,14 +368,24 @@ folds_none state root visits sound are =
         absurd (cc)
 
 -- at the end all are
-pub folds_all : (state : State) (root : NameParts) (required : List Requirements) (found : List BodyErrors) → Folds state root [] required found → AllZip (IsReported state) (units_at state root) found
+pub folds_all : (state : State) (root : NameParts) (required : List Requirements) (found : List Entry) → Folds state root [] required found → AllZip (IsPieceAt state) (units_at state root) found
 folds_all state root required found folds =
-    subst (λ (us : List (NameParts × Body)). AllZip (IsReported state) us found) (over folds.before folds.is_left folds.whole) folds.reported
+    subst (λ (us : List (NameParts × Body)). AllZip (IsPieceAt state) us found) (over folds.before folds.is_left folds.whole) folds.reported
   where
     over : (before : List (NameParts × Body)) → [] ≡ map (visit_of state) before → before ++ flat_map (units_at state) (open_after root before) ≡ units_at state root → flat_map (units_at state) (open_after root before) ≡ units_at state root
     over [] e whole = whole
     over (u ∷ before) e whole = absurd (cc)
 
+-- the errors in pieces are those of their bodies
+pub reported_by : (state : State) (units : List (NameParts × Body)) (pieces : List Entry) → AllZip (IsPieceAt state) units pieces → AllZip (IsReported state) units (map errors_in pieces)
+reported_by state [] [] h = tt
+reported_by state [] (p ∷ ps) h = absurd h
+reported_by state (u ∷ us) [] h = absurd h
+reported_by state (u ∷ us) (p ∷ ps) h = (record { named = h.0.named; verdict = p.1.verdict; is_verdict = h.0.is_verdict; errors = refl }, reported_by state us ps h.1)
+
 -- the report of all bodies is the outcome, where there is no fault
-pub report_of : (state : State) (root : NameParts) (fault : Option Outcome) (found : List BodyErrors) → fault ≡ None → AllZip (IsReported state) (units_at state root) found → IsOutcomeAfter state root fault (Report found)
-report_of state root fault found none are = subst (λ (f : Option Outcome). IsOutcomeAfter state root f (Report found)) (sym none) (found, are, refl)
+pub report_of : (state : State) (root : NameParts) (fault : Option Outcome) (pieces : List Entry) (found : List BodyErrors) → fault ≡ None → AllZip (IsPieceAt state) (units_at state root) pieces → found ≡ map errors_in pieces
+    → IsOutcomeAfter state root fault (Report found)
+report_of state root fault pieces found none are is =
+    subst (λ (f : Option Outcome). IsOutcomeAfter state root f (Report found)) (sym none)
+    (map errors_in pieces, reported_by state (units_at state root) pieces are, ap Report is)

@@ -1,6 +1,8 @@
 pub mod Equality
 pub mod Starts
+pub mod Numbers
 pub mod Steps
+pub mod Unique
 pub mod Local
 pub mod Lookup
 pub mod Used
@@ -8,3 +10,4 @@ pub mod Looking
 pub mod Gathering
 pub mod Walking
 pub mod Folding
+pub mod Faults

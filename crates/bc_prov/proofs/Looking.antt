@@ -12,9 +12,9 @@ use Rattle.bc_mir.specs.Typing.{misfit}
 use Rattle.bc_mir.specs.declared.children.Child.{Child}
 use Rattle.bc_mir.specs.declared.typed.Where.{Where}
 use Rattle.bc_prov.specs.declared.outcome.Outcome.TheVariants.{Missing, Ill}
-use Rattle.bc_prov.specs.State.{State, AreSuited, children_at, mir_at}
+use Rattle.bc_prov.specs.State.{State, AreSuited, children_at, mir_at, number_of_child}
 use Rattle.bc_prov.specs.Outcome.{absent_among, own_fault}
-use Rattle.bc_prov.specs.Visits.{IsKid, AreKids, ChildKid, child_of_kid, number_of_child}
+use Rattle.bc_prov.specs.Visits.{IsKid, AreKids, ChildKid, child_of_kid}
 use Rattle.bc_prov.specs.declared.walk.Kids.{Kids}
 use Rattle.bc_prov.specs.declared.walk.Kids.TheVariants.{Held}
 use Rattle.bc_prov.specs.declared.walk.Kid.{Kid}

@@ -85,6 +85,11 @@ module _ {V : Type 0} where
       by_cases k d within is low high (inl before) = let e = low k d (omega arith) before in absurd (cc)
       by_cases k d within is low high (inr behind) = let e = high k d behind within in absurd (cc)
 
+-- what holds at each place holds of all
+pub all_by_index : {X : Type 0} (P : X → Type 0) (xs : List X) → ((k : ℕ) (d : X) → k < length xs → P (get_or xs k d)) → AllByRecursion P xs
+all_by_index P [] f = tt
+all_by_index P (x ∷ xs) f = (f 0 x (omega arith), all_by_index P xs (λ k d less. f (suc k) d (omega arith)))
+
 -- each body in a list whose bodies all suit their names suits its name
 pub all_suited : (units : List (NameParts × Body)) → AllByRecursion (λ (u : NameParts × Body). Suits u.1 u.0) units → AreSuited (at_name units)
 all_suited [] h n body held = absurd cc

@@ -6,16 +6,15 @@ use Rattle.std.specs.Option.{option_or}
 use Rattle.std.proofs.lemmas.List.{drop_all}
 use Rattle.bc_text.specs.Names.{NameParts}
 use Rattle.bc_syntax.specs.Children.{children_of}
-use Rattle.bc_mir.specs.Mir.{Mir}
 use Rattle.bc_syntax.specs.declared.syntax.Body.{Body}
 use Rattle.bc_prov.specs.declared.outcome.Outcome.{Outcome}
-use Rattle.bc_prov.specs.State.{State, child, mir_at}
+use Rattle.bc_prov.specs.State.{State, child}
 use Rattle.bc_prov.specs.Outcome.{fault_at, units_at, first_among, own_fault}
 use Rattle.bc_prov.specs.Visits.{IsKid, IsLooked, visit_of}
 use Rattle.bc_prov.specs.declared.walk.Kid.{Kid}
 use Rattle.bc_prov.specs.declared.walk.Looked.{Looked}
 use Rattle.bc_prov.specs.declared.walk.Looked.TheVariants.{Fitting, Faulty}
-use Rattle.bc_prov.specs.declared.walk.Visit.{Visit}
+use Rattle.bc_prov.specs.Pieces.{VisitView}
 use Rattle.std.specs.Option.{IsSome}
 use Rattle.std.specs.Prelude.{◌&&◌, nat_le, nat_lt}
 use Rattle.std.proofs.lemmas.Bool.{le-leb}
@@ -31,11 +30,11 @@ abbrev pub fault_among : State → NameParts → List ℕ → Option Outcome
 fault_among state name numbers = first_among (λ number. fault_at state (child name number)) numbers
 
 -- the visits from these closures on
-abbrev pub visits_among : State → NameParts → List ℕ → List Visit
+abbrev pub visits_among : State → NameParts → List ℕ → List VisitView
 visits_among state name numbers = map (visit_of state) (flat_map (λ number. units_at state (child name number)) numbers)
 
 -- the closures before place i have no fault, and the visits from them on are made
-pub record Walks (state : State) (name : NameParts) (kids : List Kid) (i : ℕ) (first visits : List Visit) : Type 0 where
+pub record Walks (state : State) (name : NameParts) (kids : List Kid) (i : ℕ) (first visits : List VisitView) : Type 0 where
   pub faults : fault_among state name (numbers_of (drop i kids)) ≡ fault_among state name (numbers_of kids)
   pub visited : visits ++ visits_among state name (numbers_of (drop i kids)) ≡ first ++ visits_among state name (numbers_of kids)
 
@@ -66,9 +65,9 @@ numbers-same state name (n ∷ ns) [] h = absurd h
 numbers-same state name (n ∷ ns) (k ∷ ks) h = λ i. h.0.numbered i ∷ numbers-same state name ns ks h.1 i
 
 -- what a look found
-pub looked_fitting : (state : State) (name : NameParts) (body : Body) (found : Looked) (typed : Mir) (kids : Vec Kid Global) → found ≡ Fitting typed kids → IsLooked state name body found
-    → (own_fault state name body ≡ None) × (typed ≡ mir_at state name body) × AllZip (IsKid state name) (children_of body) kids.items
-looked_fitting state name body found typed kids is h = subst (IsLooked state name body) is h
+pub looked_fitting : (state : State) (name : NameParts) (body : Body) (found : Looked) (visit : VisitView) (kids : Vec Kid Global) → found ≡ Fitting visit kids → IsLooked state name body found
+    → (own_fault state name body ≡ None) × (visit ≡ visit_of state (name, body)) × AllZip (IsKid state name) (children_of body) kids.items
+looked_fitting state name body found visit kids is h = subst (IsLooked state name body) is h
 
 pub looked_faulty : (state : State) (name : NameParts) (body : Body) (found : Looked) (fault : Outcome) → found ≡ Faulty fault → IsLooked state name body found → length name.segments ≤ 7 → state.bodies name ≡ Some body
     → fault_at state name ≡ Some fault
@@ -90,7 +89,7 @@ or_some None b e = absurd (cc)
 or_some (Some x) b e = refl
 
 -- the first fault among closures, where that of the closure at place i is the first there
-pub fault_here : (state : State) (name : NameParts) (kids : List Kid) (i : ℕ) (kid : Kid) (first visits : List Visit) (below : Option Outcome) → i < length kids → kid ≡ get_or kids i kid → Walks state name kids i first visits
+pub fault_here : (state : State) (name : NameParts) (kids : List Kid) (i : ℕ) (kid : Kid) (first visits : List VisitView) (below : Option Outcome) → i < length kids → kid ≡ get_or kids i kid → Walks state name kids i first visits
     → below ≡ fault_at state (child name kid.number) → is_some below ≡ true → fault_among state name (numbers_of kids) ≡ below
 fault_here state name kids i kid first visits below within is walks found some =
     sym walks.faults
@@ -98,20 +97,20 @@ fault_here state name kids i kid first visits below within is walks found some =
     ∙ ap (λ (o : Option Outcome). option_or o (fault_among state name (numbers_of (drop (i + 1) kids)))) (sym found)
     ∙ or_some below (fault_among state name (numbers_of (drop (i + 1) kids))) some
 
-pub fault_past : (state : State) (name : NameParts) (kids : List Kid) (i : ℕ) (first visits : List Visit) → length kids ≤ i → Walks state name kids i first visits → fault_among state name (numbers_of kids) ≡ None
+pub fault_past : (state : State) (name : NameParts) (kids : List Kid) (i : ℕ) (first visits : List VisitView) → length kids ≤ i → Walks state name kids i first visits → fault_among state name (numbers_of kids) ≡ None
 fault_past state name kids i first visits past walks = sym walks.faults ∙ ap (λ (ks : List Kid). fault_among state name (numbers_of ks)) (drop_all i kids past)
 
 -- all visits from a name on
-pub visits_past : (state : State) (name : NameParts) (body : Body) (typed : Mir) (kids : List Kid) (i : ℕ) (old first visits : List Visit) → length kids ≤ i → Walks state name kids i first visits
-    → first ≡ old ++ record { name = name; typed = typed } ∷ [] → typed ≡ mir_at state name body → AllZip (IsKid state name) (children_of body) kids → length name.segments ≤ 7 → state.bodies name ≡ Some body
+pub visits_past : (state : State) (name : NameParts) (body : Body) (visit : VisitView) (kids : List Kid) (i : ℕ) (old first visits : List VisitView) → length kids ≤ i → Walks state name kids i first visits
+    → first ≡ old ++ visit ∷ [] → visit ≡ visit_of state (name, body) → AllZip (IsKid state name) (children_of body) kids → length name.segments ≤ 7 → state.bodies name ≡ Some body
     → visits ≡ old ++ map (visit_of state) (units_at state name)
-visits_past state name body typed kids i old first visits past walks pushed is are short held =
+visits_past state name body visit kids i old first visits past walks pushed is are short held =
     sym (append-nil visits)
     ∙ ap (λ (ks : List Kid). visits ++ visits_among state name (numbers_of ks)) (sym (drop_all i kids past))
     ∙ walks.visited
-    ∙ ap (λ (f : List Visit). f ++ visits_among state name (numbers_of kids)) pushed
-    ∙ append_assoc old (record { name = name; typed = typed } ∷ []) (visits_among state name (numbers_of kids))
-    ∙ (λ j. old ++ record { name = name; typed = is j } ∷ visits_among state name (numbers-same state name (children_of body) kids are j))
+    ∙ ap (λ (f : List VisitView). f ++ visits_among state name (numbers_of kids)) pushed
+    ∙ append_assoc old (visit ∷ []) (visits_among state name (numbers_of kids))
+    ∙ (λ j. old ++ is j ∷ visits_among state name (numbers-same state name (children_of body) kids are j))
     ∙ ap (λ (us : List (NameParts × Body)). old ++ map (visit_of state) us) (sym (units-step state name body short held))
 
 -- a child's name, where there is one
@@ -128,7 +127,7 @@ or_none None b e = refl
 or_none (Some x) b e = absurd (cc)
 
 -- one closure more was visited
-pub walks_more : (state : State) (name : NameParts) (kids : List Kid) (i : ℕ) (kid : Kid) (first visits new : List Visit) (below : Option Outcome) → i < length kids → kid ≡ get_or kids i kid → below ≡ fault_at state (child name kid.number) → is_some below ≡ false
+pub walks_more : (state : State) (name : NameParts) (kids : List Kid) (i : ℕ) (kid : Kid) (first visits new : List VisitView) (below : Option Outcome) → i < length kids → kid ≡ get_or kids i kid → below ≡ fault_at state (child name kid.number) → is_some below ≡ false
     → new ≡ visits ++ map (visit_of state) (units_at state (child name kid.number)) → Walks state name kids i first visits → Walks state name kids (i + 1) first new
 walks_more state name kids i kid first visits new below within is found none added walks =
     let rest = numbers_of (drop (i + 1) kids) in

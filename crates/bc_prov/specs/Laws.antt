@@ -8,6 +8,10 @@ use Rattle.bc_prov.specs.declared.outcome.Outcome.{Outcome}
 use Rattle.bc_prov.specs.State.{State, child}
 use Rattle.bc_prov.specs.Outcome.{IsOutcomeIn}
 
+-- a name has one outcome
+abbrev pub OutcomesAreUnique : Type 0
+OutcomesAreUnique = (state : State) (name : NameParts) (one other : Outcome) → IsOutcomeIn state name one → IsOutcomeIn state name other → one ≡ other
+
 -- two states have the same declarations, and the same bodies at a name and at all names that begin with it and `/`
 pub record HaveSamePart (root : NameParts) (one other : State) : Type 0 where
   pub types : one.types ≡ other.types

@@ -3,6 +3,7 @@ pub mod Checks
 pub mod Facts
 pub mod Verdicts
 pub mod Outcome
+pub mod Pieces
 pub mod Snapshots
 pub mod Visits
 pub mod Laws

@@ -1,5 +1,5 @@
 -- A part of what is held, as a snapshot has it.
-use Rattle.std.specs.Prelude.{◌≡◌, true, List, ◌∷◌, map, Option, IfSome}
+use Rattle.std.specs.Prelude.{◌≡◌, ◌<◌, ℕ, true, List, ◌∷◌, length, map, slice_index_or, Option, Some, None, Vec, IfSome}
 use Rattle.std.specs.List.{AllByRecursion, flat_map}
 use Rattle.std.specs.List.Sorted.{IsStrictlySortedBy}
 use Rattle.std.specs.Map.{keys_of}
@@ -10,6 +10,8 @@ use Rattle.bc_text.specs.Names.{NameParts, is_within, name_order}
 use Rattle.bc_prov.specs.declared.outcome.Outcome.{Outcome}
 use Rattle.bc_prov.specs.State.{State, Suits, at_name, child, state_of}
 use Rattle.bc_prov.specs.Outcome.{IsOutcomeIn}
+use Rattle.bc_prov.specs.Pieces.{PieceView, ArePieces}
+use Rattle.std.specs.declared.alloc.Global.{Global}
 
 -- declarations, a name, bodies under their names, and an outcome, if one is carried
 pub record SnapshotView : Type 0 where
@@ -25,10 +27,22 @@ pub record IsSnapshot (root : NameParts) (units : List (NameParts × Body)) : Ty
   pub within : AllByRecursion (λ name. is_within root name ≡ true) (keys_of units)
   pub suited : AllByRecursion (λ (unit : NameParts × Body). Suits unit.1 unit.0) units
 
--- the names and the bodies are as they should be, and what is carried, if it is, is the outcome of the name
-pub record IsKept (types : List Declaration) (root : NameParts) (units : List (NameParts × Body)) (carried : Option Outcome) : Type 0 where
+-- pieces, each under its name, if there are any
+abbrev pub PieceList : Type 0
+PieceList = Option (Vec (NameParts × PieceView) Global)
+
+-- the piece stands among these, under its name
+abbrev pub IsAmongPieces : PieceList → NameParts → PieceView → Type 0
+IsAmongPieces None name piece = ⊥
+IsAmongPieces (Some pieces) name piece = (place : ℕ) × (place < length pieces.items) × (slice_index_or pieces.items place (name, piece) ≡ (name, piece))
+
+-- The names and the bodies are as they should be. What is carried, if it is, is the outcome of the name, and each piece that is
+-- kept or carried is of the body at its name.
+pub record IsKept (types : List Declaration) (root : NameParts) (units : List (NameParts × Body)) (carried : Option Outcome) (kept offered : PieceList) : Type 0 where
   pub snapshot : IsSnapshot root units
   pub outcome : IfSome carried (IsOutcomeIn (state_of types units) root)
+  pub kept_pieces : IfSome kept (λ (pieces : Vec (NameParts × PieceView) Global). ArePieces types units pieces.items)
+  pub offered_pieces : IfSome offered (λ (pieces : Vec (NameParts × PieceView) Global). ArePieces types units pieces.items)
 
 -- the names of the closures of a body at a name
 abbrev pub children_named : NameParts × Body → List NameParts

@@ -56,6 +56,10 @@ AreSuited bodies = (name : NameParts) (body : Body) → bodies name ≡ Some bod
 abbrev pub levels_from : NameParts → ℕ
 levels_from name = 8 - length name.segments
 
+-- the number of a child
+abbrev pub number_of_child : Child → ℕ
+number_of_child child = child.number
+
 -- the headers of these closures of a name, of each one that is held
 abbrev pub children_at : State → NameParts → List ℕ → List Child
 children_at state name numbers =

@@ -1,4 +1,7 @@
 //! A snapshot whose declarations are good.
+ghost use Rattle.std.specs.Prelude.{◌≡◌};
+ghost use Rattle.std.specs.Arc.{arc_value};
+
 use crate::snapshot::Snapshot;
 use bc_mir::GoodTypes;
 use std::alloc::Global;
@@ -9,4 +12,5 @@ use std::sync::Arc;
 pub(crate) struct Held<'a> {
     pub(crate) types: &'a Arc<GoodTypes, Global>,
     pub(crate) snapshot: &'a Snapshot,
+    ghost same: { arc_value types.now ≡ snapshot.now.types },
 }

@@ -1,5 +1,10 @@
 //! Laws of outcomes, each the contract of a function that does nothing.
-ghost use Rattle.bc_prov.specs.Laws.{OutcomesAreLocal, OutcomesRestOnUsedNames};
+ghost use Rattle.bc_prov.specs.Laws.{OutcomesAreLocal, OutcomesAreUnique, OutcomesRestOnUsedNames};
+
+/// A name has one outcome at most: two that the definition allows are the same, with the same errors in the same order. (Own.)
+pub fn outcomes_are_unique()
+    ensures { OutcomesAreUnique }
+{}
 
 /// The outcome of a name depends on the declarations and on its part of what is held alone: the bodies at the name and at all
 /// names that begin with it and `/`. (Own.)

@@ -1,13 +1,16 @@
 //! Parts of what is held: what the outcome of one name rests on.
-ghost use Rattle.std.specs.Prelude.{◌≡◌, ◌≢◌, ◌<◌, ◌++◌, [], true, length, map, nat_le, Some, None, IfOk, IfSome, OnOk};
+ghost use Rattle.std.specs.Prelude.{◌≡◌, ◌≢◌, ◌<◌, ◌++◌, [], true, length, map, nat_le, Some, None, IfOk, IfSome, IsTrue, OnOk};
 ghost use Rattle.std.specs.List.{list_all};
 ghost use Rattle.std.specs.Option.{option_copied};
 ghost use Rattle.bc_prov.specs.Outcome.{IsOutcomeIn};
-ghost use Rattle.bc_prov.specs.Snapshots.{IsSnapshot, names_used};
+ghost use Rattle.bc_syntax.specs.Children.{children_of};
+ghost use Rattle.bc_prov.specs.Pieces.{ArePieces, IsPieceFor};
+ghost use Rattle.bc_prov.specs.Snapshots.{IsAmongPieces, IsSnapshot, names_used};
 ghost use Rattle.bc_prov.specs.State.{AreSuited, at_name, child, state_of};
 
 use crate::declared::Declared;
 use crate::outcome::Outcome;
+use crate::pieces::{Piece, Pieces};
 use crate::shared::Shared;
 use bc_syntax::Unit;
 use bc_text::Name;
@@ -15,13 +18,15 @@ use std::alloc::{AllocError, Global};
 use std::marker::Model;
 
 /// Declarations, a name, and the units held at that name and at names that begin with it and `/`. A name that is not in the list
-/// is absent. A snapshot may carry the outcome of its name. (Own.)
+/// is absent. A snapshot may carry the outcome of its name, and pieces of its bodies. (Own.)
 #[derive(Drop)]
 pub struct Snapshot {
     types: Shared<Declared>,
     root: Name,
     units: Vec<(Name, Shared<Unit>)>,
     carried: Option<Shared<Outcome>>,
+    kept: Option<Pieces>,
+    offered: Option<Pieces>,
 }
 
 impl Model for Snapshot {
@@ -31,7 +36,7 @@ impl Model for Snapshot {
 
     ghost view = { λ s. record { types = s.types; root = s.root; units = s.units.items; carried = s.carried } };
 
-    ghost invariant = { λ s. IsKept s.types s.root s.units.items s.carried };
+    ghost invariant = { λ s. IsKept s.types s.root s.units.items s.carried s.kept s.offered };
 }
 
 /// Adds the names of the closures that have these numbers. On an error the list has some of them.
@@ -47,6 +52,17 @@ fn push_children(names: &mut Vec<Name>, name: Name, numbers: &[u8]) -> Result<()
     Ok(())
 }
 
+/// The piece of a name, if it is found among pieces.
+fn piece_of_name<'a>(pieces: &'a Option<Pieces>, name: &Name) -> Option<&'a Shared<Piece>>
+    ensures { IfSome result (λ piece. IsAmongPieces pieces.now name.now piece.now) }
+{
+    let pieces = pieces.as_ref()?;
+    match pieces.binary_search_by(|entry| entry.0.cmp(name)) {
+        Ok(at) => Some(&pieces[at].1),
+        Err(_) => None,
+    }
+}
+
 impl Snapshot {
     /// The snapshot of a name that has these declarations and these units. It takes no memory. It asks that the names ascend
     /// strictly, that each is the root or begins with it and `/`, that a function has a name without segments and a closure
@@ -60,7 +76,86 @@ impl Snapshot {
             root,
             units,
             carried: None,
+            kept: None,
+            offered: None,
         }
+    }
+
+    /// The snapshot with pieces that are kept of its bodies. It takes no memory. It asks that each was found from its declarations and
+    /// from the unit at its name; one is found again where their names ascend. (Own.)
+    pub fn keep_pieces(self, pieces: Pieces) -> Snapshot
+        requires { ArePieces self.types self.units pieces.items }
+        ensures { result ≡ self }
+    {
+        Snapshot {
+            types: self.types,
+            root: self.root,
+            units: self.units,
+            carried: self.carried,
+            kept: Some(pieces),
+            offered: self.offered,
+        }
+    }
+
+    /// The snapshot with pieces, which a report takes where all that they were found from is there, before any that are kept. It takes
+    /// no memory, and asks nothing of its caller: those that were found from other declarations or from another unit than that at
+    /// their name are left out. One is found again where their names ascend. (Own.)
+    pub fn carry_pieces(self, pieces: Pieces) -> Snapshot
+        ensures { result ≡ self }
+    {
+        let pieces = self.fitting(pieces);
+        Snapshot {
+            types: self.types,
+            root: self.root,
+            units: self.units,
+            carried: self.carried,
+            kept: self.kept,
+            offered: Some(pieces),
+        }
+    }
+
+    /// Those pieces that were found from its declarations and from the unit at their name.
+    fn fitting(&self, pieces: Pieces) -> Pieces
+        ensures { ArePieces self.now.types self.now.units result.items }
+    {
+        let mut pieces = pieces;
+        pieces.retain(|entry| self.fits(entry));
+        pieces
+    }
+
+    /// Whether a piece was found from its declarations and from the unit at its name.
+    fn fits(&self, entry: &(Name, Shared<Piece>)) -> bool
+        ensures { IsTrue result → IsPieceFor self.now.types (at_name self.now.units entry.now.0) entry.now.1 }
+    {
+        match self.unit(&entry.0) {
+            Some(unit) => entry.1.get().is_over(&self.types, unit),
+            None => false,
+        }
+    }
+
+    /// A piece of the body at a name, if one is carried or kept. It takes no memory.
+    pub(crate) fn piece(&self, name: &Name) -> Option<&Shared<Piece>>
+        ensures { IfSome result (λ piece. IsPieceFor self.now.types (at_name self.now.units name.now) piece.now) }
+    {
+        match piece_of_name(&self.offered, name) {
+            Some(piece) => Some(piece),
+            None => piece_of_name(&self.kept, name),
+        }
+    }
+
+    /// Whether this very piece is kept already.
+    fn keeps(&self, entry: &(Name, Shared<Piece>)) -> bool {
+        match piece_of_name(&self.kept, &entry.0) {
+            Some(piece) => piece.get().has_kids_of(entry.1.get()),
+            None => false,
+        }
+    }
+
+    /// Those pieces of its bodies that are not kept already.
+    pub(crate) fn without_kept(&self, pieces: Pieces) -> Pieces {
+        let mut pieces = pieces;
+        pieces.retain(|entry| !self.keeps(entry));
+        pieces
     }
 
     /// The snapshot with the outcome of its name, which its caller knows. It takes no memory. It asks that this is the outcome.
@@ -74,6 +169,8 @@ impl Snapshot {
             root: self.root,
             units: self.units,
             carried: Some(outcome),
+            kept: self.kept,
+            offered: self.offered,
         }
     }
 
@@ -108,13 +205,25 @@ impl Snapshot {
     }
 
     /// The unit of a name, if it is in the list. It takes no memory.
-    pub(crate) fn unit(&self, name: &Name) -> Option<&Unit>
+    pub(crate) fn unit(&self, name: &Name) -> Option<&Shared<Unit>>
         ensures unit { option_copied result ≡ at_name self.now.units name.now }
         ensures suited { AreSuited (at_name self.now.units) }
     {
         match self.units.binary_search_by(|unit| unit.0.cmp(name)) {
-            Ok(at) => Some(self.units[at].1.get()),
+            Ok(at) => Some(&self.units[at].1),
             Err(_) => None,
+        }
+    }
+
+    /// The numbers of a unit's children: those that a piece of it has, if one is kept, else those that are found in it.
+    fn children_of(&self, alloc: Global, unit: &(Name, Shared<Unit>)) -> Result<Vec<u8>, AllocError>
+        requires { at_name self.now.units unit.now.0 ≡ Some unit.now.1 }
+        ensures value { IfOk result (λ numbers. numbers.items ≡ children_of unit.now.1) }
+        ensures low { IfOk result (λ numbers. list_all (λ number. nat_le number 63) numbers.items ≡ true) }
+    {
+        match self.piece(&unit.0) {
+            Some(piece) => piece.get().children(alloc),
+            None => unit.1.get().body().children(alloc),
         }
     }
 
@@ -126,7 +235,7 @@ impl Snapshot {
         let mut names = Vec::new(alloc);
         names.push(self.root)?;
         for unit in &self.units {
-            let numbers = unit.1.get().body().children(alloc)?;
+            let numbers = self.children_of(alloc, unit)?;
             push_children(&mut names, unit.0, &numbers)?;
         }
         Ok(names)

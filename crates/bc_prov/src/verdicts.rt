@@ -1,22 +1,27 @@
-//! The errors of visited bodies, from the last to the first.
+//! The pieces of visited bodies, from the last to the first.
 ghost use Rattle.std.specs.Prelude.{◌≡◌, ◌≤◌, ◌++◌, length, map, IfOk};
 ghost use Rattle.std.specs.List.{AllZip};
-ghost use Rattle.bc_prov.specs.Outcome.{IsReported, units_at};
-ghost use Rattle.bc_prov.specs.Visits.{IsSound, number_of_child, state_in, visit_of};
+ghost use Rattle.bc_prov.specs.Outcome.{units_at};
+ghost use Rattle.bc_prov.specs.Pieces.{IsPieceAt, errors_in};
+ghost use Rattle.bc_prov.specs.State.{number_of_child};
+ghost use Rattle.bc_prov.specs.Visits.{IsSound, state_in, visit_of};
 
-use crate::body::verdict_on;
 use crate::held::Held;
 use crate::outcome::BodyErrors;
+use crate::pieces::{Piece, Pieces};
 use crate::providers::Providers;
+use crate::shared::Shared;
 use crate::stack::Stack;
-use crate::walk::Visit;
+use crate::visit::Visit;
 use bc_cons::Requirements;
-use bc_judge::Verdict;
+use bc_judge::BorrowError;
 use bc_mir::Child;
+use bc_syntax::Sequence;
+use bc_text::Name;
 use std::alloc::{AllocError, Global};
 
 /// Takes what the children of a body require, the least child's first.
-fn take_kids(
+pub(crate) fn take_kids(
     alloc: Global,
     children: &[Child],
     required: &mut Stack<Requirements>,
@@ -33,34 +38,62 @@ fn take_kids(
     Ok(taken)
 }
 
+fn copy_requirements(requirements: &Requirements) -> Result<Requirements, AllocError>
+    ensures { IfOk result (λ copy. copy ≡ requirements.now) }
+{
+    Ok(Requirements {
+        pairs: requirements.pairs.clone()?,
+    })
+}
+
+fn copy_errors(errors: &Sequence<BorrowError>) -> Result<Sequence<BorrowError>, AllocError>
+    ensures { IfOk result (λ copy. copy ≡ errors.now) }
+{
+    errors.clone()
+}
+
 impl Held<'_> {
-    /// The errors of the bodies that were visited from the root on, in that order. A body comes after its creator, so they are
+    /// The pieces of the bodies that were visited from the root on, in that order. A body comes after its creator, so they are
     /// judged from the last on: what they require, and no creator took yet, lies in a list with that of the next one in front.
     /// Answers `AllocError` only where memory was refused, as a provider may answer too.
-    pub(crate) fn errors_of(
+    pub(crate) fn pieces_of(
         &self,
         alloc: Global,
         providers: &Providers,
         visits: Vec<Visit>,
-    ) -> Result<Vec<BodyErrors>, AllocError>
+    ) -> Result<Pieces, AllocError>
         requires sound { IsSound (state_in self.now) self.now.snapshot.now.root }
         requires visits { visits.items ≡ map (visit_of (state_in self.now)) (units_at (state_in self.now) self.now.snapshot.now.root) }
-        ensures { IfOk result (λ found. AllZip (IsReported (state_in self.now)) (units_at (state_in self.now) self.now.snapshot.now.root) found.items) }
+        ensures { IfOk result (λ pieces. AllZip (IsPieceAt (state_in self.now)) (units_at (state_in self.now) self.now.snapshot.now.root) pieces.items) }
     {
         let mut visits = visits;
         let mut required = Stack::new(alloc);
         let mut found = Stack::new(alloc);
         while let Some(visit) = visits.pop() {
-            let Visit { name, typed } = visit;
-            let kids = take_kids(alloc, typed.children(), &mut required)?;
-            let verdict = verdict_on(alloc, providers, &typed, &kids)?;
-            let Verdict {
-                errors,
-                requirements,
-            } = verdict;
+            let kids = take_kids(alloc, visit.children(), &mut required)?;
+            let piece = visit.judged(alloc, providers, self.snapshot.types(), kids)?;
+            let requirements = copy_requirements(piece.1.get().requirements())?;
             required.push(requirements)?;
-            found.push(BodyErrors { name, errors })?;
+            found.push(piece)?;
         }
         Ok(found.into_vec())
     }
+}
+
+/// The errors of bodies, from their pieces.
+pub(crate) fn errors_of(
+    alloc: Global,
+    pieces: &[(Name, Shared<Piece>)],
+) -> Result<Vec<BodyErrors>, AllocError>
+    ensures { IfOk result (λ found. found.items ≡ map errors_in pieces.now) }
+{
+    let mut found = Vec::with_capacity(alloc, pieces.len())?;
+    for piece in pieces {
+        let errors = copy_errors(piece.1.get().errors())?;
+        found.push(BodyErrors {
+            name: piece.0,
+            errors,
+        })?;
+    }
+    Ok(found)
 }

@@ -9,7 +9,7 @@ use crate::front::Fronts;
 use crate::rule::{Add, TableWriter};
 use crate::table::{Table, Update};
 use bc_calls::Entry;
-use bc_prov::{Declared, Shared};
+use bc_prov::{Declared, Pieces, Shared};
 use core::mem::replace_with;
 use std::alloc::{AllocError, Global};
 use std::marker::Model;
@@ -68,14 +68,20 @@ impl<E: Ending> Press<E> {
         Ok(Fronts::new(self.writer.factory().another()?))
     }
 
-    /// Publishes the entry that comes next, with the revision that it gives to what it writes; it waits for those who still read what
-    /// was published before. Answers `AllocError` only where memory for it was refused, and then nothing is published; what can be
+    /// Publishes the entry that comes next, with the revision that it gives to what it writes, and with pieces of bodies that were made
+    /// for an Ask, if it is one; it waits for those who still read what was published before. Answers `AllocError` only where memory for it was refused, and then nothing is published; what can be
     /// refused behind that is tried again until it is not. (Own.)
-    pub fn add<R: Wait>(&mut self, rt: &R, entry: Entry, revision: u32) -> Result<(), AllocError>
+    pub fn add<R: Wait>(
+        &mut self,
+        rt: &R,
+        entry: Entry,
+        revision: u32,
+        pieces: Option<Pieces>,
+    ) -> Result<(), AllocError>
         requires { MayComeNext self.old entry }
         ensures { MatchResult result (λ _. self.new ≡ self.old ++ entry ∷ []) (λ _. self.new ≡ self.old) }
     {
-        self.add_update(rt, Update::new(entry, revision))
+        self.add_update(rt, Update::new(entry, revision, pieces))
     }
 
     // Publishes an update whose entry comes next.

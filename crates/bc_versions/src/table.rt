@@ -7,17 +7,19 @@ ghost use Rattle.bc_versions.specs.Tables.{empty_table, updated};
 
 use bc_calls::{Entry, MOST_BODIES};
 use bc_memo::{Part, Shelf};
-use bc_prov::{Declared, Outcome, Shared};
+use bc_prov::{Declared, Outcome, Pieces, Shared};
 use bc_text::Name;
 use left_right::Absorb;
 use std::alloc::{AllocError, Global};
 use std::marker::Model;
 
-/// An entry that is to be published, with the revision that it gives to what it writes. Contracts see both. (Own.)
+/// An entry that is to be published, with the revision that it gives to what it writes, and pieces that were made for an Ask. Contracts
+/// see the entry and the revision. (Own.)
 #[derive(Drop)]
 pub struct Update {
     entry: Entry,
     revision: u32,
+    pieces: Option<Pieces>,
 }
 
 impl Model for Update {
@@ -33,12 +35,17 @@ impl Model for Update {
 }
 
 impl Update {
-    /// An entry, where a unit that it puts suits its name, with a revision. It takes no memory.
-    pub(crate) fn new(entry: Entry, revision: u32) -> Update
+    /// An entry, where a unit that it puts suits its name, with a revision, and with pieces that were made for an Ask, if it is one. It
+    /// takes no memory.
+    pub(crate) fn new(entry: Entry, revision: u32, pieces: Option<Pieces>) -> Update
         requires { MayChange (change_of entry.event) }
         ensures { result ≡ record { entry = entry; revision = revision } }
     {
-        Update { entry, revision }
+        Update {
+            entry,
+            revision,
+            pieces,
+        }
     }
 }
 
@@ -94,7 +101,8 @@ impl Table {
         self.shelf.part(alloc, root)
     }
 
-    /// Takes in an entry: all of it, or nothing where an owner is refused. Each entry of a legal history finds memory for its place.
+    /// Takes in an entry: all of it, or nothing where an owner is refused. Each entry of a legal history finds memory for its place, and
+    /// each of its pieces too. A piece that is left out is only made again.
     pub(crate) fn update(&mut self, update: &Update) -> Result<(), AllocError>
         ensures taken { OnOk result (self.new ≡ updated self.old update.now) }
         ensures refused { OnErr result (self.new ≡ self.old) }
@@ -104,6 +112,9 @@ impl Table {
         self.shelf.reserve()?;
         self.shelf.change(change, update.revision);
         self.last = Some(last);
+        if let Some(pieces) = &update.pieces {
+            self.shelf.keep_all(pieces);
+        }
         Ok(())
     }
 }

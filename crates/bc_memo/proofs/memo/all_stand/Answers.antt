@@ -1,5 +1,5 @@
 use Rattle.std.proofs.Common.{arith, refl}
-use Rattle.bc_memo.proofs.Places.{all_by_index}
+use Rattle.bc_prov.proofs.Lookup.{all_by_index}
 use Rattle.bc_memo.proofs.memo.all_stand.Goals as goal
 
 pub returns : goal.returns

@@ -1,5 +1,5 @@
 use Rattle.std.proofs.Common.{◌≡◌, ◌≤◌, ◌+◌, ◌++◌, length, drop, map}
-use Rattle.bc_prov.specs.Visits.{number_of_child}
+use Rattle.bc_prov.specs.State.{number_of_child}
 use Rattle.bc_prov.proofs.verdicts.take_kids.Given as goal
 
 abbrev pub invariant-loop-child : goal.invariant-loop-child

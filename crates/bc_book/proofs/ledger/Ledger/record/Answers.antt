@@ -25,7 +25,7 @@ invariant_of-self c =
     let place : HasPlace (length i.shelf.held.places) e.event = subst (λ (v : LedgerView). HasPlace (length v.shelf.places) e.event) is c.requires.place in
     let given : c.args.revision ≡ writes_after (writes_of i.history.items) e.event = subst (λ (v : LedgerView). c.args.revision ≡ writes_after (writes_of v.entries) e.event) is c.requires.revision in
     let count : c.args.revision ≡ writes_of (i.history.items ++ e ∷ []) = given ∙ sym (writes-snoc i.history.items e) in
-    let held = c.change.ensures ∙ ap (λ (x : Change). changed i.shelf.held x c.args.revision) c.requires.change in
+    let held = c.change.ensures.held ∙ ap (λ (x : Change). changed i.shelf.held x c.args.revision) c.requires.change in
     let rows = c.forget_removed.ensures ∙ ap (λ (x : Change). kept_rows x i.memo.rows) c.requires.change in
     let kept = kept_snoc i.capacity i.history.items i.counts i.writes c.args.revision i.shelf.held c.change.new.self.held i.memo.rows c.forget_removed.new.memo.rows e c.self.invariant below fits c.requires.session place count held rows in
     subst (λ (x : List Entry × ℕ). IsKept i.capacity x.0 (set i.counts x.1 (e.number + 1)) c.args.revision c.change.new.self.held c.forget_removed.new.memo.rows)

@@ -4,19 +4,26 @@ use Rattle.bc_text.specs.Names.{name_order}
 use Rattle.bc_prov.specs.State.{Suits, at_name}
 use Rattle.bc_memo.specs.declared.change.Change.{Change}
 use Rattle.bc_memo.specs.declared.change.Change.TheVariants.{Types, Put, Remove, Answer}
-use Rattle.bc_memo.specs.Places.{Places, ShelfRoom, ShelfView, AreKept, AreOrdered, MayChange, answer_of, changed, cleared, written}
-use Rattle.bc_memo.proofs.Places.{ordered-put, ordered-take}
+use Rattle.bc_memo.specs.Places.{Places, PieceRows, ShelfRoom, ShelfView, AreOrdered, IsShelf, MayChange, answer_of, changed, cleared, pieces_after, unanswered, written}
+use Rattle.bc_prov.specs.Pieces.{PieceView}
+use Rattle.bc_memo.proofs.Places.{no_order, ordered-put, ordered-take}
+use Rattle.bc_memo.proofs.Found.{found_none, found-answered, found-put, found-take}
 use Rattle.bc_memo.proofs.Marking.{bare_put, bare_take, changed_nothing, kept-answered, kept-cleared, kept-put, kept-take, kept-unanswered, marked_answer, marked_put, marked_remove}
 use Rattle.bc_memo.proofs.shelf.Shelf.change.Goals as goal
 
 pub invariant_of-self : goal.invariant_of-self
-invariant_of-self c = subst (λ (ps : Places). AreKept ps) (sym c.clear_all.ensures) (kept-unanswered c.self.inside.places.items c.self.invariant)
+invariant_of-self c =
+    subst (λ (p : Places × PieceRows). IsShelf c.in-Types.types p.0 p.1) (λ i. (sym c.clear_all.ensures i, sym c.forget_all.ensures i)) (record {
+      kept = kept-unanswered c.self.inside.places.items c.self.invariant.kept;
+      sorted = no_order PieceView;
+      found = found_none c.in-Types.types (unanswered c.self.inside.places.items);
+    })
 
 pub clear-requires-clause-ordered : goal.clear-requires-clause-ordered
-clear-requires-clause-ordered c = subst (λ (ps : Places). AreOrdered ps) (sym c.put.ensures) (ordered-put c.in-Put.name (written c.in-Put.unit c.args.revision) c.self.inside.places.items c.self.invariant.ordered)
+clear-requires-clause-ordered c = subst (λ (ps : Places). AreOrdered ps) (sym c.put.ensures) (ordered-put c.in-Put.name (written c.in-Put.unit c.args.revision) c.self.inside.places.items c.self.invariant.kept.ordered)
 
 pub clear-requires-in-Remove-clause-ordered : goal.clear-requires-in-Remove-clause-ordered
-clear-requires-in-Remove-clause-ordered c = subst (λ (ps : Places). AreOrdered ps) (sym c.take.ensures) (ordered-take (is_at (name_order c.in-Remove.name)) c.self.inside.places.items c.self.invariant.ordered)
+clear-requires-in-Remove-clause-ordered c = subst (λ (ps : Places). AreOrdered ps) (sym c.take.ensures) (ordered-take (is_at (name_order c.in-Remove.name)) c.self.inside.places.items c.self.invariant.kept.ordered)
 
 pub clear-requires-clause-bare : goal.clear-requires-clause-bare
 clear-requires-clause-bare c =
@@ -26,54 +33,85 @@ clear-requires-clause-bare c =
 pub clear-requires-in-Remove-clause-bare : goal.clear-requires-in-Remove-clause-bare
 clear-requires-in-Remove-clause-bare c =
     let n = c.in-Remove.name in
-    subst (λ (ps : Places). answer_of (at_name ps n) ≡ None) (sym c.take.ensures) (bare_take n c.self.inside.places.items c.self.invariant.ordered)
+    subst (λ (ps : Places). answer_of (at_name ps n) ≡ None) (sym c.take.ensures) (bare_take n c.self.inside.places.items c.self.invariant.kept.ordered)
 
 pub invariant_of-self-in-Put : goal.invariant_of-self-in-Put
 invariant_of-self-in-Put c =
     let ps = c.self.inside.places.items in
     let suits : Suits c.in-Put.unit c.in-Put.name = subst (λ (ch : Change). MayChange ch) c.in-Put.is c.requires.suited in
-    subst (λ (qs : Places). AreKept qs) (sym (c.clear.ensures ∙ ap (λ (qs : Places). cleared c.in-Put.name qs) c.put.ensures))
-    (kept-cleared c.in-Put.name _ (kept-put c.in-Put.name (written c.in-Put.unit c.args.revision) ps suits c.self.invariant))
+    let rows = c.self.inside.pieces in
+    subst (λ (p : Places × PieceRows). IsShelf c.self.inside.types p.0 p.1) (λ i. (sym (c.clear.ensures ∙ ap (λ (qs : Places). cleared c.in-Put.name qs) c.put.ensures) i, sym c.forget.ensures i)) (record {
+      kept = kept-cleared c.in-Put.name _ (kept-put c.in-Put.name (written c.in-Put.unit c.args.revision) ps suits c.self.invariant.kept);
+      sorted = ordered-take (is_at (name_order c.in-Put.name)) rows c.self.invariant.sorted;
+      found = found-put c.self.inside.types ps rows c.in-Put.name (written c.in-Put.unit c.args.revision) c.self.invariant.sorted c.self.invariant.found;
+    })
 
 pub invariant_of-self-in-Remove : goal.invariant_of-self-in-Remove
 invariant_of-self-in-Remove c =
-    subst (λ (qs : Places). AreKept qs) (sym (c.clear-in-Remove.ensures ∙ ap (λ (qs : Places). cleared c.in-Remove.name qs) c.take.ensures))
-    (kept-cleared c.in-Remove.name _ (kept-take (is_at (name_order c.in-Remove.name)) c.self.inside.places.items c.self.invariant))
+    let ps = c.self.inside.places.items in
+    let rows = c.self.inside.pieces in
+    subst (λ (p : Places × PieceRows). IsShelf c.self.inside.types p.0 p.1) (λ i. (sym (c.clear-in-Remove.ensures ∙ ap (λ (qs : Places). cleared c.in-Remove.name qs) c.take.ensures) i, sym c.forget-in-Remove.ensures i)) (record {
+      kept = kept-cleared c.in-Remove.name _ (kept-take (is_at (name_order c.in-Remove.name)) ps c.self.invariant.kept);
+      sorted = ordered-take (is_at (name_order c.in-Remove.name)) rows c.self.invariant.sorted;
+      found = found-take c.self.inside.types ps rows c.in-Remove.name c.self.invariant.kept.ordered c.self.invariant.sorted c.self.invariant.found;
+    })
 
 pub invariant_of-self-in-Answer : goal.invariant_of-self-in-Answer
 invariant_of-self-in-Answer c =
-    subst (λ (qs : Places). AreKept qs) (sym c.set_answer.ensures) (kept-answered c.in-Answer.name (Some c.in-Answer.outcome) c.self.inside.places.items c.self.invariant)
+    let ps = c.self.inside.places.items in
+    subst (λ (qs : Places). IsShelf c.self.inside.types qs c.self.inside.pieces) (sym c.set_answer.ensures) (record {
+      kept = kept-answered c.in-Answer.name (Some c.in-Answer.outcome) ps c.self.invariant.kept;
+      sorted = c.self.invariant.sorted;
+      found = found-answered c.self.inside.types ps c.self.inside.pieces c.in-Answer.name (Some c.in-Answer.outcome) c.self.invariant.found;
+    })
 
-pub returns-in-Types : goal.returns-in-Types
-returns-in-Types c =
+pub returns-in-Types-clause-held : goal.returns-in-Types-clause-held
+returns-in-Types-clause-held c =
     let F : Places → ShelfView = λ ps. record { types = c.in-Types.types; types_revision = c.args.revision; places = ps } in
     ap F c.clear_all.ensures
     ∙ ap (λ (s : ShelfRoom). changed s.held (Types c.in-Types.types) c.args.revision) c.self.view_is
     ∙ ap (λ (ch : Change). changed c.args.self.now.held ch c.args.revision) (sym c.in-Types.is)
 
-pub returns-in-Put : goal.returns-in-Put
-returns-in-Put c =
+pub returns-in-Put-clause-held : goal.returns-in-Put-clause-held
+returns-in-Put-clause-held c =
     let i = c.self.inside in
     let F : Places → ShelfView = λ ps. record { types = i.types; types_revision = i.types_revision; places = ps } in
     ap F (c.clear.ensures ∙ ap (λ (qs : Places). cleared c.in-Put.name qs) c.put.ensures ∙ marked_put c.in-Put.name c.in-Put.unit _)
     ∙ ap (λ (s : ShelfRoom). changed s.held (Put c.in-Put.name c.in-Put.unit) c.args.revision) c.self.view_is
     ∙ ap (λ (ch : Change). changed c.args.self.now.held ch c.args.revision) (sym c.in-Put.is)
 
-pub returns-in-Remove : goal.returns-in-Remove
-returns-in-Remove c =
+pub returns-in-Remove-clause-held : goal.returns-in-Remove-clause-held
+returns-in-Remove-clause-held c =
     let i = c.self.inside in
     let F : Places → ShelfView = λ ps. record { types = i.types; types_revision = i.types_revision; places = ps } in
     ap F (c.clear-in-Remove.ensures ∙ ap (λ (qs : Places). cleared c.in-Remove.name qs) c.take.ensures ∙ marked_remove c.in-Remove.name _)
     ∙ ap (λ (s : ShelfRoom). changed s.held (Remove c.in-Remove.name) c.args.revision) c.self.view_is
     ∙ ap (λ (ch : Change). changed c.args.self.now.held ch c.args.revision) (sym c.in-Remove.is)
 
-pub returns-in-Answer : goal.returns-in-Answer
-returns-in-Answer c =
+pub returns-in-Answer-clause-held : goal.returns-in-Answer-clause-held
+returns-in-Answer-clause-held c =
     let i = c.self.inside in
     let F : Places → ShelfView = λ ps. record { types = i.types; types_revision = i.types_revision; places = ps } in
     ap F (c.set_answer.ensures ∙ marked_answer c.in-Answer.name c.in-Answer.outcome _)
     ∙ ap (λ (s : ShelfRoom). changed s.held (Answer c.in-Answer.name c.in-Answer.outcome) c.args.revision) c.self.view_is
     ∙ ap (λ (ch : Change). changed c.args.self.now.held ch c.args.revision) (sym c.in-Answer.is)
 
-pub returns-in-Nothing : goal.returns-in-Nothing
-returns-in-Nothing c = changed_nothing c.args.self.now.held c.args.revision ∙ ap (λ (ch : Change). changed c.args.self.now.held ch c.args.revision) (sym c.in-Nothing.is)
+pub returns-in-Nothing-clause-held : goal.returns-in-Nothing-clause-held
+returns-in-Nothing-clause-held c = changed_nothing c.args.self.now.held c.args.revision ∙ ap (λ (ch : Change). changed c.args.self.now.held ch c.args.revision) (sym c.in-Nothing.is)
+
+pub returns-in-Types-clause-pieces : goal.returns-in-Types-clause-pieces
+returns-in-Types-clause-pieces c = c.forget_all.ensures ∙ ap (λ (ch : Change). pieces_after ch c.args.self.now.pieces) (sym c.in-Types.is)
+
+pub returns-in-Put-clause-pieces : goal.returns-in-Put-clause-pieces
+returns-in-Put-clause-pieces c =
+    c.forget.ensures ∙ ap (λ (s : ShelfRoom). pieces_after (Put c.in-Put.name c.in-Put.unit) s.pieces) c.self.view_is ∙ ap (λ (ch : Change). pieces_after ch c.args.self.now.pieces) (sym c.in-Put.is)
+
+pub returns-in-Remove-clause-pieces : goal.returns-in-Remove-clause-pieces
+returns-in-Remove-clause-pieces c =
+    c.forget-in-Remove.ensures ∙ ap (λ (s : ShelfRoom). pieces_after (Remove c.in-Remove.name) s.pieces) c.self.view_is ∙ ap (λ (ch : Change). pieces_after ch c.args.self.now.pieces) (sym c.in-Remove.is)
+
+pub returns-in-Answer-clause-pieces : goal.returns-in-Answer-clause-pieces
+returns-in-Answer-clause-pieces c = ap (λ (s : ShelfRoom). s.pieces) c.self.view_is ∙ ap (λ (ch : Change). pieces_after ch c.args.self.now.pieces) (sym c.in-Answer.is)
+
+pub returns-in-Nothing-clause-pieces : goal.returns-in-Nothing-clause-pieces
+returns-in-Nothing-clause-pieces c = ap (λ (ch : Change). pieces_after ch c.args.self.now.pieces) (sym c.in-Nothing.is)

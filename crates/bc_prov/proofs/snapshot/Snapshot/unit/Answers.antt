@@ -9,8 +9,7 @@ pub returns-in-Ok-clause-unit : goal.returns-in-Ok-clause-unit
 returns-in-Ok-clause-unit c =
     let is = c.in-Ok.ensures.position (λ u. name_order u.0 c.args.name.now) (always_returns_same _ _ _ (λ a r f' k. search rules)) c.index.result.now in
     rw (← c.self.view_is)
-    (ap Some c.get.ensures
-    ∙ ap (λ u. Some u.1) c.index.ensures
+    (ap (λ u. Some u.1) c.index.ensures
     ∙ sym (found c.self.inside.units.items c.args.name.now c.in-Ok.at c.index.result.now c.self.invariant.snapshot.ascending
     (subst (λ (us : List _). c.in-Ok.at < length us) c.deref.ensures.value c.in-Ok.ensures.bound)
     (subst (λ (us : List _). name_order (get_or us c.in-Ok.at c.index.result.now).0 c.args.name.now ≡ Equal) c.deref.ensures.value is)))

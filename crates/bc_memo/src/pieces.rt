@@ -1,0 +1,88 @@
+//! Pieces that are kept of bodies.
+ghost use Rattle.std.specs.Prelude.{◌≡◌, [], IfOk, OnErr, OnOk};
+ghost use Rattle.std.specs.BTreeMap.{insert_entry, is_at};
+ghost use Rattle.std.specs.Map.{remove_entry};
+ghost use Rattle.std.specs.Option.{option_copied};
+ghost use Rattle.bc_text.specs.Names.{name_order};
+ghost use Rattle.bc_prov.specs.State.{at_name};
+ghost use Rattle.bc_memo.specs.Places.{part_in};
+
+use crate::rows::{find, put, take, within};
+use bc_prov::{Piece, Pieces, Shared, share_pieces};
+use bc_text::Name;
+use std::alloc::{AllocError, Global};
+use std::marker::Model;
+
+/// The pieces that are kept of bodies, one for each name at most. Contracts see them in the order of their names. (Own; rustc-dev-guide,
+/// "Incremental compilation": what is found of a part stands while that part stands.)
+#[derive(Drop)]
+pub struct PieceMemo {
+    rows: Vec<(Name, Shared<Piece>)>,
+}
+
+impl Model for PieceMemo {
+    ghost use Rattle.std.specs.Prelude.{List};
+    ghost use Rattle.bc_text.specs.Names.{NameParts};
+    ghost use Rattle.bc_prov.specs.Pieces.{PieceView};
+    ghost use Rattle.bc_memo.specs.Places.{AreOrdered};
+
+    ghost Value = { List (NameParts × PieceView) };
+
+    ghost view = { λ m. m.rows.items };
+
+    ghost invariant = { λ m. AreOrdered m.rows.items };
+}
+
+impl PieceMemo {
+    /// No piece is kept, and there is memory for so many. Answers `AllocError` only where memory was refused. (Own.)
+    pub fn new(alloc: Global, names: usize) -> Result<PieceMemo, AllocError>
+        ensures { IfOk result (λ memo. memo ≡ []) }
+    {
+        Ok(PieceMemo {
+            rows: Vec::with_capacity(alloc, names)?,
+        })
+    }
+
+    /// Keeps the piece of a name, in the place of one that was kept for it. It takes no memory where there is some for one piece more.
+    /// Answers `AllocError` only where memory was refused, and then keeps what it kept before. (Own.)
+    pub fn keep(&mut self, name: Name, piece: Shared<Piece>) -> Result<(), AllocError>
+        ensures kept { OnOk result (self.new ≡ insert_entry name_order self.old name piece) }
+        ensures refused { OnErr result (self.new ≡ self.old) }
+    {
+        self.rows.reserve(1)?;
+        put(&mut self.rows, name, piece);
+        Ok(())
+    }
+
+    /// The piece that is kept for a name, if one is. It takes no memory. (Own.)
+    pub fn kept(&self, name: &Name) -> Option<&Shared<Piece>>
+        ensures { option_copied result ≡ at_name self.now name.now }
+    {
+        match find(&self.rows, name) {
+            Ok(place) => Some(&self.rows[place].1),
+            Err(_) => None,
+        }
+    }
+
+    /// The pieces that are kept for a name and for names that begin with it and `/`, as further owners. Answers `AllocError` only where
+    /// memory was refused. (Own.)
+    pub fn part(&self, alloc: Global, root: &Name) -> Result<Pieces, AllocError>
+        ensures { IfOk result (λ pieces. pieces.items ≡ part_in root.now self.now) }
+    {
+        share_pieces(alloc, within(&self.rows, root))
+    }
+
+    /// Keeps no piece for a name. It takes no memory. (Own.)
+    pub fn forget(&mut self, name: &Name)
+        ensures { self.new ≡ remove_entry (is_at (name_order name.now)) self.old }
+    {
+        take(&mut self.rows, name);
+    }
+
+    /// Keeps no piece. It takes no memory. (Own.)
+    pub fn forget_all(&mut self)
+        ensures { self.new ≡ [] }
+    {
+        self.rows.clear();
+    }
+}

@@ -1,0 +1,180 @@
+//! What is found of one body, with all that it was found from.
+ghost use Rattle.std.specs.Prelude.{◌≡◌, ◌↔◌, true, nat_le, IfOk, IsTrue};
+ghost use Rattle.std.specs.List.{list_all};
+ghost use Rattle.bc_syntax.specs.Children.{children_of};
+ghost use Rattle.bc_cons.specs.Requirements.{AreOfChildren};
+ghost use Rattle.bc_prov.specs.Pieces.{IsFitted, IsFoundFrom, IsPiece};
+
+use crate::body::verdict_on;
+use crate::declared::Declared;
+use crate::providers::Providers;
+use crate::shared::Shared;
+use bc_cons::Requirements;
+use bc_judge::{BorrowError, Verdict};
+use bc_mir::Typed;
+use bc_syntax::{Sequence, Unit};
+use bc_text::Name;
+use std::alloc::{AllocError, Global};
+use std::marker::Model;
+
+/// Pieces of bodies, each under its body's name.
+/// (Own.)
+pub type Pieces = Vec<(Name, Shared<Piece>)>;
+
+/// The errors and the requirements of one body, with all that they were found from: the declarations, the unit, copies of the
+/// headers of its children (the unit was typed over them), and what these require. Its type keeps that they are those of the body by
+/// definition, and nothing else makes one. (Own; rustc-dev-guide, "Queries": a query's result is taken again where all that it was
+/// found from is the same.)
+#[derive(Drop)]
+pub struct Piece {
+    types: Shared<Declared>,
+    unit: Shared<Unit>,
+    typed: Shared<Typed>,
+    kids: Vec<(u8, Requirements)>,
+    verdict: Verdict,
+}
+
+/// The same pieces, as one more owner of each. Answers `AllocError` only where memory was refused. (Own.)
+pub fn share_pieces(alloc: Global, pieces: &[(Name, Shared<Piece>)]) -> Result<Pieces, AllocError>
+    ensures { IfOk result (λ shares. shares.items ≡ pieces.now) }
+{
+    let mut shares = Vec::with_capacity(alloc, pieces.len())?;
+    for entry in pieces {
+        let piece = entry.1.clone()?;
+        shares.push((entry.0, piece))?;
+    }
+    Ok(shares)
+}
+
+impl Model for Piece {
+    ghost use Rattle.bc_prov.specs.Pieces.{IsPiece, PieceView};
+
+    ghost Value = { PieceView };
+
+    ghost view = { λ p. record { types = p.types; unit = p.unit; mir = p.typed; kids = p.kids.items; verdict = p.verdict } };
+
+    ghost invariant = { λ p. IsPiece (record { types = p.types; unit = p.unit; mir = p.typed; kids = p.kids.items; verdict = p.verdict }) };
+}
+
+impl Piece {
+    /// The declarations. Own.
+    pub fn types(&self) -> &Shared<Declared>
+        ensures { result.now ≡ self.now.types }
+    {
+        &self.types
+    }
+
+    /// The unit. Own.
+    pub fn unit(&self) -> &Shared<Unit>
+        ensures { result.now ≡ self.now.unit }
+    {
+        &self.unit
+    }
+
+    /// The errors of the body, in order. Own.
+    pub fn errors(&self) -> &Sequence<BorrowError>
+        ensures value { result.now ≡ self.now.verdict.errors }
+        ensures right { IsPiece self.now }
+    {
+        &self.verdict.errors
+    }
+
+    /// What the body requires of its creator. Own.
+    pub fn requirements(&self) -> &Requirements
+        ensures value { result.now ≡ self.now.verdict.requirements }
+        ensures right { IsPiece self.now }
+    {
+        &self.verdict.requirements
+    }
+
+    /// The unit as it was typed.
+    pub(crate) fn typed(&self) -> &Shared<Typed>
+        ensures value { result.now ≡ self.now.mir }
+        ensures right { IsPiece self.now }
+    {
+        &self.typed
+    }
+
+    /// Whether it was found from these declarations and this unit. They are compared as values. Own.
+    pub fn is_over(&self, types: &Shared<Declared>, unit: &Shared<Unit>) -> bool
+        ensures { IsTrue result ↔ ((self.now.types ≡ types.now) × (self.now.unit ≡ unit.now)) }
+    {
+        self.types == *types && self.unit == *unit
+    }
+
+    /// The numbers of the unit's children, ascending. Answers `AllocError` only where memory was refused.
+    pub(crate) fn children(&self, alloc: Global) -> Result<Vec<u8>, AllocError>
+        ensures value { IfOk result (λ numbers. numbers.items ≡ children_of self.now.unit) }
+        ensures low { IfOk result (λ numbers. list_all (λ number. nat_le number 63) numbers.items ≡ true) }
+    {
+        let children = self.typed.get().children();
+        let mut numbers = Vec::with_capacity(alloc, children.len())?;
+        for child in children {
+            numbers.push(child.number)?;
+        }
+        Ok(numbers)
+    }
+
+    /// Whether its children required so much.
+    pub(crate) fn is_from(&self, kids: &[(u8, Requirements)]) -> bool
+        ensures same { IsTrue result ↔ (self.now.kids ≡ kids.now) }
+        ensures right { IsPiece self.now }
+    {
+        same_kids(&self.kids, kids)
+    }
+
+    /// Whether both were found from children with the same headers, which required the same.
+    pub(crate) fn has_kids_of(&self, other: &Piece) -> bool {
+        let one = self.typed.get().children();
+        let two = other.typed.get().children();
+        one.len() == two.len()
+            && one
+                .iter()
+                .zip(two)
+                .all(|(a, b)| a.number == b.number && a.header == b.header)
+            && self.is_from(&other.kids)
+    }
+}
+
+fn same_kid(one: &(u8, Requirements), other: &(u8, Requirements)) -> bool
+    ensures { IsTrue result ↔ (one.now ≡ other.now) }
+{
+    one.0 == other.0 && one.1.pairs == other.1.pairs
+}
+
+/// Whether children of the same numbers require the same, in the same order.
+fn same_kids(one: &[(u8, Requirements)], other: &[(u8, Requirements)]) -> bool
+    ensures { IsTrue result ↔ (one.now ≡ other.now) }
+{
+    match one {
+        [] => other.is_empty(),
+        [first, more @ ..] => match other {
+            [] => false,
+            [second, rest @ ..] => same_kid(first, second) && same_kids(more, rest),
+        },
+    }
+}
+
+/// The piece of a unit that was typed over declarations and the headers of its children, where these require so much. Answers
+/// `AllocError` only where memory was refused, as a provider may answer too.
+pub(crate) fn piece_of(
+    alloc: Global,
+    providers: &Providers,
+    types: Shared<Declared>,
+    unit: Shared<Unit>,
+    typed: Shared<Typed>,
+    kids: Vec<(u8, Requirements)>,
+) -> Result<Piece, AllocError>
+    requires fitted { IsFitted types unit typed }
+    requires kids { AreOfChildren typed.children kids.items }
+    ensures { IfOk result (IsFoundFrom types unit typed kids.items) }
+{
+    let verdict = verdict_on(alloc, providers, typed.get(), &kids)?;
+    Ok(Piece {
+        types,
+        unit,
+        typed,
+        kids,
+        verdict,
+    })
+}
