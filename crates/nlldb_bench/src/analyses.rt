@@ -1,6 +1,6 @@
 //! What the analysis finds of a body, and how long each of its steps takes at best, in microseconds.
-use crate::timing::timed;
 use anyhow::bail;
+use bc_bench::timed;
 use bc_cons::{Facts, constraints};
 use bc_judge::judge;
 use bc_live::{LiveSets, live};

@@ -3,8 +3,7 @@ ghost use Rattle.std.specs.Prelude.{IfOk, ◌<◌};
 ghost use Rattle.bc_flow.specs.Flow.{AreEntriesWithin};
 ghost use Rattle.bc_cons.specs.Facts.{ArePairsWithin};
 
-use crate::random::{below, generator};
-use crate::timing::timed;
+use bc_bench::{below, generator, timed};
 use bc_cons::{Constraint, Facts};
 use bc_flow::{Entry, table};
 use bc_solve::{Values, solve_plain};

@@ -1,8 +1,8 @@
 //! A file of many bodies, checked as the command does.
 use crate::readings::checksum;
-use crate::timing::timed;
 use anyhow::bail;
 use bc_analyses::providers;
+use bc_bench::timed;
 use bc_check::check;
 use bc_prov::Providers;
 use std::alloc::Global;

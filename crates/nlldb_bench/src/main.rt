@@ -1,31 +1,20 @@
-//! Reads three long texts, analyses three large bodies, solves constraints between many regions, asks for a body
-//! again, checks a file of many bodies, and reads names while others are written, many times. What was read and found goes to standard output and is the same at each run; how fast goes to standard error.
+//! Reads three long texts, analyses three large bodies, solves constraints between many regions, and checks a file of many bodies, many
+//! times. What was read and found goes to standard output and is the same at each run; how fast goes to standard error.
 #![tactic(auto)]
 
 mod analyses;
-mod asks;
-mod bodies;
 mod chains;
 mod files;
-mod glances;
-mod random;
 mod readings;
-mod reads;
 mod texts;
-mod timing;
 
 use crate::analyses::measure_body;
-use crate::asks::measure_asks;
-use crate::bodies::{borrows_and_reads, borrows_and_writes, branches};
 use crate::chains::{Shape, measure_constraints};
 use crate::files::{many_bodies, measure_file};
-use crate::glances::measure_names;
 use crate::readings::{count, time};
-use crate::reads::measure_reads;
 use crate::texts::{dense, indented, repeated};
+use bc_bench::{borrows_and_reads, borrows_and_writes, branches};
 use std::io::Write;
-use std::sync::Wait;
-use std::time::Clock;
 
 /// Reads a text, and writes what was read to `out` and how fast to `err`.
 fn measure<O: Write, E: Write>(
@@ -79,31 +68,12 @@ fn measure_solving<O: Write, E: Write>(
     measure_constraints(rt, "random pairs", Shape::RandomPairs, out, err)
 }
 
-fn measure_asking<R: AllocGlobal + Clock + Wait, O: Write, E: Write>(
-    rt: &R,
-    out: &mut O,
-    err: &mut E,
-) -> anyhow::Result<()> {
-    let text = borrows_and_reads(rt.alloc())?;
-    measure_asks(rt, "asks of many points", &text, out, err)?;
-    measure_asks(
-        rt,
-        "asks of two points",
-        b"fn()->int{bb0{_0=1;return;}}",
-        out,
-        err,
-    )
-}
-
 fn main(rt: HostRuntime) -> anyhow::Result<()> {
     let mut out = rt.stdout();
     let mut err = rt.stderr();
     measure_texts(&rt, &mut out, &mut err)?;
     measure_bodies(&rt, &mut out, &mut err)?;
     measure_solving(&rt, &mut out, &mut err)?;
-    measure_asking(&rt, &mut out, &mut err)?;
     let file = many_bodies(rt.alloc())?;
-    measure_file(&rt, "many bodies", &file, &mut out, &mut err)?;
-    measure_names(&rt, &mut out, &mut err)?;
-    measure_reads(&rt, &mut out, &mut err)
+    measure_file(&rt, "many bodies", &file, &mut out, &mut err)
 }

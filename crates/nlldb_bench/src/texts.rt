@@ -1,5 +1,5 @@
 //! The texts that are read: one body of 4,096 points each.
-use crate::random::{below, generator};
+use bc_bench::{below, generator};
 use rand_pcg::Pcg32;
 use std::alloc::Global;
 use std::io;

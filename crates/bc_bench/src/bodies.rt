@@ -28,6 +28,34 @@ fn in_line(alloc: Global, loans: u32, behind: &str) -> io::Result<Vec<u8>> {
     Ok(out)
 }
 
+/// A closure of points in a line: so many loans, each with a read through it, and what stands before the last point.
+pub fn closure_in_line(alloc: Global, loans: u32, before: &str) -> io::Result<Vec<u8>> {
+    let mut out = Vec::new(alloc);
+    write!(out, "closure[]()->int{{let _1:int;let _2:&'?1000 int;bb0{{")?;
+    for loan in 0..loans {
+        write_borrow(loan, &mut out)?;
+    }
+    write!(out, "{before}return;}}}}")?;
+    Ok(out)
+}
+
+/// A function that creates so many closures.
+pub fn creator_of(alloc: Global, closures: u8) -> io::Result<Vec<u8>> {
+    let mut out = Vec::new(alloc);
+    write!(out, "fn()->int{{")?;
+    for closure in 0..closures {
+        let local = closure.wrapping_add(1);
+        write!(out, "let _{local}:closure {closure};")?;
+    }
+    write!(out, "bb0{{")?;
+    for closure in 0..closures {
+        let local = closure.wrapping_add(1);
+        write!(out, "_{local}=closure {closure}();")?;
+    }
+    write!(out, "return;}}}}")?;
+    Ok(out)
+}
+
 /// 3,799 points in a line with 1,899 loans: a borrow, and then a read through it.
 pub fn borrows_and_reads(alloc: Global) -> io::Result<Vec<u8>> {
     in_line(alloc, 1899, "")

@@ -1,9 +1,8 @@
 //! Glances at names that are held and answered, beginnings of parts, and puts, each by one session alone.
 use crate::asks::shared;
-use crate::random::{below, generator};
-use crate::timing::{Best, TURNS};
 use anyhow::bail;
 use bc_analyses::providers;
+use bc_bench::{Best, TURNS, below, generator};
 use bc_calls::PutReply;
 use bc_prov::{Outcome, Providers};
 use bc_share::{Db, Session};

@@ -4,10 +4,10 @@ use crate::tests::{
     CLOSURE, CLOSURE_WRITES, Found, INVOKES, MARKED_INVARIANT, NESTED, Turn, WRITES_LAST,
     WRITES_WHILE_BORROWED, found_by, goes, name,
 };
-use crate::{Db, Session};
 use bc_analyses::providers;
 use bc_calls::{PutReply, RemoveReply};
 use bc_prov::Providers;
+use bc_share::{Db, Session};
 use bc_versions::{Ending, Waiting};
 use std::alloc::Global;
 use std::process::Abort;

@@ -2,7 +2,6 @@
 ghost use Rattle.std.specs.Prelude.{IfOk};
 ghost use Rattle.bc_prov.specs.Facts.{AreLive, AreScopes, AreValues};
 
-use crate::Db;
 use crate::tests::{
     CLOSURE, CLOSURE_WRITES, Found, INVARIANT_BUT_MARKED_COVARIANT, INVOKES, NESTED, Turn,
     WRITES_LAST, all_go, history_by,
@@ -15,6 +14,7 @@ use bc_live::LiveSets;
 use bc_loans::Scopes;
 use bc_mir::Typed;
 use bc_prov::{Liveness, Providers, Scoping, Solver};
+use bc_share::Db;
 use bc_solve::Values;
 use bc_versions::Waiting;
 use std::alloc::{AllocError, Global};
@@ -118,7 +118,7 @@ fn are_called<R: Abort + Wait>(
 }
 
 #[test]
-fn each_provider_is_called_once_for_each_body_of_a_report(rt: HostRuntime) -> Result<(), Fail> {
+fn each_provider_is_called_once_for_each_body(rt: HostRuntime) -> Result<(), Fail> {
     let turns = [
         Turn::Put(b"f", INVOKES, Ok(PutReply::Added)),
         Turn::Put(b"f/0", NESTED, Ok(PutReply::Added)),
@@ -126,7 +126,7 @@ fn each_provider_is_called_once_for_each_body_of_a_report(rt: HostRuntime) -> Re
         Turn::Ask(b"f", Ok(Found::Three(0, 0, 0))),
         Turn::Ask(b"f/0/1", Ok(Found::Errors(0))),
     ];
-    assert!(rt; are_called(&rt, rt.alloc(), &turns, 5, 4)?);
+    assert!(rt; are_called(&rt, rt.alloc(), &turns, 5, 3)?);
     Ok(())
 }
 

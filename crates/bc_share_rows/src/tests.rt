@@ -1,9 +1,9 @@
 //! Databases: their ranges, their sessions, their histories.
-use crate::{CloseFault, Db, History, OpenFault, Session};
 use bc_analyses::providers;
 use bc_book::Refusal;
 use bc_calls::{Entry, Event, PutReply, RemoveReply};
 use bc_prov::{Outcome, Providers};
+use bc_share::{CloseFault, Db, History, OpenFault, Session};
 use bc_syntax::{Types, Unit};
 use bc_text::{Name, read_types, read_unit};
 use bc_versions::{Ending, Waiting};

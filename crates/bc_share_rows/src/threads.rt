@@ -1,10 +1,10 @@
 //! Sessions that make the calls of scripts on threads, and what comes after a close.
 use crate::tests::{Found, WRITES_LAST, WRITES_WHILE_BORROWED, found_by, name, shared};
-use crate::{Db, End, Gate, History, Script, Session, Stage, run_sessions};
 use bc_analyses::providers;
 use bc_book::Refusal;
 use bc_calls::{Call, Entry, Event, PutReply};
 use bc_prov::{Providers, Shared};
+use bc_share::{Db, End, Gate, History, Script, Session, Stage, run_sessions};
 use bc_versions::{Ending, Waiting};
 use std::alloc::Global;
 use std::sync::Wait;

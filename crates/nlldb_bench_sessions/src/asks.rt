@@ -1,7 +1,7 @@
 //! Asks for a body that stays as it is.
-use crate::timing::timed;
 use anyhow::bail;
 use bc_analyses::providers;
+use bc_bench::timed;
 use bc_prov::Providers;
 use bc_share::Db;
 use bc_syntax::Unit;
