@@ -1,5 +1,5 @@
-//! Tests of the database: its calls and their replies, what it remembers and publishes, which bodies are worked on, work that is settled late, and
-//! scripts on threads.
+//! Tests of the database: its calls and their replies, what it remembers and publishes, which bodies are worked on, work that is
+//! settled late, and scripts on threads.
 #![tactic(auto)]
 
 #[cfg(test)]

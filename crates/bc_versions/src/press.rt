@@ -69,8 +69,8 @@ impl<E: Ending> Press<E> {
     }
 
     /// Publishes the entry that comes next, with the revision that it gives to what it writes, and with pieces of bodies that were made
-    /// for an Ask, if it is one; it waits for those who still read what was published before. Answers `AllocError` only where memory for it was refused, and then nothing is published; what can be
-    /// refused behind that is tried again until it is not. (Own.)
+    /// for an Ask, if it is one; it waits for those who still read what was published before. Answers `AllocError` only where memory for
+    /// it was refused, and then nothing is published; what can be refused behind that is tried again until it is not. (Own.)
     pub fn add<R: Wait>(
         &mut self,
         rt: &R,
