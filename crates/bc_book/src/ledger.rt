@@ -275,7 +275,7 @@ impl Ledger {
         ensures { self.new ≡ self.old }
     {
         if let Some(pieces) = pieces {
-            self.shelf.keep_all(&pieces);
+            let _kept = self.shelf.keep_all(&pieces);
         }
     }
 

@@ -1,5 +1,5 @@
 -- What is held, with its revisions and its answers, and what a change makes of it.
-use Rattle.std.specs.Prelude.{◌≡◌, ℕ, ◌<◌, ◌≤◌, Bool, true, false, Option, Some, None, List, [], length, map, filter, slice_index_or, if◌then◌else◌}
+use Rattle.std.specs.Prelude.{◌≡◌, ◌↔◌, ℕ, ◌<◌, ◌≤◌, Bool, true, false, IsTrue, Option, Some, None, List, [], ◌∷◌, length, map, filter, slice_index_or, if◌then◌else◌}
 use Rattle.std.specs.Option.{option_or}
 use Rattle.std.specs.Ordering.{is_gt}
 use Rattle.std.specs.declared.cmp.Ordering.TheVariants.{Less, Greater}
@@ -32,11 +32,17 @@ pub record ShelfView : Type 0 where
 abbrev pub PieceRows : Type 0
 PieceRows = List (NameParts × PieceView)
 
--- what is held, the pieces that are kept of it, and for how many more places there is memory
+-- pieces that are kept, and for how many more there is memory
+pub record PieceRoom : Type 0 where
+  pub rows : PieceRows
+  pub room : ℕ
+
+-- what is held, the pieces that are kept of it, and for how many more places and pieces there is memory
 pub record ShelfRoom : Type 0 where
   pub held : ShelfView
   pub pieces : PieceRows
   pub room : ℕ
+  pub piece_room : ℕ
 
 -- these declarations and no unit
 abbrev pub empty_shelf : List Declaration → ShelfView
@@ -179,6 +185,11 @@ pieces_after Nothing pieces = pieces
 -- the pieces with one more, where it was found from what is held
 abbrev pub pieces_with : Bool → NameParts → PieceView → PieceRows → PieceRows
 pieces_with fits name piece pieces = if fits then insert_entry name_order pieces name piece else pieces
+
+-- these pieces are kept in their order, each where it was found from what is held
+abbrev pub AreKeptInOrder : List Declaration → Places → PieceRows → PieceRows → PieceRows → Type 0
+AreKeptInOrder types places [] before after = after ≡ before
+AreKeptInOrder types places (p ∷ rest) before after = (fits : Bool) × (IsTrue fits ↔ IsPieceFor types (unit_of (at_name places p.0)) p.1) × AreKeptInOrder types places rest (pieces_with fits p.0 p.1 before) after
 
 -- the entries of a name and of those that begin with it and `/`
 abbrev pub part_in : {V : Type 0} → NameParts → List (NameParts × V) → List (NameParts × V)

@@ -1,5 +1,5 @@
 //! Pieces that are kept of bodies.
-ghost use Rattle.std.specs.Prelude.{◌≡◌, [], IfOk, OnErr, OnOk};
+ghost use Rattle.std.specs.Prelude.{◌≡◌, ◌<◌, ◌≤◌, [], IfOk, IsOk, OnErr, OnOk};
 ghost use Rattle.std.specs.BTreeMap.{insert_entry, is_at};
 ghost use Rattle.std.specs.Map.{remove_entry};
 ghost use Rattle.std.specs.Option.{option_copied};
@@ -13,22 +13,20 @@ use bc_text::Name;
 use std::alloc::{AllocError, Global};
 use std::marker::Model;
 
-/// The pieces that are kept of bodies, one for each name at most. Contracts see them in the order of their names. (Own; rustc-dev-guide,
-/// "Incremental compilation": what is found of a part stands while that part stands.)
+/// The pieces that are kept of bodies, one for each name at most. Contracts see them in the order of their names, and for how many more
+/// there is memory. (Own; rustc-dev-guide, "Incremental compilation": what is found of a part stands while that part stands.)
 #[derive(Drop)]
 pub struct PieceMemo {
     rows: Vec<(Name, Shared<Piece>)>,
 }
 
 impl Model for PieceMemo {
-    ghost use Rattle.std.specs.Prelude.{List};
-    ghost use Rattle.bc_text.specs.Names.{NameParts};
-    ghost use Rattle.bc_prov.specs.Pieces.{PieceView};
-    ghost use Rattle.bc_memo.specs.Places.{AreOrdered};
+    ghost use Rattle.std.specs.Prelude.{◌-◌, vec_capacity};
+    ghost use Rattle.bc_memo.specs.Places.{AreOrdered, PieceRoom};
 
-    ghost Value = { List (NameParts × PieceView) };
+    ghost Value = { PieceRoom };
 
-    ghost view = { λ m. m.rows.items };
+    ghost view = { λ m. record { rows = m.rows.items; room = vec_capacity m.rows - m.rows.len } };
 
     ghost invariant = { λ m. AreOrdered m.rows.items };
 }
@@ -36,7 +34,8 @@ impl Model for PieceMemo {
 impl PieceMemo {
     /// No piece is kept, and there is memory for so many. Answers `AllocError` only where memory was refused. (Own.)
     pub fn new(alloc: Global, names: usize) -> Result<PieceMemo, AllocError>
-        ensures { IfOk result (λ memo. memo ≡ []) }
+        ensures rows { IfOk result (λ memo. memo.rows ≡ []) }
+        ensures room { IfOk result (λ memo. names ≤ memo.room) }
     {
         Ok(PieceMemo {
             rows: Vec::with_capacity(alloc, names)?,
@@ -46,8 +45,9 @@ impl PieceMemo {
     /// Keeps the piece of a name, in the place of one that was kept for it. It takes no memory where there is some for one piece more.
     /// Answers `AllocError` only where memory was refused, and then keeps what it kept before. (Own.)
     pub fn keep(&mut self, name: Name, piece: Shared<Piece>) -> Result<(), AllocError>
-        ensures kept { OnOk result (self.new ≡ insert_entry name_order self.old name piece) }
-        ensures refused { OnErr result (self.new ≡ self.old) }
+        ensures kept { OnOk result (self.new.rows ≡ insert_entry name_order self.old.rows name piece) }
+        ensures refused { OnErr result (self.new.rows ≡ self.old.rows) }
+        ensures granted { 0 < self.old.room → IsOk result }
     {
         self.rows.reserve(1)?;
         put(&mut self.rows, name, piece);
@@ -56,7 +56,7 @@ impl PieceMemo {
 
     /// The piece that is kept for a name, if one is. It takes no memory. (Own.)
     pub fn kept(&self, name: &Name) -> Option<&Shared<Piece>>
-        ensures { option_copied result ≡ at_name self.now name.now }
+        ensures { option_copied result ≡ at_name self.now.rows name.now }
     {
         match find(&self.rows, name) {
             Ok(place) => Some(&self.rows[place].1),
@@ -67,21 +67,21 @@ impl PieceMemo {
     /// The pieces that are kept for a name and for names that begin with it and `/`, as further owners. Answers `AllocError` only where
     /// memory was refused. (Own.)
     pub fn part(&self, alloc: Global, root: &Name) -> Result<Pieces, AllocError>
-        ensures { IfOk result (λ pieces. pieces.items ≡ part_in root.now self.now) }
+        ensures { IfOk result (λ pieces. pieces.items ≡ part_in root.now self.now.rows) }
     {
         share_pieces(alloc, within(&self.rows, root))
     }
 
     /// Keeps no piece for a name. It takes no memory. (Own.)
     pub fn forget(&mut self, name: &Name)
-        ensures { self.new ≡ remove_entry (is_at (name_order name.now)) self.old }
+        ensures { self.new.rows ≡ remove_entry (is_at (name_order name.now)) self.old.rows }
     {
         take(&mut self.rows, name);
     }
 
     /// Keeps no piece. It takes no memory. (Own.)
     pub fn forget_all(&mut self)
-        ensures { self.new ≡ [] }
+        ensures { self.new.rows ≡ [] }
     {
         self.rows.clear();
     }

@@ -1,11 +1,11 @@
 //! What is held: declarations, and units with their answers in the order of their names.
-ghost use Rattle.std.specs.Prelude.{◌≡◌, ◌↔◌, ◌<◌, ◌≤◌, [], IfOk, IsTrue, None, OnErr, OnOk, is_some, length, map};
+ghost use Rattle.std.specs.Prelude.{◌≡◌, ◌↔◌, ◌<◌, ◌≤◌, [], IfOk, IsOk, IsTrue, None, OnErr, OnOk, is_some, length, map};
 ghost use Rattle.std.specs.Option.{option_copied};
 ghost use Rattle.bc_text.specs.Names.{NameParts};
 ghost use Rattle.bc_prov.specs.Pieces.{IsPieceFor};
 ghost use Rattle.bc_prov.specs.State.{at_name};
 ghost use Rattle.bc_memo.specs.declared.place.Place.{Place};
-ghost use Rattle.bc_memo.specs.Places.{AreOrdered, IsHeld, MayChange, answer_of, answered, changed, cleared, empty_shelf, pieces_after, pieces_with, revision_at, revisions_in, unanswered, unit_of, units_in};
+ghost use Rattle.bc_memo.specs.Places.{AreKeptInOrder, AreOrdered, IsHeld, MayChange, answer_of, answered, changed, cleared, empty_shelf, pieces_after, pieces_with, revision_at, revisions_in, unanswered, unit_of, units_in};
 
 use crate::change::Change;
 use crate::pieces::PieceMemo;
@@ -18,7 +18,7 @@ use std::alloc::{AllocError, Global};
 use std::marker::Model;
 
 /// What is held. Contracts see the declarations with their revision, the places in the order of their names, the pieces that are kept of
-/// the bodies, in the order of these, and for how many more places there is memory. Each piece was found from the declarations and from
+/// the bodies, in the order of these, and for how many more places and pieces there is memory. Each piece was found from the declarations and from
 /// the unit at its name: the type keeps it. (Own.)
 #[derive(Drop)]
 pub struct Shelf {
@@ -34,9 +34,9 @@ impl Model for Shelf {
 
     ghost Value = { ShelfRoom };
 
-    ghost view = { λ s. record { held = record { types = s.types; types_revision = s.types_revision; places = s.places.items }; pieces = s.pieces; room = vec_capacity s.places - s.places.len } };
+    ghost view = { λ s. record { held = record { types = s.types; types_revision = s.types_revision; places = s.places.items }; pieces = s.pieces.rows; room = vec_capacity s.places - s.places.len; piece_room = s.pieces.room } };
 
-    ghost invariant = { λ s. IsShelf s.types s.places.items s.pieces };
+    ghost invariant = { λ s. IsShelf s.types s.places.items s.pieces.rows };
 }
 
 /// A name's part of what is held: a snapshot, with the revisions of its declarations and of its units. (Own.)
@@ -48,12 +48,13 @@ pub struct Part {
 }
 
 impl Shelf {
-    /// A shelf that holds these declarations, at revision 0, and no unit, with memory for so many places. Answers `AllocError` only
-    /// where memory was refused. (Own.)
+    /// A shelf that holds these declarations, at revision 0, and no unit, with memory for so many places, and for a piece of each. Answers
+    /// `AllocError` only where memory was refused. (Own.)
     pub fn new(alloc: Global, types: Shared<Declared>, places: usize) -> Result<Shelf, AllocError>
         ensures held { IfOk result (λ shelf. shelf.held ≡ empty_shelf types) }
         ensures pieces { IfOk result (λ shelf. shelf.pieces ≡ []) }
         ensures room { IfOk result (λ shelf. places ≤ shelf.room) }
+        ensures piece_room { IfOk result (λ shelf. places ≤ shelf.piece_room) }
     {
         let rows = Vec::with_capacity(alloc, places)?;
         Ok(Shelf {
@@ -194,6 +195,7 @@ impl Shelf {
         ensures fits { IfOk result (λ kept. IsTrue kept ↔ IsPieceFor self.old.held.types (unit_of (at_name self.old.held.places name)) piece) }
         ensures pieces { IfOk result (λ kept. self.new.pieces ≡ pieces_with kept name piece self.old.pieces) }
         ensures refused { OnErr result (self.new.pieces ≡ self.old.pieces) }
+        ensures granted { 0 < self.old.piece_room → IsOk result }
     {
         if !self.fits(&name, &piece) {
             return Ok(false);
@@ -202,25 +204,18 @@ impl Shelf {
         Ok(true)
     }
 
-    /// Keeps pieces, each as `keep` does, as one more owner of each. One for which an owner or memory is refused is left out: nothing is
-    /// lost with it but the work to make it again. (Own.)
-    pub fn keep_all(&mut self, pieces: &[(Name, Shared<Piece>)])
+    /// Keeps pieces in their order, each as `keep` does, as one more owner of each. Answers `AllocError` only where an owner or memory was
+    /// refused: those before are kept then, and nothing is lost with the others but the work to make them again. (Own.)
+    pub fn keep_all(&mut self, pieces: &[(Name, Shared<Piece>)]) -> Result<(), AllocError>
         ensures held { self.new.held ≡ self.old.held }
         ensures room { self.new.room ≡ self.old.room }
+        ensures kept { OnOk result (AreKeptInOrder self.old.held.types self.old.held.places pieces.now self.old.pieces self.new.pieces) }
     {
         for entry in pieces {
-            self.keep_share(entry);
+            let piece = entry.1.clone()?;
+            self.keep(entry.0, piece)?;
         }
-    }
-
-    // Keeps a piece, as one more owner of it.
-    fn keep_share(&mut self, entry: &(Name, Shared<Piece>))
-        ensures held { self.new.held ≡ self.old.held }
-        ensures room { self.new.room ≡ self.old.room }
-    {
-        if let Ok(piece) = entry.1.clone() {
-            let _kept = self.keep(entry.0, piece);
-        }
+        Ok(())
     }
 
     // Whether a piece was found from the declarations and from the unit that is held at a name.

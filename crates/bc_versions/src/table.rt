@@ -113,7 +113,7 @@ impl Table {
         self.shelf.change(change, update.revision);
         self.last = Some(last);
         if let Some(pieces) = &update.pieces {
-            self.shelf.keep_all(pieces);
+            let _kept = self.shelf.keep_all(pieces);
         }
         Ok(())
     }

@@ -39,7 +39,7 @@ pub invariant_of-self-in-Put : goal.invariant_of-self-in-Put
 invariant_of-self-in-Put c =
     let ps = c.self.inside.places.items in
     let suits : Suits c.in-Put.unit c.in-Put.name = subst (λ (ch : Change). MayChange ch) c.in-Put.is c.requires.suited in
-    let rows = c.self.inside.pieces in
+    let rows = c.self.inside.pieces.rows in
     subst (λ (p : Places × PieceRows). IsShelf c.self.inside.types p.0 p.1) (λ i. (sym (c.clear.ensures ∙ ap (λ (qs : Places). cleared c.in-Put.name qs) c.put.ensures) i, sym c.forget.ensures i)) (record {
       kept = kept-cleared c.in-Put.name _ (kept-put c.in-Put.name (written c.in-Put.unit c.args.revision) ps suits c.self.invariant.kept);
       sorted = ordered-take (is_at (name_order c.in-Put.name)) rows c.self.invariant.sorted;
@@ -49,7 +49,7 @@ invariant_of-self-in-Put c =
 pub invariant_of-self-in-Remove : goal.invariant_of-self-in-Remove
 invariant_of-self-in-Remove c =
     let ps = c.self.inside.places.items in
-    let rows = c.self.inside.pieces in
+    let rows = c.self.inside.pieces.rows in
     subst (λ (p : Places × PieceRows). IsShelf c.self.inside.types p.0 p.1) (λ i. (sym (c.clear-in-Remove.ensures ∙ ap (λ (qs : Places). cleared c.in-Remove.name qs) c.take.ensures) i, sym c.forget-in-Remove.ensures i)) (record {
       kept = kept-cleared c.in-Remove.name _ (kept-take (is_at (name_order c.in-Remove.name)) ps c.self.invariant.kept);
       sorted = ordered-take (is_at (name_order c.in-Remove.name)) rows c.self.invariant.sorted;
@@ -59,10 +59,10 @@ invariant_of-self-in-Remove c =
 pub invariant_of-self-in-Answer : goal.invariant_of-self-in-Answer
 invariant_of-self-in-Answer c =
     let ps = c.self.inside.places.items in
-    subst (λ (qs : Places). IsShelf c.self.inside.types qs c.self.inside.pieces) (sym c.set_answer.ensures) (record {
+    subst (λ (qs : Places). IsShelf c.self.inside.types qs c.self.inside.pieces.rows) (sym c.set_answer.ensures) (record {
       kept = kept-answered c.in-Answer.name (Some c.in-Answer.outcome) ps c.self.invariant.kept;
       sorted = c.self.invariant.sorted;
-      found = found-answered c.self.inside.types ps c.self.inside.pieces c.in-Answer.name (Some c.in-Answer.outcome) c.self.invariant.found;
+      found = found-answered c.self.inside.types ps c.self.inside.pieces.rows c.in-Answer.name (Some c.in-Answer.outcome) c.self.invariant.found;
     })
 
 pub returns-in-Types-clause-held : goal.returns-in-Types-clause-held

@@ -8,5 +8,5 @@ use Rattle.bc_memo.proofs.shelf.Shelf.new.Goals as goal
 
 pub invariant_of-result : goal.invariant_of-result
 invariant_of-result c =
-    subst (λ (p : Places × PieceRows). IsShelf c.types.inside.value.value p.0 p.1) (λ i. (sym c.in_ok-rows.ensures.items i, sym c.in_ok-new.ensures i))
+    subst (λ (p : Places × PieceRows). IsShelf c.types.inside.value.value p.0 p.1) (λ i. (sym c.in_ok-rows.ensures.items i, sym c.in_ok-new.ensures.rows i))
     (record { kept = kept_none; sorted = no_order PieceView; found = found_none _ [] })

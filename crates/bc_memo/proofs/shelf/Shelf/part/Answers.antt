@@ -41,4 +41,4 @@ keep_pieces-requires c =
     let types = ap (λ (v : SnapshotView). v.types) c.of-snapshot.ensures ∙ c.in_ok-types.ensures.cases in
     let units = ap (λ (v : SnapshotView). v.units) c.of-snapshot.ensures ∙ is in
     subst (λ (q : List Declaration × List (NameParts × Body) × PieceRows). ArePieces q.0 q.1 q.2) (λ i. (sym types i, sym units i, sym c.in_ok-pieces.ensures i))
-    (part_pieces root c.self.inside.types places c.self.inside.pieces c.self.invariant.sorted c.self.invariant.found)
+    (part_pieces root c.self.inside.types places c.self.inside.pieces.rows c.self.invariant.sorted c.self.invariant.found)
