@@ -1,0 +1,300 @@
+//! What a map of names says of the calls and the glances of sessions, and nothing else: it knows of no revision, of no piece and of no
+//! memo. It is compared with the history of a database, entry by entry, and each session's glances with the beginnings of that history.
+use bc_calls::{Entry, Event, MOST_BODIES, PutReply, RemoveReply};
+use bc_prov::Outcome;
+use bc_text::Name;
+use std::alloc::{AllocError, Global};
+
+/// How many closures a function may create: those of the numbers 0, 1 and 2.
+pub(crate) const CLOSURES: usize = 3;
+
+/// How many names there are of each function: its own, and those of its closures behind it.
+pub(crate) const FAMILY: usize = CLOSURES + 1;
+
+/// What is known of a unit: it is a closure or a function with so many errors, or a function that creates the closures of these numbers.
+#[derive(Clone, Copy, PartialEq)]
+pub(crate) enum Kind {
+    Closure(usize),
+    Function(usize),
+    Creator([bool; CLOSURES]),
+}
+
+/// What is seen of an outcome: no body, a missing closure, so many bodies with so many errors in all, or something else.
+#[derive(Clone, Copy, PartialEq)]
+pub(crate) enum Sight {
+    NoBody,
+    Missing(Name),
+    Report(usize, usize),
+    Other,
+}
+
+/// A call that a session made, by the number of the name, with what is known of the unit that it put.
+#[derive(Clone, Copy)]
+pub(crate) enum Deed {
+    Put(usize, Kind),
+    Remove(usize),
+    Ask(usize),
+}
+
+/// A glance of a session: how many calls it had made before, the number of the name, and what was shown.
+#[derive(Clone, Copy)]
+pub(crate) struct Glance {
+    pub(crate) behind: usize,
+    pub(crate) name: usize,
+    pub(crate) shown: Option<Sight>,
+}
+
+/// What a session did: its calls, and its glances, both in their order.
+#[derive(Drop)]
+pub(crate) struct Log {
+    pub(crate) calls: Vec<Deed>,
+    pub(crate) glances: Vec<Glance>,
+}
+
+/// What is held under each name, and the answer of each.
+#[derive(Drop)]
+struct Map {
+    held: Vec<Option<Kind>>,
+    answers: Vec<Option<Sight>>,
+    count: usize,
+}
+
+impl Sight {
+    /// What is seen of an outcome.
+    pub(crate) fn of(outcome: &Outcome) -> Sight {
+        match outcome {
+            Outcome::NoBody => Sight::NoBody,
+            Outcome::Missing(name) => Sight::Missing(*name),
+            Outcome::BadTypes(_) | Outcome::Ill(_, _) => Sight::Other,
+            Outcome::Report(bodies) => {
+                let mut errors: usize = 0;
+                for body in bodies.as_slice() {
+                    errors = errors.saturating_add(body.errors.len());
+                }
+                Sight::Report(bodies.len(), errors)
+            }
+        }
+    }
+}
+
+impl Map {
+    /// Nothing is held under so many names.
+    fn new(alloc: Global, names: usize) -> Result<Map, AllocError> {
+        let mut held = Vec::with_capacity(alloc, names)?;
+        let mut answers = Vec::with_capacity(alloc, names)?;
+        for _name in 0..names {
+            held.push(None)?;
+            answers.push(None)?;
+        }
+        Ok(Map {
+            held,
+            answers,
+            count: 0,
+        })
+    }
+
+    /// What is held under a name.
+    fn held(&self, name: usize) -> Option<Kind> {
+        match self.held.get(name) {
+            Some(held) => *held,
+            None => None,
+        }
+    }
+
+    /// The answer of a name.
+    fn answer(&self, name: usize) -> Option<Sight> {
+        match self.answers.get(name) {
+            Some(answer) => *answer,
+            None => None,
+        }
+    }
+
+    /// Sets what is held under a name, which makes its answer void, and that of its function.
+    fn write(&mut self, name: usize, held: Option<Kind>) {
+        if let Some(place) = self.held.get_mut(name) {
+            *place = held;
+        }
+        self.set_answer(name, None);
+        self.set_answer(name - name % FAMILY, None);
+    }
+
+    /// Sets the answer of a name.
+    fn set_answer(&mut self, name: usize, answer: Option<Sight>) {
+        if let Some(place) = self.answers.get_mut(name) {
+            *place = answer;
+        }
+    }
+
+    /// Puts a unit under a name, and gives the reply.
+    fn put(&mut self, name: usize, kind: Kind) -> PutReply {
+        let is_root = name % FAMILY == 0;
+        let is_closure = match kind {
+            Kind::Closure(_) => true,
+            Kind::Function(_) | Kind::Creator(_) => false,
+        };
+        if is_root == is_closure {
+            return PutReply::WrongKind;
+        }
+        let was_held = self.held(name).is_some();
+        if !was_held && self.count >= MOST_BODIES {
+            return PutReply::Full;
+        }
+        self.write(name, Some(kind));
+        if was_held {
+            return PutReply::Replaced;
+        }
+        self.count = self.count.saturating_add(1);
+        PutReply::Added
+    }
+
+    /// Takes the unit of a name away, and gives the reply.
+    fn remove(&mut self, name: usize) -> RemoveReply {
+        if self.held(name).is_none() {
+            return RemoveReply::Absent;
+        }
+        self.write(name, None);
+        self.count = self.count.saturating_sub(1);
+        RemoveReply::Removed
+    }
+
+    /// Answers a name, if it is held.
+    fn answer_with(&mut self, name: usize, found: &Sight) {
+        if self.held(name).is_some() {
+            self.set_answer(name, Some(*found));
+        }
+    }
+
+    /// Asks for a name, and gives what is found.
+    fn ask(&mut self, names: &[Name], name: usize) -> Sight {
+        let found = self.found(names, name);
+        self.answer_with(name, &found);
+        found
+    }
+
+    /// Makes a call, and answers whether the event is that call with that reply.
+    fn take(&mut self, names: &[Name], deed: Deed, event: &Event) -> bool {
+        match (deed, event) {
+            (Deed::Put(name, kind), Event::Put(at, _, reply)) => {
+                names.get(name) == Some(at) && self.put(name, kind) == *reply
+            }
+            (Deed::Remove(name), Event::Remove(at, reply)) => {
+                names.get(name) == Some(at) && self.remove(name) == *reply
+            }
+            (Deed::Ask(name), Event::Ask(at, outcome)) => {
+                names.get(name) == Some(at) && self.ask(names, name) == Sight::of(outcome.get())
+            }
+            (Deed::Put(_, _) | Deed::Remove(_) | Deed::Ask(_), _) => false,
+        }
+    }
+
+    /// The glances behind those that were made behind so many calls and show what is answered now.
+    fn rest<'a>(&self, glances: &'a [Glance], behind: usize) -> &'a [Glance] {
+        let mut rest = glances;
+        for glance in glances {
+            if glance.behind != behind || self.answer(glance.name) != glance.shown {
+                break;
+            }
+            if let Some((_, others)) = rest.split_first() {
+                rest = others;
+            }
+        }
+        rest
+    }
+
+    /// What an Ask of a function finds that creates these closures.
+    fn found_below(&self, names: &[Name], name: usize, creates: [bool; CLOSURES]) -> Sight {
+        let mut bodies: usize = 1;
+        let mut errors: usize = 0;
+        for (number, is_created) in creates.iter().enumerate() {
+            let child = name.saturating_add(number).saturating_add(1);
+            if !*is_created {
+                continue;
+            }
+            match (self.held(child), names.get(child)) {
+                (Some(Kind::Closure(theirs)), _) => {
+                    bodies = bodies.saturating_add(1);
+                    errors = errors.saturating_add(theirs);
+                }
+                (None, Some(missing)) => return Sight::Missing(*missing),
+                (_, _) => return Sight::Other,
+            }
+        }
+        Sight::Report(bodies, errors)
+    }
+
+    /// What an Ask of a name finds.
+    fn found(&self, names: &[Name], name: usize) -> Sight {
+        match self.held(name) {
+            None => Sight::NoBody,
+            Some(Kind::Closure(errors) | Kind::Function(errors)) => Sight::Report(1, errors),
+            Some(Kind::Creator(creates)) => self.found_below(names, name, creates),
+        }
+    }
+}
+
+/// The call of an entry, by its session's log.
+fn deed_of(logs: &[Log], entry: &Entry) -> Option<Deed> {
+    let log = logs.get(usize::from(entry.session))?;
+    Some(*log.calls.get(entry.number as usize)?)
+}
+
+/// Whether the entries are the calls of the sessions, each with the reply of a map.
+fn replies_agree(
+    alloc: Global,
+    names: &[Name],
+    logs: &[Log],
+    entries: &[Entry],
+) -> Result<bool, AllocError> {
+    let mut map = Map::new(alloc, names.len())?;
+    for entry in entries {
+        let Some(deed) = deed_of(logs, entry) else {
+            return Ok(false);
+        };
+        if !map.take(names, deed, &entry.event) {
+            return Ok(false);
+        }
+    }
+    Ok(true)
+}
+
+/// Whether each glance of a session shows what a beginning of the history leaves, which is no shorter than that of the glance before, has
+/// the calls that the session had made and none that it made later.
+fn glances_agree(
+    alloc: Global,
+    names: &[Name],
+    logs: &[Log],
+    entries: &[Entry],
+    session: u8,
+    glances: &[Glance],
+) -> Result<bool, AllocError> {
+    let mut map = Map::new(alloc, names.len())?;
+    let mut rest = glances;
+    let mut behind: usize = 0;
+    for entry in entries {
+        rest = map.rest(rest, behind);
+        if entry.session == session {
+            behind = behind.saturating_add(1);
+        }
+        if let Some(deed) = deed_of(logs, entry) {
+            map.take(names, deed, &entry.event);
+        }
+    }
+    Ok(map.rest(rest, behind).is_empty())
+}
+
+/// Whether the history is what a map of these names says of the calls of the sessions, and shows all that they glanced at.
+pub(crate) fn agree(
+    alloc: Global,
+    names: &[Name],
+    logs: &[Log],
+    entries: &[Entry],
+) -> Result<bool, AllocError> {
+    let mut session: u8 = 0;
+    for log in logs {
+        if !glances_agree(alloc, names, logs, entries, session, &log.glances)? {
+            return Ok(false);
+        }
+        session = session.saturating_add(1);
+    }
+    replies_agree(alloc, names, logs, entries)
+}
