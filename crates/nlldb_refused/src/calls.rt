@@ -1,0 +1,224 @@
+//! Sessions that make each call once more where it is refused.
+use crate::again::again;
+use crate::turns::{Turn, name, show_entry};
+use anyhow::bail;
+use bc_calls::Work;
+use bc_prov::{Outcome, Providers};
+use bc_share::{Db, Session};
+use bc_text::Name;
+use bc_versions::{Ending, Waiting};
+use std::alloc::{AllocError, Global};
+use std::io::Write;
+use std::sync::{Arc, Wait};
+
+/// Writes the local once the borrow of it is used no more: no error.
+pub(crate) const WRITES_LAST: &[u8] =
+    b"fn () -> int { let _1: int; let _2: &'?0 int; bb0 { _1 = 1; _2 = &'?1 _1; _0 = copy _2.*; _1 = 2; return; } }";
+
+/// Writes the local while the borrow of it is still used: one conflict.
+pub(crate) const WRITES_WHILE_BORROWED: &[u8] =
+    b"fn () -> int { let _1: int; let _2: &'?0 int; bb0 { _1 = 1; _2 = &'?1 _1; _1 = 2; _0 = copy _2.*; return; } }";
+
+/// The calls of one session with one name: each reply that there is of one, but a refused one.
+const OF_ONE_NAME: [Turn; 5] = [
+    Turn::Put(b"f", WRITES_LAST),
+    Turn::Ask(b"f"),
+    Turn::Put(b"f", WRITES_WHILE_BORROWED),
+    Turn::Ask(b"f"),
+    Turn::Remove(b"f"),
+];
+
+/// The calls of a session with closures, of which one requires that a region outlives another, and with declarations.
+const WITH_CLOSURES: [Turn; 10] = [
+    Turn::Types(b"struct G<+'a> drop { &'a int; }"),
+    Turn::Put(
+        b"f",
+        b"fn <'a,'b,'c> (&'a int, &'c mut &'b int) -> int { let _3: closure 0<'a,'b,'c>; bb0 { _3 = closure 0<'a,'b,'c>(copy _1, move _2); _0 = invoke _3() bb1; } bb1 { return; } }",
+    ),
+    Turn::Ask(b"f"),
+    Turn::Put(
+        b"f/0",
+        b"closure <'x,'y,'z> [&'x int, &'z mut &'y int] () -> int { bb0 { _2.* = copy _1; _0 = 0; return; } }",
+    ),
+    Turn::Ask(b"f"),
+    Turn::Put(
+        b"f/0",
+        b"closure <'x,'y,'z> [&'x int, &'z mut &'y int] () -> int { bb0 { _0 = 0; return; } }",
+    ),
+    Turn::Ask(b"f"),
+    Turn::Ask(b"f/0"),
+    Turn::Ask(b"f"),
+    Turn::Types(b"struct H<+'a> { &'static mut &'a int; }"),
+];
+
+/// Whether two answers are the same.
+fn are_same(left: &Option<Arc<Outcome, Global>>, right: &Option<Arc<Outcome, Global>>) -> bool {
+    match (left, right) {
+        (Some(left), Some(right)) => **left == **right,
+        (None, None) => true,
+        (Some(_), None) | (None, Some(_)) => false,
+    }
+}
+
+/// The answer of a name that a session glances at, once more where that is refused.
+fn glance<E: Ending>(
+    session: &mut Session<E>,
+    name: &Name,
+) -> Result<Option<Arc<Outcome, Global>>, AllocError> {
+    match session.glance(name) {
+        Ok(answer) => Ok(answer),
+        Err(_) => session.glance(name),
+    }
+}
+
+/// Whether a name has this answer still.
+fn is_kept<E: Ending>(
+    session: &mut Session<E>,
+    name: &Name,
+    before: &Option<Arc<Outcome, Global>>,
+) -> Result<bool, AllocError> {
+    let after = glance(session, name)?;
+    Ok(are_same(before, &after))
+}
+
+/// Makes a call, and once more where it is refused. Fails where the refused one leaves another answer of its name than there was.
+fn make<R: Wait, E: Ending>(
+    rt: &R,
+    alloc: Global,
+    session: &mut Session<E>,
+    providers: &Providers,
+    turn: Turn,
+) -> anyhow::Result<()> {
+    let name = turn.name()?;
+    let before = glance(session, &name)?;
+    if turn.make(rt, alloc, session, providers).is_ok() {
+        return Ok(());
+    }
+    if !is_kept(session, &name, &before)? {
+        bail!("a refused call left another answer");
+    }
+    turn.make(rt, alloc, session, providers)
+}
+
+/// Makes calls in their order.
+fn make_all<R: Wait, E: Ending>(
+    rt: &R,
+    alloc: Global,
+    session: &mut Session<E>,
+    providers: &Providers,
+    turns: &[Turn],
+) -> anyhow::Result<()> {
+    for turn in turns {
+        make(rt, alloc, session, providers, *turn)?;
+    }
+    Ok(())
+}
+
+/// Closes a database, and shows its history.
+fn show_history<R: Wait, E: Ending, W: Write>(
+    rt: &R,
+    db: Db<E>,
+    sessions: Vec<Session<E>>,
+    out: &mut W,
+) -> anyhow::Result<()> {
+    let history = db.close(rt, sessions)?;
+    for entry in history.entries() {
+        show_entry(entry, out)?;
+    }
+    Ok(())
+}
+
+/// Has the one session of a new database make calls, and shows its history.
+fn show_calls<R: Wait, W: Write>(
+    rt: &R,
+    alloc: Global,
+    providers: &Providers,
+    turns: &[Turn],
+    out: &mut W,
+) -> anyhow::Result<()> {
+    let (db, mut sessions) = again(|| Ok(Db::open(alloc, Waiting::new(rt), 0, 20, 1)?))?;
+    for session in sessions.iter_mut() {
+        make_all(rt, alloc, session, providers, turns)?;
+    }
+    show_history(rt, db, sessions, out)
+}
+
+/// The work of a session on a name, once more where that is refused.
+fn work_again<E: Ending>(
+    alloc: Global,
+    session: &mut Session<E>,
+    name: &Name,
+    providers: &Providers,
+) -> Result<Work, AllocError> {
+    match work(alloc, session, name, providers) {
+        Ok(done) => Ok(done),
+        Err(_) => work(alloc, session, name, providers),
+    }
+}
+
+/// The work of a session on a name.
+fn work<E: Ending>(
+    alloc: Global,
+    session: &mut Session<E>,
+    name: &Name,
+    providers: &Providers,
+) -> Result<Work, AllocError> {
+    let begun = session.begin(name)?;
+    begun.work(alloc, providers)
+}
+
+/// Has the second session work on a name, and settle that behind a call of the first.
+fn settle_late<R: Wait, E: Ending>(
+    rt: &R,
+    alloc: Global,
+    first: &mut Session<E>,
+    second: &mut Session<E>,
+    providers: &Providers,
+) -> anyhow::Result<()> {
+    let f = name(b"f")?;
+    make(rt, alloc, first, providers, Turn::Put(b"f", WRITES_LAST))?;
+    let late = work_again(alloc, second, &f, providers)?;
+    make(
+        rt,
+        alloc,
+        first,
+        providers,
+        Turn::Put(b"f", WRITES_WHILE_BORROWED),
+    )?;
+    if second.settle(rt, late, providers).is_err() {
+        let late = work_again(alloc, second, &f, providers)?;
+        second.settle(rt, late, providers)?;
+    }
+    Ok(())
+}
+
+/// Shows the history of two sessions, of which one settles late.
+fn show_late<R: Wait, W: Write>(
+    rt: &R,
+    alloc: Global,
+    providers: &Providers,
+    out: &mut W,
+) -> anyhow::Result<()> {
+    let (db, mut sessions) = again(|| Ok(Db::open(alloc, Waiting::new(rt), 0, 3, 2)?))?;
+    let Some(mut second) = sessions.pop() else {
+        bail!("no session");
+    };
+    for first in sessions.iter_mut() {
+        settle_late(rt, alloc, first, &mut second, providers)?;
+    }
+    sessions.push(second)?;
+    show_history(rt, db, sessions, out)
+}
+
+/// Shows the histories of databases whose sessions make each call once more where it is refused. Fails where a refused call leaves
+/// anything behind. (Own.)
+pub fn show<R: Wait, W: Write>(
+    rt: &R,
+    alloc: Global,
+    providers: &Providers,
+    out: &mut W,
+) -> anyhow::Result<()> {
+    show_calls(rt, alloc, providers, &OF_ONE_NAME, out)?;
+    show_calls(rt, alloc, providers, &WITH_CLOSURES, out)?;
+    show_late(rt, alloc, providers, out)
+}

@@ -1,0 +1,107 @@
+//! The calls that sessions make, and what is printed of a history.
+use anyhow::bail;
+use bc_calls::{Call, Entry, Event};
+use bc_check::write_report;
+use bc_prov::{Providers, Shared};
+use bc_share::Session;
+use bc_syntax::{Types, Unit};
+use bc_text::{Name, read_types, read_unit};
+use bc_versions::Ending;
+use std::alloc::{AllocError, Global};
+use std::io;
+use std::io::Write;
+use std::sync::{Arc, Wait};
+
+/// A call of a session. What it stores or puts is told by its text.
+#[derive(Clone, Copy)]
+pub(crate) enum Turn {
+    Types(&'static [u8]),
+    Put(&'static [u8], &'static [u8]),
+    Remove(&'static [u8]),
+    Ask(&'static [u8]),
+}
+
+/// The name that a text spells.
+pub(crate) fn name(text: &[u8]) -> anyhow::Result<Name> {
+    let Some(name) = Name::read(text) else {
+        bail!("no name");
+    };
+    Ok(name)
+}
+
+/// The declarations that a text spells.
+fn declared(alloc: Global, text: &[u8]) -> anyhow::Result<Arc<Types, Global>> {
+    match Arc::new(alloc, read_types(alloc, text)?) {
+        Ok(types) => Ok(types),
+        Err(_) => Err(AllocError)?,
+    }
+}
+
+/// The unit that a text spells.
+pub(crate) fn shared_unit(alloc: Global, text: &[u8]) -> anyhow::Result<Arc<Unit, Global>> {
+    match Arc::new(alloc, read_unit(alloc, text)?) {
+        Ok(unit) => Ok(unit),
+        Err(_) => Err(AllocError)?,
+    }
+}
+
+impl Turn {
+    /// The name that it is about; of declarations some name.
+    pub(crate) fn name(&self) -> anyhow::Result<Name> {
+        match self {
+            Turn::Types(_) => name(b"f"),
+            Turn::Put(at, _) | Turn::Remove(at) | Turn::Ask(at) => name(at),
+        }
+    }
+
+    /// Has a session make it.
+    pub(crate) fn make<R: Wait, E: Ending>(
+        &self,
+        rt: &R,
+        alloc: Global,
+        session: &mut Session<E>,
+        providers: &Providers,
+    ) -> anyhow::Result<()> {
+        match self {
+            Turn::Types(text) => {
+                session.put_types(rt, declared(alloc, text)?)?;
+            }
+            Turn::Put(at, text) => {
+                session.put(rt, name(at)?, shared_unit(alloc, text)?)?;
+            }
+            Turn::Remove(at) => {
+                session.remove(rt, name(at)?)?;
+            }
+            Turn::Ask(at) => {
+                session.ask(rt, &name(at)?, providers)?;
+            }
+        }
+        Ok(())
+    }
+
+    /// The call of a script that it is.
+    pub(crate) fn call(&self, alloc: Global) -> anyhow::Result<Call> {
+        match self {
+            Turn::Types(text) => Ok(Call::Types(Shared::new(declared(alloc, text)?))),
+            Turn::Put(at, text) => Ok(Call::Put(name(at)?, Shared::new(shared_unit(alloc, text)?))),
+            Turn::Remove(at) => Ok(Call::Remove(name(at)?)),
+            Turn::Ask(at) => Ok(Call::Ask(name(at)?)),
+        }
+    }
+}
+
+/// Writes an entry of a history, and behind an Ask its report.
+pub(crate) fn show_entry<W: Write>(entry: &Entry, out: &mut W) -> io::Result<()> {
+    let session = entry.session;
+    let number = entry.number;
+    write!(out, "{session} {number} ")?;
+    match &entry.event {
+        Event::Types(_) => writeln!(out, "types"),
+        Event::Put(name, _, reply) => writeln!(out, "put {name}: {reply:?}"),
+        Event::Remove(name, reply) => writeln!(out, "remove {name}: {reply:?}"),
+        Event::Ask(name, outcome) => {
+            writeln!(out, "ask {name}")?;
+            write_report(outcome.get(), out)
+        }
+    }
+}
