@@ -1,9 +1,15 @@
 //! The command over readers and writers in memory, also such as fail at one call.
+ghost use Rattle.std.specs.Prelude.{IfOk};
+ghost use Rattle.bc_prov.specs.Facts.{AreValues};
+
 use crate::check_over;
 use bc_analyses::providers;
-use bc_devices::{Devices, Input, Left, Output, SOUND};
+use bc_cons::Facts;
+use bc_devices::{Case, Devices, Input, Left, Output, SOUND};
 use bc_line::{CheckLine, Line, read_line};
-use std::alloc::Global;
+use bc_prov::Providers;
+use bc_solve::Values;
+use std::alloc::{AllocError, Global};
 use std::io;
 use std::io::{BufWriter, ErrorKind};
 use std::sync::Wait;
@@ -29,10 +35,18 @@ fn line_of(alloc: Global, words: &[&str]) -> io::Result<CheckLine> {
     }
 }
 
-/// The command of these words on this file over these devices, as the program runs it: its reports behind a buffer, of which what is not
-/// written is let go, and with status 3 where standard error fails.
-fn run_as<R: AllocGlobal + Wait>(
+/// A solver that always wants memory.
+fn want_memory(_alloc: Global, _facts: &Facts) -> Result<Values, AllocError>
+    ensures { IfOk result (AreValues _facts.now) }
+{
+    Err(AllocError)
+}
+
+/// The command of these words on this file over these devices, with these providers, as the program runs it: its reports behind a buffer,
+/// of which what is not written is let go, and with status 3 where standard error fails.
+fn run_with<R: AllocGlobal + Wait>(
     rt: &R,
+    providers: &Providers,
     words: &[&str],
     file: &[u8],
     devices: Devices,
@@ -43,15 +57,19 @@ fn run_as<R: AllocGlobal + Wait>(
     let out = Output::new(alloc, devices.write);
     let mut out = BufWriter::with_capacity(alloc, devices.room, out)?;
     let mut err = Output::new(alloc, devices.tell);
-    let providers = providers!(alloc);
-    let status = check_over(rt, alloc, &providers, &line, &mut input, &mut out, &mut err);
+    let status = check_over(rt, alloc, providers, &line, &mut input, &mut out, &mut err);
     let (out, _unwritten) = out.into_parts();
     Ok(Left::of(status, &input, out, err))
 }
 
-/// The command on this file over these devices, with reports as text.
+/// The words of a check with reports as text, and as JSON.
+const TEXT: &[&str] = &["check", "demo"];
+
+const JSON: &[&str] = &["check", "--json", "demo"];
+
+/// The command on this file over these devices, with the providers of the program and reports as text.
 fn run<R: AllocGlobal + Wait>(rt: &R, file: &[u8], devices: Devices) -> io::Result<Left> {
-    run_as(rt, &["check", "demo"], file, devices)
+    run_with(rt, &providers!(rt.alloc()), TEXT, file, devices)
 }
 
 /// Whether the command ends so on a file that is read so many bytes at a time, with devices that never fail.
@@ -86,19 +104,6 @@ fn prints_reports_in_the_order_of_names(rt: HostRuntime) {
     let good = b"@put f\nfn()->int{bb0{_0=1;return;}}\n".as_slice();
     assert!(rt; leaves_of(&rt, good, 0, b"ask f\nf 0\n", b""));
     assert!(rt; leaves_of(&rt, b"", 0, b"", b""));
-}
-
-/// A body that writes what is borrowed.
-const CONFLICT: &[u8] =
-    b"@put f\nfn () -> int { let _1: int; let _2: &'?0 int; bb0 { _1 = 1; _2 = &'?1 _1; _1 = 2; _0 = copy _2.*; return; } }\n";
-
-#[test]
-fn prints_an_error_as_json(rt: HostRuntime) -> Result<(), Fail> {
-    let left = run_as(&rt, &["check", "demo", "--json"], CONFLICT, SOUND)?;
-    let line =
-        b"{\"ask\":\"f\",\"outcome\":{\"bodies\":[{\"errors\":[{\"access\":0,\"at\":\"bb0[2]\",\"kind\":\"conflict\",\"loan\":\"bb0[1]\"}],\"name\":\"f\"}],\"kind\":\"report\"}}\n";
-    assert!(rt; left.is(1, line, b""));
-    Ok(())
 }
 
 #[test]
@@ -140,18 +145,117 @@ fn holds_256_bodies(rt: HostRuntime) -> Result<(), Fail> {
     Ok(())
 }
 
-/// Whether the command says that it cannot read a file of which this read fails.
-fn stops_at_read<R: AllocGlobal + Wait>(rt: &R, read: u32) -> io::Result<bool> {
-    let cut = run(rt, FILE, Devices { read, ..SOUND })?;
+/// A body that writes what is borrowed.
+const CONFLICT: &[u8] =
+    b"@put f\nfn () -> int { let _1: int; let _2: &'?0 int; bb0 { _1 = 1; _2 = &'?1 _1; _1 = 2; _0 = copy _2.*; return; } }\n";
+
+/// Files with an error, with a put that stores nothing, with a fault and with nothing, some with the reports as text and as JSON, and one
+/// whose first Ask is refused.
+const CASES: [Case<'static>; 8] = [
+    Case {
+        words: TEXT,
+        file: CONFLICT,
+        status: 1,
+        out: b"ask f\nf 1\n  conflict bb0[2] access 0 loan bb0[1]\n",
+        err: b"",
+        unwritten: b"cannot write\n",
+        wants_memory: false,
+    },
+    Case {
+        words: JSON,
+        file: CONFLICT,
+        status: 1,
+        out: b"{\"ask\":\"f\",\"outcome\":{\"bodies\":[{\"errors\":[{\"access\":0,\"at\":\"bb0[2]\",\"kind\":\"conflict\",\"loan\":\"bb0[1]\"}],\"name\":\"f\"}],\"kind\":\"report\"}}\n",
+        err: b"",
+        unwritten: b"cannot write\n",
+        wants_memory: false,
+    },
+    Case {
+        words: TEXT,
+        file: FILE,
+        status: 2,
+        out: REPORTS,
+        err: REFUSED,
+        unwritten: b"put f/0 wrongkind\ncannot write\n",
+        wants_memory: false,
+    },
+    Case {
+        words: JSON,
+        file: FILE,
+        status: 2,
+        out: JSON_REPORTS,
+        err: REFUSED,
+        unwritten: b"put f/0 wrongkind\ncannot write\n",
+        wants_memory: false,
+    },
+    Case {
+        words: TEXT,
+        file: b"@put f\nfn()->int{bb0{return;}}\nx\n@put 9\n",
+        status: 2,
+        out: b"",
+        err: b"line 1: grammar at 24\n",
+        unwritten: b"",
+        wants_memory: false,
+    },
+    Case {
+        words: JSON,
+        file: b"x",
+        status: 2,
+        out: b"",
+        err: b"line 1: bad header\n",
+        unwritten: b"",
+        wants_memory: false,
+    },
+    Case {
+        words: TEXT,
+        file: b"",
+        status: 0,
+        out: b"",
+        err: b"",
+        unwritten: b"cannot write\n",
+        wants_memory: false,
+    },
+    Case {
+        words: TEXT,
+        file: FILE,
+        status: 3,
+        out: b"",
+        err: b"put f/0 wrongkind\nno memory\n",
+        unwritten: b"put f/0 wrongkind\ncannot write\n",
+        wants_memory: true,
+    },
+];
+
+/// What the command leaves of a case over these devices.
+fn run_case<R: AllocGlobal + Wait>(rt: &R, case: &Case<'_>, devices: Devices) -> io::Result<Left> {
+    let providers = if case.wants_memory {
+        providers!(rt.alloc(), want_memory)
+    } else {
+        providers!(rt.alloc())
+    };
+    run_with(rt, &providers, case.words, case.file, devices)
+}
+
+/// Whether the command says that it cannot read, once this read fails.
+fn stops_at_read<R: AllocGlobal + Wait>(rt: &R, case: &Case<'_>, read: u32) -> io::Result<bool> {
+    let cut = run_case(rt, case, Devices { read, ..SOUND })?;
     Ok(cut.is(3, b"", b"cannot read demo\n"))
 }
 
-/// Whether the command of these words, which prints these reports, says that it cannot write, and makes no further call, once this write
-/// or flush fails behind a buffer of this size.
+/// Whether the command leaves the case, and each read stops it where it fails.
+fn stops_at_each_read<R: AllocGlobal + Wait>(rt: &R, case: &Case<'_>) -> io::Result<bool> {
+    let whole = run_case(rt, case, SOUND)?;
+    let mut stops = whole.is_of(case);
+    for read in 0..whole.reads {
+        stops = stops_at_read(rt, case, read)? && stops;
+    }
+    Ok(stops)
+}
+
+/// Whether the command says that it cannot write, and makes no further call, once this write or flush fails behind a buffer of this size.
 fn stops_at_write<R: AllocGlobal + Wait>(
     rt: &R,
-    words: &[&str],
-    reports: &[u8],
+    case: &Case<'_>,
     room: usize,
     write: u32,
 ) -> io::Result<bool> {
@@ -160,41 +264,44 @@ fn stops_at_write<R: AllocGlobal + Wait>(
         write,
         ..SOUND
     };
-    let cut = run_as(rt, words, FILE, devices)?;
-    Ok(cut.stopped_at_write(write, reports, b"put f/0 wrongkind\ncannot write\n"))
+    let cut = run_case(rt, case, devices)?;
+    Ok(cut.stopped_at_write(write, case.out, case.unwritten))
 }
 
-/// Whether each write and each flush that the command of these words makes behind a buffer of this size stops it.
+/// Whether the command leaves the case behind a buffer of this size, and each write and each flush stops it where it fails.
 fn stops_at_each_write<R: AllocGlobal + Wait>(
     rt: &R,
-    words: &[&str],
-    reports: &[u8],
+    case: &Case<'_>,
     room: usize,
 ) -> io::Result<bool> {
-    let whole = run_as(rt, words, FILE, Devices { room, ..SOUND })?;
-    let mut stops = whole.is(2, reports, REFUSED) && whole.is_flushed;
+    let whole = run_case(rt, case, Devices { room, ..SOUND })?;
+    let mut stops = whole.is_of(case);
     for write in 0..whole.writes {
-        stops = stops_at_write(rt, words, reports, room, write)? && stops;
+        stops = stops_at_write(rt, case, room, write)? && stops;
     }
     Ok(stops)
 }
 
-/// Whether the command, which tells this of a file, makes no further call once a line on standard error fails.
-fn stops_at_tell<R: AllocGlobal + Wait>(
-    rt: &R,
-    file: &[u8],
-    told: &[u8],
-    tell: u32,
-) -> io::Result<bool> {
-    let cut = run(rt, file, Devices { tell, ..SOUND })?;
-    Ok(cut.out.is_empty() && cut.stopped_at_tell(tell, told))
+/// Whether the command prints nothing and makes no further call on standard error, once this write there fails.
+fn stops_at_tell<R: AllocGlobal + Wait>(rt: &R, case: &Case<'_>, tell: u32) -> io::Result<bool> {
+    let cut = run_case(rt, case, Devices { tell, ..SOUND })?;
+    Ok(cut.out.is_empty() && cut.stopped_at_tell(tell, case.err))
+}
+
+/// Whether the command leaves the case, and each write on standard error stops it where it fails.
+fn stops_at_each_tell<R: AllocGlobal + Wait>(rt: &R, case: &Case<'_>) -> io::Result<bool> {
+    let whole = run_case(rt, case, SOUND)?;
+    let mut stops = whole.is_of(case);
+    for tell in 0..whole.tells {
+        stops = stops_at_tell(rt, case, tell)? && stops;
+    }
+    Ok(stops)
 }
 
 #[test]
 fn each_read_fails_in_turn(rt: HostRuntime) -> Result<(), Fail> {
-    let whole = run(&rt, FILE, SOUND)?;
-    for read in 0..whole.reads {
-        assert!(rt; stops_at_read(&rt, read)?);
+    for (number, case) in CASES.iter().enumerate() {
+        assert!(rt; stops_at_each_read(&rt, case)?, "case {number}");
     }
     Ok(())
 }
@@ -203,10 +310,10 @@ fn each_read_fails_in_turn(rt: HostRuntime) -> Result<(), Fail> {
 /// emptied on the way, and of one behind a buffer that is emptied once.
 #[test]
 fn each_write_fails_in_turn(rt: HostRuntime) -> Result<(), Fail> {
-    for room in [0, 8, 8192] {
-        assert!(rt; stops_at_each_write(&rt, &["check", "demo"], REPORTS, room)?);
-        let json = ["check", "--json", "demo"];
-        assert!(rt; stops_at_each_write(&rt, &json, JSON_REPORTS, room)?);
+    for (number, case) in CASES.iter().enumerate() {
+        for room in [0, 8, 8192] {
+            assert!(rt; stops_at_each_write(&rt, case, room)?, "case {number}");
+        }
     }
     Ok(())
 }
@@ -214,15 +321,8 @@ fn each_write_fails_in_turn(rt: HostRuntime) -> Result<(), Fail> {
 /// Each write on standard error fails in turn: of the line of a put, and of the line of a fault.
 #[test]
 fn each_line_fails_in_turn(rt: HostRuntime) -> Result<(), Fail> {
-    for (file, told) in [
-        (FILE, REFUSED),
-        (b"x".as_slice(), b"line 1: bad header\n".as_slice()),
-    ] {
-        let whole = run(&rt, file, SOUND)?;
-        assert!(rt; whole.status == 2 && whole.err.as_slice() == told);
-        for tell in 0..whole.tells {
-            assert!(rt; stops_at_tell(&rt, file, told, tell)?);
-        }
+    for (number, case) in CASES.iter().enumerate() {
+        assert!(rt; stops_at_each_tell(&rt, case)?, "case {number}");
     }
     Ok(())
 }

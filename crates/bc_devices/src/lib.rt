@@ -141,6 +141,19 @@ pub const SOUND: Devices = Devices {
     tell: NEVER,
 };
 
+/// A file, what a command of these words has to leave of it where no device fails, and what it has to tell where standard output
+/// fails; with a solver that wants memory, or with that of the program. (Own.)
+#[derive(Clone, Copy)]
+pub struct Case<'a> {
+    pub words: &'a [&'a str],
+    pub file: &'a [u8],
+    pub status: u8,
+    pub out: &'a [u8],
+    pub err: &'a [u8],
+    pub unwritten: &'a [u8],
+    pub wants_memory: bool,
+}
+
 /// What a command left, whether standard output was flushed last, and how many calls of each device it made. (Own.)
 #[derive(Drop)]
 pub struct Left {
@@ -170,6 +183,11 @@ impl Left {
     /// Whether the command ended with this status, and left this on its two writers. (Own.)
     pub fn is(&self, status: u8, out: &[u8], err: &[u8]) -> bool {
         self.status == status && self.out.as_slice() == out && self.err.as_slice() == err
+    }
+
+    /// Whether this is what is to be left of the case, and standard output was flushed last if it was used. (Own.)
+    pub fn is_of(&self, case: &Case<'_>) -> bool {
+        self.is(case.status, case.out, case.err) && (self.is_flushed || self.writes == 0)
     }
 
     /// Whether the command could write no more, when it had told this, and made no further call once this write or flush had failed,

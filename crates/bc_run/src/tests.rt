@@ -1,10 +1,15 @@
 //! The command over readers and writers in memory, also such as fail at one call.
+ghost use Rattle.std.specs.Prelude.{IfOk};
+ghost use Rattle.bc_prov.specs.Facts.{AreValues};
+
 use crate::run_over;
 use bc_analyses::{find_plain_values, providers};
-use bc_devices::{Devices, Input, Left, Output, SOUND};
+use bc_cons::Facts;
+use bc_devices::{Case, Devices, Input, Left, Output, SOUND};
 use bc_line::{Line, RunLine, read_line};
 use bc_prov::Providers;
-use std::alloc::Global;
+use bc_solve::Values;
+use std::alloc::{AllocError, Global};
 use std::io;
 use std::io::{BufWriter, ErrorKind};
 use std::sync::Wait;
@@ -48,10 +53,12 @@ fn run<R: AllocGlobal + Threads + Wait + Sync>(
     run_with(rt, &providers!(rt.alloc()), words, file, devices)
 }
 
-/// The words of a run of one session, and of two.
+/// The words of a run of one session, of two and of sixteen.
 const ONE: &[&str] = &["run", "demo"];
 
 const TWO: &[&str] = &["run", "demo", "--sessions", "2"];
+
+const SIXTEEN: &[&str] = &["run", "demo", "--sessions", "16"];
 
 /// A body that is put and asked, and a name that is not held and is removed.
 const FILE: &[u8] =
@@ -77,53 +84,55 @@ fn leaves<R: AllocGlobal + Threads + Wait + Sync>(
 #[test]
 fn prints_the_history_of_one_session(rt: HostRuntime) -> Result<(), Fail> {
     assert!(rt; leaves(&rt, ONE, FILE, 0, HISTORY, b"")?);
-    assert!(rt; leaves(&rt, ONE, b"", 0, b"", b"")?);
+    let unstored = b"@0 types\n@0 put f/0\nfn()->int{bb0{return;}}\n@0 ask f/0\n".as_slice();
+    let history = b"0 0 types stored\n0 1 put f/0 wrongkind\n0 2 ask f/0\nno body\n".as_slice();
+    assert!(rt; leaves(&rt, ONE, unstored, 2, history, b"")?);
     Ok(())
 }
+
+/// A file that lists a call of the last session or of one behind it, and what a run of these words leaves of it.
+const LAST: [(&[&str], &[u8], &[u8], &[u8]); 5] = [
+    (ONE, b"@1 ask f\n", b"", b"line 1: bad header\n"),
+    (TWO, b"@1 ask f\n", b"1 0 ask f\nno body\n", b""),
+    (TWO, b"@2 ask f\n", b"", b"line 1: bad header\n"),
+    (SIXTEEN, b"@15 ask f\n", b"15 0 ask f\nno body\n", b""),
+    (SIXTEEN, b"@16 ask f\n", b"", b"line 1: bad header\n"),
+];
 
 #[test]
 fn takes_calls_of_its_sessions_alone(rt: HostRuntime) -> Result<(), Fail> {
-    let file = b"@1 ask f\n".as_slice();
-    assert!(rt; leaves(&rt, ONE, file, 2, b"", b"line 1: bad header\n")?);
-    assert!(rt; leaves(&rt, TWO, file, 2, b"1 0 ask f\nno body\n", b"")?);
+    for (words, file, out, err) in LAST {
+        assert!(rt; leaves(&rt, words, file, 2, out, err)?);
+    }
     Ok(())
 }
 
-/// Each fault of a file of `run`, at its line.
+/// Files, and the fault of each at its line.
+const FAULTS: [(&[u8], &[u8]); 11] = [
+    (b"@0 ask f\nx", b"line 1: text after call\n"),
+    (b"@0 ask f\nx\n", b"line 1: text after call\n"),
+    (b"@0 ask f\n@0 remove f\n \nx", b"line 2: text after call\n"),
+    (b"@0 ask f\n\n@00 ask f", b"line 3: bad header\n"),
+    (b"@put f\nfn", b"line 1: bad header\n"),
+    (b"@0 put 9\nfn", b"line 1: bad header\n"),
+    (b"x", b"line 1: bad header\n"),
+    (b"@0 put f\nfn", b"line 1: grammar at 2\n"),
+    (b"@0 put f\nfn\t()", b"line 1: token at 2\n"),
+    (
+        b"@0 put f\nfn()->int{bb0{_0=4294967296;return;}}",
+        b"line 1: limit at 17\n",
+    ),
+    (
+        b"@0 types\nstruct A{int;}\x80\n",
+        b"line 1: not ascii at 14\n",
+    ),
+];
+
 #[test]
 fn tells_faults_of_the_file(rt: HostRuntime) -> Result<(), Fail> {
-    assert!(rt;
-        leaves(
-            &rt,
-            ONE,
-            b"@0 ask f\nx",
-            2,
-            b"",
-            b"line 1: text after call\n"
-        )?
-    );
-    assert!(rt;
-        leaves(
-            &rt,
-            ONE,
-            b"@0 ask f\n@0 remove f\n \nx",
-            2,
-            b"",
-            b"line 2: text after call\n"
-        )?
-    );
-    assert!(rt;
-        leaves(
-            &rt,
-            ONE,
-            b"@0 ask f\n\n@00 ask f",
-            2,
-            b"",
-            b"line 3: bad header\n"
-        )?
-    );
-    assert!(rt; leaves(&rt, ONE, b"@0 put f\nfn", 2, b"", b"line 1: grammar at 2\n")?);
-    assert!(rt; leaves(&rt, ONE, b"@put f\nfn", 2, b"", b"line 1: bad header\n")?);
+    for (file, line) in FAULTS {
+        assert!(rt; leaves(&rt, ONE, file, 2, b"", line)?);
+    }
     Ok(())
 }
 
@@ -138,24 +147,103 @@ fn two_sessions_have_one_history(rt: HostRuntime) -> Result<(), Fail> {
     Ok(())
 }
 
-/// Whether the command says that it cannot read a file of which this read fails.
-fn stops_at_read<R: AllocGlobal + Threads + Wait + Sync>(rt: &R, read: u32) -> io::Result<bool> {
-    let cut = run(rt, ONE, FILE, Devices { read, ..SOUND })?;
+/// A solver that always wants memory.
+fn want_memory(_alloc: Global, _facts: &Facts) -> Result<Values, AllocError>
+    ensures { IfOk result (AreValues _facts.now) }
+{
+    Err(AllocError)
+}
+
+/// Files without an error, with one, with a fault and with nothing, and one whose session does not end.
+const CASES: [Case<'static>; 5] = [
+    Case {
+        words: ONE,
+        file: FILE,
+        status: 0,
+        out: HISTORY,
+        err: b"",
+        unwritten: b"cannot write\n",
+        wants_memory: false,
+    },
+    Case {
+        words: TWO,
+        file: b"@1 put f\nfn () -> int { let _1: int; let _2: &'?0 int; bb0 { _1 = 1; _2 = &'?1 _1; _1 = 2; _0 = copy _2.*; return; } }\n@1 ask f\n",
+        status: 1,
+        out: b"1 0 put f added\n1 1 ask f\nf 1\n  conflict bb0[2] access 0 loan bb0[1]\n",
+        err: b"",
+        unwritten: b"cannot write\n",
+        wants_memory: false,
+    },
+    Case {
+        words: ONE,
+        file: b"@0 ask f\nx\n",
+        status: 2,
+        out: b"",
+        err: b"line 1: text after call\n",
+        unwritten: b"",
+        wants_memory: false,
+    },
+    Case {
+        words: ONE,
+        file: b"",
+        status: 0,
+        out: b"",
+        err: b"",
+        unwritten: b"cannot write\n",
+        wants_memory: false,
+    },
+    Case {
+        words: ONE,
+        file: FILE,
+        status: 3,
+        out: b"0 0 put f added\n",
+        err: b"session 0 stopped: no memory\n",
+        unwritten: b"cannot write\n",
+        wants_memory: true,
+    },
+];
+
+/// What the command leaves of a case over these devices.
+fn run_case<R: AllocGlobal + Threads + Wait + Sync>(
+    rt: &R,
+    case: &Case<'_>,
+    devices: Devices,
+) -> io::Result<Left> {
+    let providers = if case.wants_memory {
+        providers!(rt.alloc(), want_memory)
+    } else {
+        providers!(rt.alloc())
+    };
+    run_with(rt, &providers, case.words, case.file, devices)
+}
+
+/// Whether the command says that it cannot read, once this read fails.
+fn stops_at_read<R: AllocGlobal + Threads + Wait + Sync>(
+    rt: &R,
+    case: &Case<'_>,
+    read: u32,
+) -> io::Result<bool> {
+    let cut = run_case(rt, case, Devices { read, ..SOUND })?;
     Ok(cut.is(3, b"", b"cannot read demo\n"))
 }
 
-#[test]
-fn each_read_fails_in_turn(rt: HostRuntime) -> Result<(), Fail> {
-    let whole = run(&rt, ONE, FILE, SOUND)?;
+/// Whether the command leaves the case, and each read stops it where it fails.
+fn stops_at_each_read<R: AllocGlobal + Threads + Wait + Sync>(
+    rt: &R,
+    case: &Case<'_>,
+) -> io::Result<bool> {
+    let whole = run_case(rt, case, SOUND)?;
+    let mut stops = whole.is_of(case);
     for read in 0..whole.reads {
-        assert!(rt; stops_at_read(&rt, read)?);
+        stops = stops_at_read(rt, case, read)? && stops;
     }
-    Ok(())
+    Ok(stops)
 }
 
 /// Whether the command says that it cannot write, and makes no further call, once this write or flush fails behind a buffer of this size.
 fn stops_at_write<R: AllocGlobal + Threads + Wait + Sync>(
     rt: &R,
+    case: &Case<'_>,
     room: usize,
     write: u32,
 ) -> io::Result<bool> {
@@ -164,35 +252,71 @@ fn stops_at_write<R: AllocGlobal + Threads + Wait + Sync>(
         write,
         ..SOUND
     };
-    let cut = run(rt, ONE, FILE, devices)?;
-    Ok(cut.stopped_at_write(write, HISTORY, b"cannot write\n"))
+    let cut = run_case(rt, case, devices)?;
+    Ok(cut.stopped_at_write(write, case.out, case.unwritten))
+}
+
+/// Whether the command leaves the case behind a buffer of this size, and each write and each flush stops it where it fails.
+fn stops_at_each_write<R: AllocGlobal + Threads + Wait + Sync>(
+    rt: &R,
+    case: &Case<'_>,
+    room: usize,
+) -> io::Result<bool> {
+    let whole = run_case(rt, case, Devices { room, ..SOUND })?;
+    let mut stops = whole.is_of(case);
+    for write in 0..whole.writes {
+        stops = stops_at_write(rt, case, room, write)? && stops;
+    }
+    Ok(stops)
+}
+
+/// Whether the command makes no further call on standard error, once this write there fails.
+fn stops_at_tell<R: AllocGlobal + Threads + Wait + Sync>(
+    rt: &R,
+    case: &Case<'_>,
+    tell: u32,
+) -> io::Result<bool> {
+    let cut = run_case(rt, case, Devices { tell, ..SOUND })?;
+    Ok(cut.out.as_slice() == case.out && cut.stopped_at_tell(tell, case.err))
+}
+
+/// Whether the command leaves the case, and each write on standard error stops it where it fails.
+fn stops_at_each_tell<R: AllocGlobal + Threads + Wait + Sync>(
+    rt: &R,
+    case: &Case<'_>,
+) -> io::Result<bool> {
+    let whole = run_case(rt, case, SOUND)?;
+    let mut stops = whole.is_of(case);
+    for tell in 0..whole.tells {
+        stops = stops_at_tell(rt, case, tell)? && stops;
+    }
+    Ok(stops)
+}
+
+#[test]
+fn each_read_fails_in_turn(rt: HostRuntime) -> Result<(), Fail> {
+    for (number, case) in CASES.iter().enumerate() {
+        assert!(rt; stops_at_each_read(&rt, case)?, "case {number}");
+    }
+    Ok(())
 }
 
 /// Each write and each flush fails in turn, behind no buffer, a small one and one that is emptied once.
 #[test]
 fn each_write_fails_in_turn(rt: HostRuntime) -> Result<(), Fail> {
-    for room in [0, 8, 8192] {
-        let whole = run(&rt, ONE, FILE, Devices { room, ..SOUND })?;
-        assert!(rt; whole.is(0, HISTORY, b"") && whole.is_flushed);
-        for write in 0..whole.writes {
-            assert!(rt; stops_at_write(&rt, room, write)?);
+    for (number, case) in CASES.iter().enumerate() {
+        for room in [0, 8, 8192] {
+            assert!(rt; stops_at_each_write(&rt, case, room)?, "case {number}");
         }
     }
     Ok(())
 }
 
-/// Whether the command makes no further call once a line on standard error fails.
-fn stops_at_tell<R: AllocGlobal + Threads + Wait + Sync>(rt: &R, tell: u32) -> io::Result<bool> {
-    let cut = run(rt, ONE, b"x", Devices { tell, ..SOUND })?;
-    Ok(cut.out.is_empty() && cut.stopped_at_tell(tell, b"line 1: bad header\n"))
-}
-
+/// Each write on standard error fails in turn: of the line of a fault, and of the line of a session that did not end.
 #[test]
 fn each_line_fails_in_turn(rt: HostRuntime) -> Result<(), Fail> {
-    let whole = run(&rt, ONE, b"x", SOUND)?;
-    assert!(rt; whole.is(2, b"", b"line 1: bad header\n"));
-    for tell in 0..whole.tells {
-        assert!(rt; stops_at_tell(&rt, tell)?);
+    for (number, case) in CASES.iter().enumerate() {
+        assert!(rt; stops_at_each_tell(&rt, case)?, "case {number}");
     }
     Ok(())
 }
