@@ -3,6 +3,8 @@
 #![tactic(auto)]
 
 #[cfg(test)]
+mod carried;
+#[cfg(test)]
 mod counted;
 #[cfg(test)]
 mod cutoff;
