@@ -166,8 +166,8 @@ fn a_report_wants_memory_where_a_provider_does(rt: HostRuntime) -> Result<(), Fa
     Ok(())
 }
 
-/// Catches the wrong body `memo_never_used`: what was found is told again where each provider wants memory, and no longer once a
-/// closure that it rests on is replaced.
+/// What was found is told again where each provider wants memory, by its answer or by its pieces, and no longer once a closure that it
+/// rests on is replaced.
 #[test]
 fn a_second_ask_of_an_unchanged_name_calls_no_provider(rt: HostRuntime) -> Result<(), Fail> {
     let alloc = rt.alloc();

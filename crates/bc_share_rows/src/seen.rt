@@ -255,7 +255,7 @@ fn an_answer_that_is_seen_stays_beside_other_writes(rt: HostRuntime) -> Result<(
     take(&rt, rt.alloc(), &taken)
 }
 
-/// What is begun of an answered name carries the answer: the work calls no provider.
+/// What is begun of an answered name carries the answer, and the pieces of its bodies: the work calls no provider.
 #[test]
 fn a_beginning_carries_the_answer_that_is_published(rt: HostRuntime) -> Result<(), Fail> {
     let taken = [

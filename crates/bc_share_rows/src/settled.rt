@@ -178,7 +178,7 @@ fn work_of_another_book_does_not_stand(rt: HostRuntime) -> Result<(), Fail> {
     Ok(())
 }
 
-/// Catches the wrong body `memo_never_used`: the work does not stand, and what is remembered does.
+/// The work does not stand, and what is remembered does, and the piece of the body too.
 #[test]
 fn what_is_remembered_is_told_where_the_work_does_not_stand(rt: HostRuntime) -> Result<(), Fail> {
     let providers = refusing(rt.alloc())?;
