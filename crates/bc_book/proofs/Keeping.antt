@@ -38,7 +38,7 @@ use Rattle.bc_book.proofs.Counting.{counts_more}
 use Rattle.bc_calls.proofs.Answering.{by_bool}
 use Rattle.bc_calls.proofs.Changing.{shelf_none, shelf_snoc}
 use Rattle.bc_calls.proofs.Parts.{copied_part}
-use Rattle.bc_book.proofs.Remembering.{past_none, past_more, right_more, right_new, right_now}
+use Rattle.bc_book.proofs.Remembering.{past_none, past_more, right_more, right_new, right_now, stands_new}
 
 -- ---- how many bodies are held
 
@@ -227,4 +227,5 @@ pub row_of : (s : ShelfView) (h : List Entry) (v : SnapshotView) (n : NameParts)
 row_of s h v n names r o of past held types root units all row is = record {
   held = held;
   right = right_new s h v n names r of past (copied_part s h n v of types root units) all row.types row.used (subst (IsOutcomeIn (after h) n) (sym row.outcome) is);
+  stands = stands_new s names o r row;
 }

@@ -1,3 +1,4 @@
 pub mod Counting
 pub mod Remembering
 pub mod Keeping
+pub mod Recalling

@@ -7,6 +7,7 @@ use Rattle.std.specs.BTreeMap.{is_at}
 use Rattle.bc_text.specs.Names.{NameParts, name_order}
 use Rattle.bc_prov.specs.State.{at_name}
 use Rattle.bc_prov.specs.Outcome.{IsOutcomeIn}
+use Rattle.bc_prov.specs.declared.outcome.Outcome.{Outcome}
 use Rattle.bc_prov.specs.Snapshots.{SnapshotView, IsPartOf, names_used}
 use Rattle.bc_prov.proofs.Used.{outcome_used, used_listed}
 use Rattle.bc_memo.specs.declared.place.Place.{Place}
@@ -14,7 +15,7 @@ use Rattle.bc_memo.specs.declared.change.Change.{Change}
 use Rattle.bc_memo.specs.declared.change.Change.TheVariants as changes
 use Rattle.bc_memo.specs.declared.memo.Remembered.{Remembered}
 use Rattle.bc_memo.specs.Places.{Places, ShelfView, AreOrdered, unit_of, revision_of, revision_at, placed, mark, changed, voids}
-use Rattle.bc_memo.specs.Memos.{Recorded, recorded, Stands}
+use Rattle.bc_memo.specs.Memos.{IsRowOf, Recorded, recorded, Stands}
 use Rattle.bc_memo.proofs.Places.{same_name, at_name-map, placing}
 use Rattle.bc_calls.specs.declared.call.Event.{Event}
 use Rattle.bc_calls.specs.declared.call.Event.TheVariants.{Types, Put, Remove, Ask}
@@ -53,6 +54,17 @@ right_now s h n r right stands =
           sym (right.bodies k t.0 t.1 (stands_at s r.used.items k t.0 stands.names t.1));
     })
     right.outcome
+
+-- what is recorded of a shelf stands there
+recorded_stand : (s : ShelfView) (names : List NameParts) → AllByRecursion (λ (u : NameParts × Option ℕ). revision_at s u.0 ≡ u.1) (recorded s names)
+recorded_stand s [] = tt
+recorded_stand s (n ∷ ns) = (refl, recorded_stand s ns)
+
+pub stands_new : (s : ShelfView) (names : List NameParts) (o : Outcome) (r : Remembered) → IsRowOf s names o r → Stands s r
+stands_new s names o r row = record {
+  types = sym row.types;
+  names = subst (AllByRecursion (λ (u : NameParts × Option ℕ). revision_at s u.0 ≡ u.1)) (sym row.used) (recorded_stand s names);
+}
 
 -- ---- one more entry
 

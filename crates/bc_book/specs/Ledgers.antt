@@ -4,20 +4,20 @@ use Rattle.std.specs.Map.{remove_entry}
 use Rattle.std.specs.BTreeMap.{is_at, insert_entry}
 use Rattle.bc_text.specs.Names.{NameParts, name_order}
 use Rattle.bc_prov.specs.State.{Bodies, at_name}
+use Rattle.bc_prov.specs.declared.outcome.Outcome.{Outcome}
 use Rattle.bc_memo.specs.declared.memo.Remembered.{Remembered}
 use Rattle.bc_memo.specs.declared.change.Change.{Change}
 use Rattle.bc_memo.specs.declared.change.Change.TheVariants as changes
-use Rattle.bc_memo.specs.Places.{ShelfView, AreOrdered, unit_of}
+use Rattle.bc_memo.specs.Memos.{IsRemembered, Stands}
+use Rattle.bc_memo.specs.Places.{ShelfView, AreOrdered, changed, empty_shelf, unit_of}
 use Rattle.bc_calls.specs.declared.call.PutReply.TheVariants.{Added}
 use Rattle.bc_calls.specs.declared.call.Event.{Event}
 use Rattle.bc_calls.specs.declared.call.Event.TheVariants.{Types, Put, Remove, Ask}
 use Rattle.bc_calls.specs.declared.call.Entry.{Entry}
 use Rattle.bc_book.specs.declared.ledger.Refusal.{Refusal}
 use Rattle.bc_book.specs.declared.ledger.Refusal.TheVariants.{HistoryFull}
-use Rattle.bc_calls.specs.declared.call.TheConstants.{MOST_BODIES}
-use Rattle.bc_book.specs.declared.ledger.TheConstants.{MOST_SESSIONS}
-use Rattle.bc_calls.specs.Calls.{after, count_of, IsReply, IsLegal}
-use Rattle.bc_calls.specs.Changes.{writes_of}
+use Rattle.bc_calls.specs.Calls.{most_bodies, after, count_of, IsReply, IsLegal}
+use Rattle.bc_calls.specs.Changes.{change_of, writes_after, writes_of}
 use Rattle.bc_calls.specs.Answers.{IsShelfOf}
 use Rattle.bc_book.specs.Memory.{IsRight, ArePast}
 
@@ -32,9 +32,13 @@ pub record LedgerView : Type 0 where
   pub places : ℕ
   pub rows : ℕ
 
+-- how many sessions a database may have
+abbrev pub most_sessions : ℕ
+most_sessions = 16
+
 -- how many entries each session has
 abbrev pub AreCounts : List ℕ → List Entry → Type 0
-AreCounts counts h = (session : ℕ) → session < MOST_SESSIONS → slice_index counts session ≡ count_of session h
+AreCounts counts h = (session : ℕ) → session < most_sessions → slice_index counts session ≡ count_of session h
 
 -- The history is legal and not too long. The counts, the declarations, the bodies and the answers are those that it leaves. What is
 -- remembered is of names that are held, in their order, and is right while all that it was found from has its revision.
@@ -43,10 +47,10 @@ pub record IsKept (capacity : ℕ) (h : List Entry) (counts : List ℕ) (writes 
   pub bounded : capacity < 2 ^ 32
   pub short : length h ≤ capacity
   pub counted : AreCounts counts h
-  pub sized : length counts ≡ MOST_SESSIONS
+  pub sized : length counts ≡ most_sessions
   pub written : writes ≡ writes_of h
   pub shelf_of : IsShelfOf shelf h
-  pub few : length shelf.places ≤ MOST_BODIES
+  pub few : length shelf.places ≤ most_bodies
   pub past : ArePast shelf h
   pub sorted : AreOrdered answers
   pub held : (name : NameParts) (row : Remembered) → at_name answers name ≡ Some row → IsSome (at_name shelf.places name)
@@ -59,10 +63,16 @@ pub record SameLedger (one other : LedgerView) : Type 0 where
   pub shelf : other.shelf ≡ one.shelf
   pub answers : other.answers ≡ one.answers
 
--- this may be remembered for a name: the name is held, and it is right
+-- this may be remembered for a name: the name is held, it is right, and it stands
 pub record IsRow (shelf : ShelfView) (h : List Entry) (name : NameParts) (row : Remembered) : Type 0 where
   pub held : IsSome (at_name shelf.places name)
   pub right : IsRight shelf h name row
+  pub stands : Stands shelf row
+
+-- with this row, or without one, the outcome of a name that is held is remembered
+abbrev pub Recalls : ShelfView → List (NameParts × Remembered) → NameParts → Outcome → Option (NameParts × Remembered) → Type 0
+Recalls shelf rows name outcome None = IsSome (at_name shelf.places name) → IsRemembered shelf rows name (Some outcome)
+Recalls shelf rows name outcome (Some row) = (row.0 ≡ name) × (row.1.outcome ≡ outcome)
 
 -- what is remembered with one more outcome, where there is one
 abbrev pub remembering : Option (NameParts × Remembered) → List (NameParts × Remembered) → List (NameParts × Remembered)
@@ -81,10 +91,10 @@ kept_rows changes.Nothing rows = rows
 abbrev pub bodies_of : ShelfView → Bodies
 bodies_of shelf = λ name. unit_of (at_name shelf.places name)
 
--- a body is added only where fewer than `MOST_BODIES` are held
+-- a body is added only where fewer are held than may be
 abbrev pub HasPlace : ℕ → Event → Type 0
 HasPlace held (Types types) = Unit {0}
-HasPlace held (Put name body reply) = reply ≡ Added → held < MOST_BODIES
+HasPlace held (Put name body reply) = reply ≡ Added → held < most_bodies
 HasPlace held (Remove name reply) = Unit {0}
 HasPlace held (Ask name outcome) = Unit {0}
 
@@ -95,12 +105,17 @@ pub record BookView : Type 0 where
   pub shelf : ShelfView
   pub answers : List (NameParts × Remembered)
 
--- the one entry is added, with its session's next number: the call, and the reply that what is held gives it; the history is legal
--- with it
+-- no entry, which may become so many, no declaration and no body, and nothing remembered
+abbrev pub empty_book : ℕ → BookView
+empty_book capacity = record { capacity = capacity; entries = []; shelf = empty_shelf []; answers = [] }
+
+-- the one entry is added, with its session's next number: the call, and the reply that what is held gives it. What is held changes as
+-- the event says, and what it writes has as its revision the count of accepted writes with it; the history is legal with it
 pub record Appends (session : ℕ) (event : Event) (old new : BookView) : Type 0 where
   pub right : IsReply (after old.entries) event
   pub capacity : new.capacity ≡ old.capacity
   pub entries : new.entries ≡ old.entries ++ record { session = session; number = count_of session old.entries; event = event } ∷ []
+  pub shelf : new.shelf ≡ changed old.shelf (change_of event) (writes_after (writes_of old.entries) event)
   pub legal : IsLegal new.entries
 
 -- a call is refused as full exactly where there are as many entries as there may be

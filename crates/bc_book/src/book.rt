@@ -1,10 +1,11 @@
 //! What lies under the lock: the history, what it leaves, what is remembered, and what publishes it.
-ghost use Rattle.std.specs.Prelude.{◌≡◌, ◌<◌, ◌^◌, [], None, length, IfOk, IfErr, OnErr, OnOk};
+ghost use Rattle.std.specs.Prelude.{◌≡◌, ◌<◌, ◌^◌, None, length, IfOk, IfErr, OnErr, OnOk};
 ghost use Rattle.std.specs.Option.{ForSome};
 ghost use Rattle.bc_prov.specs.Snapshots.{IsPartOf};
+ghost use Rattle.bc_memo.specs.Memos.{IsRemembered};
 ghost use Rattle.bc_calls.specs.Calls.{IsLegal, IsReply, after};
 ghost use Rattle.bc_calls.specs.Changes.{change_of};
-ghost use Rattle.bc_book.specs.Ledgers.{Appends, HasPlace, IsFull, IsRow, kept_rows, remembering};
+ghost use Rattle.bc_book.specs.Ledgers.{Appends, HasPlace, IsFull, IsRow, empty_book, kept_rows, remembering};
 
 use crate::ledger::{Ledger, MOST_SESSIONS, Refusal};
 use bc_calls::{Begun, Entry, Event, PutReply, RemoveReply, Work, no_declarations};
@@ -40,7 +41,7 @@ impl Findings {
 
 /// A book: the history of all calls, what it leaves, what is remembered of it, and the writer that publishes it. Contracts see how many
 /// entries it may have, those that it has, what is held, and what is remembered. The entries that it has are those that were
-/// published: its type keeps it. (Own.)
+/// published, and so is what is held, with its revisions and its answers: its type keeps it. (Own.)
 #[derive(Drop)]
 pub struct Book<E: Ending> {
     ledger: Ledger,
@@ -55,7 +56,7 @@ impl<E: Ending> Model for Book<E> {
 
     ghost view = { λ b. record { capacity = b.ledger.capacity; entries = b.ledger.entries; shelf = b.ledger.shelf; answers = b.ledger.answers } };
 
-    ghost invariant = { λ b. b.press ≡ b.ledger.entries };
+    ghost invariant = { λ b. b.press ≡ record { entries = b.ledger.entries; shelf = b.ledger.shelf } };
 }
 
 impl<E: Ending> Book<E> {
@@ -68,7 +69,7 @@ impl<E: Ending> Book<E> {
         readers: usize,
     ) -> Result<Book<E>, AllocError>
         requires { (0 < readers) × (readers < 2 ^ 32) }
-        ensures { IfOk result (λ book. (book.capacity ≡ capacity) × (book.entries ≡ [])) }
+        ensures { IfOk result (λ book. book ≡ empty_book capacity) }
     {
         let ledger = Ledger::new(alloc, capacity)?;
         let first = no_declarations(alloc)?;
@@ -152,6 +153,7 @@ impl<E: Ending> Book<E> {
     /// Nothing is entered. `AllocError` only where memory was refused. Own.
     pub fn snapshot(&self, alloc: Global, name: &Name) -> Result<Begun, AllocError>
         ensures part { IfOk result (λ begun. IsPartOf begun name.now (after self.now.entries)) }
+        ensures remembered { IfOk result (λ begun. IsRemembered self.now.shelf self.now.answers name.now begun.carried) }
         ensures legal { OnOk result (IsLegal self.now.entries) }
     {
         self.ledger.begin(alloc, name)

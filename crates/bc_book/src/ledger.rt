@@ -1,12 +1,14 @@
 //! The history, and what it leaves: what lies under the lock but for what publishes. It waits for nobody.
 ghost use Rattle.std.specs.Prelude.{◌≡◌, ◌↔◌, ◌+◌, ◌^◌, ◌<◌, [], ◌∷◌, ◌++◌, length, IfOk, IfSome, IsSome, IsTrue, OnOk, IfErr};
-ghost use Rattle.std.specs.Option.{ForSome};
+ghost use Rattle.std.specs.Option.{ForSome, option_copied};
 ghost use Rattle.bc_prov.specs.Outcome.{IsOutcomeIn};
 ghost use Rattle.bc_prov.specs.Snapshots.{IsPartOf};
 ghost use Rattle.bc_prov.specs.State.{at_name};
-ghost use Rattle.bc_calls.specs.Calls.{IsLegal, IsPutReply, IsRemoveReply, MayComeNext, after, count_of};
+ghost use Rattle.bc_memo.specs.Memos.{IsRemembered};
+ghost use Rattle.bc_memo.specs.Places.{changed, empty_shelf};
+ghost use Rattle.bc_calls.specs.Calls.{IsLegal, IsPutReply, IsRemoveReply, MayComeNext, after, count_of, most_bodies};
 ghost use Rattle.bc_calls.specs.Changes.{change_of, writes_after, writes_of};
-ghost use Rattle.bc_book.specs.Ledgers.{HasPlace, IsRow, SameLedger, kept_rows, remembering};
+ghost use Rattle.bc_book.specs.Ledgers.{HasPlace, IsRow, Recalls, SameLedger, kept_rows, remembering};
 
 use crate::reply::{put_reply, remove_reply};
 use bc_calls::{Begun, Entry, Event, MOST_BODIES, PutReply, RemoveReply, Work, no_declarations};
@@ -64,9 +66,10 @@ impl Model for Ledger {
 }
 
 impl Ledger {
-    /// An empty history, with no declaration and no body. `AllocError` only where memory was refused.
+    /// An empty history, with no declaration and no body, and memory for all bodies. `AllocError` only where memory was refused.
     pub(crate) fn new(alloc: Global, capacity: u32) -> Result<Ledger, AllocError>
-        ensures { IfOk result (λ ledger. (ledger.capacity ≡ capacity) × (ledger.entries ≡ [])) }
+        ensures same { IfOk result (λ ledger. (ledger.capacity ≡ capacity) × (ledger.entries ≡ []) × (ledger.shelf ≡ empty_shelf []) × (ledger.answers ≡ [])) }
+        ensures places { IfOk result (λ ledger. most_bodies < ledger.places) }
     {
         let types = no_declarations(alloc)?;
         Ok(Ledger {
@@ -118,14 +121,16 @@ impl Ledger {
 
     /// What is remembered for a name, where all that it was found from is as it was: the name's outcome. It takes no memory.
     pub(crate) fn answer(&self, name: &Name) -> Option<&Shared<Outcome>>
-        ensures { IfSome result (λ outcome. IsOutcomeIn (after self.now.entries) name.now outcome.now) }
+        ensures right { IfSome result (λ outcome. IsOutcomeIn (after self.now.entries) name.now outcome.now) }
+        ensures remembered { IsRemembered self.now.shelf self.now.answers name.now (option_copied result) }
     {
         self.memo.lookup(&self.shelf, name)
     }
 
     // One more owner of what is remembered for a name and stands.
     fn shared_answer(&self, name: &Name) -> Result<Option<Shared<Outcome>>, AllocError>
-        ensures { IfOk result (λ answer. IfSome answer (IsOutcomeIn (after self.now.entries) name.now)) }
+        ensures right { IfOk result (λ answer. IfSome answer (IsOutcomeIn (after self.now.entries) name.now)) }
+        ensures remembered { IfOk result (IsRemembered self.now.shelf self.now.answers name.now) }
     {
         match self.answer(name) {
             Some(outcome) => {
@@ -139,6 +144,7 @@ impl Ledger {
     /// A name's part of what is held, with its outcome if it is remembered. `AllocError` only where memory was refused.
     pub(crate) fn begin(&self, alloc: Global, name: &Name) -> Result<Begun, AllocError>
         ensures part { IfOk result (λ begun. IsPartOf begun name.now (after self.now.entries)) }
+        ensures remembered { IfOk result (λ begun. IsRemembered self.now.shelf self.now.answers name.now begun.carried) }
         ensures legal { OnOk result (IsLegal self.now.entries) }
     {
         let answer = self.shared_answer(name)?;
@@ -208,20 +214,19 @@ impl Ledger {
         outcome: &Shared<Outcome>,
     ) -> Result<Option<(Name, Remembered)>, AllocError>
         requires { IsOutcomeIn (after self.now.entries) name.now outcome.now }
-        ensures { IfOk result (λ row. ForSome row (λ r. (r.0 ≡ name.now) × IsRow self.now.shelf self.now.entries r.0 r.1)) }
+        ensures row { IfOk result (λ row. ForSome row (λ r. (r.0 ≡ name.now) × IsRow self.now.shelf self.now.entries r.0 r.1)) }
+        ensures recalls { IfOk result (Recalls self.now.shelf self.now.answers name.now outcome.now) }
     {
-        if !self.lacks_answer(name) {
+        if !self.shelf.is_held(name) {
             return Ok(None);
         }
-        let row = self.remembered(alloc, name, outcome)?;
-        Ok(Some((*name, row)))
-    }
-
-    // Whether a name is held, and nothing that stands is remembered for it.
-    fn lacks_answer(&self, name: &Name) -> bool
-        ensures { IsTrue result → IsSome (at_name self.now.shelf.places name.now) }
-    {
-        self.shelf.is_held(name) && self.answer(name).is_none()
+        match self.answer(name) {
+            Some(_) => Ok(None),
+            None => {
+                let row = self.remembered(alloc, name, outcome)?;
+                Ok(Some((*name, row)))
+            }
+        }
     }
 
     // An outcome of a name that is held, with the revisions of all that it rests on.
@@ -233,7 +238,8 @@ impl Ledger {
     ) -> Result<Remembered, AllocError>
         requires held { IsSome (at_name self.now.shelf.places name.now) }
         requires outcome { IsOutcomeIn (after self.now.entries) name.now outcome.now }
-        ensures { IfOk result (IsRow self.now.shelf self.now.entries name.now) }
+        ensures row { IfOk result (IsRow self.now.shelf self.now.entries name.now) }
+        ensures outcome { IfOk result (λ row. row.outcome ≡ outcome.now) }
     {
         let part = self.shelf.part(alloc, name)?;
         let names = part.snapshot.used(alloc)?;
@@ -291,6 +297,7 @@ impl Ledger {
         requires revision { revision ≡ writes_after (writes_of self.old.entries) entry.event }
         ensures same { self.new.capacity ≡ self.old.capacity }
         ensures entries { self.new.entries ≡ self.old.entries ++ entry ∷ [] }
+        ensures shelf { self.new.shelf ≡ changed self.old.shelf change revision }
         ensures answers { self.new.answers ≡ kept_rows change self.old.answers }
         ensures legal { IsLegal self.new.entries }
     {

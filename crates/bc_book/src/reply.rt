@@ -1,45 +1,14 @@
 //! The replies to puts and removals.
-ghost use Rattle.std.specs.Prelude.{◌≡◌, ◌↔◌, ◌<◌, ◌≤◌, IfOk, IsTrue, length};
-ghost use Rattle.bc_prov.specs.State.{HasRoom, Suits, SuitsKind};
+ghost use Rattle.std.specs.Prelude.{◌≡◌, ◌<◌, ◌≤◌, IfOk, length};
+ghost use Rattle.bc_prov.specs.State.{Suits};
 ghost use Rattle.bc_calls.specs.Calls.{IsPutReply, IsRemoveReply};
 ghost use Rattle.bc_book.specs.Ledgers.{bodies_of};
 
 use bc_calls::{MOST_BODIES, PutReply, RemoveReply};
-use bc_memo::Shelf;
-use bc_syntax::{Unit, UnitKind};
+use bc_memo::{Shelf, suits};
+use bc_syntax::Unit;
 use bc_text::Name;
 use std::alloc::{AllocError, Global};
-
-// Whether a unit of this kind may have the name.
-fn suits_kind(kind: UnitKind, name: &Name) -> bool
-    ensures { IsTrue result ↔ SuitsKind kind name.now }
-{
-    match kind {
-        UnitKind::Function => name.segments().is_empty(),
-        UnitKind::Closure => !name.segments().is_empty(),
-    }
-}
-
-// Whether there are names for the children of a unit.
-fn has_room(alloc: Global, unit: &Unit, name: &Name) -> Result<bool, AllocError>
-    ensures { IfOk result (λ room. IsTrue room ↔ HasRoom name.now unit.now) }
-{
-    if name.depth() < 7 {
-        return Ok(true);
-    }
-    let children = unit.body().children(alloc)?;
-    Ok(children.is_empty())
-}
-
-// Whether a unit may be held at the name.
-fn suits(alloc: Global, unit: &Unit, name: &Name) -> Result<bool, AllocError>
-    ensures { IfOk result (λ suits. IsTrue suits ↔ Suits unit.now name.now) }
-{
-    if !suits_kind(unit.body().header.kind, name) {
-        return Ok(false);
-    }
-    has_room(alloc, unit, name)
-}
 
 // The reply to a put of a unit that may be held at the name.
 fn stored_reply(shelf: &Shelf, name: &Name, unit: &Unit) -> PutReply

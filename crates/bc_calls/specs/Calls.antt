@@ -15,7 +15,10 @@ use Rattle.bc_calls.specs.declared.call.RemoveReply.TheVariants.{Removed, Absent
 use Rattle.bc_calls.specs.declared.call.Event.{Event}
 use Rattle.bc_calls.specs.declared.call.Event.TheVariants.{Types, Put, Remove, Ask}
 use Rattle.bc_calls.specs.declared.call.Entry.{Entry}
-use Rattle.bc_calls.specs.declared.call.TheConstants.{MOST_BODIES}
+
+-- how many bodies may be held
+abbrev pub most_bodies : ℕ
+most_bodies = 256
 
 -- no declaration and no body
 abbrev pub opening : State
@@ -34,9 +37,9 @@ HoldsCount bodies count =
 -- the reply to a put of a body at a name
 abbrev pub IsPutReply : Bodies → NameParts → Body → PutReply → Type 0
 IsPutReply bodies name body WrongKind = ¬ Suits body name
-IsPutReply bodies name body Full = Suits body name × (bodies name ≡ None) × HoldsCount bodies MOST_BODIES
+IsPutReply bodies name body Full = Suits body name × (bodies name ≡ None) × HoldsCount bodies most_bodies
 IsPutReply bodies name body Replaced = Suits body name × IsSome (bodies name)
-IsPutReply bodies name body Added = Suits body name × (bodies name ≡ None) × ((count : ℕ) × (count < MOST_BODIES) × HoldsCount bodies count)
+IsPutReply bodies name body Added = Suits body name × (bodies name ≡ None) × ((count : ℕ) × (count < most_bodies) × HoldsCount bodies count)
 
 -- the reply to a removal of a name
 abbrev pub IsRemoveReply : Bodies → NameParts → RemoveReply → Type 0

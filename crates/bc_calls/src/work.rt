@@ -1,5 +1,6 @@
 //! Snapshots that were begun, and the work on them, which needs no part of what they were taken from.
-ghost use Rattle.std.specs.Prelude.{◌≡◌, IfOk, IfSome};
+ghost use Rattle.std.specs.Prelude.{◌≡◌, [], IfOk, IfSome};
+ghost use Rattle.std.specs.Option.{option_or};
 ghost use Rattle.bc_text.specs.Names.{NameParts};
 ghost use Rattle.bc_prov.specs.Outcome.{IsOutcomeIn};
 ghost use Rattle.bc_prov.specs.Snapshots.{IsPartOf};
@@ -53,7 +54,8 @@ impl Begun {
     /// memory. (Own.)
     pub fn carrying(part: Part, answer: Option<Shared<Outcome>>) -> Begun
         requires { IfSome answer (IsOutcomeIn (state_of part.snapshot.types part.snapshot.units) part.snapshot.root) }
-        ensures { (result.types ≡ part.snapshot.types) × (result.root ≡ part.snapshot.root) × (result.units ≡ part.snapshot.units) }
+        ensures part { (result.types ≡ part.snapshot.types) × (result.root ≡ part.snapshot.root) × (result.units ≡ part.snapshot.units) }
+        ensures carried { result.carried ≡ option_or answer part.snapshot.carried }
     {
         let Part {
             snapshot,
@@ -87,7 +89,8 @@ impl Begun {
     /// providers and the pieces of its bodies give, with the pieces that were made for it. Answers `AllocError` only where memory was
     /// refused, as a provider may answer too. (Own.)
     pub fn find(&self, alloc: Global, providers: &Providers) -> Result<Found, AllocError>
-        ensures { IfOk result (λ found. IsOutcomeIn (state_of self.now.types self.now.units) self.now.root found.outcome) }
+        ensures outcome { IfOk result (λ found. IsOutcomeIn (state_of self.now.types self.now.units) self.now.root found.outcome) }
+        ensures carried { IfSome self.now.carried (λ outcome. IfOk result (λ found. (found.outcome ≡ outcome) × (found.pieces.items ≡ []))) }
     {
         self.snapshot.find(alloc, providers)
     }

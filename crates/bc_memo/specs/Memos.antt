@@ -1,7 +1,8 @@
 -- What is remembered for a name, and when it stands.
-use Rattle.std.specs.Prelude.{◌≡◌, ℕ, Option, List, map}
+use Rattle.std.specs.Prelude.{◌≡◌, ℕ, Option, Some, List, map, MatchOption}
 use Rattle.std.specs.List.{AllByRecursion}
 use Rattle.bc_text.specs.Names.{NameParts}
+use Rattle.bc_prov.specs.State.{at_name}
 use Rattle.bc_prov.specs.declared.outcome.Outcome.{Outcome}
 use Rattle.bc_memo.specs.declared.memo.Remembered.{Remembered}
 use Rattle.bc_memo.specs.Places.{ShelfView, revision_at}
@@ -24,6 +25,12 @@ pub record IsRowOf (shelf : ShelfView) (names : List NameParts) (found : Outcome
 pub record Stands (shelf : ShelfView) (row : Remembered) : Type 0 where
   pub types : shelf.types_revision ≡ row.types
   pub names : AllByRecursion (λ (used : NameParts × Option ℕ). revision_at shelf used.0 ≡ used.1) row.used.items
+
+-- the outcome that is remembered for a name and stands, or none where no row of it does
+abbrev pub IsRemembered : ShelfView → List (NameParts × Remembered) → NameParts → Option Outcome → Type 0
+IsRemembered shelf rows name answer =
+    MatchOption answer ((row : Remembered) → at_name rows name ≡ Some row → Stands shelf row → ⊥)
+    (λ outcome. (row : Remembered) × (at_name rows name ≡ Some row) × Stands shelf row × (outcome ≡ row.outcome))
 
 -- what is remembered, in the order of the names, and for how many more names there is memory
 pub record MemoView : Type 0 where

@@ -3,6 +3,7 @@
 
 mod change;
 mod memo;
+mod naming;
 mod pieces;
 mod place;
 mod rows;
@@ -10,6 +11,7 @@ mod shelf;
 
 pub use change::Change;
 pub use memo::{Memo, Remembered};
+pub use naming::suits;
 pub use pieces::PieceMemo;
 pub use place::Place;
 pub use shelf::{Part, Shelf};

@@ -120,10 +120,11 @@ impl Shelf {
     }
 
     /// A name's part: the declarations, and the units of the name and of the names that begin with it and `/`, all with their
-    /// revisions, and with the pieces that are kept of them. Answers `AllocError` only where memory was refused. (Own.)
+    /// revisions, and with the pieces that are kept of them; no outcome is carried. Answers `AllocError` only where memory was refused. (Own.)
     pub fn part(&self, alloc: Global, root: &Name) -> Result<Part, AllocError>
         ensures snapshot { IfOk result (λ part. (part.snapshot.types ≡ self.now.held.types) × (part.snapshot.root ≡ root.now) × (part.snapshot.units ≡ units_in root.now self.now.held.places)) }
         ensures revisions { IfOk result (λ part. (part.types_revision ≡ self.now.held.types_revision) × (part.revisions.items ≡ revisions_in root.now self.now.held.places)) }
+        ensures bare { IfOk result (λ part. part.snapshot.carried ≡ None) }
     {
         let types = self.types.clone()?;
         let (units, revisions) = units(alloc, within(&self.places, root))?;
@@ -152,7 +153,7 @@ impl Shelf {
     /// Changes what is held, and gives what it writes this revision. Declarations make all answers void; a unit that is put or
     /// taken away makes void the answers of its name and of those with which this begins, up to a `/`. Declarations drop all pieces; a
     /// unit that is put or taken away drops the one of its name alone. It takes no memory: it asks for room for one place, and that a
-    /// unit suits the name at which it is put. (Own.)
+    /// unit suits the name at which it is put, as `suits` tells. (Own.)
     pub fn change(&mut self, change: Change, revision: u32)
         requires room { 0 < self.old.room }
         requires suited { MayChange change }
@@ -205,7 +206,7 @@ impl Shelf {
     }
 
     /// Keeps pieces in their order, each as `keep` does, as one more owner of each. Answers `AllocError` only where an owner or memory was
-    /// refused: those before are kept then, and nothing is lost with the others but the work to make them again. (Own.)
+    /// refused: then it stopped at that piece, and nothing is lost with the others but the work to make them again. (Own.)
     pub fn keep_all(&mut self, pieces: &[(Name, Shared<Piece>)]) -> Result<(), AllocError>
         ensures held { self.new.held ≡ self.old.held }
         ensures room { self.new.room ≡ self.old.room }

@@ -62,7 +62,7 @@ captured_pairs mir creation header =
     operand_pairs mir (arguments_of header creation.closure.regions []) creation.operands header.captures
     ++ clauses_where (is_outer_clause header.captures) (arguments_of header creation.closure.regions []) header.signature.clauses
 
--- the fields of a struct that is made, or the captures of a closure
+-- the fields of a struct that is made, or the captures of a closure and the clauses that its creation meets
 abbrev pub field_pairs : Mir → Rvalue → List Constraint
 field_pairs mir (Use operand) = []
 field_pairs mir (Borrow borrow) = []
@@ -75,7 +75,7 @@ field_pairs mir (Closure creation) =
     option_map_or (captured_pairs mir creation) (child_of mir.children creation.closure.number) []
 field_pairs mir (Calc operands) = []
 
--- the fields of a struct that is made or the captures of a closure, and the value is a subtype of the target
+-- what is made asks that of its parts, and the value is a subtype of the target
 abbrev pub assignment_pairs : Mir → Assignment → List Constraint
 assignment_pairs mir assignment =
     field_pairs mir assignment.value

@@ -324,9 +324,9 @@ fn push_field_pairs(
     }
 }
 
-/// Appends what an assignment demands, beside what its reborrow does: the fields of a struct that is made or the captures of a
-/// closure, and that the value is a subtype of the target. The error is want of memory alone.
-/// (RFC 2094, "Subtyping".)
+/// Appends what an assignment demands, beside what its reborrow does: the fields of a struct that is made, or the captures of a
+/// closure and those of its clauses that its creation meets, and that the value is a subtype of the target. The error is want of
+/// memory alone. (RFC 2094, "Subtyping"; the clauses: rustc-dev-guide, "Propagating closure constraints".)
 pub fn push_assignment_pairs(
     alloc: Global,
     constraints: &mut Vec<Constraint>,

@@ -1,5 +1,5 @@
 //! The outcome of a snapshot.
-ghost use Rattle.std.specs.Prelude.{◌≡◌, None, Some, IfOk};
+ghost use Rattle.std.specs.Prelude.{◌≡◌, [], None, Some, IfOk, IfSome};
 ghost use Rattle.bc_prov.specs.Outcome.{IsOutcomeAfter, IsOutcomeIn, IsOutcomeOf, fault_at};
 ghost use Rattle.bc_prov.specs.Pieces.{ArePiecesOf};
 ghost use Rattle.bc_prov.specs.State.{AreSuited, at_name, state_of};
@@ -128,7 +128,8 @@ pub struct Found {
 impl Found {
     /// An outcome for which no piece was made. It takes no memory. (Own.)
     pub fn without_pieces(alloc: Global, outcome: Shared<Outcome>) -> Found
-        ensures { result.outcome ≡ outcome }
+        ensures outcome { result.outcome ≡ outcome }
+        ensures pieces { result.pieces.items ≡ [] }
     {
         Found {
             outcome,
@@ -142,7 +143,8 @@ impl Snapshot {
     /// with the pieces that were made for it. Answers `AllocError` only where memory was refused, as a provider may answer too, or where
     /// the carried one has too many owners. (Own.)
     pub fn find(&self, alloc: Global, providers: &Providers) -> Result<Found, AllocError>
-        ensures { IfOk result (λ found. IsOutcomeIn (state_of self.now.types self.now.units) self.now.root found.outcome) }
+        ensures outcome { IfOk result (λ found. IsOutcomeIn (state_of self.now.types self.now.units) self.now.root found.outcome) }
+        ensures carried { IfSome self.now.carried (λ outcome. IfOk result (λ found. (found.outcome ≡ outcome) × (found.pieces.items ≡ []))) }
     {
         if let Some(outcome) = self.carried() {
             return Ok(Found::without_pieces(alloc, outcome.clone()?));

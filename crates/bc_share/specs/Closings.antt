@@ -5,8 +5,7 @@ use Rattle.bc_calls.specs.declared.call.Entry.{Entry}
 use Rattle.bc_calls.specs.Calls.{IsLegal, calls}
 use Rattle.bc_share.specs.Sessions.{SessionView}
 use Rattle.bc_share.specs.declared.db.CloseFault.{CloseFault}
-use Rattle.bc_book.specs.declared.ledger.TheConstants.{MOST_SESSIONS}
-use Rattle.bc_share.specs.declared.db.TheConstants.{MOST_ENTRIES}
+use Rattle.bc_book.specs.Ledgers.{most_sessions}
 use Rattle.bc_share.specs.declared.db.CloseFault.TheVariants.{Foreign, Audit}
 
 -- the tag of a database, and how many sessions it has
@@ -40,6 +39,10 @@ abbrev pub IsCloseFault : ℕ → ℕ → List SessionView → CloseFault → Ty
 IsCloseFault tag count sessions Foreign = ¬ AreSessionsOf tag count sessions
 IsCloseFault tag count sessions (Audit h) = AreSessionsOf tag count sessions × IsLegal h × (¬ Agrees sessions h)
 
+-- how many entries a history may have
+abbrev pub most_entries : ℕ
+most_entries = 1000000
+
 -- how many entries and how many sessions a database may have
 abbrev pub IsInRange : ℕ → ℕ → Type 0
-IsInRange capacity sessions = (1 ≤ capacity) × (capacity ≤ MOST_ENTRIES) × (1 ≤ sessions) × (sessions ≤ MOST_SESSIONS)
+IsInRange capacity sessions = (1 ≤ capacity) × (capacity ≤ most_entries) × (1 ≤ sessions) × (sessions ≤ most_sessions)

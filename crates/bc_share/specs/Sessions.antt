@@ -3,7 +3,7 @@ use Rattle.std.specs.Prelude.{◌≡◌, ℕ, ◌<◌, zero, suc, Some, List, []
 use Rattle.bc_calls.specs.declared.call.Entry.{Entry}
 use Rattle.bc_calls.specs.declared.call.Event.{Event}
 use Rattle.bc_calls.specs.Calls.{IsLegal, StartsWith, calls, last_of}
-use Rattle.bc_book.specs.declared.ledger.TheConstants.{MOST_SESSIONS}
+use Rattle.bc_book.specs.Ledgers.{most_sessions}
 
 -- the tag of its database, its number, its own calls with their replies, and the entries that it has seen
 pub record SessionView : Type 0 where
@@ -28,7 +28,7 @@ new_sessions tag (suc count) = new_sessions tag count ++ new_session tag count �
 
 -- what a session has seen is legal, and in some beginning of it the session's calls are its own list
 pub record IsNoted (number : ℕ) (own : List Event) (seen : List Entry) : Type 0 where
-  pub range : number < MOST_SESSIONS
+  pub range : number < most_sessions
   pub legal : IsLegal seen
   pub noted : List Entry
   pub begins : StartsWith seen noted

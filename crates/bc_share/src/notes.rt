@@ -72,6 +72,7 @@ impl Notes {
     pub(crate) fn begin(&mut self, alloc: Global, name: &Name) -> Result<Begun, AllocError>
         ensures kept { Stays self.old.session self.new.session }
         ensures part { IfOk result (λ begun. IsPartOf begun name.now (after self.new.session.seen)) }
+        ensures answer { IfOk result (λ begun. IsAnswer self.new.session.seen name.now begun.carried) }
     {
         self.front.begin(alloc, name)
     }

@@ -113,6 +113,7 @@ impl<E: Ending> Session<E> {
     pub fn begin(&mut self, name: &Name) -> Result<Begun, AllocError>
         ensures kept { Stays self.old self.new }
         ensures part { IfOk result (λ begun. IsPartOf begun name.now (after self.new.seen)) }
+        ensures answer { IfOk result (λ begun. IsAnswer self.new.seen name.now begun.carried) }
     {
         self.notes.begin(self.alloc, name)
     }

@@ -91,6 +91,10 @@ seen_again seen seen' table next us us' now a c due is added =
     let d = due_seen seen' table next us' now (due_along seen seen' us us' a c due) is added in
     (d.0 ∙ ap (λ (p : List Entry × List UpdateView). p.0 ++ entries_of p.1) (λ i. (a i, c i)), d.1)
 
+-- and what is shown then is what was shown, with what was due
+pub fold_again : (table table' next : TableView) (us us' : List UpdateView) → table' ≡ table → us' ≡ us → next ≡ fold updated table' us' → next ≡ fold updated table us
+fold_again table table' next us us' b c is = is ∙ ap (λ (p : TableView × List UpdateView). fold updated p.0 p.1) (λ i. (b i, c i))
+
 pub on_ok : {X E : Type 0} (r : Result X E) (P Q : Type 0) → is_ok r ≡ true → MatchResult r (λ _. P) (λ _. Q) → P
 on_ok (Ok x) P Q is m = m
 on_ok (Err e) P Q is m = absurd (true≢false (sym is))

@@ -1,6 +1,7 @@
 -- The table of a history, after the next entry, is the table of the longer history; and what is read of a table.
-use Rattle.std.proofs.Common.{◌≡◌, List, [], ◌∷◌, ◌++◌, refl, sym, subst, Option, Some, None}
+use Rattle.std.proofs.Common.{◌≡◌, ◌∙◌, List, [], ◌∷◌, ◌++◌, ap, refl, sym, subst, Option, Some, None}
 use Rattle.std.specs.Prelude.{IfSome}
+use Rattle.std.specs.Option.{option_or}
 use Rattle.bc_text.specs.Names.{NameParts}
 use Rattle.bc_prov.specs.declared.outcome.Outcome.{Outcome}
 use Rattle.bc_prov.specs.State.{at_name, state_of}
@@ -27,3 +28,12 @@ pub carried_answer : (s : ShelfView) (h : List Entry) (n : NameParts) (v : Snaps
 carried_answer s h n v None of types root units is = tt
 carried_answer s h n v (Some o) of types root units is =
     outcome_part v n (after h) o (copied_part s h n v of types root units) (subst (IsAnswer h n) (sym is) (of.answers n)).1
+
+or_none : (a : Option Outcome) → option_or a None ≡ a
+or_none None = refl
+or_none (Some o) = refl
+
+-- and so what is carried with the part is the name's answer
+pub carried_is : (s : ShelfView) (h : List Entry) (n : NameParts) (a before made : Option Outcome)
+    → IsShelfOf s h → a ≡ answer_of (at_name s.places n) → before ≡ None → made ≡ option_or a before → IsAnswer h n made
+carried_is s h n a before made of is none carried = subst (IsAnswer h n) (sym (carried ∙ ap (option_or a) none ∙ or_none a ∙ is)) (of.answers n)

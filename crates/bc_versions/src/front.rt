@@ -81,6 +81,7 @@ impl Front {
         ensures later { StartsWith self.new self.old }
         ensures legal { IsLegal self.new }
         ensures part { IfOk result (λ begun. IsPartOf begun name.now (after self.new)) }
+        ensures answer { IfOk result (λ begun. IsAnswer self.new name.now begun.carried) }
     {
         replace_with(&mut self.reader, (alloc, *name), read_part).ok_or(AllocError)
     }
@@ -118,6 +119,7 @@ fn read_part(reader: TableReader, of: (Global, Name)) -> (TableReader, Option<Be
     ensures later { StartsWith (view result.0.place) (view reader.place) }
     ensures legal { IsLegal (view reader.place) → IsLegal (view result.0.place) }
     ensures part { IfSome result.1 (λ begun. IsPartOf begun of.1 (after (view result.0.place))) }
+    ensures answer { IfSome result.1 (λ begun. IsAnswer (view result.0.place) of.1 begun.carried) }
 {
     let (alloc, name) = of;
     match reader.enter_as::<Look>() {

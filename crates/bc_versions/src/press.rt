@@ -1,21 +1,25 @@
 //! What publishes: the writer of the table.
-ghost use Rattle.std.specs.Prelude.{◌≡◌, ◌<◌, ◌^◌, [], ◌∷◌, ◌++◌, drop, IfOk, MatchResult};
+ghost use Rattle.std.specs.Prelude.{◌≡◌, ◌<◌, ◌^◌, [], ◌++◌, drop, fold, IfOk, MatchResult};
 ghost use Rattle.left_right.specs.Sides.{view};
+ghost use Rattle.bc_memo.specs.Places.{empty_shelf};
 ghost use Rattle.bc_calls.specs.Calls.{MayComeNext, last_of};
 ghost use Rattle.bc_versions.specs.Rules.{IsDue, entries_of};
+ghost use Rattle.bc_versions.specs.Tables.{empty_table, pressed, updated};
 
 use crate::ending::Ending;
 use crate::front::Fronts;
 use crate::rule::{Add, TableWriter};
 use crate::table::{Table, Update};
-use bc_calls::Entry;
+use bc_calls::{Entry, MOST_BODIES};
+use bc_memo::Shelf;
 use bc_prov::{Declared, Pieces, Shared};
 use core::mem::replace_with;
 use std::alloc::{AllocError, Global};
 use std::marker::Model;
 use std::sync::Wait;
 
-/// The writer of the published table, and what ends it. Contracts see it as the list of the entries that were published. (Own.)
+/// The writer of the published table, and what ends it. Contracts see the entries that were published, and what is held after them
+/// with its revisions and its answers. (Own.)
 pub struct Press<E: Ending> {
     writer: TableWriter,
     ending: E,
@@ -29,21 +33,21 @@ impl<E: Ending> Drop for Press<E> {
 }
 
 impl<E: Ending> Model for Press<E> {
-    ghost use Rattle.std.specs.Prelude.{◌≡◌, List, [], drop};
+    ghost use Rattle.std.specs.Prelude.{◌≡◌, [], drop};
     ghost use Rattle.left_right.specs.Sides.{view as seen_of};
-    ghost use Rattle.bc_calls.specs.declared.call.Entry.{Entry};
     ghost use Rattle.bc_calls.specs.Calls.{last_of};
+    ghost use Rattle.bc_versions.specs.Tables.{PressView};
 
-    ghost Value = { List Entry };
+    ghost Value = { PressView };
 
-    ghost view = { λ p. seen_of p.writer.desk.place };
+    ghost view = { λ p. record { entries = seen_of p.writer.desk.place; shelf = p.writer.desk.shown.value.shelf } };
 
     ghost invariant = { λ p. (p.writer.desk.shown.value.last ≡ last_of (seen_of p.writer.desk.place)) × (drop p.writer.behind p.writer.log.items ≡ []) };
 }
 
 impl<E: Ending> Press<E> {
-    /// A press that has published nothing: no declarations, which are handed in for each of the two copies of the table, and no body.
-    /// There may be so many readers at most; what ends the writer is handed in. Answers `AllocError` only where memory was refused. (Own.)
+    /// A press that has published nothing: no declarations, which are handed in for each of the two copies of the table, and no body, with
+    /// memory for all bodies and a piece of each. There may be so many readers at most; what ends the writer is handed in. Answers `AllocError` only where memory was refused. (Own.)
     pub fn open(
         alloc: Global,
         ending: E,
@@ -53,10 +57,10 @@ impl<E: Ending> Press<E> {
     ) -> Result<Press<E>, AllocError>
         requires types { (first ≡ []) × (second ≡ []) }
         requires readers { (0 < readers) × (readers < 2 ^ 32) }
-        ensures { IfOk result (λ press. press ≡ []) }
+        ensures { IfOk result (λ press. press ≡ record { entries = []; shelf = empty_shelf [] }) }
     {
-        let first = Table::new(alloc, first)?;
-        let second = Table::new(alloc, second)?;
+        let first = roomy_table(alloc, first)?;
+        let second = roomy_table(alloc, second)?;
         Ok(Press {
             writer: TableWriter::new(alloc, first, second, readers)?,
             ending,
@@ -78,16 +82,16 @@ impl<E: Ending> Press<E> {
         revision: u32,
         pieces: Option<Pieces>,
     ) -> Result<(), AllocError>
-        requires { MayComeNext self.old entry }
-        ensures { MatchResult result (λ _. self.new ≡ self.old ++ entry ∷ []) (λ _. self.new ≡ self.old) }
+        requires { MayComeNext self.old.entries entry }
+        ensures { MatchResult result (λ _. self.new ≡ pressed self.old (record { entry = entry; revision = revision })) (λ _. self.new ≡ self.old) }
     {
         self.add_update(rt, Update::new(entry, revision, pieces))
     }
 
     // Publishes an update whose entry comes next.
     fn add_update<R: Wait>(&mut self, rt: &R, update: Update) -> Result<(), AllocError>
-        requires { MayComeNext self.old update.entry }
-        ensures { MatchResult result (λ _. self.new ≡ self.old ++ update.entry ∷ []) (λ _. self.new ≡ self.old) }
+        requires { MayComeNext self.old.entries update.entry }
+        ensures { MatchResult result (λ _. self.new ≡ pressed self.old update) (λ _. self.new ≡ self.old) }
     {
         if self.writer.append(update).is_err() {
             return Err(AllocError);
@@ -97,12 +101,23 @@ impl<E: Ending> Press<E> {
     }
 }
 
+// A table before any entry, with these declarations, of which there are none, and with memory for all bodies and one to spare, and for a
+// piece of each. `AllocError` only where memory was refused.
+fn roomy_table(alloc: Global, types: Shared<Declared>) -> Result<Table, AllocError>
+    requires { types ≡ [] }
+    ensures { IfOk result (λ table. table ≡ empty_table) }
+{
+    let shelf = Shelf::new(alloc, types, MOST_BODIES + 1)?;
+    Ok(Table::new(shelf))
+}
+
 // Publishes what waits. A publication that is refused is made again.
 fn publish<R: Wait>(rt: &R, writer: TableWriter) -> TableWriter
     requires due { IsDue (view writer.desk.place) (drop writer.behind writer.log.items) }
     requires last { writer.desk.shown.value.last ≡ last_of (view writer.desk.place) }
     ensures seen { view result.desk.place ≡ view writer.desk.place ++ entries_of (drop writer.behind writer.log.items) }
     ensures last { result.desk.shown.value.last ≡ last_of (view result.desk.place) }
+    ensures shown { result.desk.shown.value ≡ fold updated writer.desk.shown.value (drop writer.behind writer.log.items) }
     ensures rest { drop result.behind result.log.items ≡ [] }
 {
     let mut writer = writer;

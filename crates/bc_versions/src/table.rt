@@ -1,13 +1,14 @@
 //! What is published: the last entry, and what is held after it.
-ghost use Rattle.std.specs.Prelude.{◌≡◌, [], IfOk, OnErr, OnOk};
-ghost use Rattle.bc_memo.specs.Places.{MayChange, answer_of, units_in};
+ghost use Rattle.std.specs.Prelude.{◌≡◌, ◌<◌, [], IfOk, None, OnErr, OnOk};
+ghost use Rattle.bc_memo.specs.Places.{MayChange, answer_of, empty_shelf, revisions_in, units_in};
 ghost use Rattle.bc_prov.specs.State.{at_name};
+ghost use Rattle.bc_calls.specs.Calls.{most_bodies};
 ghost use Rattle.bc_calls.specs.Changes.{change_of};
 ghost use Rattle.bc_versions.specs.Tables.{empty_table, updated};
 
-use bc_calls::{Entry, MOST_BODIES};
+use bc_calls::Entry;
 use bc_memo::{Part, Shelf};
-use bc_prov::{Declared, Outcome, Pieces, Shared};
+use bc_prov::{Outcome, Pieces, Shared};
 use bc_text::Name;
 use left_right::Absorb;
 use std::alloc::{AllocError, Global};
@@ -65,16 +66,15 @@ impl Model for Table {
 }
 
 impl Table {
-    /// A table before any entry, with these declarations, of which there are none, and memory for all places and one to spare, so that
-    /// an update never asks for more. Answers `AllocError` only where memory was refused.
-    pub(crate) fn new(alloc: Global, types: Shared<Declared>) -> Result<Table, AllocError>
-        requires { types ≡ [] }
-        ensures { IfOk result (λ table. table ≡ empty_table) }
+    /// A table before any entry, of a shelf that holds no declaration and no unit. It asks for memory for all places and one to spare, and
+    /// for a piece of each, so that an update never asks for more. It takes no memory.
+    pub(crate) fn new(shelf: Shelf) -> Table
+        requires empty { shelf.held ≡ empty_shelf [] }
+        requires room { most_bodies < shelf.room }
+        requires piece_room { most_bodies < shelf.piece_room }
+        ensures { result ≡ empty_table }
     {
-        Ok(Table {
-            last: None,
-            shelf: Shelf::new(alloc, types, MOST_BODIES + 1)?,
-        })
+        Table { last: None, shelf }
     }
 
     /// The last entry.
@@ -96,7 +96,8 @@ impl Table {
 
     /// A name's part. `AllocError` only where memory was refused.
     pub(crate) fn part(&self, alloc: Global, root: &Name) -> Result<Part, AllocError>
-        ensures { IfOk result (λ part. (part.snapshot.types ≡ self.now.shelf.types) × (part.snapshot.root ≡ root.now) × (part.snapshot.units ≡ units_in root.now self.now.shelf.places)) }
+        ensures snapshot { IfOk result (λ part. (part.snapshot.types ≡ self.now.shelf.types) × (part.snapshot.root ≡ root.now) × (part.snapshot.units ≡ units_in root.now self.now.shelf.places) × (part.snapshot.carried ≡ None)) }
+        ensures revisions { IfOk result (λ part. (part.types_revision ≡ self.now.shelf.types_revision) × (part.revisions.items ≡ revisions_in root.now self.now.shelf.places)) }
     {
         self.shelf.part(alloc, root)
     }

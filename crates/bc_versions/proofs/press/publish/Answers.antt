@@ -1,5 +1,5 @@
 use Rattle.std.proofs.Common.{refl, sym, ◌∙◌, true≢false}
-use Rattle.bc_versions.proofs.Publishing.{due_again, seen_again, on_ok, on_err}
+use Rattle.bc_versions.proofs.Publishing.{due_again, seen_again, fold_again, on_ok, on_err}
 use Rattle.bc_versions.proofs.press.publish.Goals as goal
 use Rattle.bc_versions.proofs.press.publish.Goals.{in-None, in-Some+then-is_ok}
 
@@ -29,5 +29,6 @@ returns g c =
           let done = sym w.is_ok.ensures.value ∙ w.if-is_ok.true in
           let values = on_ok w.publish_as-next.result.1 _ _ done p.values in
           let told = seen_again _ _ _ _ _ _ _ i.0 i.2 c.requires.due values.0 (on_ok w.publish_as-next.result.1 _ _ done p.rule) in
-          rw w.writer-is (record { seen = told.0; last = told.1; rest = values.1 })
+          let shown = fold_again _ _ _ _ _ i.1 i.2 values.0 in
+          rw w.writer-is (record { seen = told.0; last = told.1; shown = shown; rest = values.1 })
     ]

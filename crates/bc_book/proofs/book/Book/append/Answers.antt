@@ -3,6 +3,7 @@ use Rattle.std.specs.Option.{ForSome}
 use Rattle.bc_memo.specs.Places.{ShelfView}
 use Rattle.bc_calls.specs.declared.call.Entry.{Entry}
 use Rattle.bc_calls.specs.Calls.{IsReply, MayComeNext, after, count_of}
+use Rattle.bc_versions.specs.Tables.{PressView}
 use Rattle.bc_book.specs.Ledgers.{BookView, IsRow}
 use Rattle.bc_book.proofs.book.Book.append.Goals as goal
 
@@ -16,4 +17,4 @@ add-requires g c =
     let h = c.self.inside.ledger.entries in
     let reply : IsReply (after h) c.args.event = subst (λ (v : BookView). IsReply (after v.entries) c.args.event) (sym c.self.view_is) c.requires.reply in
     let number : c.number-number.result ≡ count_of c.args.session h = c.number-number.ensures ∙ ap (count_of c.args.session) c.reserve.ensures.same.entries in
-    subst (λ (x : List Entry × Entry). MayComeNext x.0 x.1) (λ k. (sym c.self.invariant k, sym c.in_ok-copy.ensures k)) (reply, number)
+    subst (λ (x : List Entry × Entry). MayComeNext x.0 x.1) (λ k. (sym (ap (λ (p : PressView). p.entries) c.self.invariant) k, sym c.in_ok-copy.ensures k)) (reply, number)

@@ -9,8 +9,8 @@ use Rattle.bc_book.specs.Ledgers.{LedgerView, IsRow}
 use Rattle.bc_book.proofs.Keeping.{row_of}
 use Rattle.bc_book.proofs.ledger.Ledger.remembered.Goals as goal
 
-pub returns : goal.returns
-returns c =
+pub returns-clause-row : goal.returns-clause-row
+returns-clause-row c =
     let i = c.self.inside in
     let n = c.args.name.now in
     let of = c.in_ok-part.ensures.snapshot in

@@ -12,5 +12,5 @@ returns-in-Some g c =
     let i = c.self.inside in
     let w = c.args.work in
     let o = c.in-Some.outcome in
-    subst (λ (p : LedgerView × NameParts × Outcome). IsOutcomeIn (after p.0.entries) p.1 p.2) (λ k. (c.self.view_is k, c.requires k, sym c.without_pieces.ensures k))
+    subst (λ (p : LedgerView × NameParts × Outcome). IsOutcomeIn (after p.0.entries) p.1 p.2) (λ k. (c.self.view_is k, c.requires k, sym c.without_pieces.ensures.outcome k))
     (stood_outcome i.shelf.held i.history.items w o c.self.invariant.shelf_of c.in-Some.ensures)

@@ -13,4 +13,4 @@ returns g c =
     let n = c.args.name.now in
     let s = after c.args.self.now.entries in
     let part : IsPartOf v n s = subst (λ (w : SnapshotView). IsPartOf w n s) (sym c.carrying_pieces-with_pieces.ensures) c.in_ok-begun.ensures.part in
-    ok_map c.find.result (λ (f : Found). IsOutcomeIn (state_of v.types v.units) v.root f.outcome) (λ (f : Found). IsOutcomeIn s n f.outcome) (λ f is. part_outcome v n s f.outcome part is) c.find.ensures
+    ok_map c.find.result (λ (f : Found). IsOutcomeIn (state_of v.types v.units) v.root f.outcome) (λ (f : Found). IsOutcomeIn s n f.outcome) (λ f is. part_outcome v n s f.outcome part is) c.find.ensures.outcome

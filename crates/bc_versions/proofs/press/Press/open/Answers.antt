@@ -4,5 +4,5 @@ use Rattle.bc_versions.specs.Rules.{IsPublished}
 use Rattle.bc_versions.proofs.Publishing.{opens}
 use Rattle.bc_versions.proofs.press.Press.open.Goals as goal
 
-pub new-requires-3-clause-rule : goal.new-requires-3-clause-rule
-new-requires-3-clause-rule g c = subst (λ (t : TableView). IsPublished t ([] ∷ [])) (sym c.in_ok-first.ensures) opens
+pub new-requires-clause-rule : goal.new-requires-clause-rule
+new-requires-clause-rule g c = subst (λ (t : TableView). IsPublished t ([] ∷ [])) (sym c.in_ok-first.ensures) opens

@@ -1,0 +1,39 @@
+//! Which names a unit may have.
+ghost use Rattle.std.specs.Prelude.{◌↔◌, IfOk, IsTrue};
+ghost use Rattle.bc_prov.specs.State.{HasRoom, Suits, SuitsKind};
+
+use bc_syntax::{Unit, UnitKind};
+use bc_text::Name;
+use std::alloc::{AllocError, Global};
+
+// Whether a unit of this kind may have the name.
+fn suits_kind(kind: UnitKind, name: &Name) -> bool
+    ensures { IsTrue result ↔ SuitsKind kind name.now }
+{
+    match kind {
+        UnitKind::Function => name.segments().is_empty(),
+        UnitKind::Closure => !name.segments().is_empty(),
+    }
+}
+
+// Whether there are names for the children of a unit.
+fn has_room(alloc: Global, unit: &Unit, name: &Name) -> Result<bool, AllocError>
+    ensures { IfOk result (λ room. IsTrue room ↔ HasRoom name.now unit.now) }
+{
+    if name.depth() < 7 {
+        return Ok(true);
+    }
+    let children = unit.body().children(alloc)?;
+    Ok(children.is_empty())
+}
+
+/// Whether a unit may be held at a name: a function's is a root, a closure's any other, and a name of seven segments is none for a unit
+/// with a child. Answers `AllocError` only where memory was refused. (Own.)
+pub fn suits(alloc: Global, unit: &Unit, name: &Name) -> Result<bool, AllocError>
+    ensures { IfOk result (λ suits. IsTrue suits ↔ Suits unit.now name.now) }
+{
+    if !suits_kind(unit.body().header.kind, name) {
+        return Ok(false);
+    }
+    has_room(alloc, unit, name)
+}
