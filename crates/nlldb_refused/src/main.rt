@@ -5,6 +5,7 @@
 mod again;
 mod analyses;
 mod calls;
+mod memo;
 mod pieces;
 mod scripts;
 mod turns;
@@ -28,6 +29,7 @@ fn show_by_providers<R: AllocGlobal + Threads + Wait + Sync, W: Write>(
 fn main(rt: HostRuntime) -> anyhow::Result<()> {
     let mut out = rt.stdout();
     analyses::show(rt.alloc(), &mut out)?;
+    memo::show(rt.alloc(), &mut out)?;
     if show_by_providers(&rt, &mut out).is_err() {
         show_by_providers(&rt, &mut out)?;
     }
