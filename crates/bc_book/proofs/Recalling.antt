@@ -1,19 +1,25 @@
 -- What is remembered already.
 use denote.Ref.{Bor}
-use Rattle.std.proofs.Common.{◌≡◌, List, subst, ◌∙◌, Option, Some, None}
-use Rattle.std.specs.Prelude.{IfSome, IfNone}
-use Rattle.std.specs.Option.{option_copied, option_or}
+use Rattle.std.proofs.Common.{◌≡◌, ℕ, List, [], ◌∷◌, refl, ap, sym, subst, ◌∙◌, Option, Some, None}
+use Rattle.std.specs.Prelude.{IfSome, IfNone, IsSome}
+use Rattle.std.specs.Option.{ForSome, option_copied, option_map, option_or}
+use Rattle.std.specs.List.{AllByRecursion}
 use Rattle.bc_text.specs.Names.{NameParts}
 use Rattle.bc_prov.specs.declared.outcome.Outcome.{Outcome}
 use Rattle.bc_prov.specs.State.{at_name}
 use Rattle.bc_prov.specs.Outcome.{IsOutcomeIn}
 use Rattle.bc_prov.proofs.Unique.{one_outcome}
+use Rattle.bc_memo.specs.declared.place.Place.{Place}
+use Rattle.bc_memo.specs.declared.change.Change.TheVariants as changes
 use Rattle.bc_memo.specs.declared.memo.Remembered.{Remembered}
-use Rattle.bc_memo.specs.Places.{ShelfView}
-use Rattle.bc_memo.specs.Memos.{IsRemembered, Stands}
+use Rattle.bc_memo.specs.Places.{ShelfView, changed, mark, revision_at, revision_of}
+use Rattle.bc_memo.specs.Memos.{IsRemembered, Recorded, Stands}
+use Rattle.bc_memo.proofs.Places.{at_name-map, put_here}
 use Rattle.bc_calls.specs.declared.call.Entry.{Entry}
+use Rattle.bc_calls.specs.declared.call.Event.TheVariants.{Ask}
 use Rattle.bc_calls.specs.Calls.{after}
-use Rattle.bc_book.specs.Ledgers.{Recalls}
+use Rattle.bc_calls.specs.Changes.{change_of, writes_after, writes_of}
+use Rattle.bc_book.specs.Ledgers.{Appends, BookView, IsRow, Recalls, Remembers, kept_rows, remembering}
 
 -- what is looked up is what is remembered
 pub looked_up : (s : ShelfView) (rows : List (NameParts × Remembered)) (n : NameParts) (r : Option (Bor Outcome))
@@ -30,3 +36,47 @@ carried_as (Some o) before made none is = is
 -- what is remembered already is the outcome
 pub recalls_none : (s : ShelfView) (h : List Entry) (rows : List (NameParts × Remembered)) (n : NameParts) (o x : Outcome) → IsRemembered s rows n (Some x) → IsOutcomeIn (after h) n x → IsOutcomeIn (after h) n o → Recalls s rows n o None
 recalls_none s h rows n o x remembered here outcome = λ held. subst (λ (y : Outcome). IsRemembered s rows n (Some y)) (one_outcome (after h) n x o here outcome) remembered
+
+-- ---- an answer is no write
+
+answered_revision : (n : NameParts) (o : Outcome) (m : NameParts) (p : Option Place) → revision_of (option_map (mark (changes.Answer n o) m) p) ≡ revision_of p
+answered_revision n o m None = refl
+answered_revision n o m (Some p) = refl
+
+-- an answer gives no name another revision
+same_revision : (s : ShelfView) (n : NameParts) (o : Outcome) (revision : ℕ) (m : NameParts) → revision_at (changed s (changes.Answer n o) revision) m ≡ revision_at s m
+same_revision s n o revision m = ap revision_of (at_name-map (mark (changes.Answer n o)) m s.places) ∙ answered_revision n o m (at_name s.places m)
+
+same_recorded : (s : ShelfView) (n : NameParts) (o : Outcome) (revision : ℕ) (used : Recorded) → AllByRecursion (λ (u : NameParts × Option ℕ). revision_at s u.0 ≡ u.1) used
+    → AllByRecursion (λ (u : NameParts × Option ℕ). revision_at (changed s (changes.Answer n o) revision) u.0 ≡ u.1) used
+same_recorded s n o revision [] all = tt
+same_recorded s n o revision (u ∷ us) all = (same_revision s n o revision u.0 ∙ all.0, same_recorded s n o revision us all.1)
+
+-- what stands, stands behind it
+stands_answered : (s : ShelfView) (n : NameParts) (o : Outcome) (revision : ℕ) (r : Remembered) → Stands s r → Stands (changed s (changes.Answer n o) revision) r
+stands_answered s n o revision r stands = record { types = stands.types; names = same_recorded s n o revision r.used.items stands.names }
+
+held_answered : (n : NameParts) (o : Outcome) (m : NameParts) (p : Option Place) → IsSome (option_map (mark (changes.Answer n o) m) p) → IsSome p
+held_answered n o m None some = some
+held_answered n o m (Some p) some = refl
+
+-- the outcome of a name that is held is remembered behind its Ask
+pub recalled : (s : ShelfView) (h : List Entry) (rows : List (NameParts × Remembered)) (n : NameParts) (o : Outcome) (revision : ℕ) (row : Option (NameParts × Remembered))
+    → Recalls s rows n o row → ForSome row (λ r. IsRow s h r.0 r.1) → IsSome (at_name (changed s (changes.Answer n o) revision).places n)
+    → IsRemembered (changed s (changes.Answer n o) revision) (remembering row rows) n (Some o)
+recalled s h rows n o revision None recalls is held =
+    let there = recalls (held_answered n o n (at_name s.places n) (subst (λ (p : Option Place). IsSome p) (at_name-map (mark (changes.Answer n o)) n s.places) held)) in
+    (there.0, there.1, stands_answered s n o revision there.0 there.2, there.3)
+recalled s h rows n o revision (Some r) recalls is held =
+    (r.1, put_here r.0 r.1 n rows (sym recalls.0), stands_answered s n o revision r.1 (is r refl).stands, sym recalls.1)
+
+-- an Ask that is entered leaves its outcome remembered
+pub recalled_by : (session : ℕ) (k n : NameParts) (o mine : Outcome) (old new : BookView) (row : Option (NameParts × Remembered))
+    → Appends session (Ask k o) old new → new.answers ≡ kept_rows (change_of (Ask k o)) (remembering row old.answers) → k ≡ n → mine ≡ o
+    → Recalls old.shelf old.answers k o row → ForSome row (λ r. (r.0 ≡ k) × IsRow old.shelf old.entries r.0 r.1) → Remembers n mine new
+recalled_by session k n o mine old new row step answers named same recalls is =
+    let revision = writes_after (writes_of old.entries) (Ask k o) in
+    λ held. subst (λ (x : (NameParts × Outcome) × ShelfView × List (NameParts × Remembered)). IsRemembered x.1 x.2 x.0.0 (Some x.0.1))
+    (λ i. ((named i, sym same i), sym step.shelf i, sym answers i))
+    (recalled old.shelf old.entries old.answers k o revision row recalls (λ r at. (is r at).1)
+    (subst (λ (x : ShelfView × NameParts). IsSome (at_name x.0.places x.1)) (λ i. (step.shelf i, sym named i)) held))

@@ -118,6 +118,14 @@ pub record Appends (session : ℕ) (event : Event) (old new : BookView) : Type 0
   pub shelf : new.shelf ≡ changed old.shelf (change_of event) (writes_after (writes_of old.entries) event)
   pub legal : IsLegal new.entries
 
+-- behind an event that is no Ask, what was remembered is, but for a name whose body is taken away
+abbrev pub Keeps : Event → BookView → BookView → Type 0
+Keeps event old new = new.answers ≡ kept_rows (change_of event) old.answers
+
+-- the outcome of a name that is held is remembered, and stands
+abbrev pub Remembers : NameParts → Outcome → BookView → Type 0
+Remembers name outcome book = IsSome (at_name book.shelf.places name) → IsRemembered book.shelf book.answers name (Some outcome)
+
 -- a call is refused as full exactly where there are as many entries as there may be
 abbrev pub IsFull : BookView → Refusal → Type 0
 IsFull book refusal = refusal ≡ HistoryFull ↔ length book.entries ≡ book.capacity

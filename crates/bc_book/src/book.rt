@@ -5,7 +5,7 @@ ghost use Rattle.bc_prov.specs.Snapshots.{IsPartOf};
 ghost use Rattle.bc_memo.specs.Memos.{IsRemembered};
 ghost use Rattle.bc_calls.specs.Calls.{IsLegal, IsReply, after};
 ghost use Rattle.bc_calls.specs.Changes.{change_of};
-ghost use Rattle.bc_book.specs.Ledgers.{Appends, HasPlace, IsFull, IsRow, empty_book, kept_rows, remembering};
+ghost use Rattle.bc_book.specs.Ledgers.{Appends, HasPlace, IsFull, IsRow, Keeps, Remembers, empty_book, kept_rows, remembering};
 
 use crate::ledger::{Ledger, MOST_SESSIONS, Refusal};
 use bc_calls::{Begun, Entry, Event, PutReply, RemoveReply, Work, no_declarations};
@@ -99,6 +99,7 @@ impl<E: Ending> Book<E> {
     ) -> Result<(), Refusal>
         requires session { session < MOST_SESSIONS }
         ensures step { OnOk result (Appends session (Event.Types types) self.old self.new) }
+        ensures answers { OnOk result (Keeps (Event.Types types) self.old self.new) }
         ensures refused { OnErr result (self.new ≡ self.old) }
         ensures full { IfErr result (IsFull self.old) }
         ensures below { OnOk result (length self.old.entries < self.old.capacity) }
@@ -119,6 +120,7 @@ impl<E: Ending> Book<E> {
     ) -> Result<PutReply, Refusal>
         requires session { session < MOST_SESSIONS }
         ensures step { IfOk result (λ reply. Appends session (Event.Put name unit reply) self.old self.new) }
+        ensures answers { IfOk result (λ reply. Keeps (Event.Put name unit reply) self.old self.new) }
         ensures refused { OnErr result (self.new ≡ self.old) }
         ensures full { IfErr result (IsFull self.old) }
         ensures below { OnOk result (length self.old.entries < self.old.capacity) }
@@ -138,6 +140,7 @@ impl<E: Ending> Book<E> {
     ) -> Result<RemoveReply, Refusal>
         requires session { session < MOST_SESSIONS }
         ensures step { IfOk result (λ reply. Appends session (Event.Remove name reply) self.old self.new) }
+        ensures answers { IfOk result (λ reply. Keeps (Event.Remove name reply) self.old self.new) }
         ensures refused { OnErr result (self.new ≡ self.old) }
         ensures full { IfErr result (IsFull self.old) }
         ensures below { OnOk result (length self.old.entries < self.old.capacity) }
@@ -174,6 +177,7 @@ impl<E: Ending> Book<E> {
     ) -> Result<(Shared<Outcome>, Shared<Outcome>), Refusal>
         requires session { session < MOST_SESSIONS }
         ensures step { IfOk result (λ told. Appends session (Event.Ask work.snapshot.root told.0) self.old self.new) }
+        ensures answers { IfOk result (λ told. Remembers work.snapshot.root told.0 self.new) }
         ensures same { IfOk result (λ told. told.1 ≡ told.0) }
         ensures refused { OnErr result (self.new ≡ self.old) }
         ensures full { IfErr result (IsFull self.old) }

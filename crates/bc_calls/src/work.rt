@@ -1,11 +1,11 @@
 //! Snapshots that were begun, and the work on them, which needs no part of what they were taken from.
-ghost use Rattle.std.specs.Prelude.{◌≡◌, [], IfOk, IfSome};
+ghost use Rattle.std.specs.Prelude.{◌≡◌, ◌↔◌, [], IfOk, IfSome, IsSome};
 ghost use Rattle.std.specs.Option.{option_or};
 ghost use Rattle.bc_text.specs.Names.{NameParts};
 ghost use Rattle.bc_prov.specs.Outcome.{IsOutcomeIn};
 ghost use Rattle.bc_prov.specs.Snapshots.{IsPartOf};
 ghost use Rattle.bc_prov.specs.State.{State, state_of};
-ghost use Rattle.bc_calls.specs.Works.{Stood};
+ghost use Rattle.bc_calls.specs.Works.{StandsIn, Stood};
 
 use bc_memo::{Part, Shelf};
 use bc_prov::{Found, Outcome, Pieces, Providers, Shared, Snapshot};
@@ -29,7 +29,7 @@ impl Model for Begun {
     ghost view = { λ b. b.snapshot };
 }
 
-/// A snapshot with its outcome, and the pieces of its bodies that were made for it. Contracts see the snapshot and the outcome. (Own.)
+/// A snapshot with its revisions and its outcome, and the pieces of its bodies that were made for it. Contracts see all but the pieces. (Own.)
 #[derive(Drop)]
 pub struct Work {
     snapshot: Snapshot,
@@ -44,7 +44,7 @@ impl Model for Work {
 
     ghost Value = { WorkView };
 
-    ghost view = { λ w. record { snapshot = w.snapshot; outcome = w.outcome } };
+    ghost view = { λ w. record { snapshot = w.snapshot; types_at = w.types_revision; units_at = w.revisions.items; outcome = w.outcome } };
 
     ghost invariant = { λ w. IsDone w.snapshot w.outcome };
 }
@@ -139,9 +139,11 @@ impl Work {
         self.pieces
     }
 
-    /// Its outcome, where its snapshot has the revisions that a shelf has and is what the shelf holds. It takes no memory. (Own.)
+    /// Its outcome, exactly where its snapshot has the revisions that a shelf has and is what the shelf holds. It takes no memory.
+    /// (Own.)
     pub fn standing(self, shelf: &Shelf) -> Option<Shared<Outcome>>
-        ensures { IfSome result (λ outcome. Stood shelf.now.held self outcome) }
+        ensures own { IfSome result (λ outcome. Stood shelf.now.held self outcome) }
+        ensures stands { IsSome result ↔ StandsIn shelf.now.held self }
     {
         let Work {
             snapshot,

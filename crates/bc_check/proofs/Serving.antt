@@ -9,6 +9,7 @@ use Rattle.bc_calls.specs.declared.call.Call.{Call}
 use Rattle.bc_calls.specs.declared.call.Event.{Event}
 use Rattle.bc_calls.specs.Calls.{call_of}
 use Rattle.bc_share.specs.Sessions.{SessionView}
+use Rattle.bc_share.proofs.Noting.{same_session}
 use Rattle.bc_check.specs.declared.stop.Stop.{Stop}
 use Rattle.bc_check.specs.Run.{event_status, greatest}
 use Rattle.bc_check.specs.Served.{Adds, Serves, Served, ServedPart, IsAtMostOneMore}
@@ -111,7 +112,7 @@ making_part {X} call_at all left text exit old mid new u v w h last k = record {
 }
 
 pub part_of_all : (list : List Call) (text : Event → List ℕ) (exit : ℕ) (old new : SessionView) (u v : Option (List ℕ)) → Served list text exit old new u v → ServedPart list text old new u v
-part_of_all list text exit old new u v h = record { front = list; ahead = []; cut = append-nil list; exit = exit; between = new; served = h; last = inl (record { tag = refl; number = refl; own = refl }) }
+part_of_all list text exit old new u v h = record { front = list; ahead = []; cut = append-nil list; exit = exit; between = new; served = h; last = inl (same_session new) }
 
 -- a stop that is passed on is the one that came
 pub same_stop : {A B : Type 0} (r : Result A Stop) (x n : Stop) → IsErrAnd r (λ y. y ≡ x) → r ≡ Err n → IsErrOf {T = B} (Err x) n

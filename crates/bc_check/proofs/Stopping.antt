@@ -1,7 +1,7 @@
 -- What is found and left where the command stops.
 use Rattle.std.proofs.Common.{◌≡◌, ◌≤◌, ◌<◌, ◌+◌, ℕ, List, length, Option, refl, ap, arith, inl, inr}
 use Rattle.std.specs.Prelude.{◌⊎◌, Bool, Result, Ok, Err, IfOk, OnOk, IfErr, IsErrOf, IfSome, true}
-use Rattle.std.specs.Io.KnownBytes.{Appends}
+use Rattle.std.specs.Io.KnownBytes.{Appends, Keeps}
 use Rattle.bc_text.specs.Names.{NameParts}
 use Rattle.bc_calls.specs.declared.call.Call.{Call}
 use Rattle.bc_share.specs.declared.db.TheConstants.{MOST_ENTRIES}
@@ -25,6 +25,7 @@ pub record Broken (json : Bool) (r : Result ℕ Stop) (file : List ℕ) (made : 
   pub many : IsErrOf r TooManyCalls → MOST_ENTRIES < length made + length names
   pub quiet : IsErrOf r TooManyCalls → IsSilent o o' e e'
   pub no_memory : IsErrOf r NoMemory → Begins json made names o o' e e'
+  pub untold : IsErrOf r CannotTell → Keeps o o'
 
 well : (json : Bool) (r : Result ℕ Stop) (known o o' e e' : Option (List ℕ)) (file : List ℕ) (made : List Call) (names : List NameParts) → IfSome known (λ bytes. file ≡ bytes) → Broken json r file made names o o' e e' → OfFile known IsWell
 well json r known o o' e e' file made names whole h =
@@ -35,7 +36,7 @@ broken json (Ok n) known o o' e e' file made names whole h = tt
 broken json (Err WrongUse) known o o' e e' file made names whole h = (let never = h.other in absurd cc)
 broken json (Err CannotRead) known o o' e e' file made names whole h = (let never = h.other in absurd cc)
 broken json (Err CannotWrite) known o o' e e' file made names whole h = well json _ known o o' e e' file made names whole h
-broken json (Err CannotTell) known o o' e e' file made names whole h = well json _ known o o' e e' file made names whole h
+broken json (Err CannotTell) known o o' e e' file made names whole h = (well json _ known o o' e e' file made names whole h, h.untold refl)
 broken json (Err NoMemory) known o o' e e' file made names whole h =
     inr (known_is known file (λ (f : List ℕ). (length f ≤ LIMIT) × HasBegun json f o o' e e') whole (h.short, record { made = made; names = names; good = h.good; asked = h.asked; begins = h.no_memory refl }))
 broken json (Err (File fault)) known o o' e e' file made names whole h = (let never = h.other in absurd cc)

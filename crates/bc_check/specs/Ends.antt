@@ -61,7 +61,7 @@ abbrev pub Leaves : Bool → Stop → Option (List ℕ) → Option (List ℕ) �
 Leaves json WrongUse known out out' err err' = ⊥
 Leaves json CannotRead known out out' err err' = IsSilent out out' err err'
 Leaves json CannotWrite known out out' err err' = OfFile known IsWell
-Leaves json CannotTell known out out' err err' = OfFile known IsWell
+Leaves json CannotTell known out out' err err' = OfFile known IsWell × Keeps out out'
 Leaves json NoMemory known out out' err err' = IsSilent out out' err err' ⊎ OfFile known (λ file. HasBegun json file out out' err err')
 Leaves json (File fault) known out out' err err' = OfFile known (λ file. IsFirstFault (sections_of file) fault) × IsSilent out out' err err'
 Leaves json TooManyCalls known out out' err err' = OfFile known HasTooManyCalls × IsSilent out out' err err'

@@ -3,6 +3,7 @@ ghost use Rattle.std.specs.Prelude.{◌≡◌, ◌≤◌, ◌<◌, ◌+◌, ◌�
 ghost use Rattle.std.specs.Io.Buffered.{writer_buffer, writer_contents};
 ghost use Rattle.std.specs.Io.KnownBytes.{Appends, Keeps};
 ghost use Rattle.bc_calls.specs.declared.call.Call.TheVariants as calls;
+ghost use Rattle.bc_share.specs.Runs.{Makes};
 ghost use Rattle.bc_check.specs.Changes.{seen};
 ghost use Rattle.bc_check.specs.Stops.{is_of_calls};
 ghost use Rattle.bc_check.specs.Ends.{Checked, IsEnd, IsEndOf, Leaves, OfFile};
@@ -97,6 +98,7 @@ fn make_change<R: Wait, N: Ending, E: Write>(
     err: &mut E,
 ) -> Result<u8, Stop>
     ensures no_memory { IsErrOf result Stop.NoMemory → IsAtMostOneMore session.old session.new × Keeps (E.contents err.old) (E.contents err.new) }
+    ensures untold { IsErrOf result Stop.CannotTell → Makes session.old session.new (seen change) }
     ensures served { IfOk result (λ status. Serves (seen change) told status session.old session.new (E.contents err.old) (E.contents err.new)) }
     ensures range { IfOk result (λ status. status ≤ 2) }
     ensures stop { IfErr result (λ stop. (stop ≡ Stop.CannotTell) ⊎ (stop ≡ Stop.NoMemory) ⊎ (stop ≡ Stop.HistoryFull)) }
@@ -127,6 +129,7 @@ fn make_ask<R: Wait, N: Ending, O: Write>(
     out: &mut O,
 ) -> Result<u8, Stop>
     ensures no_memory { IsErrOf result Stop.NoMemory → IsAtMostOneMore session.old session.new × Keeps (O.contents out.old) (O.contents out.new) }
+    ensures unwritten { IsErrOf result Stop.CannotWrite → Makes session.old session.new (calls.Ask name.now) }
     ensures served { IfOk result (λ status. Serves (calls.Ask name.now) (shown json) status session.old session.new (O.contents out.old) (O.contents out.new)) }
     ensures range { IfOk result (λ status. status ≤ 2) }
     ensures stop { IfErr result (λ stop. (stop ≡ Stop.CannotWrite) ⊎ (stop ≡ Stop.NoMemory) ⊎ (stop ≡ Stop.HistoryFull)) }
@@ -240,6 +243,7 @@ fn make_all<R: Wait, N: Ending, O: Write + Drop, E: Write>(
 ) -> Result<u8, Stop>
     ensures served { IfOk result (λ status. ServedAll json (map seen changes.items) names.now.keys status session.old session.new (writer_contents O.contents out.old) (writer_contents O.contents out.new) (E.contents err.old) (E.contents err.new)) }
     ensures no_memory { IsErrOf result Stop.NoMemory → ServedFirst json (map seen changes.items) names.now.keys session.old session.new (writer_contents O.contents out.old) (writer_contents O.contents out.new) (E.contents err.old) (E.contents err.new) }
+    ensures untold { IsErrOf result Stop.CannotTell → Keeps (writer_contents O.contents out.old) (writer_contents O.contents out.new) }
     ensures range { IfOk result (λ status. status ≤ 2) }
     ensures stop { IfErr result (λ stop. (stop ≡ Stop.CannotTell) ⊎ (stop ≡ Stop.CannotWrite) ⊎ (stop ≡ Stop.NoMemory) ⊎ (stop ≡ Stop.HistoryFull)) }
     ensures handed_on { writer_buffer out.old ≡ [] → (result ≡ Err Stop.CannotWrite) ⊎ (writer_buffer out.new ≡ []) }
@@ -281,6 +285,7 @@ fn serve<R: Wait, O: Write + Drop, E: Write>(
     ensures range { IfOk result (λ status. status ≤ 2) }
     ensures too_many { IsErrOf result Stop.TooManyCalls → (MOST_ENTRIES < length changes.items + length names.now.keys) × Keeps (writer_contents O.contents out.old) (writer_contents O.contents out.new) × Keeps (E.contents err.old) (E.contents err.new) }
     ensures no_memory { IsErrOf result Stop.NoMemory → Begins json (map seen changes.items) names.now.keys (writer_contents O.contents out.old) (writer_contents O.contents out.new) (E.contents err.old) (E.contents err.new) }
+    ensures untold { IsErrOf result Stop.CannotTell → Keeps (writer_contents O.contents out.old) (writer_contents O.contents out.new) }
     ensures other { IfErr result (λ stop. is_of_calls stop ≡ true) }
     ensures handed_on { writer_buffer out.old ≡ [] → (result ≡ Err Stop.CannotWrite) ⊎ (writer_buffer out.new ≡ []) }
 {

@@ -207,3 +207,60 @@ impl Left {
             && self.tells == tell.saturating_add(1)
     }
 }
+
+/// Whether a command leaves the case, and says that it cannot read once any one read fails. It is run over the devices that it is handed.
+/// (Own.)
+pub fn stops_at_each_read<F: Fn(Devices) -> io::Result<Left>>(
+    case: &Case<'_>,
+    run: F,
+) -> io::Result<bool>
+    requires { F.IsAlwaysCallable run }
+{
+    let whole = run(SOUND)?;
+    let mut stops = whole.is_of(case);
+    for read in 0..whole.reads {
+        let cut = run(Devices { read, ..SOUND })?;
+        stops = cut.is(3, b"", b"cannot read demo\n") && stops;
+    }
+    Ok(stops)
+}
+
+/// Whether a command leaves the case behind a buffer of this size, and says that it cannot write, and makes no further call, once any one
+/// write or flush fails. (Own.)
+pub fn stops_at_each_write<F: Fn(Devices) -> io::Result<Left>>(
+    case: &Case<'_>,
+    room: usize,
+    run: F,
+) -> io::Result<bool>
+    requires { F.IsAlwaysCallable run }
+{
+    let whole = run(Devices { room, ..SOUND })?;
+    let mut stops = whole.is_of(case);
+    for write in 0..whole.writes {
+        let cut = run(Devices {
+            room,
+            write,
+            ..SOUND
+        })?;
+        stops = cut.stopped_at_write(write, case.out, case.unwritten) && stops;
+    }
+    Ok(stops)
+}
+
+/// Whether a command leaves the case, and has printed this and makes no further call on standard error once any one write there fails. (Own.)
+pub fn stops_at_each_tell<F: Fn(Devices) -> io::Result<Left>>(
+    case: &Case<'_>,
+    printed: &[u8],
+    run: F,
+) -> io::Result<bool>
+    requires { F.IsAlwaysCallable run }
+{
+    let whole = run(SOUND)?;
+    let mut stops = whole.is_of(case);
+    for tell in 0..whole.tells {
+        let cut = run(Devices { tell, ..SOUND })?;
+        let is_printed = cut.out.as_slice() == printed;
+        stops = is_printed && cut.stopped_at_tell(tell, case.err) && stops;
+    }
+    Ok(stops)
+}

@@ -1,5 +1,5 @@
 //! Outcomes of names, with the revisions of all that they were found from.
-ghost use Rattle.std.specs.Prelude.{◌≡◌, ◌↔◌, ◌<◌, [], IfNone, IfOk, IfSome, IsSome, IsTrue, OnErr, OnOk, Some};
+ghost use Rattle.std.specs.Prelude.{◌≡◌, ◌↔◌, ◌<◌, [], ◌∷◌, IfNone, IfOk, IfSome, IsOk, IsSome, IsTrue, OnErr, OnOk, Some};
 ghost use Rattle.std.specs.BTreeMap.{insert_entry, is_at};
 ghost use Rattle.std.specs.Map.{remove_entry};
 ghost use Rattle.std.specs.List.{AllByRecursion};
@@ -90,10 +90,12 @@ impl Memo {
         }
     }
 
-    /// Makes room for one more name, and changes nothing else. Answers `AllocError` only where memory was refused. (Own.)
+    /// Makes room for one more name, and changes nothing else. It takes no memory where there is some for one name more. Answers
+    /// `AllocError` only where memory was refused. (Own.)
     pub fn reserve(&mut self) -> Result<(), AllocError>
         ensures same { self.new.rows ≡ self.old.rows }
         ensures room { OnOk result (0 < self.new.room) }
+        ensures granted { 0 < self.old.room → IsOk result }
     {
         self.rows.reserve(1)
     }
@@ -113,8 +115,8 @@ impl Memo {
         take(&mut self.rows, name);
     }
 
-    /// Remembers an outcome for a name that is held, with the revisions that a shelf has of its declarations and of these names.
-    /// Answers `AllocError` only where memory was refused, and then remembers what it did before. (Own.)
+    /// Remembers an outcome for a name that is held, with the revisions that a shelf has of its declarations, of the name and of these
+    /// names. Answers `AllocError` only where memory was refused, and then remembers what it did before. (Own.)
     pub fn install(
         &mut self,
         alloc: Global,
@@ -124,10 +126,11 @@ impl Memo {
         outcome: Shared<Outcome>,
     ) -> Result<(), AllocError>
         requires held { IsSome (at_name shelf.now.held.places name) }
-        ensures installed { OnOk result ((row : Remembered) × IsRowOf shelf.now.held names.now outcome row × (self.new.rows ≡ insert_entry name_order self.old.rows name row)) }
+        ensures installed { OnOk result ((row : Remembered) × IsRowOf shelf.now.held (name ∷ names.now) outcome row × (self.new.rows ≡ insert_entry name_order self.old.rows name row)) }
         ensures refused { OnErr result (self.new.rows ≡ self.old.rows) }
     {
-        let row = Remembered::of(alloc, shelf, names, outcome)?;
+        let used = with_own(alloc, name, names)?;
+        let row = Remembered::of(alloc, shelf, &used, outcome)?;
         self.reserve()?;
         self.put(name, row);
         Ok(())
@@ -151,6 +154,16 @@ fn all_stand(shelf: &Shelf, used: &[(Name, Option<u32>)]) -> bool
         }
     }
     true
+}
+
+// A name, and behind it these names.
+fn with_own(alloc: Global, name: Name, names: &[Name]) -> Result<Vec<Name>, AllocError>
+    ensures { IfOk result (λ all. all.items ≡ name ∷ names.now) }
+{
+    let mut all = Vec::new(alloc);
+    all.push(name)?;
+    all.extend_from_slice(names)?;
+    Ok(all)
 }
 
 // The names with the revisions that they have.

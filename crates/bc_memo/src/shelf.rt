@@ -65,11 +65,13 @@ impl Shelf {
         })
     }
 
-    /// Makes room for one more place, and changes nothing else. Answers `AllocError` only where memory was refused. (Own.)
+    /// Makes room for one more place, and changes nothing else. It takes no memory where there is some for one place more. Answers
+    /// `AllocError` only where memory was refused. (Own.)
     pub fn reserve(&mut self) -> Result<(), AllocError>
         ensures same { self.new.held ≡ self.old.held }
         ensures pieces { self.new.pieces ≡ self.old.pieces }
         ensures room { OnOk result (0 < self.new.room) }
+        ensures granted { 0 < self.old.room → IsOk result }
     {
         self.places.reserve(1)
     }

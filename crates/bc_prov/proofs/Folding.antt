@@ -340,6 +340,7 @@ folded state root left visit required after found taken entry types same t numbe
               named = named ∙ ap (λ (v : VisitView). v.name) t.is_visit;
               held = record { types = from.types ∙ same; unit = ap Some (sym (from.unit ∙ ap (λ (v : VisitView). v.unit) t.is_visit)) };
               typed = typed;
+              kids = record { verdicts = below.0; judged = below.1; required = from.kids ∙ whole };
               is_verdict = at;
             },
             t.reported,

@@ -14,8 +14,8 @@ use Rattle.bc_judge.specs.declared.verdict.Verdict.{Verdict}
 use Rattle.bc_prov.specs.declared.outcome.BodyErrors.{BodyErrors}
 use Rattle.bc_prov.specs.declared.outcome.Outcome.{Outcome}
 use Rattle.bc_prov.specs.declared.outcome.Outcome.TheVariants.{NoBody, Missing, BadTypes, Ill, Report}
-use Rattle.bc_prov.specs.State.{State, at_name, mir_at, number_of_child}
-use Rattle.bc_prov.specs.Verdicts.{IsVerdictOf, IsVerdictAt}
+use Rattle.bc_prov.specs.State.{State, at_name, child, mir_at, number_of_child}
+use Rattle.bc_prov.specs.Verdicts.{IsVerdictOf, IsVerdictAt, requirements_by}
 use Rattle.bc_prov.specs.Outcome.{units_at}
 
 -- declarations, a unit, the unit over them and over the headers of its children, what the children require, and the verdict
@@ -74,11 +74,18 @@ pub record IsPieceFor (held_types : List Declaration) (held : Option Body) (piec
 abbrev pub ArePieces : List Declaration → List (NameParts × Body) → List (NameParts × PieceView) → Type 0
 ArePieces types units pieces = AllByRecursion (λ (p : NameParts × PieceView). IsPieceFor types (at_name units p.0) p.1) pieces
 
+-- so much is required by the closures of a body at a name, each by the verdict on it
+pub record AreKidsAt (state : State) (name : NameParts) (body : Body) (kids : List (ℕ × Requirements)) : Type 0 where
+  pub verdicts : List Verdict
+  pub judged : AllZip (λ number. IsVerdictAt state (child name number)) (children_of body) verdicts
+  pub required : kids ≡ requirements_by (children_of body) verdicts
+
 -- these are the errors and the requirements of a body that is visited, with all that they were found from
 pub record IsPieceAt (state : State) (unit : NameParts × Body) (entry : NameParts × PieceView) : Type 0 where
   pub named : entry.0 ≡ unit.0
   pub held : IsPieceFor state.types (Some unit.1) entry.1
   pub typed : entry.1.mir ≡ mir_at state unit.0 unit.1
+  pub kids : AreKidsAt state unit.0 unit.1 entry.1.kids
   pub is_verdict : IsVerdictAt state unit.0 entry.1.verdict
 
 -- the errors of a piece, under its name

@@ -1,7 +1,7 @@
 -- How the command ends, and what it leaves where it stops.
 use Rattle.std.specs.Prelude.{◌≡◌, ◌⊎◌, ◌<◌, ◌≤◌, ℕ, max, Option, List, length}
 use Rattle.std.specs.List.{flat_map}
-use Rattle.std.specs.Io.KnownBytes.{Appends}
+use Rattle.std.specs.Io.KnownBytes.{Appends, Keeps}
 use Rattle.bc_calls.specs.declared.call.Entry.{Entry}
 use Rattle.bc_share.specs.declared.db.TheConstants.{MOST_ENTRIES}
 use Rattle.bc_share.specs.declared.run.End.{End}
@@ -41,13 +41,22 @@ pub record HasTooManyCalls (sessions : ℕ) (file : List ℕ) : Type 0 where
   pub good : GiveAll sessions (sections_of file) given
   pub many : MOST_ENTRIES < length given
 
+-- a file without a fault, of whose calls standard output has the history
+pub record HasShown (sessions : ℕ) (file : List ℕ) (out out' : Option (List ℕ)) : Type 0 where
+  pub given : List SessionCall
+  pub history : List Entry
+  pub ends : List End
+  pub good : GiveAll sessions (sections_of file) given
+  pub made : AreMade sessions given history ends
+  pub output : Appends out out' (flat_map entry_lines history)
+
 -- What the command finds and leaves where it stops, but for the line that says so. What a writer that failed took is
 -- not known.
 abbrev pub Leaves : ℕ → Stop → Option (List ℕ) → Option (List ℕ) → Option (List ℕ) → Option (List ℕ) → Option (List ℕ) → Type 0
 Leaves sessions WrongUse known out out' err err' = ⊥
 Leaves sessions CannotRead known out out' err err' = IsSilent out out' err err'
-Leaves sessions CannotWrite known out out' err err' = OfFile known (IsWell sessions)
-Leaves sessions CannotTell known out out' err err' = OfFile known (IsWell sessions)
+Leaves sessions CannotWrite known out out' err err' = OfFile known (IsWell sessions) × Keeps err err'
+Leaves sessions CannotTell known out out' err err' = OfFile known (λ file. HasShown sessions file out out')
 Leaves sessions NoMemory known out out' err err' = IsSilent out out' err err'
 Leaves sessions (File fault) known out out' err err' = OfFile known (λ file. IsFirstFault sessions (sections_of file) fault) × IsSilent out out' err err'
 Leaves sessions TooManyCalls known out out' err err' = OfFile known (HasTooManyCalls sessions) × IsSilent out out' err err'

@@ -5,7 +5,10 @@ ghost use Rattle.bc_prov.specs.Facts.{AreValues};
 use crate::run_over;
 use bc_analyses::{find_plain_values, providers};
 use bc_cons::Facts;
-use bc_devices::{Case, Devices, Input, Left, Output, SOUND};
+use bc_devices::{
+    Case, Devices, Input, Left, Output, SOUND, stops_at_each_read, stops_at_each_tell,
+    stops_at_each_write,
+};
 use bc_line::{Line, RunLine, read_line};
 use bc_prov::Providers;
 use bc_solve::Values;
@@ -217,86 +220,11 @@ fn run_case<R: AllocGlobal + Threads + Wait + Sync>(
     run_with(rt, &providers, case.words, case.file, devices)
 }
 
-/// Whether the command says that it cannot read, once this read fails.
-fn stops_at_read<R: AllocGlobal + Threads + Wait + Sync>(
-    rt: &R,
-    case: &Case<'_>,
-    read: u32,
-) -> io::Result<bool> {
-    let cut = run_case(rt, case, Devices { read, ..SOUND })?;
-    Ok(cut.is(3, b"", b"cannot read demo\n"))
-}
-
-/// Whether the command leaves the case, and each read stops it where it fails.
-fn stops_at_each_read<R: AllocGlobal + Threads + Wait + Sync>(
-    rt: &R,
-    case: &Case<'_>,
-) -> io::Result<bool> {
-    let whole = run_case(rt, case, SOUND)?;
-    let mut stops = whole.is_of(case);
-    for read in 0..whole.reads {
-        stops = stops_at_read(rt, case, read)? && stops;
-    }
-    Ok(stops)
-}
-
-/// Whether the command says that it cannot write, and makes no further call, once this write or flush fails behind a buffer of this size.
-fn stops_at_write<R: AllocGlobal + Threads + Wait + Sync>(
-    rt: &R,
-    case: &Case<'_>,
-    room: usize,
-    write: u32,
-) -> io::Result<bool> {
-    let devices = Devices {
-        room,
-        write,
-        ..SOUND
-    };
-    let cut = run_case(rt, case, devices)?;
-    Ok(cut.stopped_at_write(write, case.out, case.unwritten))
-}
-
-/// Whether the command leaves the case behind a buffer of this size, and each write and each flush stops it where it fails.
-fn stops_at_each_write<R: AllocGlobal + Threads + Wait + Sync>(
-    rt: &R,
-    case: &Case<'_>,
-    room: usize,
-) -> io::Result<bool> {
-    let whole = run_case(rt, case, Devices { room, ..SOUND })?;
-    let mut stops = whole.is_of(case);
-    for write in 0..whole.writes {
-        stops = stops_at_write(rt, case, room, write)? && stops;
-    }
-    Ok(stops)
-}
-
-/// Whether the command makes no further call on standard error, once this write there fails.
-fn stops_at_tell<R: AllocGlobal + Threads + Wait + Sync>(
-    rt: &R,
-    case: &Case<'_>,
-    tell: u32,
-) -> io::Result<bool> {
-    let cut = run_case(rt, case, Devices { tell, ..SOUND })?;
-    Ok(cut.out.as_slice() == case.out && cut.stopped_at_tell(tell, case.err))
-}
-
-/// Whether the command leaves the case, and each write on standard error stops it where it fails.
-fn stops_at_each_tell<R: AllocGlobal + Threads + Wait + Sync>(
-    rt: &R,
-    case: &Case<'_>,
-) -> io::Result<bool> {
-    let whole = run_case(rt, case, SOUND)?;
-    let mut stops = whole.is_of(case);
-    for tell in 0..whole.tells {
-        stops = stops_at_tell(rt, case, tell)? && stops;
-    }
-    Ok(stops)
-}
-
 #[test]
 fn each_read_fails_in_turn(rt: HostRuntime) -> Result<(), Fail> {
     for (number, case) in CASES.iter().enumerate() {
-        assert!(rt; stops_at_each_read(&rt, case)?, "case {number}");
+        let stops = stops_at_each_read(case, |devices| run_case(&rt, case, devices))?;
+        assert!(rt; stops, "case {number}");
     }
     Ok(())
 }
@@ -306,7 +234,8 @@ fn each_read_fails_in_turn(rt: HostRuntime) -> Result<(), Fail> {
 fn each_write_fails_in_turn(rt: HostRuntime) -> Result<(), Fail> {
     for (number, case) in CASES.iter().enumerate() {
         for room in [0, 8, 8192] {
-            assert!(rt; stops_at_each_write(&rt, case, room)?, "case {number}");
+            let stops = stops_at_each_write(case, room, |devices| run_case(&rt, case, devices))?;
+            assert!(rt; stops, "case {number}");
         }
     }
     Ok(())
@@ -316,7 +245,8 @@ fn each_write_fails_in_turn(rt: HostRuntime) -> Result<(), Fail> {
 #[test]
 fn each_line_fails_in_turn(rt: HostRuntime) -> Result<(), Fail> {
     for (number, case) in CASES.iter().enumerate() {
-        assert!(rt; stops_at_each_tell(&rt, case)?, "case {number}");
+        let stops = stops_at_each_tell(case, case.out, |devices| run_case(&rt, case, devices))?;
+        assert!(rt; stops, "case {number}");
     }
     Ok(())
 }

@@ -107,7 +107,11 @@ on_err (Err e) P p = p
 
 -- what stays is the same session
 pub same_of : (old new : SessionView) → Stays old new → IsSame old new
-same_of old new stays = record { tag = stays.tag; number = stays.number; own = stays.own }
+same_of old new stays = record { tag = stays.tag; number = stays.number; own = stays.own; later = stays.later }
+
+-- and so is what stays, and stays again
+pub same_again : (old mid new : SessionView) → Stays old mid → Stays mid new → IsSame old new
+same_again old mid new first second = same_of old new (stays_again old mid new first second)
 
 pub same_session : (s : SessionView) → IsSame s s
-same_session s = record { tag = refl; number = refl; own = refl }
+same_session s = record { tag = refl; number = refl; own = refl; later = starts_same s.seen }

@@ -4,13 +4,15 @@ use Rattle.std.specs.Prelude.{map}
 use Rattle.std.proofs.lemmas.List.{append-nil, drop_all, length-map, map-append, take_all, take_more}
 use Rattle.bc_calls.specs.declared.call.Call.{Call}
 use Rattle.bc_calls.specs.Calls.{call_of}
+use Rattle.bc_calls.proofs.Beginnings.{starts_again}
 use Rattle.bc_share.specs.Sessions.{SessionView, IsSame}
 use Rattle.bc_share.specs.declared.run.End.{End}
 use Rattle.bc_share.specs.declared.run.End.TheVariants.{Done}
 use Rattle.bc_share.specs.Runs.{AreRuns, HasMade, Makes, seats}
+use Rattle.bc_share.proofs.Noting.{starts_same}
 
 pub made_none : (s : SessionView) → HasMade s s []
-made_none s = record { tag = refl; number = refl; events = []; own = sym (append-nil s.own); made = refl }
+made_none s = record { tag = refl; number = refl; events = []; own = sym (append-nil s.own); made = refl; later = starts_same s.seen }
 
 pub made_more : (old mid new : SessionView) (script : List Call) (i : ℕ) (call : Call) → HasMade old mid (take i script) → i < length script → call ≡ get_or script i call → Makes mid new call
     → HasMade old new (take (i + 1) script)
@@ -21,6 +23,7 @@ made_more old mid new script i call ran small there made =
       events = ran.events ++ event ∷ [];
       own = made.2.own ∙ ap (λ l. l ++ event ∷ []) ran.own ∙ append_assoc old.own ran.events (event ∷ []);
       made = map-append call_of ran.events (event ∷ []) ∙ ap (λ l. l ++ call_of event ∷ []) ran.made ∙ ap (λ c. take i script ++ c ∷ []) (made.1 ∙ there) ∙ sym (take_more script i call small);
+      later = starts_again new.seen mid.seen old.seen made.2.later ran.later;
     }
 
 pub made_kept : (old mid new : SessionView) (calls : List Call) → HasMade old mid calls → IsSame mid new → HasMade old new calls
@@ -30,6 +33,7 @@ made_kept old mid new calls ran same = record {
   events = ran.events;
   own = same.own ∙ ran.own;
   made = ran.made;
+  later = starts_again new.seen mid.seen old.seen same.later ran.later;
 }
 
 pub made_all : (old new : SessionView) (script : List Call) (i : ℕ) → HasMade old new (take i script) → length script ≤ i → HasMade old new script

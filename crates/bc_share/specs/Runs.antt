@@ -2,7 +2,7 @@
 use Rattle.std.specs.Prelude.{◌≡◌, ◌<◌, ℕ, List, ◌++◌, length, map, take, slice_index_or}
 use Rattle.bc_calls.specs.declared.call.Call.{Call}
 use Rattle.bc_calls.specs.declared.call.Event.{Event}
-use Rattle.bc_calls.specs.Calls.{call_of}
+use Rattle.bc_calls.specs.Calls.{StartsWith, call_of}
 use Rattle.bc_share.specs.declared.run.End.{End}
 use Rattle.bc_share.specs.declared.run.End.TheVariants.{Done, Stopped}
 use Rattle.bc_share.specs.Sessions.{SessionView, IsAnswered}
@@ -11,13 +11,15 @@ use Rattle.bc_share.specs.Sessions.{SessionView, IsAnswered}
 abbrev pub Makes : SessionView → SessionView → Call → Type 0
 Makes old new call = (event : Event) × (call_of event ≡ call) × IsAnswered event old new
 
--- the session made these calls, in their order: its own list is longer by them, each with a reply, and it is the same session
+-- the session made these calls, in their order: its own list is longer by them, each with a reply, it is the same session, and what it
+-- has seen begins with what it had seen
 pub record HasMade (old new : SessionView) (calls : List Call) : Type 0 where
   pub tag : new.tag ≡ old.tag
   pub number : new.number ≡ old.number
   pub events : List Event
   pub own : new.own ≡ old.own ++ events
   pub made : map call_of events ≡ calls
+  pub later : StartsWith new.seen old.seen
 
 -- the session made all calls of its script, or those before the one that was refused
 abbrev pub IsRun : SessionView → SessionView → List Call → End → Type 0

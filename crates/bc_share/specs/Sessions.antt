@@ -34,11 +34,12 @@ pub record IsNoted (number : ℕ) (own : List Event) (seen : List Entry) : Type 
   pub begins : StartsWith seen noted
   pub listed : calls number noted ≡ own
 
--- it is the same session, with the same list of its own
+-- it is the same session, with the same list of its own, and what it has seen begins with what it had seen
 pub record IsSame (old new : SessionView) : Type 0 where
   pub tag : new.tag ≡ old.tag
   pub number : new.number ≡ old.number
   pub own : new.own ≡ old.own
+  pub later : StartsWith new.seen old.seen
 
 -- the session's own list is as it was, and what it has seen begins with what it had seen and is legal
 pub record Stays (old new : SessionView) : Type 0 where

@@ -1,5 +1,6 @@
 //! What the sessions of a database share: its book, under a lock.
-ghost use Rattle.std.specs.Prelude.{◌≡◌, ◌<◌, IfOk, OnErr, OnOk};
+ghost use Rattle.std.specs.Prelude.{◌≡◌, ◌<◌, IfErr, IfOk, OnErr, OnOk};
+ghost use Rattle.bc_book.specs.Ledgers.{Appends, IsFull};
 ghost use Rattle.bc_calls.specs.Calls.{IsLegal};
 ghost use Rattle.bc_share.specs.Sessions.{IsAnswered};
 
@@ -41,11 +42,7 @@ impl<E: Ending> Desk<E> {
         ensures refused { OnErr result (notes.new ≡ notes.old) }
     {
         match &mut *self.book.lock(rt) {
-            Some(book) => {
-                book.put_types(rt, notes.number(), types)?;
-                notes.note(rt, Event::Types(mine));
-                Ok(())
-            }
+            Some(book) => enter_types(rt, book, notes, types, mine),
             None => Err(Refusal::HistoryFull),
         }
     }
@@ -65,11 +62,7 @@ impl<E: Ending> Desk<E> {
         ensures refused { OnErr result (notes.new ≡ notes.old) }
     {
         match &mut *self.book.lock(rt) {
-            Some(book) => {
-                let reply = book.put(rt, alloc, notes.number(), name, unit)?;
-                notes.note(rt, Event::Put(name, mine, reply));
-                Ok(reply)
-            }
+            Some(book) => enter_put(rt, alloc, book, notes, name, unit, mine),
             None => Err(Refusal::HistoryFull),
         }
     }
@@ -86,11 +79,7 @@ impl<E: Ending> Desk<E> {
         ensures refused { OnErr result (notes.new ≡ notes.old) }
     {
         match &mut *self.book.lock(rt) {
-            Some(book) => {
-                let reply = book.remove(rt, notes.number(), name)?;
-                notes.note(rt, Event::Remove(name, reply));
-                Ok(reply)
-            }
+            Some(book) => enter_removal(rt, book, notes, name),
             None => Err(Refusal::HistoryFull),
         }
     }
@@ -109,12 +98,7 @@ impl<E: Ending> Desk<E> {
         ensures refused { OnErr result (notes.new ≡ notes.old) }
     {
         match &mut *self.book.lock(rt) {
-            Some(book) => {
-                let name = *work.name();
-                let (mine, answer) = book.settle(rt, alloc, notes.number(), work, providers)?;
-                notes.note(rt, Event::Ask(name, mine));
-                Ok(answer)
-            }
+            Some(book) => enter_ask(rt, alloc, book, notes, work, providers),
             None => Err(Refusal::HistoryFull),
         }
     }
@@ -129,4 +113,87 @@ impl<E: Ending> Desk<E> {
             None => Vec::new(alloc),
         }
     }
+}
+
+// Enters a session's declarations as one entry of the book, and notes it once it is read.
+fn enter_types<R: Wait, E: Ending>(
+    rt: &R,
+    book: &mut Book<E>,
+    notes: &mut Notes,
+    types: Shared<Declared>,
+    mine: Shared<Declared>,
+) -> Result<(), Refusal>
+    requires { 0 < notes.old.room }
+    ensures entered { OnOk result (Appends notes.old.session.number (Event.Types types) book.old book.new) }
+    ensures told { OnOk result (IsAnswered (Event.Types mine) notes.old.session notes.new.session) }
+    ensures kept { OnErr result (book.new ≡ book.old) }
+    ensures refused { OnErr result (notes.new ≡ notes.old) }
+    ensures full { IfErr result (IsFull book.old) }
+{
+    book.put_types(rt, notes.number(), types)?;
+    notes.note(rt, Event::Types(mine));
+    Ok(())
+}
+
+// Enters a session's put as one entry of the book, and notes it once it is read.
+fn enter_put<R: Wait, E: Ending>(
+    rt: &R,
+    alloc: Global,
+    book: &mut Book<E>,
+    notes: &mut Notes,
+    name: Name,
+    unit: Shared<Unit>,
+    mine: Shared<Unit>,
+) -> Result<PutReply, Refusal>
+    requires { 0 < notes.old.room }
+    ensures entered { IfOk result (λ reply. Appends notes.old.session.number (Event.Put name unit reply) book.old book.new) }
+    ensures told { IfOk result (λ reply. IsAnswered (Event.Put name mine reply) notes.old.session notes.new.session) }
+    ensures kept { OnErr result (book.new ≡ book.old) }
+    ensures refused { OnErr result (notes.new ≡ notes.old) }
+    ensures full { IfErr result (IsFull book.old) }
+{
+    let reply = book.put(rt, alloc, notes.number(), name, unit)?;
+    notes.note(rt, Event::Put(name, mine, reply));
+    Ok(reply)
+}
+
+// Enters a session's removal as one entry of the book, and notes it once it is read.
+fn enter_removal<R: Wait, E: Ending>(
+    rt: &R,
+    book: &mut Book<E>,
+    notes: &mut Notes,
+    name: Name,
+) -> Result<RemoveReply, Refusal>
+    requires { 0 < notes.old.room }
+    ensures entered { IfOk result (λ reply. Appends notes.old.session.number (Event.Remove name reply) book.old book.new) }
+    ensures told { IfOk result (λ reply. IsAnswered (Event.Remove name reply) notes.old.session notes.new.session) }
+    ensures kept { OnErr result (book.new ≡ book.old) }
+    ensures refused { OnErr result (notes.new ≡ notes.old) }
+    ensures full { IfErr result (IsFull book.old) }
+{
+    let reply = book.remove(rt, notes.number(), name)?;
+    notes.note(rt, Event::Remove(name, reply));
+    Ok(reply)
+}
+
+// Enters a session's Ask of the name of a work as one entry of the book, and notes it once it is read.
+fn enter_ask<R: Wait, E: Ending>(
+    rt: &R,
+    alloc: Global,
+    book: &mut Book<E>,
+    notes: &mut Notes,
+    work: Work,
+    providers: &Providers,
+) -> Result<Shared<Outcome>, Refusal>
+    requires { 0 < notes.old.room }
+    ensures entered { IfOk result (λ outcome. Appends notes.old.session.number (Event.Ask work.snapshot.root outcome) book.old book.new) }
+    ensures told { IfOk result (λ outcome. IsAnswered (Event.Ask work.snapshot.root outcome) notes.old.session notes.new.session) }
+    ensures kept { OnErr result (book.new ≡ book.old) }
+    ensures refused { OnErr result (notes.new ≡ notes.old) }
+    ensures full { IfErr result (IsFull book.old) }
+{
+    let name = *work.name();
+    let (mine, answer) = book.settle(rt, alloc, notes.number(), work, providers)?;
+    notes.note(rt, Event::Ask(name, mine));
+    Ok(answer)
 }

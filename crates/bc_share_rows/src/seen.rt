@@ -1,11 +1,10 @@
 //! What sessions see of what is published: glances at names, and beginnings of them, between the calls of a session.
-use crate::counted::refusing;
-use crate::tests::{
-    CLOSURE, CLOSURE_WRITES, Found, INVOKES, MARKED_INVARIANT, NESTED, Turn, WRITES_LAST,
-    WRITES_WHILE_BORROWED, found_by, goes, name,
-};
 use bc_analyses::providers;
 use bc_calls::{PutReply, RemoveReply};
+use bc_fixtures::{
+    CLOSURE, CLOSURE_WRITES, Found, INVOKES, MARKED_INVARIANT, NESTED, Turn, WRITES_LAST,
+    WRITES_WHILE_BORROWED, found_by, goes, name, refusing,
+};
 use bc_prov::Providers;
 use bc_share::{Db, Session};
 use bc_versions::{Ending, Waiting};
@@ -99,7 +98,7 @@ fn steps<R: Wait, E: Ending>(
     step: &Step,
 ) -> Result<bool, Fail> {
     match *step {
-        Step::Call(turn) => goes(rt, alloc, at(sessions, 0)?, providers, &turn),
+        Step::Call(turn) => Ok(goes(rt, alloc, at(sessions, 0)?, providers, &turn)?),
         Step::Glance(number, text, found) => Ok(glances(at(sessions, number)?, text)? == found),
         Step::Begin(number, text, found) => {
             Ok(begins(alloc, at(sessions, number)?, text, providers)? == found)
@@ -122,7 +121,7 @@ fn all_step<R: Abort + Wait, E: Ending>(
     taken: &[Step],
 ) -> Result<(), Fail> {
     let providers = providers!(alloc);
-    let refusing = refusing(alloc)?;
+    let refusing = refusing!(alloc);
     for (number, step) in taken.iter().enumerate() {
         assert!(rt;
             steps(rt, alloc, sessions, &providers, &refusing, step)?,

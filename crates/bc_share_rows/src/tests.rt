@@ -2,233 +2,31 @@
 use bc_analyses::providers;
 use bc_book::Refusal;
 use bc_calls::{Entry, Event, PutReply, RemoveReply};
-use bc_prov::{Outcome, Providers};
+use bc_fixtures::{
+    CLOSURE, CLOSURE_WRITES, Found, INVARIANT_BUT_MARKED_COVARIANT, INVOKES, MARKED_INVARIANT,
+    NESTED, Turn, WRITES_LAST, WRITES_WHILE_BORROWED, found_by, history_by,
+};
 use bc_share::{CloseFault, Db, History, OpenFault, Session};
-use bc_syntax::{Types, Unit};
-use bc_text::{Name, read_types, read_unit};
 use bc_versions::{Ending, Waiting};
-use std::alloc::{AllocError, Global};
-use std::process::Abort;
-use std::sync::{Arc, Wait};
+use std::alloc::Global;
+use std::sync::Wait;
 use std::test::Fail;
-
-/// Writes the local once the borrow of it is used no more: no error.
-pub(crate) const WRITES_LAST: &[u8] =
-    b"fn () -> int { let _1: int; let _2: &'?0 int; bb0 { _1 = 1; _2 = &'?1 _1; _0 = copy _2.*; _1 = 2; return; } }";
-
-/// Writes the local while the borrow of it is still used: one conflict.
-pub(crate) const WRITES_WHILE_BORROWED: &[u8] =
-    b"fn () -> int { let _1: int; let _2: &'?0 int; bb0 { _1 = 1; _2 = &'?1 _1; _1 = 2; _0 = copy _2.*; return; } }";
-
-/// Creates its closure 0 and invokes it.
-pub(crate) const INVOKES: &[u8] =
-    b"fn () -> int { let _1: closure 0; bb0 { _1 = closure 0(); _0 = invoke _1() bb1; } bb1 { return; } }";
-
-/// A closure that does so with its closure 1.
-pub(crate) const NESTED: &[u8] =
-    b"closure [] () -> int { let _1: closure 1; bb0 { _1 = closure 1(); _0 = invoke _1() bb1; } bb1 { return; } }";
-
-/// A closure that creates none: no error.
-pub(crate) const CLOSURE: &[u8] = b"closure [] () -> int { bb0 { _0 = 0; return; } }";
-
-/// A closure that writes a local while the borrow of it is still used: one conflict.
-pub(crate) const CLOSURE_WRITES: &[u8] =
-    b"closure [] () -> int { let _1: int; let _2: &'?0 int; bb0 { _1 = 1; _2 = &'?1 _1; _1 = 2; _0 = copy _2.*; return; } }";
 
 /// A closure that requires that the first region outlives the second: no error of its own.
 const REQUIRES: &[u8] =
     b"closure <'x,'y> [&'x int, &'y int] () -> int { let _3: &'y int; bb0 { _3 = copy _1; _0 = 0; return; } }";
 
-pub(crate) const INVARIANT_BUT_MARKED_COVARIANT: &[u8] = b"struct H<+'a> { &'static mut &'a int; }";
-
-pub(crate) const MARKED_INVARIANT: &[u8] = b"struct H<='a> { &'static mut &'a int; }";
-
-/// What an Ask finds: no body, a missing closure, whose name has so many segments, the first bad declaration, one body with so
-/// many errors, two or three with so many each, or something else.
-#[derive(Clone, Copy, PartialEq)]
-pub(crate) enum Found {
-    NoBody,
-    Missing(usize),
-    BadTypes(usize),
-    Errors(usize),
-    Two(usize, usize),
-    Three(usize, usize, usize),
-    Other,
-}
-
-/// A call with the reply that it is to have, or the refusal; or puts of new bodies under 256 names; or of new closures under 252.
-#[derive(Clone, Copy)]
-pub(crate) enum Turn<'a> {
-    Put(&'a [u8], &'a [u8], Result<PutReply, Refusal>),
-    Types(&'a [u8], Result<(), Refusal>),
-    Remove(&'a [u8], Result<RemoveReply, Refusal>),
-    Ask(&'a [u8], Result<Found, Refusal>),
-    Fill,
-    FillBelow,
-}
-
 const FULL: Refusal = Refusal::HistoryFull;
 
-/// The name that a text spells; fails where it spells none.
-pub(crate) fn name(text: &[u8]) -> Result<Name, Fail> {
-    let Some(name) = Name::read(text) else {
-        return Err("a name")?;
-    };
-    Ok(name)
-}
-
-/// The unit that a text spells, behind an `Arc`, as a put takes it; fails where it spells none, or for want of memory.
-pub(crate) fn shared(alloc: Global, text: &[u8]) -> Result<Arc<Unit, Global>, Fail> {
-    match Arc::new(alloc, read_unit(alloc, text)?) {
-        Ok(unit) => Ok(unit),
-        Err(_) => Err(AllocError)?,
-    }
-}
-
-/// The declarations that a text spells, behind an `Arc`; fails where it spells none, or for want of memory.
-fn declared(alloc: Global, text: &[u8]) -> Result<Arc<Types, Global>, Fail> {
-    match Arc::new(alloc, read_types(alloc, text)?) {
-        Ok(types) => Ok(types),
-        Err(_) => Err(AllocError)?,
-    }
-}
-
-pub(crate) fn found_by(outcome: &Outcome) -> Found {
-    match outcome {
-        Outcome::NoBody => Found::NoBody,
-        Outcome::Missing(name) => Found::Missing(name.segments().len()),
-        Outcome::BadTypes(index) => Found::BadTypes(*index),
-        Outcome::Ill(_, _) => Found::Other,
-        Outcome::Report(bodies) => match bodies.as_slice() {
-            [body] => Found::Errors(body.errors.len()),
-            [outer, inner] => Found::Two(outer.errors.len(), inner.errors.len()),
-            [outer, middle, inner] => {
-                Found::Three(outer.errors.len(), middle.errors.len(), inner.errors.len())
-            }
-            _ => Found::Other,
-        },
-    }
-}
-
-/// Asks for a name, and answers whether that finds this or has its refusal.
-fn finds<R: Wait, E: Ending>(
-    rt: &R,
-    session: &mut Session<E>,
-    providers: &Providers,
-    asked: &[u8],
-    wanted: Result<Found, Refusal>,
-) -> Result<bool, Fail> {
-    match (session.ask(rt, &name(asked)?, providers), wanted) {
-        (Ok(outcome), Ok(wanted)) => Ok(found_by(&outcome) == wanted),
-        (Err(refused), Err(refusal)) => Ok(refused == refusal),
-        (Ok(_), Err(_)) | (Err(_), Ok(_)) => Ok(false),
-    }
-}
-
-/// Whether a unit is new under each of 256 names.
-fn fills<R: Wait, E: Ending>(
-    rt: &R,
-    session: &mut Session<E>,
-    unit: &Arc<Unit, Global>,
-) -> Result<bool, Fail> {
-    for high in b'a'..b'q' {
-        for low in b'a'..b'q' {
-            let root = [high, low];
-            if session.put(rt, name(&root)?, Arc::try_clone(unit)?)? != PutReply::Added {
-                return Ok(false);
-            }
-        }
-    }
-    Ok(true)
-}
-
-/// The name of a closure of the root of this letter; fails where there is none.
-fn child_of(letter: u8, number: u8) -> Result<Name, Fail> {
-    let root = [letter];
-    let Some(child) = name(&root)?.child(number) else {
-        return Err("a child")?;
-    };
-    Ok(child)
-}
-
-/// Whether a closure is new under the numbers 0 to 62 of each of four roots.
-fn fills_below<R: Wait, E: Ending>(
-    rt: &R,
-    session: &mut Session<E>,
-    closure: &Arc<Unit, Global>,
-) -> Result<bool, Fail> {
-    for letter in b'a'..b'e' {
-        for number in 0..63 {
-            let child = child_of(letter, number)?;
-            if session.put(rt, child, Arc::try_clone(closure)?)? != PutReply::Added {
-                return Ok(false);
-            }
-        }
-    }
-    Ok(true)
-}
-
-/// Makes a call, and answers whether it has its reply.
-pub(crate) fn goes<R: Wait, E: Ending>(
-    rt: &R,
-    alloc: Global,
-    session: &mut Session<E>,
-    providers: &Providers,
-    turn: &Turn,
-) -> Result<bool, Fail> {
-    match *turn {
-        Turn::Put(put, unit, wanted) => {
-            let unit = shared(alloc, unit)?;
-            Ok(session.put(rt, name(put)?, unit) == wanted)
-        }
-        Turn::Types(types, wanted) => {
-            let types = declared(alloc, types)?;
-            Ok(session.put_types(rt, types) == wanted)
-        }
-        Turn::Remove(removed, wanted) => Ok(session.remove(rt, name(removed)?) == wanted),
-        Turn::Ask(asked, wanted) => finds(rt, session, providers, asked, wanted),
-        Turn::Fill => fills(rt, session, &shared(alloc, WRITES_LAST)?),
-        Turn::FillBelow => fills_below(rt, session, &shared(alloc, CLOSURE)?),
-    }
-}
-
-pub(crate) fn all_go<R: Abort + Wait, E: Ending>(
-    rt: &R,
-    alloc: Global,
-    session: &mut Session<E>,
-    providers: &Providers,
-    turns: &[Turn],
-) -> Result<(), Fail> {
-    for (number, turn) in turns.iter().enumerate() {
-        assert!(rt; goes(rt, alloc, session, providers, turn)?, "call {number}");
-    }
-    Ok(())
-}
-
-/// The history of a new database with so many entries at most, whose session makes these calls, by these providers.
-pub(crate) fn history_by<R: Abort + Wait>(
-    rt: &R,
-    alloc: Global,
-    providers: &Providers,
-    capacity: u32,
-    turns: &[Turn],
-) -> Result<History, Fail> {
-    let (db, mut sessions) = Db::open(alloc, Waiting::new(rt), 0, capacity, 1)?;
-    for session in sessions.iter_mut() {
-        all_go(rt, alloc, session, providers, turns)?;
-    }
-    Ok(db.close(rt, sessions)?)
-}
-
-/// The same, by the program's providers.
-fn history_of<R: Abort + Wait>(
+/// The history of a new database with so many entries at most, whose session makes these calls, by the program's providers.
+fn history_of<R: Wait>(
     rt: &R,
     alloc: Global,
     capacity: u32,
     turns: &[Turn],
 ) -> Result<History, Fail> {
     let providers = providers!(alloc);
-    history_by(rt, alloc, &providers, capacity, turns)
+    Ok(history_by(rt, alloc, &providers, capacity, turns)?)
 }
 
 /// Whether the entry of a call is the session's and has its number, and whether it has the call and its reply.

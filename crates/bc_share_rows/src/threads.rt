@@ -1,15 +1,16 @@
 //! Sessions that make the calls of scripts on threads, and what comes after a close.
-use crate::tests::{Found, WRITES_LAST, WRITES_WHILE_BORROWED, found_by, name, shared};
-use bc_analyses::providers;
+use bc_analyses::{find_live, find_scopes, find_values, providers};
 use bc_book::Refusal;
 use bc_calls::{Call, Entry, Event, PutReply};
-use bc_prov::{Providers, Shared};
+use bc_cons::Facts;
+use bc_fixtures::{Found, Open, WRITES_LAST, WRITES_WHILE_BORROWED, found_by, name, shared_unit};
+use bc_prov::{Providers, Shared, Solver};
 use bc_share::{Db, End, Gate, History, Script, Session, Stage, run_sessions};
 use bc_versions::{Ending, Waiting};
 use std::alloc::Global;
-use std::sync::Wait;
 use std::sync::atomic::AtomicU32;
 use std::sync::atomic::Ordering::SeqCst;
+use std::sync::{Arc, Wait};
 use std::test::Fail;
 use std::thread;
 use std::thread::Threads;
@@ -23,13 +24,6 @@ const MOST_TURNS: u32 = 10_000;
 enum Step {
     Put(&'static [u8], &'static [u8]),
     Ask(&'static [u8]),
-}
-
-/// A gate that nobody is held up at.
-struct Open;
-
-impl Gate for Open {
-    fn pause(&self, _session: u8, _stage: Stage) {}
 }
 
 /// A gate that holds session 1 up at its first Ask until session 0 has worked, and session 0 there until session 1 has begun its
@@ -76,10 +70,41 @@ impl<'a, C: Clock> Gate for Turnstile<'a, C> {
     }
 }
 
+/// What is noted of a stage that no Ask came to.
+const NEVER: u32 = u32::MAX;
+
+/// A gate that nobody is held up at. It notes how many bodies were solved when an Ask came to each stage last.
+#[derive(Drop)]
+struct Watch<'a> {
+    solved: &'a AtomicU32,
+    at_begun: AtomicU32,
+    at_worked: AtomicU32,
+}
+
+impl<'a> Watch<'a> {
+    fn new(solved: &'a AtomicU32) -> Watch<'a> {
+        Watch {
+            solved,
+            at_begun: AtomicU32::new(NEVER),
+            at_worked: AtomicU32::new(NEVER),
+        }
+    }
+}
+
+impl<'a> Gate for Watch<'a> {
+    fn pause(&self, _session: u8, stage: Stage) {
+        let solved = self.solved.load(SeqCst);
+        match stage {
+            Stage::Begun => self.at_begun.store(solved, SeqCst),
+            Stage::Worked => self.at_worked.store(solved, SeqCst),
+        }
+    }
+}
+
 /// A call of a script; fails where a text spells nothing, or for want of memory.
 fn call_of(alloc: Global, step: Step) -> Result<Call, Fail> {
     match step {
-        Step::Put(put, unit) => Ok(Call::Put(name(put)?, Shared::new(shared(alloc, unit)?))),
+        Step::Put(put, unit) => Ok(Call::Put(name(put)?, Shared::new(shared_unit(alloc, unit)?))),
         Step::Ask(asked) => Ok(Call::Ask(name(asked)?)),
     }
 }
@@ -117,20 +142,20 @@ fn parted<E: Ending>(
     Ok((sessions, ends))
 }
 
-/// How the scripts end that the sessions of a database make, and its history.
+/// How the scripts end that the sessions of a database make by these providers, and its history.
 fn close_behind<R: Threads + Wait + Sync, E: Ending + Send, G: Gate + Sync>(
     rt: &R,
     alloc: Global,
     db: Db<E>,
     sessions: Vec<Session<E>>,
     scripts: Vec<Script>,
+    providers: &Providers,
     gate: &G,
 ) -> Result<(Vec<End>, History), Fail> {
     if scripts.len() != sessions.len() {
         return Err("as many scripts as sessions")?;
     }
-    let providers = providers!(alloc);
-    match run_sessions(rt, alloc, &db, sessions, scripts, &providers, gate) {
+    match run_sessions(rt, alloc, &db, sessions, scripts, providers, gate) {
         Ok(ran) => {
             let (sessions, ends) = parted(alloc, ran)?;
             Ok((ends, db.close(rt, sessions)?))
@@ -140,6 +165,21 @@ fn close_behind<R: Threads + Wait + Sync, E: Ending + Send, G: Gate + Sync>(
 }
 
 /// The same, of a new database of two sessions, whose history may have so many entries.
+fn run_by<R: Threads + Wait + Sync, G: Gate + Sync>(
+    rt: &R,
+    alloc: Global,
+    capacity: u32,
+    first: Script,
+    second: Script,
+    providers: &Providers,
+    gate: &G,
+) -> Result<(Vec<End>, History), Fail> {
+    let scripts = both(alloc, first, second)?;
+    let (db, sessions) = Db::open(alloc, Waiting::new(rt), 0, capacity, 2)?;
+    close_behind(rt, alloc, db, sessions, scripts, providers, gate)
+}
+
+/// The same, by the program's providers.
 fn run_both<R: Threads + Wait + Sync, G: Gate + Sync>(
     rt: &R,
     alloc: Global,
@@ -148,9 +188,36 @@ fn run_both<R: Threads + Wait + Sync, G: Gate + Sync>(
     second: Script,
     gate: &G,
 ) -> Result<(Vec<End>, History), Fail> {
-    let scripts = both(alloc, first, second)?;
-    let (db, sessions) = Db::open(alloc, Waiting::new(rt), 0, capacity, 2)?;
-    close_behind(rt, alloc, db, sessions, scripts, gate)
+    let providers = providers!(alloc);
+    run_by(rt, alloc, capacity, first, second, &providers, gate)
+}
+
+/// How many bodies were solved when the last Ask of a script of two calls had begun, and how many when its work was done.
+fn solved_at_stages<R: Threads + Wait + Sync>(
+    rt: &R,
+    alloc: Global,
+    script: Script,
+) -> Result<(u32, u32), Fail> {
+    let Ok(solved) = Arc::new(alloc, AtomicU32::new(0)) else {
+        return Err("memory")?;
+    };
+    let to_solve = Arc::try_clone(&solved)?;
+    let solve: Solver = Box::new(alloc, move |alloc: Global, facts: &Facts| {
+        to_solve.fetch_add(1, SeqCst);
+        find_values(alloc, facts)
+    })?;
+    let providers = Providers::new(
+        Box::new(alloc, find_live)?,
+        solve,
+        Box::new(alloc, find_scopes)?,
+    );
+    let watch = Watch::new(&solved);
+    let none = Script::new(Vec::new(alloc));
+    let (ends, _history) = run_by(rt, alloc, 2, script, none, &providers, &watch)?;
+    if !are_done(&ends) {
+        return Err("a call was refused")?;
+    }
+    Ok((watch.at_begun.load(SeqCst), watch.at_worked.load(SeqCst)))
 }
 
 /// Whether the entries of a session are so many, and numbered in their order.
@@ -243,6 +310,17 @@ fn a_body_is_replaced_while_another_session_works_on_it(rt: HostRuntime) -> Resu
     Ok(())
 }
 
+/// Catches the two stages swapped, and a stage that an Ask does not come to or comes to on the other side of its work.
+#[test]
+fn an_ask_has_begun_before_its_work_is_done(rt: HostRuntime) -> Result<(), Fail> {
+    let steps = [Step::Put(b"f", WRITES_LAST), Step::Ask(b"f")];
+    let script = script_of(rt.alloc(), &steps, 1)?;
+    let (begun, worked) = solved_at_stages(&rt, rt.alloc(), script)?;
+    assert!(rt; begun == 0, "nothing is solved where the Ask has begun");
+    assert!(rt; worked == 1, "the body is solved where its work is done");
+    Ok(())
+}
+
 /// A script ends at the call that is refused; what was made before stands, and the close is audited.
 #[test]
 fn a_refused_call_ends_its_script(rt: HostRuntime) -> Result<(), Fail> {
@@ -275,7 +353,7 @@ fn is_late<R: Wait, E: Ending>(
     session: &mut Session<E>,
     providers: &Providers,
 ) -> Result<bool, Fail> {
-    let put = session.put(rt, name(b"f")?, shared(alloc, WRITES_LAST)?);
+    let put = session.put(rt, name(b"f")?, shared_unit(alloc, WRITES_LAST)?);
     let asked = session.ask(rt, &name(b"f")?, providers);
     Ok(put == Err(Refusal::HistoryFull) && matches!(asked, Err(Refusal::NoMemory)))
 }

@@ -1,39 +1,17 @@
 //! What the analysis finds of a body, and how long each of its steps takes at best, in microseconds.
-use anyhow::bail;
 use bc_bench::timed;
-use bc_cons::{Facts, constraints};
+use bc_cons::Facts;
+use bc_fixtures::{facts_alone, good_types, typed_alone};
 use bc_judge::judge;
 use bc_live::{LiveSets, live};
 use bc_loans::in_scope;
-use bc_mir::{CheckTypes, GoodTypes, Typed, type_unit};
+use bc_mir::{GoodTypes, Typed};
 use bc_solve::{Values, solve_plain};
 use bc_syntax::Unit;
-use bc_text::{read_types, read_unit};
-use std::alloc::{AllocError, Global};
+use bc_text::read_unit;
+use std::alloc::Global;
 use std::io::Write;
 use std::sync::Arc;
-
-/// No declarations.
-fn no_types(alloc: Global) -> anyhow::Result<Arc<GoodTypes, Global>> {
-    let good = read_types(alloc, b"")?.check(alloc)?;
-    match Arc::new(alloc, good) {
-        Ok(types) => Ok(types),
-        Err(_) => Err(AllocError)?,
-    }
-}
-
-/// A unit that names no closure, typed.
-fn typed_alone(
-    alloc: Global,
-    types: &Arc<GoodTypes, Global>,
-    unit: &Unit,
-) -> anyhow::Result<Typed> {
-    let children = unit.body().children(alloc)?;
-    match children.as_slice() {
-        [] => Ok(type_unit(alloc, types, unit, &[])?),
-        [_, ..] => bail!("the body names a closure"),
-    }
-}
 
 fn measure_values<O: Write, E: Write>(
     rt: &HostRuntime,
@@ -73,14 +51,6 @@ fn measure_facts<O: Write, E: Write>(
     measure_values(rt, typed, &values, out, err)
 }
 
-/// What the values of a unit that names no closure are made from.
-fn demands_alone(alloc: Global, typed: &Typed, live: &LiveSets) -> anyhow::Result<Facts> {
-    match typed.children() {
-        [] => Ok(constraints(alloc, typed, live, &[])?),
-        [_, ..] => bail!("the body names a closure"),
-    }
-}
-
 fn measure_live<O: Write, E: Write>(
     rt: &HostRuntime,
     typed: &Typed,
@@ -91,7 +61,7 @@ fn measure_live<O: Write, E: Write>(
     let facts = timed(
         rt,
         "constraints",
-        || demands_alone(rt.alloc(), typed, live),
+        || facts_alone(rt.alloc(), typed, live),
         err,
     )?;
     measure_facts(rt, typed, &facts, out, err)
@@ -126,7 +96,7 @@ fn measure_unit<O: Write, E: Write>(
     out: &mut O,
     err: &mut E,
 ) -> anyhow::Result<()> {
-    let types = no_types(rt.alloc())?;
+    let types = good_types(rt.alloc(), b"")?;
     measure_over(rt, &types, unit, out, err)
 }
 

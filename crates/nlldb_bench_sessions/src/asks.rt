@@ -2,26 +2,19 @@
 use anyhow::bail;
 use bc_analyses::providers;
 use bc_bench::timed;
+use bc_fixtures::shared_unit;
 use bc_prov::Providers;
 use bc_share::Db;
 use bc_syntax::Unit;
-use bc_text::{Name, read_unit};
+use bc_text::Name;
 use bc_versions::Waiting;
-use std::alloc::{AllocError, Global};
+use std::alloc::Global;
 use std::io::Write;
 use std::sync::{Arc, Wait};
 use std::time::Clock;
 
 /// How often it is asked for once it is known.
 const AGAIN: u32 = 100;
-
-/// The unit that a text spells, as a put takes it.
-pub fn shared(alloc: Global, text: &[u8]) -> anyhow::Result<Arc<Unit, Global>> {
-    match Arc::new(alloc, read_unit(alloc, text)?) {
-        Ok(unit) => Ok(unit),
-        Err(_) => Err(AllocError)?,
-    }
-}
 
 /// Puts a unit in a new database and asks for it so often. Gives how many entries the history has.
 fn asked<R: Wait>(
@@ -54,7 +47,7 @@ pub fn measure_asks<R: AllocGlobal + Clock + Wait, O: Write, E: Write>(
     err: &mut E,
 ) -> anyhow::Result<()> {
     let providers = providers!(rt.alloc());
-    let unit = shared(rt.alloc(), text)?;
+    let unit = shared_unit(rt.alloc(), text)?;
     write!(err, "{name}: microseconds:")?;
     let once = timed(
         rt,

@@ -1,8 +1,8 @@
 //! Asks for a function with many closures, first and after one of them was replaced.
-use crate::asks::shared;
 use anyhow::bail;
 use bc_analyses::providers;
 use bc_bench::{Best, TURNS, closure_in_line, creator_of};
+use bc_fixtures::shared_unit;
 use bc_prov::Providers;
 use bc_share::{Db, Session};
 use bc_syntax::Unit;
@@ -34,10 +34,10 @@ struct Units {
 /// The units, where each closure has so many loans.
 fn make_units(alloc: Global, loans: u32) -> anyhow::Result<Units> {
     Ok(Units {
-        creator: shared(alloc, &creator_of(alloc, CLOSURES)?)?,
-        closure: shared(alloc, &closure_in_line(alloc, loans, "")?)?,
-        first: shared(alloc, &closure_in_line(alloc, LOANS, "nop;")?)?,
-        second: shared(alloc, &closure_in_line(alloc, LOANS, "")?)?,
+        creator: shared_unit(alloc, &creator_of(alloc, CLOSURES)?)?,
+        closure: shared_unit(alloc, &closure_in_line(alloc, loans, "")?)?,
+        first: shared_unit(alloc, &closure_in_line(alloc, LOANS, "nop;")?)?,
+        second: shared_unit(alloc, &closure_in_line(alloc, LOANS, "")?)?,
     })
 }
 

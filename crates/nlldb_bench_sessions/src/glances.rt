@@ -1,9 +1,9 @@
 //! Glances at names that are held and answered, beginnings of parts, and puts, each by one session alone.
-use crate::asks::shared;
 use anyhow::bail;
 use bc_analyses::providers;
 use bc_bench::{Best, TURNS, below, generator};
 use bc_calls::PutReply;
+use bc_fixtures::shared_unit;
 use bc_prov::{Outcome, Providers};
 use bc_share::{Db, Session};
 use bc_syntax::Unit;
@@ -221,7 +221,7 @@ fn measure_held<R: AllocGlobal + Clock + Wait, O: Write, F: Write>(
 ) -> anyhow::Result<()> {
     let alloc = rt.alloc();
     let providers = providers!(alloc);
-    let unit = shared(alloc, BODY)?;
+    let unit = shared_unit(alloc, BODY)?;
     let names = names(alloc)?;
     let (_db, mut seats) = Db::open(alloc, Waiting::new(rt), 0, CAPACITY, sessions)?;
     let Some(session) = seats.first_mut() else {
@@ -262,7 +262,7 @@ fn measure_part<R: AllocGlobal + Clock + Wait, E: Ending, O: Write, F: Write>(
     out: &mut O,
     err: &mut F,
 ) -> anyhow::Result<()> {
-    let closure = shared(rt.alloc(), CLOSURE)?;
+    let closure = shared_unit(rt.alloc(), CLOSURE)?;
     hold_below(rt, session, root, units, &closure)?;
     let mut best = Best::new();
     for _ in 0..TURNS {
@@ -283,7 +283,7 @@ fn measure_parts<R: AllocGlobal + Clock + Wait, O: Write, F: Write>(
     err: &mut F,
 ) -> anyhow::Result<()> {
     let alloc = rt.alloc();
-    let unit = shared(alloc, BODY)?;
+    let unit = shared_unit(alloc, BODY)?;
     let names = names(alloc)?;
     let (_db, mut seats) = Db::open(alloc, Waiting::new(rt), 0, CAPACITY, 1)?;
     let Some(session) = seats.first_mut() else {

@@ -1,9 +1,9 @@
 //! Reads by one session while others write on threads of their own: at its front, and as it would be under a lock.
-use crate::asks::shared;
 use crate::glances::{BODY, answer_all, names};
 use anyhow::bail;
 use bc_analyses::providers;
 use bc_book::Book;
+use bc_fixtures::shared_unit;
 use bc_prov::{Providers, Shared};
 use bc_share::{Db, Session};
 use bc_syntax::Unit;
@@ -335,7 +335,7 @@ fn measure_front<R: AllocGlobal + Threads + Wait + Clock + Sync, O: Write, F: Wr
 ) -> anyhow::Result<()> {
     let alloc = rt.alloc();
     let providers = providers!(alloc);
-    let unit = shared(alloc, BODY)?;
+    let unit = shared_unit(alloc, BODY)?;
     let names = names(alloc)?;
     let count = writers.saturating_add(1);
     let (_db, mut sessions) = Db::open(alloc, Waiting::new(rt), 0, CAPACITY, count)?;
@@ -378,7 +378,7 @@ fn measure_lock<R: AllocGlobal + Threads + Wait + Clock + Sync, O: Write, F: Wri
 ) -> anyhow::Result<()> {
     let alloc = rt.alloc();
     let providers = providers!(alloc);
-    let unit = shared(alloc, BODY)?;
+    let unit = shared_unit(alloc, BODY)?;
     let names = names(alloc)?;
     let readers = 1 + usize::from(writers);
     let mut book = Book::new(alloc, Waiting::new(rt), CAPACITY, readers)?;

@@ -1,15 +1,15 @@
 //! The steps of the analysis of one body, each made once more where it is refused.
 use crate::again::again;
-use anyhow::bail;
-use bc_cons::{Facts, constraints};
+use bc_cons::Facts;
+use bc_fixtures::{facts_alone, good_types, typed_alone};
 use bc_judge::{judge, known_relations};
 use bc_live::{LiveSets, live};
 use bc_loans::{Scopes, in_scope, loans};
-use bc_mir::{CheckTypes, GoodTypes, Typed, type_unit};
+use bc_mir::{GoodTypes, Typed};
 use bc_solve::{Values, solve_components, solve_plain};
-use bc_syntax::{Types, Unit};
-use bc_text::{read_types, read_unit};
-use std::alloc::{AllocError, Global};
+use bc_syntax::Unit;
+use bc_text::read_unit;
+use std::alloc::Global;
 use std::io::Write;
 use std::sync::Arc;
 
@@ -20,31 +20,6 @@ const DECLARATIONS: &[u8] =
 /// A body with each form of a point that needs no closure, with a conflict and a lifetime error.
 const BODY: &[u8] =
     b"fn <'a,'b> where 'a: 'b (&'b mut &'a int, int) -> &'a int { let _3: P<'?0,'?1>; let _4: &'?2 int; let _5: G<'?3>; let _6: int; let _7: &'?4 mut &'?5 int; bb0 { _6 = 1; _4 = &'?6 _6; _5 = G<'?7>(copy _4); _7 = &'?8 mut _1.*; _6 = 2; if copy _2 bb1 bb2; } bb1 { _3 = P<'?9,'?10>(move _7, move _5, 7); _6 = calc(copy _2, copy _2, copy _2, copy _2, copy _2); dead _7; drop _3; goto bb3; } bb2 { _4 = call k<'?11,'?12>(move _7, copy _2) bb3; } bb3 { _0 = copy _4; nop; return; } }";
-
-/// Declarations, of which none is bad.
-fn checked(alloc: Global, types: &Types) -> anyhow::Result<Arc<GoodTypes, Global>> {
-    match Arc::new(alloc, types.check(alloc)?) {
-        Ok(types) => Ok(types),
-        Err(_) => Err(AllocError)?,
-    }
-}
-
-/// A unit that names no closure, typed.
-fn typed(alloc: Global, types: &Arc<GoodTypes, Global>, unit: &Unit) -> anyhow::Result<Typed> {
-    let children = unit.body().children(alloc)?;
-    match children.as_slice() {
-        [] => Ok(type_unit(alloc, types, unit, &[])?),
-        [_, ..] => bail!("the body names a closure"),
-    }
-}
-
-/// What the values of its regions are made from.
-fn facts_of(alloc: Global, typed: &Typed, live: &LiveSets) -> anyhow::Result<Facts> {
-    match typed.children() {
-        [] => Ok(constraints(alloc, typed, live, &[])?),
-        [_, ..] => bail!("the body names a closure"),
-    }
-}
 
 /// Whether the values of two solvers are the same.
 fn are_same(left: &Values, right: &Values, elements: usize) -> bool {
@@ -117,7 +92,7 @@ fn show_live<W: Write>(
     live: &LiveSets,
     out: &mut W,
 ) -> anyhow::Result<()> {
-    let facts = again(|| facts_of(alloc, typed, live))?;
+    let facts = again(|| facts_alone(alloc, typed, live))?;
     show_facts(alloc, typed, &facts, out)
 }
 
@@ -153,7 +128,7 @@ fn show_unit<W: Write>(
     unit: &Unit,
     out: &mut W,
 ) -> anyhow::Result<()> {
-    let typed = again(|| typed(alloc, types, unit))?;
+    let typed = again(|| typed_alone(alloc, types, unit))?;
     show_typed(alloc, &typed, out)
 }
 
@@ -167,14 +142,8 @@ fn show_over<W: Write>(
     show_unit(alloc, types, &unit, out)
 }
 
-/// Declarations, of which none is bad, from their text.
-fn declared(alloc: Global) -> anyhow::Result<Arc<GoodTypes, Global>> {
-    let types = read_types(alloc, DECLARATIONS)?;
-    checked(alloc, &types)
-}
-
 /// Shows what the steps of the analysis find of a body, each made once more where it is refused. (Own.)
 pub fn show<W: Write>(alloc: Global, out: &mut W) -> anyhow::Result<()> {
-    let types = again(|| declared(alloc))?;
+    let types = again(|| good_types(alloc, DECLARATIONS))?;
     show_over(alloc, &types, out)
 }

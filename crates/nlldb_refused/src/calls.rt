@@ -1,8 +1,9 @@
 //! Sessions that make each call once more where it is refused.
 use crate::again::again;
-use crate::turns::{Turn, name, show_entry};
+use crate::turns::{Turn, show_entry};
 use anyhow::bail;
 use bc_calls::Work;
+use bc_fixtures::name;
 use bc_prov::{Outcome, Providers};
 use bc_share::{Db, Session};
 use bc_text::Name;

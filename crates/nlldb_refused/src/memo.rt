@@ -4,10 +4,10 @@ ghost use Rattle.bc_prov.specs.State.{Suits};
 
 use crate::again::again;
 use crate::calls::WRITES_LAST;
-use crate::turns::{name, shared_unit};
 use anyhow::bail;
 use bc_calls::no_declarations;
 use bc_check::write_report;
+use bc_fixtures::{name, shared_unit};
 use bc_memo::{Change, Memo, Shelf, suits};
 use bc_prov::{Outcome, Shared};
 use bc_syntax::Unit;
@@ -72,7 +72,7 @@ fn install(
     if !shelf.is_held(&at) {
         bail!("nothing is held");
     }
-    memo.install(alloc, shelf, at, &[at], outcome.clone()?)?;
+    memo.install(alloc, shelf, at, &[], outcome.clone()?)?;
     Ok(())
 }
 

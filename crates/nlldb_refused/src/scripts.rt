@@ -4,8 +4,9 @@ use crate::calls::{WRITES_LAST, WRITES_WHILE_BORROWED};
 use crate::turns::{Turn, show_entry};
 use anyhow::bail;
 use bc_book::Refusal;
+use bc_fixtures::run_freely;
 use bc_prov::Providers;
-use bc_share::{Db, End, Gate, History, Script, Session, Stage, run_sessions};
+use bc_share::{Db, End, History, Script, Session};
 use bc_versions::{Ending, Waiting};
 use std::alloc::Global;
 use std::io;
@@ -34,13 +35,6 @@ const CALLS: [[Turn; 5]; 2] = [
 /// How many calls each makes.
 const EACH: usize = 5;
 
-/// A gate that nobody is held up at.
-struct Open;
-
-impl Gate for Open {
-    fn pause(&self, _session: u8, _stage: Stage) {}
-}
-
 /// The script of the calls behind the first ones, of which there are so many.
 fn script(alloc: Global, calls: &[Turn], made: usize) -> anyhow::Result<Script> {
     let mut script = Vec::new(alloc);
@@ -59,21 +53,6 @@ fn scripts(alloc: Global, made: &[usize]) -> anyhow::Result<Vec<Script>> {
     Ok(scripts)
 }
 
-/// Has the sessions make scripts; they come back as the `Err` where none made a call.
-fn run<R: Threads + Wait + Sync, E: Ending + Send>(
-    rt: &R,
-    alloc: Global,
-    db: &Db<E>,
-    sessions: Vec<Session<E>>,
-    scripts: Vec<Script>,
-    providers: &Providers,
-) -> Result<Vec<(Session<E>, End)>, Vec<Session<E>>> {
-    if sessions.len() != scripts.len() {
-        return Err(sessions);
-    }
-    run_sessions(rt, alloc, db, sessions, scripts, providers, &Open)
-}
-
 /// Has the sessions make the calls that are not made yet, once more where room for the result is refused.
 fn run_again<R: Threads + Wait + Sync, E: Ending + Send>(
     rt: &R,
@@ -84,12 +63,12 @@ fn run_again<R: Threads + Wait + Sync, E: Ending + Send>(
     providers: &Providers,
 ) -> anyhow::Result<Vec<(Session<E>, End)>> {
     let theirs = again(|| scripts(alloc, made))?;
-    let sessions = match run(rt, alloc, db, sessions, theirs, providers) {
+    let sessions = match run_freely(rt, alloc, db, sessions, theirs, providers) {
         Ok(ran) => return Ok(ran),
         Err(sessions) => sessions,
     };
     let theirs = again(|| scripts(alloc, made))?;
-    match run(rt, alloc, db, sessions, theirs, providers) {
+    match run_freely(rt, alloc, db, sessions, theirs, providers) {
         Ok(ran) => Ok(ran),
         Err(_) => bail!("the sessions made no call"),
     }

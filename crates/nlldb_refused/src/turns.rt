@@ -1,16 +1,15 @@
 //! The calls that sessions make, and what is printed of a history.
-use anyhow::bail;
 use bc_calls::{Call, Entry, Event};
 use bc_check::write_report;
+use bc_fixtures::{name, shared_types, shared_unit};
 use bc_prov::{Providers, Shared};
 use bc_share::Session;
-use bc_syntax::{Types, Unit};
-use bc_text::{Name, read_types, read_unit};
+use bc_text::Name;
 use bc_versions::Ending;
-use std::alloc::{AllocError, Global};
+use std::alloc::Global;
 use std::io;
 use std::io::Write;
-use std::sync::{Arc, Wait};
+use std::sync::Wait;
 
 /// A call of a session. What it stores or puts is told by its text.
 #[derive(Clone, Copy)]
@@ -19,30 +18,6 @@ pub(crate) enum Turn {
     Put(&'static [u8], &'static [u8]),
     Remove(&'static [u8]),
     Ask(&'static [u8]),
-}
-
-/// The name that a text spells.
-pub(crate) fn name(text: &[u8]) -> anyhow::Result<Name> {
-    let Some(name) = Name::read(text) else {
-        bail!("no name");
-    };
-    Ok(name)
-}
-
-/// The declarations that a text spells.
-fn declared(alloc: Global, text: &[u8]) -> anyhow::Result<Arc<Types, Global>> {
-    match Arc::new(alloc, read_types(alloc, text)?) {
-        Ok(types) => Ok(types),
-        Err(_) => Err(AllocError)?,
-    }
-}
-
-/// The unit that a text spells.
-pub(crate) fn shared_unit(alloc: Global, text: &[u8]) -> anyhow::Result<Arc<Unit, Global>> {
-    match Arc::new(alloc, read_unit(alloc, text)?) {
-        Ok(unit) => Ok(unit),
-        Err(_) => Err(AllocError)?,
-    }
 }
 
 impl Turn {
@@ -64,7 +39,7 @@ impl Turn {
     ) -> anyhow::Result<()> {
         match self {
             Turn::Types(text) => {
-                session.put_types(rt, declared(alloc, text)?)?;
+                session.put_types(rt, shared_types(alloc, text)?)?;
             }
             Turn::Put(at, text) => {
                 session.put(rt, name(at)?, shared_unit(alloc, text)?)?;
@@ -82,7 +57,7 @@ impl Turn {
     /// The call of a script that it is.
     pub(crate) fn call(&self, alloc: Global) -> anyhow::Result<Call> {
         match self {
-            Turn::Types(text) => Ok(Call::Types(Shared::new(declared(alloc, text)?))),
+            Turn::Types(text) => Ok(Call::Types(Shared::new(shared_types(alloc, text)?))),
             Turn::Put(at, text) => Ok(Call::Put(name(at)?, Shared::new(shared_unit(alloc, text)?))),
             Turn::Remove(at) => Ok(Call::Remove(name(at)?)),
             Turn::Ask(at) => Ok(Call::Ask(name(at)?)),

@@ -3,21 +3,15 @@
 //!
 //! `#` begins a row: its name, to the end of the line, and then its file, up to the next `#`. What stands before the first
 //! row stands at the head of each. (Own.)
-//!
-//! Behind the rows sixteen sessions make calls on threads, and what they leave is compared with a map of names. With the words `load` and a
-//! number in place of files, they do so for that many seconds, and nothing else is shown.
 #![tactic(auto)]
 
 mod children;
 mod limits;
-mod load;
-mod model;
 mod spelled;
 mod steps;
 
 use crate::children::show_children;
 use crate::limits::show_limits;
-use crate::load::{show_agreement, show_load};
 use crate::spelled::spell_row;
 use crate::steps::show_steps;
 use bc_analyses::{find_plain_values, providers};
@@ -111,31 +105,12 @@ fn show_rows<R: Wait, O: Write + Drop>(
     Ok(())
 }
 
-/// For how many seconds sessions are to make calls, where the words are `load` and that number, and not the names of files.
-fn seconds_of_load(rt: &HostRuntime) -> io::Result<Option<u64>> {
-    let mut words = env::args(rt)?.skip(1);
-    let Some(word) = words.next() else {
-        return Ok(None);
-    };
-    if word.as_str() != "load" {
-        return Ok(None);
-    }
-    let Some(seconds) = words.next() else {
-        return Ok(None);
-    };
-    Ok(seconds.parse().ok())
-}
-
 fn main(rt: HostRuntime) -> io::Result<()> {
     let mut out = BufWriter::new(rt.alloc(), rt.stdout())?;
     let solvers = Solvers {
         components: providers!(rt.alloc()),
         plain: providers!(rt.alloc(), find_plain_values),
     };
-    if let Some(seconds) = seconds_of_load(&rt)? {
-        show_load(&rt, &solvers.components, seconds, &mut out)?;
-        return out.flush();
-    }
     for name in env::args(&rt)?.skip(1) {
         let text = fs::read_to_string(&rt, &name)?;
         show_rows(&rt, rt.alloc(), &solvers, &text, &mut out)?;
@@ -143,6 +118,5 @@ fn main(rt: HostRuntime) -> io::Result<()> {
     show_steps(&rt, &mut out)?;
     show_children(&rt, &mut out)?;
     show_limits(&rt, &solvers, &mut out)?;
-    show_agreement(&rt, &solvers.components, &mut out)?;
     out.flush()
 }

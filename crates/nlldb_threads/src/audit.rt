@@ -2,18 +2,9 @@
 use crate::texts::{Kind, Texts};
 use anyhow::bail;
 use bc_calls::{Entry, Event};
-use bc_prov::Outcome;
+use bc_fixtures::Sight;
 use bc_text::Name;
 use std::alloc::{AllocError, Global};
-
-/// What is seen of an outcome: no body, a closure that is not held, so many bodies with so many errors in all, or something else.
-#[derive(Clone, Copy, PartialEq)]
-pub(crate) enum Sight {
-    NoBody,
-    Missing,
-    Report(usize, usize),
-    Other,
-}
 
 /// What a session read of a name: the answer that a glance shows, or what its own work on the name's part finds.
 #[derive(Clone, Copy)]
@@ -34,24 +25,6 @@ struct Row {
 #[derive(Drop)]
 struct Map {
     rows: Vec<Row>,
-}
-
-impl Sight {
-    /// What is seen of an outcome.
-    pub(crate) fn of(outcome: &Outcome) -> Sight {
-        match outcome {
-            Outcome::NoBody => Sight::NoBody,
-            Outcome::Missing(_) => Sight::Missing,
-            Outcome::BadTypes(_) | Outcome::Ill(_, _) => Sight::Other,
-            Outcome::Report(bodies) => {
-                let mut errors: usize = 0;
-                for body in bodies.as_slice() {
-                    errors = errors.saturating_add(body.errors.len());
-                }
-                Sight::Report(bodies.len(), errors)
-            }
-        }
-    }
 }
 
 impl Map {
@@ -103,7 +76,7 @@ impl Map {
     /// What an Ask of a name finds that invokes this closure.
     fn found_below(&self, child: &Name) -> Sight {
         match self.held(child) {
-            None => Sight::Missing,
+            None => Sight::Missing(*child),
             Some(Kind::Plain(errors)) => Sight::Report(2, errors),
             Some(Kind::Invoking) => Sight::Other,
         }
@@ -129,10 +102,10 @@ impl Map {
     }
 
     /// Answers a name, if it is held.
-    fn answer_with(&mut self, name: &Name, sight: Sight) {
+    fn answer_with(&mut self, name: &Name, sight: &Sight) {
         for row in self.rows.iter_mut() {
             if row.name == *name && row.held.is_some() {
-                row.answer = Some(sight);
+                row.answer = Some(*sight);
             }
         }
     }
@@ -156,7 +129,7 @@ impl Map {
                 if sight != self.found(name) {
                     bail!("an Ask finds something else");
                 }
-                self.answer_with(name, sight);
+                self.answer_with(name, &sight);
             }
         }
         Ok(())

@@ -1,9 +1,10 @@
 //! A session that reads while others write.
-use crate::audit::{Reading, Sight, audit};
+use crate::audit::{Reading, audit};
 use crate::scripts::{READ, SESSIONS, WRITERS, WRITERS_CALLS, scripts_beside};
-use crate::texts::{Texts, name};
+use crate::texts::Texts;
 use crate::writers::make_all;
 use anyhow::bail;
+use bc_fixtures::{Sight, name};
 use bc_prov::Providers;
 use bc_share::{Db, Script, Session};
 use bc_text::Name;

@@ -1,6 +1,7 @@
 //! The scripts of the sessions that write.
-use crate::texts::{Texts, name};
+use crate::texts::Texts;
 use bc_calls::Call;
+use bc_fixtures::name;
 use bc_share::Script;
 use bc_text::Name;
 use std::alloc::Global;

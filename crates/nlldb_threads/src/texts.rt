@@ -1,10 +1,9 @@
 //! What sessions put under names.
 use anyhow::bail;
+use bc_fixtures::{shared_types, shared_unit};
 use bc_prov::Shared;
 use bc_syntax::{Types, Unit};
-use bc_text::{Name, read_types, read_unit};
-use std::alloc::{AllocError, Global};
-use std::sync::Arc;
+use std::alloc::Global;
 
 /// How many functions there are, and how many closures.
 const COUNT: u32 = 48;
@@ -46,18 +45,12 @@ pub(crate) struct Texts {
 
 /// The unit that a text spells.
 fn unit(alloc: Global, text: &[u8]) -> anyhow::Result<Shared<Unit>> {
-    match Arc::new(alloc, read_unit(alloc, text)?) {
-        Ok(unit) => Ok(Shared::new(unit)),
-        Err(_) => Err(AllocError)?,
-    }
+    Ok(Shared::new(shared_unit(alloc, text)?))
 }
 
 /// The declarations that a text spells.
 fn declared(alloc: Global, text: &[u8]) -> anyhow::Result<Shared<Types>> {
-    match Arc::new(alloc, read_types(alloc, text)?) {
-        Ok(types) => Ok(Shared::new(types)),
-        Err(_) => Err(AllocError)?,
-    }
+    Ok(Shared::new(shared_types(alloc, text)?))
 }
 
 /// A unit that begins so, and has so many errors.
@@ -97,14 +90,6 @@ fn place_of(units: &[Shared<Unit>], wanted: &Shared<Unit>) -> Option<usize> {
         }
     }
     None
-}
-
-/// The name that a text spells.
-pub(crate) fn name(text: &[u8]) -> anyhow::Result<Name> {
-    match Name::read(text) {
-        Some(name) => Ok(name),
-        None => bail!("no name"),
-    }
 }
 
 impl Texts {

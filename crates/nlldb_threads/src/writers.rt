@@ -4,34 +4,13 @@ use crate::texts::Texts;
 use anyhow::bail;
 use bc_book::Refusal;
 use bc_calls::Call;
+use bc_fixtures::run_freely;
 use bc_prov::Providers;
-use bc_share::{Db, End, Gate, Script, Session, Stage, run_sessions};
+use bc_share::{Db, End, Session};
 use bc_versions::{Ending, Waiting};
 use std::alloc::{AllocError, Global};
 use std::sync::Wait;
 use std::thread::Threads;
-
-/// A gate that nobody is held up at.
-struct Open;
-
-impl Gate for Open {
-    fn pause(&self, _session: u8, _stage: Stage) {}
-}
-
-/// Has the sessions make their scripts. They come back as the `Err` where there are not as many scripts, or for want of memory.
-fn run_all<R: Threads + Wait + Sync, E: Ending + Send>(
-    rt: &R,
-    alloc: Global,
-    db: &Db<E>,
-    sessions: Vec<Session<E>>,
-    scripts: Vec<Script>,
-    providers: &Providers,
-) -> Result<Vec<(Session<E>, End)>, Vec<Session<E>>> {
-    if sessions.len() != scripts.len() {
-        return Err(sessions);
-    }
-    run_sessions(rt, alloc, db, sessions, scripts, providers, &Open)
-}
 
 /// Makes a call.
 fn make_call<R: Wait, E: Ending>(
@@ -95,7 +74,7 @@ pub(crate) fn entries_of<R: Threads + Wait + Sync>(
     let scripts = scripts(alloc, texts)?;
     let capacity = u32::from(SESSIONS) * CALLS;
     let (db, sessions) = Db::open(alloc, Waiting::new(rt), 0, capacity, SESSIONS)?;
-    match run_all(rt, alloc, &db, sessions, scripts, providers) {
+    match run_freely(rt, alloc, &db, sessions, scripts, providers) {
         Ok(ran) => {
             let history = db.close(rt, done(alloc, ran)?)?;
             Ok(history.entries().len())

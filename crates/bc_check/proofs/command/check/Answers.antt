@@ -16,4 +16,5 @@ returns-clause-stopped g c =
       many = λ e. (let h = c.serve.ensures.too_many e in omega (arith, length-map c.in_ok-changes.changes.items seen, h.0));
       quiet = λ e. (let h = c.serve.ensures.too_many e in (h.1, h.2));
       no_memory = c.serve.ensures.no_memory;
+      untold = c.serve.ensures.untold;
     })

@@ -1,4 +1,4 @@
-use Rattle.std.proofs.Common.{◌≡◌, sym, subst}
+use Rattle.std.proofs.Common.{sym, subst}
 use Rattle.bc_text.specs.Names.{NameParts}
 use Rattle.bc_prov.specs.Outcome.{IsOutcomeIn}
 use Rattle.bc_prov.specs.declared.outcome.Outcome.{Outcome}
@@ -13,4 +13,4 @@ returns-in-Some g c =
     let w = c.args.work in
     let o = c.in-Some.outcome in
     subst (λ (p : LedgerView × NameParts × Outcome). IsOutcomeIn (after p.0.entries) p.1 p.2) (λ k. (c.self.view_is k, c.requires k, sym c.without_pieces.ensures.outcome k))
-    (stood_outcome i.shelf.held i.history.items w o c.self.invariant.shelf_of c.in-Some.ensures)
+    (stood_outcome i.shelf.held i.history.items w o c.self.invariant.shelf_of c.in-Some.ensures.own)

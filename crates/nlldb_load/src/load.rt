@@ -1,6 +1,7 @@
 //! Sixteen sessions that put, remove, ask and glance on threads, over functions with closures, and what a map says of that.
-use crate::model::{CLOSURES, Deed, Glance, Kind, Log, Sight, agree};
+use crate::model::{CLOSURES, Deed, Glance, Kind, Log, agree};
 use bc_book::Refusal;
+use bc_fixtures::Sight;
 use bc_prov::{Providers, Shared};
 use bc_share::{Db, Session};
 use bc_syntax::Unit;

@@ -1,8 +1,8 @@
 //! How many bodies are worked on where an Ask comes after a change: those whose ground changed.
-use crate::tests::{CLOSURE, CLOSURE_WRITES, Found, INVOKES, NESTED, Turn, goes};
 use bc_analyses::{find_live, find_scopes, find_values};
 use bc_calls::PutReply;
 use bc_cons::Facts;
+use bc_fixtures::{CLOSURE, CLOSURE_WRITES, Found, INVOKES, NESTED, Turn, goes};
 use bc_prov::{Providers, Solver};
 use bc_share::{Db, Session};
 use bc_versions::{Ending, Waiting};

@@ -1,24 +1,18 @@
 //! Asks by providers of a test: such as count their calls, and such as always want memory.
-ghost use Rattle.std.specs.Prelude.{IfOk};
-ghost use Rattle.bc_prov.specs.Facts.{AreLive, AreScopes, AreValues};
-
-use crate::tests::{
-    CLOSURE, CLOSURE_WRITES, Found, INVARIANT_BUT_MARKED_COVARIANT, INVOKES, NESTED, Turn,
-    WRITES_LAST, all_go, history_by,
-};
 use bc_analyses::{find_live, find_scopes, find_values, providers};
 use bc_book::Refusal;
 use bc_calls::PutReply;
 use bc_cons::Facts;
-use bc_live::LiveSets;
-use bc_loans::Scopes;
+use bc_fixtures::{
+    CLOSURE, CLOSURE_WRITES, Found, INVARIANT_BUT_MARKED_COVARIANT, INVOKES, NESTED, Turn,
+    WRITES_LAST, all_go, history_by, refusing, want_memory,
+};
 use bc_mir::Typed;
 use bc_prov::{Liveness, Providers, Scoping, Solver};
 use bc_share::Db;
 use bc_solve::Values;
 use bc_versions::Waiting;
-use std::alloc::{AllocError, Global};
-use std::process::Abort;
+use std::alloc::Global;
 use std::sync::atomic::AtomicU32;
 use std::sync::atomic::Ordering::SeqCst;
 use std::sync::{Arc, Wait};
@@ -52,39 +46,9 @@ impl Calls {
     }
 }
 
-/// A solver that always wants memory.
-fn want_memory(_alloc: Global, _facts: &Facts) -> Result<Values, AllocError>
-    ensures { IfOk result (AreValues _facts.now) }
-{
-    Err(AllocError)
-}
-
-/// A liveness that always wants memory.
-fn no_live(_alloc: Global, _typed: &Typed) -> Result<LiveSets, AllocError>
-    ensures { IfOk result (AreLive _typed.now) }
-{
-    Err(AllocError)
-}
-
-/// Loans in scope that always want memory.
-fn no_scopes(_alloc: Global, _typed: &Typed, _values: &Values) -> Result<Scopes, AllocError>
-    ensures { IfOk result (AreScopes _typed.now _values.now) }
-{
-    Err(AllocError)
-}
-
-/// Providers that always want memory.
-pub(crate) fn refusing(alloc: Global) -> Result<Providers, Fail> {
-    Ok(Providers::new(
-        Box::new(alloc, no_live)?,
-        Box::new(alloc, want_memory)?,
-        Box::new(alloc, no_scopes)?,
-    ))
-}
-
 /// Whether each provider is called so often where a session makes these calls, by providers that count their calls and answer as
 /// the program's do.
-fn are_called<R: Abort + Wait>(
+fn are_called<R: Wait>(
     rt: &R,
     alloc: Global,
     turns: &[Turn],
@@ -188,7 +152,7 @@ fn a_second_ask_of_an_unchanged_name_calls_no_provider(rt: HostRuntime) -> Resul
     let (db, mut sessions) = Db::open(alloc, Waiting::new(&rt), 0, 9, 1)?;
     for session in sessions.iter_mut() {
         all_go(&rt, alloc, session, &providers!(alloc), &first)?;
-        all_go(&rt, alloc, session, &refusing(alloc)?, &second)?;
+        all_go(&rt, alloc, session, &refusing!(alloc), &second)?;
     }
     let history = db.close(&rt, sessions)?;
     assert!(rt; history.entries().len() == 8, "the refused Ask is no entry");

@@ -1,7 +1,7 @@
 //! What a map of names says of the calls and the glances of sessions, and nothing else: it knows of no revision, of no piece and of no
 //! memo. It is compared with the history of a database, entry by entry, and each session's glances with the beginnings of that history.
 use bc_calls::{Entry, Event, MOST_BODIES, PutReply, RemoveReply};
-use bc_prov::Outcome;
+use bc_fixtures::Sight;
 use bc_text::Name;
 use std::alloc::{AllocError, Global};
 
@@ -17,15 +17,6 @@ pub(crate) enum Kind {
     Closure(usize),
     Function(usize),
     Creator([bool; CLOSURES]),
-}
-
-/// What is seen of an outcome: no body, a missing closure, so many bodies with so many errors in all, or something else.
-#[derive(Clone, Copy, PartialEq)]
-pub(crate) enum Sight {
-    NoBody,
-    Missing(Name),
-    Report(usize, usize),
-    Other,
 }
 
 /// A call that a session made, by the number of the name, with what is known of the unit that it put.
@@ -57,24 +48,6 @@ struct Map {
     held: Vec<Option<Kind>>,
     answers: Vec<Option<Sight>>,
     count: usize,
-}
-
-impl Sight {
-    /// What is seen of an outcome.
-    pub(crate) fn of(outcome: &Outcome) -> Sight {
-        match outcome {
-            Outcome::NoBody => Sight::NoBody,
-            Outcome::Missing(name) => Sight::Missing(*name),
-            Outcome::BadTypes(_) | Outcome::Ill(_, _) => Sight::Other,
-            Outcome::Report(bodies) => {
-                let mut errors: usize = 0;
-                for body in bodies.as_slice() {
-                    errors = errors.saturating_add(body.errors.len());
-                }
-                Sight::Report(bodies.len(), errors)
-            }
-        }
-    }
 }
 
 impl Map {

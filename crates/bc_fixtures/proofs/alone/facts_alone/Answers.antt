@@ -1,7 +1,7 @@
-use Rattle.std.proofs.Common.{◌≡◌, ◌<◌, ◌∷◌, [], List, length, arith, subst}
+use Rattle.std.proofs.Common.{◌<◌, ◌∷◌, [], List, length, arith}
 use Rattle.bc_mir.specs.declared.children.Child.{Child}
 use Rattle.bc_cons.specs.Requirements.{AreOfChildren}
-use Rattle.nlldb_bench.proofs.analyses.demands_alone.Goals as goal
+use Rattle.bc_fixtures.proofs.alone.facts_alone.Goals as goal
 
 none-required : (children : List Child) → length children < 1 → AreOfChildren children []
 none-required [] below = tt

@@ -1,9 +1,10 @@
 //! Work that is settled by other providers, in another book, or late.
-use crate::counted::refusing;
-use crate::tests::{CLOSURE, Found, WRITES_LAST, WRITES_WHILE_BORROWED, found_by, name, shared};
 use bc_analyses::providers;
 use bc_book::Book;
 use bc_calls::Work;
+use bc_fixtures::{
+    CLOSURE, Found, WRITES_LAST, WRITES_WHILE_BORROWED, found_by, name, refusing, shared_unit,
+};
 use bc_prov::{Providers, Shared};
 use bc_versions::{Ending, Waiting};
 use std::alloc::Global;
@@ -19,7 +20,7 @@ fn with_body_at<R: Wait, E: Ending>(
     text: &[u8],
 ) -> Result<Book<E>, Fail> {
     let mut book = book;
-    let unit = Shared::new(shared(alloc, text)?);
+    let unit = Shared::new(shared_unit(alloc, text)?);
     book.put(rt, alloc, 0, name(at)?, unit)?;
     Ok(book)
 }
@@ -140,7 +141,7 @@ fn settles_elsewhere<R: Wait>(
 /// Catches the wrong body `settle_always_works_again`: work that stands is settled without a provider.
 #[test]
 fn work_that_stands_is_settled_without_a_provider(rt: HostRuntime) -> Result<(), Fail> {
-    let providers = refusing(rt.alloc())?;
+    let providers = refusing!(rt.alloc());
     let book = book_with(&rt, rt.alloc(), Waiting::new(&rt), WRITES_WHILE_BORROWED)?;
     assert!(rt; settles_at_once(&rt, rt.alloc(), book, &providers)? == Found::Errors(1));
     Ok(())
@@ -181,7 +182,7 @@ fn work_of_another_book_does_not_stand(rt: HostRuntime) -> Result<(), Fail> {
 /// The work does not stand, and what is remembered does, and the piece of the body too.
 #[test]
 fn what_is_remembered_is_told_where_the_work_does_not_stand(rt: HostRuntime) -> Result<(), Fail> {
-    let providers = refusing(rt.alloc())?;
+    let providers = refusing!(rt.alloc());
     let book = book_with(&rt, rt.alloc(), Waiting::new(&rt), WRITES_WHILE_BORROWED)?;
     assert!(rt; settles_beside(&rt, rt.alloc(), book, &providers)? == Found::Errors(1));
     Ok(())

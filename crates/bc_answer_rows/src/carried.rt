@@ -1,8 +1,7 @@
 //! Answers that are told where no piece of a body is kept: work that carries the answer of one database is settled in another.
-use crate::counted::refusing;
-use crate::tests::{CLOSURE, Found, Turn, WRITES_WHILE_BORROWED, all_go, found_by, name};
 use bc_analyses::providers;
 use bc_calls::{PutReply, Work};
+use bc_fixtures::{CLOSURE, Found, Turn, WRITES_WHILE_BORROWED, all_go, found_by, name, refusing};
 use bc_prov::Providers;
 use bc_share::{Db, Session};
 use bc_versions::{Ending, Waiting};
@@ -40,7 +39,7 @@ fn all_told<R: Abort + Wait, E: Ending>(
     session: &mut Session<E>,
     other: &mut Session<E>,
 ) -> Result<(), Fail> {
-    let refusing = refusing(alloc)?;
+    let refusing = refusing!(alloc);
     let put = Turn::Put(b"f", WRITES_WHILE_BORROWED, Ok(PutReply::Added));
     let beside = Turn::Put(b"f/3", CLOSURE, Ok(PutReply::Added));
     let ask = Turn::Ask(b"f", Ok(Found::Errors(1)));

@@ -1,0 +1,12 @@
+//! Tests of what the database answers by: how often its providers are called, which bodies are worked on, what is told where no piece is
+//! kept, and work that is settled by other providers, in another book, or late.
+#![tactic(auto)]
+
+#[cfg(test)]
+mod carried;
+#[cfg(test)]
+mod counted;
+#[cfg(test)]
+mod cutoff;
+#[cfg(test)]
+mod settled;

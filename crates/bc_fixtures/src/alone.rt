@@ -1,0 +1,39 @@
+//! The first steps of the analysis of a body that names no closure.
+use anyhow::bail;
+use bc_cons::{Facts, constraints};
+use bc_live::LiveSets;
+use bc_mir::{CheckTypes, GoodTypes, Typed, type_unit};
+use bc_syntax::Unit;
+use bc_text::read_types;
+use std::alloc::{AllocError, Global};
+use std::sync::Arc;
+
+/// The declarations that a text spells; fails where it spells none, where one is bad, or for want of memory. (Own.)
+pub fn good_types(alloc: Global, text: &[u8]) -> anyhow::Result<Arc<GoodTypes, Global>> {
+    let good = read_types(alloc, text)?.check(alloc)?;
+    match Arc::new(alloc, good) {
+        Ok(types) => Ok(types),
+        Err(_) => Err(AllocError)?,
+    }
+}
+
+/// A unit that names no closure, typed. (Own.)
+pub fn typed_alone(
+    alloc: Global,
+    types: &Arc<GoodTypes, Global>,
+    unit: &Unit,
+) -> anyhow::Result<Typed> {
+    let children = unit.body().children(alloc)?;
+    match children.as_slice() {
+        [] => Ok(type_unit(alloc, types, unit, &[])?),
+        [_, ..] => bail!("the body names a closure"),
+    }
+}
+
+/// What the values of a unit that names no closure are made from. (Own.)
+pub fn facts_alone(alloc: Global, typed: &Typed, live: &LiveSets) -> anyhow::Result<Facts> {
+    match typed.children() {
+        [] => Ok(constraints(alloc, typed, live, &[])?),
+        [_, ..] => bail!("the body names a closure"),
+    }
+}

@@ -1,0 +1,30 @@
+//! Functions, closures and declarations, by what an Ask finds in them.
+
+/// Writes the local once the borrow of it is used no more: no error. (Own.)
+pub const WRITES_LAST: &[u8] =
+    b"fn () -> int { let _1: int; let _2: &'?0 int; bb0 { _1 = 1; _2 = &'?1 _1; _0 = copy _2.*; _1 = 2; return; } }";
+
+/// Writes the local while the borrow of it is still used: one conflict. (Own.)
+pub const WRITES_WHILE_BORROWED: &[u8] =
+    b"fn () -> int { let _1: int; let _2: &'?0 int; bb0 { _1 = 1; _2 = &'?1 _1; _1 = 2; _0 = copy _2.*; return; } }";
+
+/// Creates its closure 0 and invokes it. (Own.)
+pub const INVOKES: &[u8] =
+    b"fn () -> int { let _1: closure 0; bb0 { _1 = closure 0(); _0 = invoke _1() bb1; } bb1 { return; } }";
+
+/// A closure that does so with its closure 1. (Own.)
+pub const NESTED: &[u8] =
+    b"closure [] () -> int { let _1: closure 1; bb0 { _1 = closure 1(); _0 = invoke _1() bb1; } bb1 { return; } }";
+
+/// A closure that creates none: no error. (Own.)
+pub const CLOSURE: &[u8] = b"closure [] () -> int { bb0 { _0 = 0; return; } }";
+
+/// A closure that writes a local while the borrow of it is still used: one conflict. (Own.)
+pub const CLOSURE_WRITES: &[u8] =
+    b"closure [] () -> int { let _1: int; let _2: &'?0 int; bb0 { _1 = 1; _2 = &'?1 _1; _1 = 2; _0 = copy _2.*; return; } }";
+
+/// A bad declaration. (Own.)
+pub const INVARIANT_BUT_MARKED_COVARIANT: &[u8] = b"struct H<+'a> { &'static mut &'a int; }";
+
+/// The same declaration with the right mark. (Own.)
+pub const MARKED_INVARIANT: &[u8] = b"struct H<='a> { &'static mut &'a int; }";

@@ -1,0 +1,64 @@
+//! What the tests of the database share, and some programs with them: bodies, what texts spell, calls with the replies that they are to
+//! have, what is seen of an outcome, providers that always want memory, sessions that nobody holds up, and the first steps of an analysis.
+#![tactic(auto)]
+
+ghost use Rattle.std.specs.Prelude.{IfOk};
+ghost use Rattle.bc_prov.specs.Facts.{AreLive, AreScopes, AreValues};
+
+mod alone;
+mod bodies;
+mod gates;
+mod outcomes;
+mod texts;
+mod turns;
+
+pub use alone::{facts_alone, good_types, typed_alone};
+use bc_cons::Facts;
+use bc_live::LiveSets;
+use bc_loans::Scopes;
+use bc_mir::Typed;
+pub use bc_prov::Providers;
+use bc_solve::Values;
+pub use bodies::{
+    CLOSURE, CLOSURE_WRITES, INVARIANT_BUT_MARKED_COVARIANT, INVOKES, MARKED_INVARIANT, NESTED,
+    WRITES_LAST, WRITES_WHILE_BORROWED,
+};
+pub use gates::{Open, run_freely};
+pub use outcomes::{Found, Sight, found_by};
+use std::alloc::{AllocError, Global};
+pub use texts::{name, shared_types, shared_unit};
+pub use turns::{Turn, all_go, goes, history_by};
+
+/// A solver that always wants memory. (Own.)
+pub fn want_memory(_alloc: Global, _facts: &Facts) -> Result<Values, AllocError>
+    ensures { IfOk result (AreValues _facts.now) }
+{
+    Err(AllocError)
+}
+
+/// A liveness that always wants memory. (Own.)
+pub fn no_live(_alloc: Global, _typed: &Typed) -> Result<LiveSets, AllocError>
+    ensures { IfOk result (AreLive _typed.now) }
+{
+    Err(AllocError)
+}
+
+/// Loans in scope that always want memory. (Own.)
+pub fn no_scopes(_alloc: Global, _typed: &Typed, _values: &Values) -> Result<Scopes, AllocError>
+    ensures { IfOk result (AreScopes _typed.now _values.now) }
+{
+    Err(AllocError)
+}
+
+/// The providers of which each always wants memory, made with the allocator that is named; answers want of memory from the function in
+/// which it stands, where memory was refused for them. It is a macro, as `providers!` of `bc_analyses` is. (Own.)
+#[macro_export]
+macro_rules! refusing {
+    ($alloc:expr) => {
+        $crate::Providers::new(
+            Box::new($alloc, $crate::no_live)?,
+            Box::new($alloc, $crate::want_memory)?,
+            Box::new($alloc, $crate::no_scopes)?,
+        )
+    };
+}
