@@ -8,13 +8,9 @@ mod file;
 mod heading;
 mod input;
 mod print;
-#[cfg(test)]
-mod rows;
 mod section;
 mod status;
 mod stop;
-#[cfg(test)]
-mod tests;
 
 pub use command::{check, check_and_tell, check_over, find_capacity};
 pub use fault::{FaultKind, FileFault};

@@ -3,8 +3,6 @@
 
 mod components;
 mod groups;
-#[cfg(test)]
-mod tests;
 
 pub use components::{Grouping, strong_components};
 pub use groups::{gathered, group_edges};

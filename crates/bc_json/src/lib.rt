@@ -4,7 +4,5 @@
 mod errors;
 mod outcomes;
 mod report;
-#[cfg(test)]
-mod tests;
 
 pub use report::json_report;

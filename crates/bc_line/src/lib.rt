@@ -6,8 +6,6 @@ mod fault;
 mod line;
 mod reading;
 mod solver;
-#[cfg(test)]
-mod tests;
 mod usage;
 
 pub use fault::LineFault;

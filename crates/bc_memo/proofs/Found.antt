@@ -1,5 +1,5 @@
 -- Pieces stay those of what is held.
-use Rattle.std.proofs.Common.{◌≡◌, Bool, true, false, true≢false, List, [], ◌∷◌, cond, refl, ap, sym, subst, ◌∙◌, Option, Some, None}
+use Rattle.std.proofs.Common.{◌≡◌, ◌↔◌, Bool, true, false, true≢false, IsTrue, List, [], ◌∷◌, ◌++◌, cond, refl, ap, sym, subst, ◌∙◌, Option, Some, None}
 use Rattle.std.specs.Prelude.{map}
 use Rattle.std.specs.Option.{option_map}
 use Rattle.std.specs.List.{AllByRecursion}
@@ -16,7 +16,7 @@ use Rattle.bc_prov.specs.State.{at_name}
 use Rattle.bc_prov.specs.Pieces.{PieceView, IsPieceFor}
 use Rattle.bc_prov.specs.Pieces.{ArePieces as AreOfSnapshot}
 use Rattle.bc_memo.specs.declared.place.Place.{Place}
-use Rattle.bc_memo.specs.Places.{Places, PieceRows, AreOrdered, ArePieces, answered, cleared, part_in, unit_of, units_in, with_answer}
+use Rattle.bc_memo.specs.Places.{Places, PieceRows, AreKeptInOrder, AreOrdered, ArePieces, answered, cleared, part_in, pieces_with, unit_of, units_in, with_answer}
 use Rattle.bc_memo.proofs.Places.{at_head, at_name-map, at_name-put, at_name-take, at_tail, by_bool, less_apart, ordered-filter, same_name, units_at}
 use Rattle.bc_prov.specs.declared.outcome.Outcome.{Outcome}
 
@@ -79,6 +79,14 @@ found_more types ps rows m more fits found n piece at =
     let same : more ≡ piece = cc in
     subst (λ (p : NameParts × PieceView). IsPieceFor types (unit_of (at_name ps p.0)) p.1) (λ i. ((name m n).0 is i, same i)) fits)
     (λ apart. found n piece (sym (at_name-put m more n rows ∙ ap (λ (b : Bool). cond b (Some more) (at_name rows n)) apart) ∙ at))
+
+-- ---- pieces that are kept in their order
+
+-- one more behind those that were
+pub kept_more : (types : List Declaration) (ps : Places) (pieces before after : PieceRows) (p : NameParts × PieceView) (fits : Bool) → (IsTrue fits ↔ IsPieceFor types (unit_of (at_name ps p.0)) p.1)
+    → AreKeptInOrder types ps pieces before after → AreKeptInOrder types ps (pieces ++ p ∷ []) before (pieces_with fits p.0 p.1 after)
+kept_more types ps [] before after p fits is same = (fits, is, ap (λ (rows : PieceRows). pieces_with fits p.0 p.1 rows) same)
+kept_more types ps (q ∷ pieces) before after p fits is kept = (kept.0, kept.1, kept_more types ps pieces (pieces_with kept.0 q.0 q.1 before) after p fits is kept.2)
 
 -- ---- a name's part
 

@@ -1,5 +1,5 @@
 -- What is held, with its revisions and its answers, and what a change makes of it.
-use Rattle.std.specs.Prelude.{◌≡◌, ◌↔◌, ℕ, ◌<◌, ◌≤◌, Bool, true, false, IsTrue, Option, Some, None, List, [], ◌∷◌, length, map, filter, slice_index_or, if◌then◌else◌}
+use Rattle.std.specs.Prelude.{◌≡◌, ◌↔◌, ℕ, ◌+◌, ◌<◌, ◌≤◌, Bool, true, false, IsTrue, Option, Some, None, List, [], ◌∷◌, length, map, filter, slice_index_or, if◌then◌else◌}
 use Rattle.std.specs.Option.{option_or}
 use Rattle.std.specs.Ordering.{is_gt}
 use Rattle.std.specs.declared.cmp.Ordering.TheVariants.{Less, Greater}
@@ -43,6 +43,18 @@ pub record ShelfRoom : Type 0 where
   pub pieces : PieceRows
   pub room : ℕ
   pub piece_room : ℕ
+
+-- for how many pieces there is memory in all
+abbrev pub most_rows : PieceRoom → ℕ
+most_rows memo = memo.room + length memo.rows
+
+-- for how many places there is memory in all
+abbrev pub most_places : ShelfRoom → ℕ
+most_places shelf = shelf.room + length shelf.held.places
+
+-- for how many pieces of them there is memory in all
+abbrev pub most_pieces : ShelfRoom → ℕ
+most_pieces shelf = shelf.piece_room + length shelf.pieces
 
 -- these declarations and no unit
 abbrev pub empty_shelf : List Declaration → ShelfView

@@ -5,7 +5,7 @@ ghost use Rattle.std.specs.Map.{remove_entry};
 ghost use Rattle.std.specs.Option.{option_copied};
 ghost use Rattle.bc_text.specs.Names.{name_order};
 ghost use Rattle.bc_prov.specs.State.{at_name};
-ghost use Rattle.bc_memo.specs.Places.{part_in};
+ghost use Rattle.bc_memo.specs.Places.{most_rows, part_in};
 
 use crate::rows::{find, put, take, within};
 use bc_prov::{Piece, Pieces, Shared, share_pieces};
@@ -42,12 +42,13 @@ impl PieceMemo {
         })
     }
 
-    /// Keeps the piece of a name, in the place of one that was kept for it. It takes no memory where there is some for one piece more.
-    /// Answers `AllocError` only where memory was refused, and then keeps what it kept before. (Own.)
+    /// Keeps the piece of a name, in the place of one that was kept for it. It takes no memory where there is some for one piece more, and
+    /// gives none back. Answers `AllocError` only where memory was refused, and then keeps what it kept before. (Own.)
     pub fn keep(&mut self, name: Name, piece: Shared<Piece>) -> Result<(), AllocError>
         ensures kept { OnOk result (self.new.rows ≡ insert_entry name_order self.old.rows name piece) }
         ensures refused { OnErr result (self.new.rows ≡ self.old.rows) }
         ensures granted { 0 < self.old.room → IsOk result }
+        ensures memory { most_rows self.old ≤ most_rows self.new }
     {
         self.rows.reserve(1)?;
         put(&mut self.rows, name, piece);
@@ -72,16 +73,18 @@ impl PieceMemo {
         share_pieces(alloc, within(&self.rows, root))
     }
 
-    /// Keeps no piece for a name. It takes no memory. (Own.)
+    /// Keeps no piece for a name. It takes no memory, and leaves that for as many pieces as before. (Own.)
     pub fn forget(&mut self, name: &Name)
-        ensures { self.new.rows ≡ remove_entry (is_at (name_order name.now)) self.old.rows }
+        ensures rows { self.new.rows ≡ remove_entry (is_at (name_order name.now)) self.old.rows }
+        ensures memory { most_rows self.new ≡ most_rows self.old }
     {
         take(&mut self.rows, name);
     }
 
-    /// Keeps no piece. It takes no memory. (Own.)
+    /// Keeps no piece. It takes no memory, and leaves that for as many pieces as before. (Own.)
     pub fn forget_all(&mut self)
-        ensures { self.new.rows ≡ [] }
+        ensures rows { self.new.rows ≡ [] }
+        ensures memory { most_rows self.new ≡ most_rows self.old }
     {
         self.rows.clear();
     }

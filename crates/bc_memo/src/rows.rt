@@ -27,11 +27,12 @@ pub(crate) fn start<T>(rows: &[(Name, T)], name: &Name) -> usize
     }
 }
 
-/// Puts a value at a name. It takes no memory.
+/// Puts a value at a name. It takes no memory and gives none back.
 pub(crate) fn put<T: Drop>(rows: &mut Vec<(Name, T)>, name: Name, value: T)
     requires ordered { AreOrdered rows.old.items }
     requires room { vec_len rows.old < vec_capacity rows.old }
-    ensures { rows.new.items ≡ insert_entry name_order rows.old.items name value }
+    ensures rows { rows.new.items ≡ insert_entry name_order rows.old.items name value }
+    ensures memory { vec_capacity rows.new ≡ vec_capacity rows.old }
 {
     match find(rows, &name) {
         Ok(place) => rows[place] = (name, value),
@@ -43,10 +44,11 @@ pub(crate) fn put<T: Drop>(rows: &mut Vec<(Name, T)>, name: Name, value: T)
     }
 }
 
-/// Takes the value of a name out, if it has one. It takes no memory.
+/// Takes the value of a name out, if it has one. It takes no memory and gives none of the list's back.
 pub(crate) fn take<T: Drop>(rows: &mut Vec<(Name, T)>, name: &Name)
     requires { AreOrdered rows.old.items }
-    ensures { rows.new.items ≡ remove_entry (is_at (name_order name.now)) rows.old.items }
+    ensures rows { rows.new.items ≡ remove_entry (is_at (name_order name.now)) rows.old.items }
+    ensures memory { vec_capacity rows.new ≡ vec_capacity rows.old }
 {
     if let Ok(place) = find(rows, name) {
         drop(rows.remove(place));

@@ -1,11 +1,11 @@
 //! What is held: declarations, and units with their answers in the order of their names.
-ghost use Rattle.std.specs.Prelude.{◌≡◌, ◌↔◌, ◌<◌, ◌≤◌, [], IfOk, IsOk, IsTrue, None, OnErr, OnOk, is_some, length, map};
+ghost use Rattle.std.specs.Prelude.{◌≡◌, ◌↔◌, ◌<◌, ◌≤◌, ℕ, [], IfOk, IsOk, IsTrue, None, OnErr, OnOk, is_some, length, map, take, vec_capacity};
 ghost use Rattle.std.specs.Option.{option_copied};
 ghost use Rattle.bc_text.specs.Names.{NameParts};
 ghost use Rattle.bc_prov.specs.Pieces.{IsPieceFor};
 ghost use Rattle.bc_prov.specs.State.{at_name};
 ghost use Rattle.bc_memo.specs.declared.place.Place.{Place};
-ghost use Rattle.bc_memo.specs.Places.{AreKeptInOrder, AreOrdered, IsHeld, MayChange, answer_of, answered, changed, cleared, empty_shelf, pieces_after, pieces_with, revision_at, revisions_in, unanswered, unit_of, units_in};
+ghost use Rattle.bc_memo.specs.Places.{AreKeptInOrder, AreOrdered, IsHeld, MayChange, answer_of, answered, changed, cleared, empty_shelf, most_pieces, most_places, pieces_after, pieces_with, revision_at, revisions_in, unanswered, unit_of, units_in};
 
 use crate::change::Change;
 use crate::pieces::PieceMemo;
@@ -65,13 +65,14 @@ impl Shelf {
         })
     }
 
-    /// Makes room for one more place, and changes nothing else. It takes no memory where there is some for one place more. Answers
-    /// `AllocError` only where memory was refused. (Own.)
+    /// Makes room for one more place, and changes nothing else. It takes no memory where there is some for one place more, and gives none
+    /// back. Answers `AllocError` only where memory was refused. (Own.)
     pub fn reserve(&mut self) -> Result<(), AllocError>
         ensures same { self.new.held ≡ self.old.held }
         ensures pieces { self.new.pieces ≡ self.old.pieces }
         ensures room { OnOk result (0 < self.new.room) }
         ensures granted { 0 < self.old.room → IsOk result }
+        ensures memory { (most_places self.old ≤ most_places self.new) × (self.new.piece_room ≡ self.old.piece_room) }
     {
         self.places.reserve(1)
     }
@@ -154,13 +155,14 @@ impl Shelf {
 
     /// Changes what is held, and gives what it writes this revision. Declarations make all answers void; a unit that is put or
     /// taken away makes void the answers of its name and of those with which this begins, up to a `/`. Declarations drop all pieces; a
-    /// unit that is put or taken away drops the one of its name alone. It takes no memory: it asks for room for one place, and that a
-    /// unit suits the name at which it is put, as `suits` tells. (Own.)
+    /// unit that is put or taken away drops the one of its name alone. It takes no memory, and leaves that for as many places and pieces
+    /// as before: it asks for room for one place, and that a unit suits the name at which it is put, as `suits` tells. (Own.)
     pub fn change(&mut self, change: Change, revision: u32)
         requires room { 0 < self.old.room }
         requires suited { MayChange change }
         ensures held { self.new.held ≡ changed self.old.held change revision }
         ensures pieces { self.new.pieces ≡ pieces_after change self.old.pieces }
+        ensures memory { (most_places self.new ≡ most_places self.old) × (most_pieces self.new ≡ most_pieces self.old) }
     {
         match change {
             Change::Types(types) => {
@@ -199,6 +201,7 @@ impl Shelf {
         ensures pieces { IfOk result (λ kept. self.new.pieces ≡ pieces_with kept name piece self.old.pieces) }
         ensures refused { OnErr result (self.new.pieces ≡ self.old.pieces) }
         ensures granted { 0 < self.old.piece_room → IsOk result }
+        ensures memory { most_pieces self.old ≤ most_pieces self.new }
     {
         if !self.fits(&name, &piece) {
             return Ok(false);
@@ -213,6 +216,8 @@ impl Shelf {
         ensures held { self.new.held ≡ self.old.held }
         ensures room { self.new.room ≡ self.old.room }
         ensures kept { OnOk result (AreKeptInOrder self.old.held.types self.old.held.places pieces.now self.old.pieces self.new.pieces) }
+        ensures refused { OnErr result ((count : ℕ) × AreKeptInOrder self.old.held.types self.old.held.places (take count pieces.now) self.old.pieces self.new.pieces) }
+        ensures memory { most_pieces self.old ≤ most_pieces self.new }
     {
         for entry in pieces {
             let piece = entry.1.clone()?;
@@ -290,7 +295,8 @@ fn is_unit(row: &(Name, Place), unit: &(Name, Shared<Unit>)) -> bool
 // Gives the place of a name this answer, or none, if the name has a place.
 fn set_answer(places: &mut Vec<(Name, Place)>, name: &Name, answer: Option<Shared<Outcome>>)
     requires { AreOrdered places.old.items }
-    ensures { places.new.items ≡ answered name.now answer places.old.items }
+    ensures places { places.new.items ≡ answered name.now answer places.old.items }
+    ensures memory { vec_capacity places.new ≡ vec_capacity places.old }
 {
     if let Ok(place) = find(places, name) {
         places[place].1.answer = answer;
@@ -301,7 +307,8 @@ fn set_answer(places: &mut Vec<(Name, Place)>, name: &Name, answer: Option<Share
 fn clear(places: &mut Vec<(Name, Place)>, name: &Name)
     requires ordered { AreOrdered places.old.items }
     requires bare { answer_of (at_name places.old.items name.now) ≡ None }
-    ensures { places.new.items ≡ cleared name.now places.old.items }
+    ensures places { places.new.items ≡ cleared name.now places.old.items }
+    ensures memory { vec_capacity places.new ≡ vec_capacity places.old }
 {
     for depth in 0..name.depth() {
         set_answer(places, &name.beginning(depth), None);
@@ -310,7 +317,8 @@ fn clear(places: &mut Vec<(Name, Place)>, name: &Name)
 
 // Takes all answers away.
 fn clear_all(places: &mut Vec<(Name, Place)>)
-    ensures { places.new.items ≡ unanswered places.old.items }
+    ensures places { places.new.items ≡ unanswered places.old.items }
+    ensures memory { vec_capacity places.new ≡ vec_capacity places.old }
 {
     clear_rows(places);
 }

@@ -7,8 +7,6 @@ mod header;
 mod make;
 mod print;
 mod script;
-#[cfg(test)]
-mod tests;
 
 pub use command::{run, run_and_tell, run_over};
 pub use file::SessionCall;

@@ -1,10 +1,10 @@
 //! Sessions that make the calls of scripts on threads, and what comes after a close.
-use bc_analyses::{find_live, find_scopes, find_values, providers};
+use bc_analyses::{find_values, providers};
 use bc_book::Refusal;
 use bc_calls::{Call, Entry, Event, PutReply};
 use bc_cons::Facts;
 use bc_fixtures::{Found, Open, WRITES_LAST, WRITES_WHILE_BORROWED, found_by, name, shared_unit};
-use bc_prov::{Providers, Shared, Solver};
+use bc_prov::{Providers, Shared};
 use bc_share::{Db, End, Gate, History, Script, Session, Stage, run_sessions};
 use bc_versions::{Ending, Waiting};
 use std::alloc::Global;
@@ -202,15 +202,10 @@ fn solved_at_stages<R: Threads + Wait + Sync>(
         return Err("memory")?;
     };
     let to_solve = Arc::try_clone(&solved)?;
-    let solve: Solver = Box::new(alloc, move |alloc: Global, facts: &Facts| {
+    let providers = providers!(alloc, move |alloc: Global, facts: &Facts| {
         to_solve.fetch_add(1, SeqCst);
         find_values(alloc, facts)
-    })?;
-    let providers = Providers::new(
-        Box::new(alloc, find_live)?,
-        solve,
-        Box::new(alloc, find_scopes)?,
-    );
+    });
     let watch = Watch::new(&solved);
     let none = Script::new(Vec::new(alloc));
     let (ends, _history) = run_by(rt, alloc, 2, script, none, &providers, &watch)?;

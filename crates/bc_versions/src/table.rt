@@ -1,13 +1,13 @@
 //! What is published: the last entry, and what is held after it.
-ghost use Rattle.std.specs.Prelude.{◌≡◌, ◌<◌, [], IfOk, None, OnErr, OnOk};
-ghost use Rattle.bc_memo.specs.Places.{MayChange, answer_of, empty_shelf, revisions_in, units_in};
+ghost use Rattle.std.specs.Prelude.{◌≡◌, ◌<◌, ◌≤◌, [], IfOk, IsOk, None, OnErr, OnOk, Some, length};
+ghost use Rattle.bc_memo.specs.Places.{MayChange, answer_of, changed, empty_shelf, revisions_in, units_in};
 ghost use Rattle.bc_prov.specs.State.{at_name};
 ghost use Rattle.bc_calls.specs.Calls.{most_bodies};
 ghost use Rattle.bc_calls.specs.Changes.{change_of};
 ghost use Rattle.bc_versions.specs.Tables.{empty_table, updated};
 
 use bc_calls::Entry;
-use bc_memo::{Part, Shelf};
+use bc_memo::{Change, Part, Shelf};
 use bc_prov::{Outcome, Pieces, Shared};
 use bc_text::Name;
 use left_right::Absorb;
@@ -50,7 +50,8 @@ impl Update {
     }
 }
 
-/// The last entry, and what is held after it with its answers. Contracts see both. (Own.)
+/// The last entry, and what is held after it with its answers. Contracts see both. There is memory for all places and one to spare, and
+/// for a piece of each and one more: the type keeps it. (Own.)
 #[derive(Drop)]
 pub struct Table {
     last: Option<Entry>,
@@ -58,16 +59,21 @@ pub struct Table {
 }
 
 impl Model for Table {
+    ghost use Rattle.std.specs.Prelude.{◌<◌};
+    ghost use Rattle.bc_calls.specs.Calls.{most_bodies};
+    ghost use Rattle.bc_memo.specs.Places.{most_pieces, most_places};
     ghost use Rattle.bc_versions.specs.Tables.{TableView};
 
     ghost Value = { TableView };
 
     ghost view = { λ t. record { last = t.last; shelf = t.shelf.held } };
+
+    ghost invariant = { λ t. (most_bodies < most_places t.shelf) × (most_bodies < most_pieces t.shelf) };
 }
 
 impl Table {
     /// A table before any entry, of a shelf that holds no declaration and no unit. It asks for memory for all places and one to spare, and
-    /// for a piece of each, so that an update never asks for more. It takes no memory.
+    /// for a piece of each. It takes no memory.
     pub(crate) fn new(shelf: Shelf) -> Table
         requires empty { shelf.held ≡ empty_shelf [] }
         requires room { most_bodies < shelf.room }
@@ -102,20 +108,31 @@ impl Table {
         self.shelf.part(alloc, root)
     }
 
-    /// Takes in an entry: all of it, or nothing where an owner is refused. Each entry of a legal history finds memory for its place, and
-    /// each of its pieces too. A piece that is left out is only made again.
+    /// Takes in an entry: all of it, or nothing where an owner is refused. A piece that is left out is only made again.
     pub(crate) fn update(&mut self, update: &Update) -> Result<(), AllocError>
         ensures taken { OnOk result (self.new ≡ updated self.old update.now) }
         ensures refused { OnErr result (self.new ≡ self.old) }
     {
         let last = update.entry.copy()?;
         let change = update.entry.event.change()?;
-        self.shelf.reserve()?;
-        self.shelf.change(change, update.revision);
-        self.last = Some(last);
+        self.take_in(last, change, update.revision)?;
         if let Some(pieces) = &update.pieces {
             let _kept = self.shelf.keep_all(pieces);
         }
+        Ok(())
+    }
+
+    // Takes in the last entry, and what it changes: all of it, or nothing where memory is refused, which it is not where no more units are
+    // held than a legal history leaves.
+    fn take_in(&mut self, last: Entry, change: Change, revision: u32) -> Result<(), AllocError>
+        requires { MayChange change }
+        ensures taken { OnOk result (self.new ≡ record { last = Some last; shelf = changed self.old.shelf change revision }) }
+        ensures refused { OnErr result (self.new ≡ self.old) }
+        ensures granted { length self.old.shelf.places ≤ most_bodies → IsOk result }
+    {
+        self.shelf.reserve()?;
+        self.shelf.change(change, revision);
+        self.last = Some(last);
         Ok(())
     }
 }

@@ -3,13 +3,13 @@ use Rattle.std.specs.List.{insert}
 use Rattle.bc_memo.proofs.Places.{set_put, insert_put}
 use Rattle.bc_memo.proofs.rows.put.Goals as goal
 
-pub returns-in-Ok : goal.returns-in-Ok
-returns-in-Ok g c =
+pub returns-in-Ok-clause-rows : goal.returns-in-Ok-clause-rows
+returns-in-Ok-clause-rows g c =
     let f = c.in-Ok.ensures.found in
     rw (← c.deref.ensures.value) (set_put _ c.args.name c.args.value c.in-Ok.place f.within f.above f.at)
 
-pub returns-else-is_err : goal.returns-else-is_err
-returns-else-is_err g c =
+pub returns-else-is_err-clause-rows : goal.returns-else-is_err-clause-rows
+returns-else-is_err-clause-rows g c =
     let f = c.in-Err.ensures.missed in
     let rows = c.args.rows.now.items in
     c.insert.ensures.items ∙ ap (λ (b : Bool). cond b (insert rows c.in-Err.place (c.args.name, c.args.value)) rows) c.if-is_err.ensures.negation

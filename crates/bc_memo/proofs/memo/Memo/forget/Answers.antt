@@ -7,4 +7,4 @@ use Rattle.bc_memo.proofs.Places.{ordered-take}
 use Rattle.bc_memo.proofs.memo.Memo.forget.Goals as goal
 
 pub invariant_of-self : goal.invariant_of-self
-invariant_of-self c = subst (λ (l : List (NameParts × Remembered)). AreOrdered l) (sym c.take.ensures) (ordered-take (is_at (name_order c.args.name.now)) c.self.inside.rows.items c.self.invariant)
+invariant_of-self c = subst (λ (l : List (NameParts × Remembered)). AreOrdered l) (sym c.take.ensures.rows) (ordered-take (is_at (name_order c.args.name.now)) c.self.inside.rows.items c.self.invariant)

@@ -6,4 +6,4 @@ use Rattle.bc_memo.proofs.Places.{ordered-put}
 use Rattle.bc_memo.proofs.memo.Memo.put.Goals as goal
 
 pub invariant_of-self : goal.invariant_of-self
-invariant_of-self c = subst (λ (l : List (NameParts × Remembered)). AreOrdered l) (sym c.put.ensures) (ordered-put c.args.name c.args.row c.self.inside.rows.items c.self.invariant)
+invariant_of-self c = subst (λ (l : List (NameParts × Remembered)). AreOrdered l) (sym c.put.ensures.rows) (ordered-put c.args.name c.args.row c.self.inside.rows.items c.self.invariant)

@@ -6,4 +6,4 @@ use Rattle.bc_memo.proofs.Places.{ordered-take}
 use Rattle.bc_memo.proofs.pieces.PieceMemo.forget.Goals as goal
 
 pub invariant_of-self : goal.invariant_of-self
-invariant_of-self c = subst (λ (rows : PieceRows). AreOrdered rows) (sym c.take.ensures) (ordered-take (is_at (name_order c.args.name.now)) c.self.inside.rows.items c.self.invariant)
+invariant_of-self c = subst (λ (rows : PieceRows). AreOrdered rows) (sym c.take.ensures.rows) (ordered-take (is_at (name_order c.args.name.now)) c.self.inside.rows.items c.self.invariant)

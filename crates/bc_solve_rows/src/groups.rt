@@ -1,5 +1,6 @@
-use crate::{gathered, group_edges, strong_components};
+//! Groups of the nodes of a graph.
 use bc_flow::{Edge, Entry, table};
+use bc_groups::{gathered, group_edges, strong_components};
 use std::test::Fail;
 
 #[test]

@@ -1,5 +1,6 @@
 //! The lines of outcomes of each kind, byte for byte and as they are read back.
-use crate::json_report;
+use bc_fixtures::name;
+use bc_json::json_report;
 use bc_judge::BorrowError;
 use bc_mir::{Point, Where};
 use bc_prov::{BodyErrors, Outcome};
@@ -8,14 +9,6 @@ use bc_text::Name;
 use serde_json::Value;
 use std::alloc::{AllocError, Global};
 use std::test::Fail;
-
-/// The name that a text spells; fails where it spells none.
-fn name(text: &[u8]) -> Result<Name, Fail> {
-    let Some(name) = Name::read(text) else {
-        return Err("a name")?;
-    };
-    Ok(name)
-}
 
 /// The point `bb0[I]`.
 fn point(index: usize) -> Point {

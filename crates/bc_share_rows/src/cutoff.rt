@@ -1,9 +1,9 @@
 //! How many bodies are worked on where an Ask comes after a change: those whose ground changed.
-use bc_analyses::{find_live, find_scopes, find_values};
+use bc_analyses::{find_values, providers};
 use bc_calls::PutReply;
 use bc_cons::Facts;
 use bc_fixtures::{CLOSURE, CLOSURE_WRITES, Found, INVOKES, NESTED, Turn, goes};
-use bc_prov::{Providers, Solver};
+use bc_prov::Providers;
 use bc_share::{Db, Session};
 use bc_versions::{Ending, Waiting};
 use std::alloc::Global;
@@ -109,15 +109,10 @@ fn solve<R: Abort + Wait>(
         return Err("memory")?;
     };
     let to_solve = Arc::try_clone(&solved)?;
-    let solve: Solver = Box::new(alloc, move |alloc: Global, facts: &Facts| {
+    let providers = providers!(alloc, move |alloc: Global, facts: &Facts| {
         to_solve.fetch_add(1, SeqCst);
         find_values(alloc, facts)
-    })?;
-    let providers = Providers::new(
-        Box::new(alloc, find_live)?,
-        solve,
-        Box::new(alloc, find_scopes)?,
-    );
+    });
     let (db, mut sessions) = Db::open(alloc, Waiting::new(rt), 0, 99, 1)?;
     let mut all = true;
     for session in sessions.iter_mut() {

@@ -1,7 +1,6 @@
 //! The limits of a file, and the line and the status of each stop.
-use crate::command::find_capacity;
-use crate::tests::leaves_of;
-use crate::{FaultKind, FileFault, Stop, stop_with};
+use crate::checks::leaves_of;
+use bc_check::{FaultKind, FileFault, Stop, find_capacity, stop_with};
 use bc_text::MAX_TEXT;
 use std::test::Fail;
 

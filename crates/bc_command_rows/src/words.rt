@@ -1,5 +1,5 @@
 //! Lines as they are written, and the text of `--help`.
-use crate::{Line, LineFault, Solver, read_line, write_usage};
+use bc_line::{Line, LineFault, Solver, read_line, write_usage};
 use std::alloc::Global;
 use std::test::Fail;
 

@@ -1,7 +1,7 @@
 use Rattle.std.proofs.Common.{◌≡◌, ℕ, Bool, List, [], length, set, arith, ◌∙◌}
 use Rattle.bc_flow.specs.Flow.{row, HaveSize, AreAdded}
 use Rattle.bc_flow.proofs.Rows.{others_kept, sizes_kept}
-use Rattle.bc_flow.proofs.tests.various_rows.Goals as goal
+use Rattle.bc_solve_rows.proofs.tables.various_rows.Goals as goal
 
 abbrev AreFive : ℕ → List (List Bool) → Type 0
 AreFive size rows = (length rows ≡ 5) × HaveSize size rows

@@ -1,0 +1,53 @@
+//! What a command leaves over readers and writers in memory.
+use bc_analyses::providers;
+use bc_check::check_over;
+use bc_devices::{Devices, Input, Left, Output};
+use bc_line::{Line, read_line};
+use bc_prov::Providers;
+use bc_run::run_over;
+use std::alloc::Global;
+use std::io;
+use std::io::{BufWriter, ErrorKind};
+use std::sync::Wait;
+use std::thread::Threads;
+
+/// The line of these words.
+fn line_of(alloc: Global, words: &[&str]) -> io::Result<Line> {
+    match read_line(alloc, words) {
+        Ok(line) => Ok(line),
+        Err(_) => Err(ErrorKind::Other.into()),
+    }
+}
+
+/// The command of these words on this file over these devices, with these providers, as the program runs it: what it prints behind a
+/// buffer, of which what is not written is let go, and with status 3 where standard error fails.
+pub fn leave_with<R: AllocGlobal + Threads + Wait + Sync>(
+    rt: &R,
+    providers: &Providers,
+    words: &[&str],
+    file: &[u8],
+    devices: Devices,
+) -> io::Result<Left> {
+    let alloc = rt.alloc();
+    let line = line_of(alloc, words)?;
+    let mut input = Input::new(file, devices);
+    let out = Output::new(alloc, devices.write);
+    let mut out = BufWriter::with_capacity(alloc, devices.room, out)?;
+    let mut err = Output::new(alloc, devices.tell);
+    let status = match line {
+        Line::Check(_) => check_over(rt, alloc, providers, &line, &mut input, &mut out, &mut err),
+        Line::Run(_) => run_over(rt, alloc, providers, &line, &mut input, &mut out, &mut err),
+    };
+    let (out, _unwritten) = out.into_parts();
+    Ok(Left::of(status, &input, out, err))
+}
+
+/// The same with the providers of the program.
+pub fn leave<R: AllocGlobal + Threads + Wait + Sync>(
+    rt: &R,
+    words: &[&str],
+    file: &[u8],
+    devices: Devices,
+) -> io::Result<Left> {
+    leave_with(rt, &providers!(rt.alloc()), words, file, devices)
+}
