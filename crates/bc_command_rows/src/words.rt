@@ -42,66 +42,35 @@ fn first_other<'a>(alloc: Global, texts: &[&'a str], fault: LineFault) -> Option
         .find(|text| !is_fault(alloc, *text, fault))
 }
 
+/// Lines of `check`: the words, and then the file that they name, whether JSON is wanted, and the solver.
+const CHECKS: [(&str, &str, bool, Solver); 9] = [
+    ("check a.nll", "a.nll", false, Solver::Components),
+    ("check a.nll --json", "a.nll", true, Solver::Components),
+    ("check --json a.nll", "a.nll", true, Solver::Components),
+    ("check --solver plain a.nll", "a.nll", false, Solver::Plain),
+    (
+        "check a.nll --solver=plain --json",
+        "a.nll",
+        true,
+        Solver::Plain,
+    ),
+    (
+        "check a --solver components",
+        "a",
+        false,
+        Solver::Components,
+    ),
+    ("check --json -- --help", "--help", true, Solver::Components),
+    ("check -", "-", false, Solver::Components),
+    ("check ", "", false, Solver::Components),
+];
+
 #[test]
 fn reads_lines_of_check(rt: HostRuntime) {
-    let alloc = rt.alloc();
-    assert!(rt; is_check(alloc, "check a.nll", "a.nll", false, Solver::Components));
-    assert!(rt;
-        is_check(
-            alloc,
-            "check a.nll --json",
-            "a.nll",
-            true,
-            Solver::Components
-        )
-    );
-    assert!(rt;
-        is_check(
-            alloc,
-            "check --json a.nll",
-            "a.nll",
-            true,
-            Solver::Components
-        )
-    );
-    assert!(rt;
-        is_check(
-            alloc,
-            "check --solver plain a.nll",
-            "a.nll",
-            false,
-            Solver::Plain
-        )
-    );
-    assert!(rt;
-        is_check(
-            alloc,
-            "check a.nll --solver=plain --json",
-            "a.nll",
-            true,
-            Solver::Plain
-        )
-    );
-    assert!(rt;
-        is_check(
-            alloc,
-            "check a --solver components",
-            "a",
-            false,
-            Solver::Components
-        )
-    );
-    assert!(rt;
-        is_check(
-            alloc,
-            "check --json -- --help",
-            "--help",
-            true,
-            Solver::Components
-        )
-    );
-    assert!(rt; is_check(alloc, "check -", "-", false, Solver::Components));
-    assert!(rt; is_check(alloc, "check ", "", false, Solver::Components));
+    for (number, (words, file, json, solver)) in CHECKS.iter().enumerate() {
+        let reads = is_check(rt.alloc(), words, file, *json, *solver);
+        assert!(rt; reads, "line {number}");
+    }
 }
 
 #[test]

@@ -1,5 +1,5 @@
-//! What the tests of the database share, and some programs with them: bodies, what texts spell, calls with the replies that they are to
-//! have, what is seen of an outcome, providers that always want memory, sessions that nobody holds up, and the first steps of an analysis.
+//! What the tests of the database share, and some programs with them: bodies, what texts spell, what is seen of an outcome, providers that
+//! always want memory, and the first steps of an analysis. It stands below the database, so that it is proved beside it.
 #![tactic(auto)]
 
 ghost use Rattle.std.specs.Prelude.{IfOk};
@@ -7,10 +7,8 @@ ghost use Rattle.bc_prov.specs.Facts.{AreLive, AreScopes, AreValues};
 
 mod alone;
 mod bodies;
-mod gates;
 mod outcomes;
 mod texts;
-mod turns;
 
 pub use alone::{facts_alone, good_types, typed_alone};
 use bc_cons::Facts;
@@ -23,11 +21,9 @@ pub use bodies::{
     CLOSURE, CLOSURE_WRITES, INVARIANT_BUT_MARKED_COVARIANT, INVOKES, MARKED_INVARIANT, NESTED,
     WRITES_LAST, WRITES_WHILE_BORROWED,
 };
-pub use gates::{Open, run_freely};
 pub use outcomes::{Found, Sight, found_by};
 use std::alloc::{AllocError, Global};
 pub use texts::{name, shared_types, shared_unit};
-pub use turns::{Turn, all_go, goes, history_by};
 
 /// A solver that always wants memory. (Own.)
 pub fn want_memory(_alloc: Global, _facts: &Facts) -> Result<Values, AllocError>

@@ -1,7 +1,8 @@
 //! Answers that are told where no piece of a body is kept: work that carries the answer of one database is settled in another.
+use crate::turns::{Turn, all_go};
 use bc_analyses::providers;
 use bc_calls::{PutReply, Work};
-use bc_fixtures::{CLOSURE, Found, Turn, WRITES_WHILE_BORROWED, all_go, found_by, name, refusing};
+use bc_fixtures::{CLOSURE, Found, WRITES_WHILE_BORROWED, found_by, name, refusing};
 use bc_prov::Providers;
 use bc_share::{Db, Session};
 use bc_versions::{Ending, Waiting};

@@ -1,11 +1,12 @@
 //! Asks by providers of a test: such as count their calls, and such as always want memory.
+use crate::turns::{Turn, all_go, history_by};
 use bc_analyses::{find_live, find_scopes, find_values, providers};
 use bc_book::Refusal;
 use bc_calls::PutReply;
 use bc_cons::Facts;
 use bc_fixtures::{
-    CLOSURE, CLOSURE_WRITES, Found, INVARIANT_BUT_MARKED_COVARIANT, INVOKES, NESTED, Turn,
-    WRITES_LAST, all_go, history_by, refusing, want_memory,
+    CLOSURE, CLOSURE_WRITES, Found, INVARIANT_BUT_MARKED_COVARIANT, INVOKES, NESTED, WRITES_LAST,
+    refusing, want_memory,
 };
 use bc_mir::Typed;
 use bc_prov::{Liveness, Providers, Scoping, Solver};

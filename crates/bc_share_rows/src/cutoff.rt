@@ -1,8 +1,9 @@
 //! How many bodies are worked on where an Ask comes after a change: those whose ground changed.
+use crate::turns::{Turn, goes};
 use bc_analyses::{find_values, providers};
 use bc_calls::PutReply;
 use bc_cons::Facts;
-use bc_fixtures::{CLOSURE, CLOSURE_WRITES, Found, INVOKES, NESTED, Turn, goes};
+use bc_fixtures::{CLOSURE, CLOSURE_WRITES, Found, INVOKES, NESTED};
 use bc_prov::Providers;
 use bc_share::{Db, Session};
 use bc_versions::{Ending, Waiting};

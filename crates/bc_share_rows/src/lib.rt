@@ -17,3 +17,5 @@ mod settled;
 mod tests;
 #[cfg(test)]
 mod threads;
+#[cfg(test)]
+mod turns;

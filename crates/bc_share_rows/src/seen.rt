@@ -1,9 +1,10 @@
 //! What sessions see of what is published: glances at names, and beginnings of them, between the calls of a session.
+use crate::turns::{Turn, goes};
 use bc_analyses::providers;
 use bc_calls::{PutReply, RemoveReply};
 use bc_fixtures::{
-    CLOSURE, CLOSURE_WRITES, Found, INVOKES, MARKED_INVARIANT, NESTED, Turn, WRITES_LAST,
-    WRITES_WHILE_BORROWED, found_by, goes, name, refusing,
+    CLOSURE, CLOSURE_WRITES, Found, INVOKES, MARKED_INVARIANT, NESTED, WRITES_LAST,
+    WRITES_WHILE_BORROWED, found_by, name, refusing,
 };
 use bc_prov::Providers;
 use bc_share::{Db, Session};

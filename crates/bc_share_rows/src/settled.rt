@@ -11,28 +11,17 @@ use std::alloc::Global;
 use std::sync::Wait;
 use std::test::Fail;
 
-/// A book in which a body is put at a name.
-fn with_body_at<R: Wait, E: Ending>(
+/// Puts a body at a name.
+fn put_at<R: Wait, E: Ending>(
     rt: &R,
     alloc: Global,
-    book: Book<E>,
+    book: &mut Book<E>,
     at: &[u8],
     text: &[u8],
-) -> Result<Book<E>, Fail> {
-    let mut book = book;
+) -> Result<(), Fail> {
     let unit = Shared::new(shared_unit(alloc, text)?);
     book.put(rt, alloc, 0, name(at)?, unit)?;
-    Ok(book)
-}
-
-/// A book in which a body is put at `f`.
-fn with_body<R: Wait, E: Ending>(
-    rt: &R,
-    alloc: Global,
-    book: Book<E>,
-    text: &[u8],
-) -> Result<Book<E>, Fail> {
-    with_body_at(rt, alloc, book, b"f", text)
+    Ok(())
 }
 
 /// A new book with a body at `f`.
@@ -42,7 +31,9 @@ fn book_with<R: Wait, E: Ending>(
     ending: E,
     text: &[u8],
 ) -> Result<Book<E>, Fail> {
-    with_body(rt, alloc, Book::new(alloc, ending, 9, 1)?, text)
+    let mut book = Book::new(alloc, ending, 9, 1)?;
+    put_at(rt, alloc, &mut book, b"f", text)?;
+    Ok(book)
 }
 
 /// The work on `f` in a book, by the program's providers.
@@ -51,26 +42,14 @@ fn work_in<E: Ending>(alloc: Global, book: &Book<E>) -> Result<Work, Fail> {
     Ok(begun.work(alloc, &providers!(alloc))?)
 }
 
-/// The work on a body at `f` in a book of its own.
-fn work_on<R: Wait, E: Ending>(
-    rt: &R,
-    alloc: Global,
-    ending: E,
-    text: &[u8],
-) -> Result<Work, Fail> {
-    let book = book_with(rt, alloc, ending, text)?;
-    work_in(alloc, &book)
-}
-
 /// What a book finds where it settles the work.
 fn settles<R: Wait, E: Ending>(
     rt: &R,
     alloc: Global,
-    book: Book<E>,
+    book: &mut Book<E>,
     work: Work,
     providers: &Providers,
 ) -> Result<Found, Fail> {
-    let mut book = book;
     let (outcome, _mine) = book.settle(rt, alloc, 0, work, providers)?;
     Ok(found_by(outcome.get()))
 }
@@ -79,36 +58,33 @@ fn settles<R: Wait, E: Ending>(
 fn settles_at_once<R: Wait, E: Ending>(
     rt: &R,
     alloc: Global,
-    book: Book<E>,
+    book: &mut Book<E>,
     providers: &Providers,
 ) -> Result<Found, Fail> {
-    let work = work_in(alloc, &book)?;
+    let work = work_in(alloc, book)?;
     settles(rt, alloc, book, work, providers)
 }
 
-/// A book that has settled work on `f`.
-fn with_settled<R: Wait, E: Ending>(
+/// The same, by the program's providers.
+fn settles_by_the_program<R: Wait, E: Ending>(
     rt: &R,
     alloc: Global,
-    book: Book<E>,
-    work: Work,
-) -> Result<Book<E>, Fail> {
-    let mut book = book;
-    let _told = book.settle(rt, alloc, 0, work, &providers!(alloc))?;
-    Ok(book)
+    book: &mut Book<E>,
+) -> Result<Found, Fail> {
+    let providers = providers!(alloc);
+    settles_at_once(rt, alloc, book, &providers)
 }
 
 /// What a book finds that has settled work on `f`, where a closure that the body does not create is put below while more work is done.
 fn settles_beside<R: Wait, E: Ending>(
     rt: &R,
     alloc: Global,
-    book: Book<E>,
+    book: &mut Book<E>,
     providers: &Providers,
 ) -> Result<Found, Fail> {
-    let first = work_in(alloc, &book)?;
-    let book = with_settled(rt, alloc, book, first)?;
-    let work = work_in(alloc, &book)?;
-    let book = with_body_at(rt, alloc, book, b"f/3", CLOSURE)?;
+    let _found = settles_by_the_program(rt, alloc, book)?;
+    let work = work_in(alloc, book)?;
+    put_at(rt, alloc, book, b"f/3", CLOSURE)?;
     settles(rt, alloc, book, work, providers)
 }
 
@@ -116,25 +92,26 @@ fn settles_beside<R: Wait, E: Ending>(
 fn settles_late<R: Wait, E: Ending>(
     rt: &R,
     alloc: Global,
-    book: Book<E>,
+    book: &mut Book<E>,
     text: &[u8],
     providers: &Providers,
 ) -> Result<Found, Fail> {
-    let work = work_in(alloc, &book)?;
-    let book = with_body(rt, alloc, book, text)?;
+    let work = work_in(alloc, book)?;
+    put_at(rt, alloc, book, b"f", text)?;
     settles(rt, alloc, book, work, providers)
 }
 
 /// What a book with a body at `f` finds where it settles the work on another body there in another book.
-fn settles_elsewhere<R: Wait>(
+fn settles_elsewhere<R: Wait, E: Ending>(
     rt: &R,
     alloc: Global,
-    text: &[u8],
+    book: &mut Book<E>,
+    ending: E,
     other: &[u8],
     providers: &Providers,
 ) -> Result<Found, Fail> {
-    let work = work_on(rt, alloc, Waiting::new(rt), other)?;
-    let book = book_with(rt, alloc, Waiting::new(rt), text)?;
+    let elsewhere = book_with(rt, alloc, ending, other)?;
+    let work = work_in(alloc, &elsewhere)?;
     settles(rt, alloc, book, work, providers)
 }
 
@@ -142,8 +119,8 @@ fn settles_elsewhere<R: Wait>(
 #[test]
 fn work_that_stands_is_settled_without_a_provider(rt: HostRuntime) -> Result<(), Fail> {
     let providers = refusing!(rt.alloc());
-    let book = book_with(&rt, rt.alloc(), Waiting::new(&rt), WRITES_WHILE_BORROWED)?;
-    assert!(rt; settles_at_once(&rt, rt.alloc(), book, &providers)? == Found::Errors(1));
+    let mut book = book_with(&rt, rt.alloc(), Waiting::new(&rt), WRITES_WHILE_BORROWED)?;
+    assert!(rt; settles_at_once(&rt, rt.alloc(), &mut book, &providers)? == Found::Errors(1));
     Ok(())
 }
 
@@ -151,10 +128,15 @@ fn work_that_stands_is_settled_without_a_provider(rt: HostRuntime) -> Result<(),
 #[test]
 fn work_that_does_not_stand_is_done_again(rt: HostRuntime) -> Result<(), Fail> {
     let providers = providers!(rt.alloc());
-    let book = book_with(&rt, rt.alloc(), Waiting::new(&rt), WRITES_LAST)?;
-    assert!(rt;
-        settles_late(&rt, rt.alloc(), book, WRITES_WHILE_BORROWED, &providers)? == Found::Errors(1)
-    );
+    let mut book = book_with(&rt, rt.alloc(), Waiting::new(&rt), WRITES_LAST)?;
+    let found = settles_late(
+        &rt,
+        rt.alloc(),
+        &mut book,
+        WRITES_WHILE_BORROWED,
+        &providers,
+    )?;
+    assert!(rt; found == Found::Errors(1));
     Ok(())
 }
 
@@ -162,8 +144,9 @@ fn work_that_does_not_stand_is_done_again(rt: HostRuntime) -> Result<(), Fail> {
 #[test]
 fn work_on_an_absent_name_is_done_again_once_it_is_put(rt: HostRuntime) -> Result<(), Fail> {
     let providers = providers!(rt.alloc());
-    let book = Book::new(rt.alloc(), Waiting::new(&rt), 9, 1)?;
-    assert!(rt; settles_late(&rt, rt.alloc(), book, WRITES_LAST, &providers)? == Found::Errors(0));
+    let mut book = Book::new(rt.alloc(), Waiting::new(&rt), 9, 1)?;
+    let found = settles_late(&rt, rt.alloc(), &mut book, WRITES_LAST, &providers)?;
+    assert!(rt; found == Found::Errors(0));
     Ok(())
 }
 
@@ -172,10 +155,16 @@ fn work_on_an_absent_name_is_done_again_once_it_is_put(rt: HostRuntime) -> Resul
 fn work_of_another_book_does_not_stand(rt: HostRuntime) -> Result<(), Fail> {
     let alloc = rt.alloc();
     let providers = providers!(alloc);
-    assert!(rt;
-        settles_elsewhere(&rt, alloc, WRITES_WHILE_BORROWED, WRITES_LAST, &providers)?
-            == Found::Errors(1)
-    );
+    let mut book = book_with(&rt, alloc, Waiting::new(&rt), WRITES_WHILE_BORROWED)?;
+    let found = settles_elsewhere(
+        &rt,
+        alloc,
+        &mut book,
+        Waiting::new(&rt),
+        WRITES_LAST,
+        &providers,
+    )?;
+    assert!(rt; found == Found::Errors(1));
     Ok(())
 }
 
@@ -183,7 +172,7 @@ fn work_of_another_book_does_not_stand(rt: HostRuntime) -> Result<(), Fail> {
 #[test]
 fn what_is_remembered_is_told_where_the_work_does_not_stand(rt: HostRuntime) -> Result<(), Fail> {
     let providers = refusing!(rt.alloc());
-    let book = book_with(&rt, rt.alloc(), Waiting::new(&rt), WRITES_WHILE_BORROWED)?;
-    assert!(rt; settles_beside(&rt, rt.alloc(), book, &providers)? == Found::Errors(1));
+    let mut book = book_with(&rt, rt.alloc(), Waiting::new(&rt), WRITES_WHILE_BORROWED)?;
+    assert!(rt; settles_beside(&rt, rt.alloc(), &mut book, &providers)? == Found::Errors(1));
     Ok(())
 }

@@ -1,10 +1,11 @@
 //! Databases: their ranges, their sessions, their histories.
+use crate::turns::{Turn, history_by};
 use bc_analyses::providers;
 use bc_book::Refusal;
 use bc_calls::{Entry, Event, PutReply, RemoveReply};
 use bc_fixtures::{
     CLOSURE, CLOSURE_WRITES, Found, INVARIANT_BUT_MARKED_COVARIANT, INVOKES, MARKED_INVARIANT,
-    NESTED, Turn, WRITES_LAST, WRITES_WHILE_BORROWED, found_by, history_by,
+    NESTED, WRITES_LAST, WRITES_WHILE_BORROWED, found_by,
 };
 use bc_share::{CloseFault, Db, History, OpenFault, Session};
 use bc_versions::{Ending, Waiting};

@@ -3,7 +3,7 @@ use bc_analyses::{find_values, providers};
 use bc_book::Refusal;
 use bc_calls::{Call, Entry, Event, PutReply};
 use bc_cons::Facts;
-use bc_fixtures::{Found, Open, WRITES_LAST, WRITES_WHILE_BORROWED, found_by, name, shared_unit};
+use bc_fixtures::{Found, WRITES_LAST, WRITES_WHILE_BORROWED, found_by, name, shared_unit};
 use bc_prov::{Providers, Shared};
 use bc_share::{Db, End, Gate, History, Script, Session, Stage, run_sessions};
 use bc_versions::{Ending, Waiting};
@@ -24,6 +24,14 @@ const MOST_TURNS: u32 = 10_000;
 enum Step {
     Put(&'static [u8], &'static [u8]),
     Ask(&'static [u8]),
+}
+
+/// A gate that nobody is held up at.
+#[derive(Clone, Copy)]
+struct Open;
+
+impl Gate for Open {
+    fn pause(&self, _session: u8, _stage: Stage) {}
 }
 
 /// A gate that holds session 1 up at its first Ask until session 0 has worked, and session 0 there until session 1 has begun its

@@ -31,8 +31,7 @@ pub fn behind(bytes: &[u8], count: usize) -> &[u8]
 pub fn is_run_byte(byte: u8) -> bool
     ensures { result ≡ is_run_byte byte }
 {
-    // Most bytes that end a run are below the digits.
-    byte >= b'0' && (byte.is_ascii_alphanumeric() || byte == b'_')
+    matches!(byte, b'0'..=b'9' | b'A'..=b'Z' | b'_' | b'a'..=b'z')
 }
 
 /// How many lowercase letters, digits and `_` stand at the front. Own.

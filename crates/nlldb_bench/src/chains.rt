@@ -105,7 +105,7 @@ fn count(values: &Values) -> u64 {
     for region in 0..REGIONS {
         for element in 0..ELEMENTS {
             if values.contains(region as usize, element as usize) {
-                members = members.wrapping_add(1);
+                members = members.saturating_add(1);
             }
         }
     }

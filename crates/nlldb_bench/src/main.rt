@@ -1,16 +1,14 @@
-//! Reads three long texts, analyses three large bodies, solves constraints between many regions, and checks a file of many bodies, many
-//! times. What was read and found goes to standard output and is the same at each run; how fast goes to standard error.
+//! Reads three long texts, analyses three large bodies, and solves constraints between many regions, many times. What was read and found
+//! goes to standard output and is the same at each run; how fast goes to standard error.
 #![tactic(auto)]
 
 mod analyses;
 mod chains;
-mod files;
 mod readings;
 mod texts;
 
 use crate::analyses::measure_body;
 use crate::chains::{Shape, measure_constraints};
-use crate::files::{many_bodies, measure_file};
 use crate::readings::{count, time};
 use crate::texts::{dense, indented, repeated};
 use bc_bench::{borrows_and_reads, borrows_and_writes, branches};
@@ -73,7 +71,5 @@ fn main(rt: HostRuntime) -> anyhow::Result<()> {
     let mut err = rt.stderr();
     measure_texts(&rt, &mut out, &mut err)?;
     measure_bodies(&rt, &mut out, &mut err)?;
-    measure_solving(&rt, &mut out, &mut err)?;
-    let file = many_bodies(rt.alloc())?;
-    measure_file(&rt, "many bodies", &file, &mut out, &mut err)
+    measure_solving(&rt, &mut out, &mut err)
 }

@@ -1,4 +1,5 @@
 //! What reading a text gives, and how long it takes.
+use bc_bench::checksum;
 use bc_syntax::Unit;
 use bc_text::{print_unit, read_unit};
 use std::fmt;
@@ -44,19 +45,10 @@ fn points(unit: &Unit) -> u64 {
     let mut points = 0u64;
     for block in unit.body().blocks.as_slice() {
         points = points
-            .wrapping_add(block.statements.len() as u64)
-            .wrapping_add(1);
+            .saturating_add(block.statements.len() as u64)
+            .saturating_add(1);
     }
     points
-}
-
-/// FNV-1a.
-pub fn checksum(bytes: &[u8]) -> u64 {
-    let mut sum = 0xcbf2_9ce4_8422_2325u64;
-    for byte in bytes {
-        sum = (sum ^ u64::from(*byte)).wrapping_mul(0x0100_0000_01b3);
-    }
-    sum
 }
 
 /// What is read from a text.
@@ -73,7 +65,7 @@ pub fn count(rt: &HostRuntime, text: &[u8]) -> anyhow::Result<Counts> {
 
 /// How fast so many bytes were read in a time.
 fn rate(bytes: usize, nanos: u128) -> u128 {
-    (bytes as u128).wrapping_mul(1000) / nanos.max(1)
+    (bytes as u128).saturating_mul(1000) / nanos.max(1)
 }
 
 /// How fast a text is read. Giving back the unit's memory is not counted.

@@ -133,7 +133,7 @@ pub fn measure_closures<R: AllocGlobal + Clock + Wait, O: Write, E: Write>(
     for _ in 0..TURNS {
         calls = asked(rt, rt.alloc(), &units, &mut first, &mut again)?;
     }
-    let points = loans.wrapping_mul(2).wrapping_add(1);
+    let points = loans.saturating_mul(2).saturating_add(1);
     writeln!(out, "closures of {points} points: {calls} calls")?;
     let first = first.each(1);
     let again = again.each(1);

@@ -86,7 +86,7 @@ fn glance_all<E: Ending>(session: &mut Session<E>, names: &[Name]) -> anyhow::Re
     let mut answered = 0u32;
     for name in names {
         if session.glance(name)?.is_some() {
-            answered = answered.wrapping_add(1);
+            answered = answered.saturating_add(1);
         }
     }
     Ok(answered)
@@ -127,7 +127,7 @@ fn look_up_all(rows: &[(Name, Arc<Outcome, Global>)], names: &[Name]) -> anyhow:
     let mut found = 0u32;
     for name in names {
         if look_up(rows, name)?.is_some() {
-            found = found.wrapping_add(1);
+            found = found.saturating_add(1);
         }
     }
     Ok(found)
@@ -152,7 +152,7 @@ fn put_all<R: Wait, E: Ending>(
     for name in names {
         let reply = session.put(rt, *name, Arc::try_clone(unit)?)?;
         if matches!(reply, PutReply::Replaced) {
-            replaced = replaced.wrapping_add(1);
+            replaced = replaced.saturating_add(1);
         }
     }
     Ok(replaced)

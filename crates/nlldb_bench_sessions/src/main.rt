@@ -1,15 +1,17 @@
-//! Asks for a body again, and for a function one of whose closures was replaced; glances at names, begins parts and puts bodies; and reads
-//! names while others are written, many times. What was answered goes to standard output and is the same at each run; how fast goes to
-//! standard error.
+//! Asks for a body again, and for a function one of whose closures was replaced; glances at names, begins parts and puts bodies; reads
+//! names while others are written; and checks a file of many bodies, many times. What was answered goes to standard output and is the same
+//! at each run; how fast goes to standard error.
 #![tactic(auto)]
 
 mod asks;
 mod closures;
+mod files;
 mod glances;
 mod reads;
 
 use crate::asks::measure_asks;
 use crate::closures::measure_closures;
+use crate::files::{many_bodies, measure_file};
 use crate::glances::measure_names;
 use crate::reads::measure_reads;
 use bc_bench::borrows_and_reads;
@@ -40,5 +42,7 @@ fn main(rt: HostRuntime) -> anyhow::Result<()> {
     let mut err = rt.stderr();
     measure_asking(&rt, &mut out, &mut err)?;
     measure_names(&rt, &mut out, &mut err)?;
-    measure_reads(&rt, &mut out, &mut err)
+    measure_reads(&rt, &mut out, &mut err)?;
+    let file = many_bodies(rt.alloc())?;
+    measure_file(&rt, "many bodies", &file, &mut out, &mut err)
 }

@@ -103,7 +103,7 @@ impl Reading {
 impl Deeds {
     /// How many calls a second that were.
     fn rate(&self) -> u128 {
-        u128::from(self.calls).wrapping_mul(1_000_000_000) / self.nanos.max(1)
+        u128::from(self.calls).saturating_mul(1_000_000_000) / self.nanos.max(1)
     }
 }
 
@@ -170,7 +170,7 @@ impl<'a, E: Ending> Seat<'a, E> {
         let mut unanswered = 0u64;
         for name in self.own {
             if !self.access.read(rt, alloc, name)? {
-                unanswered = unanswered.wrapping_add(1);
+                unanswered = unanswered.saturating_add(1);
             }
         }
         Ok(unanswered)
@@ -186,8 +186,8 @@ impl<'a, E: Ending> Seat<'a, E> {
         let start = Instant::now(rt)?;
         for _ in 0..MOST_ROUNDS {
             let unanswered = self.read_round(rt, alloc)?;
-            deeds.unanswered = deeds.unanswered.wrapping_add(unanswered);
-            deeds.calls = deeds.calls.wrapping_add(self.own.len() as u64);
+            deeds.unanswered = deeds.unanswered.saturating_add(unanswered);
+            deeds.calls = deeds.calls.saturating_add(self.own.len() as u64);
             let took = start.elapsed(rt)?;
             deeds.nanos = took.as_nanos();
             if took >= Duration::from_millis(SPAN) {
@@ -215,7 +215,7 @@ impl<'a, E: Ending> Seat<'a, E> {
                 bail!("no such name");
             };
             self.access.write(rt, alloc, name, unit)?;
-            calls = calls.wrapping_add(1);
+            calls = calls.saturating_add(1);
         }
         Ok(Deeds {
             calls,

@@ -1,17 +1,17 @@
-//! Sixteen sessions that put, remove, ask and glance on threads, over functions with closures, and what a map says of that.
-use crate::model::{CLOSURES, Deed, Glance, Kind, Log, agree};
+//! Sixteen sessions that make calls on threads and read beside them, over functions with closures, and what a map says of that.
+use crate::model::{CLOSURES, Deed, Kind, Log, Reading, Seen, agree};
 use bc_book::Refusal;
-use bc_fixtures::Sight;
+use bc_fixtures::{Sight, shared_types, shared_unit};
 use bc_prov::{Providers, Shared};
 use bc_share::{Db, Session};
-use bc_syntax::Unit;
-use bc_text::{Name, read_unit};
+use bc_syntax::{Types, Unit};
+use bc_text::Name;
 use bc_versions::{Ending, Waiting};
 use rand_core::Rng;
 use rand_pcg::Pcg32;
 use std::alloc::{AllocError, Global};
 use std::io::{ErrorKind, Write};
-use std::sync::{Arc, Wait};
+use std::sync::Wait;
 use std::thread::Threads;
 use std::time::{Clock, Instant};
 use std::{io, thread};
@@ -19,22 +19,45 @@ use std::{io, thread};
 /// How many sessions there are: as many as may be.
 const SESSIONS: u8 = 16;
 
-/// How many functions there are, with their closures more than are held at a time.
-const FUNCTIONS: u32 = 66;
+/// A round that is measured: its functions and their closures have more names than are held at a time.
+const LONG: Shape = Shape {
+    functions: 66,
+    turns: 10_000,
+};
 
-/// How many calls and glances each session makes in a round that is measured.
-const MANY: u32 = 10_000;
+/// A round over as many names that is only compared.
+const WIDE: Shape = Shape {
+    functions: 66,
+    turns: 250,
+};
 
-/// How many in the round that is only compared.
-const FEW: u32 = 250;
+/// A round in which all sessions write the four names of one function.
+const NARROW: Shape = Shape {
+    functions: 1,
+    turns: 1000,
+};
+
+/// How many such rounds there are.
+const NARROW_ROUNDS: u64 = 50;
 
 /// How many errors a unit has at most.
 const ERRORS: usize = 3;
 
-/// Units with what is known of each: closures, functions, and functions that create closures.
+/// What the sessions declare, each time the same.
+const DECLARES: &[u8] = b"struct H<='a> { &'static mut &'a int; }";
+
+/// How many functions there are in a round, and how many turns each session has: a turn is a call or a reading.
+#[derive(Clone, Copy)]
+struct Shape {
+    functions: u32,
+    turns: u32,
+}
+
+/// Units with what is known of each: closures, functions, and functions that create closures. Beside them declarations.
 #[derive(Drop)]
 struct Stock {
     units: Vec<(Kind, Shared<Unit>)>,
+    types: Shared<Types>,
 }
 
 /// A session on a thread of its own: what it draws its calls by, what it did, and whether it was never refused.
@@ -46,22 +69,34 @@ struct Seat<E: Ending> {
     is_done: bool,
 }
 
-/// How many calls and glances there were, and how long they took.
+/// How many calls and readings there were, and how long they took.
 #[derive(Clone, Copy)]
-struct Round {
+struct Tally {
     calls: u64,
-    glances: u64,
+    readings: u64,
     nanos: u128,
 }
 
+/// No call and no reading.
+const NOTHING: Tally = Tally {
+    calls: 0,
+    readings: 0,
+    nanos: 0,
+};
+
 /// The unit that a text spells.
 fn unit_of(alloc: Global, text: &[u8]) -> io::Result<Shared<Unit>> {
-    let Ok(unit) = read_unit(alloc, text) else {
-        return Err(ErrorKind::InvalidData.into());
-    };
-    match Arc::new(alloc, unit) {
+    match shared_unit(alloc, text) {
         Ok(unit) => Ok(Shared::new(unit)),
-        Err(_) => Err(ErrorKind::OutOfMemory.into()),
+        Err(_) => Err(ErrorKind::InvalidData.into()),
+    }
+}
+
+/// The declarations that a text spells.
+fn types_of(alloc: Global, text: &[u8]) -> io::Result<Shared<Types>> {
+    match shared_types(alloc, text) {
+        Ok(types) => Ok(Shared::new(types)),
+        Err(_) => Err(ErrorKind::InvalidData.into()),
     }
 }
 
@@ -101,7 +136,7 @@ fn creator(alloc: Global, creates: [bool; CLOSURES]) -> io::Result<Shared<Unit>>
 }
 
 impl Stock {
-    /// Some units of each kind.
+    /// Some units of each kind, and declarations.
     fn new(alloc: Global) -> io::Result<Stock> {
         let mut units = Vec::new(alloc);
         for errors in 0..ERRORS {
@@ -116,14 +151,17 @@ impl Stock {
         ] {
             units.push((Kind::Creator(creates), creator(alloc, creates)?))?;
         }
-        Ok(Stock { units })
+        Ok(Stock {
+            units,
+            types: types_of(alloc, DECLARES)?,
+        })
     }
 }
 
-/// The names: each function's, and behind it those of its closures.
-fn names(alloc: Global) -> io::Result<Vec<Name>> {
+/// The names of so many functions, each with those of its closures behind it.
+fn names(alloc: Global, functions: u32) -> io::Result<Vec<Name>> {
     let mut names = Vec::new(alloc);
-    for function in 0..FUNCTIONS {
+    for function in 0..functions {
         let text = format!(in alloc; "n{function}")?;
         let Some(name) = Name::read(text.as_bytes()) else {
             return Err(ErrorKind::InvalidData.into());
@@ -151,6 +189,13 @@ impl<E: Ending> Seat<E> {
         Ok(())
     }
 
+    /// Declares the types.
+    fn declare<R: Wait>(&mut self, rt: &R, stock: &Stock) -> Result<(), Refusal> {
+        self.note(Deed::Types)?;
+        self.session.put_types(rt, stock.types.clone()?.into_arc())?;
+        Ok(())
+    }
+
     /// Puts a unit under a name.
     fn put<R: Wait>(
         &mut self,
@@ -167,24 +212,43 @@ impl<E: Ending> Seat<E> {
         Ok(())
     }
 
+    /// Notes what was seen of a name.
+    fn see(&mut self, number: usize, seen: Seen) -> Result<(), AllocError> {
+        self.log.readings.push(Reading {
+            behind: self.log.calls.len(),
+            name: number,
+            seen,
+        })?;
+        Ok(())
+    }
+
     /// Glances at a name.
     fn glance(&mut self, name: &Name, number: usize) -> Result<(), AllocError> {
         let shown = match self.session.glance(name)? {
             Some(outcome) => Some(Sight::of(&outcome)),
             None => None,
         };
-        self.log.glances.push(Glance {
-            behind: self.log.calls.len(),
-            name: number,
-            shown,
-        })?;
-        Ok(())
+        self.see(number, Seen::Answer(shown))
     }
 
-    /// Makes a call or a glance that is drawn.
+    /// Works on a name outside the lock, and settles nothing.
+    fn work(
+        &mut self,
+        alloc: Global,
+        name: &Name,
+        number: usize,
+        providers: &Providers,
+    ) -> Result<(), AllocError> {
+        let begun = self.session.begin(name)?;
+        let work = begun.work(alloc, providers)?;
+        self.see(number, Seen::Found(Sight::of(work.outcome())))
+    }
+
+    /// Makes a call or a reading that is drawn.
     fn act<R: Wait>(
         &mut self,
         rt: &R,
+        alloc: Global,
         stock: &Stock,
         names: &[Name],
         providers: &Providers,
@@ -193,17 +257,19 @@ impl<E: Ending> Seat<E> {
         let Some(name) = names.get(number) else {
             return Ok(());
         };
-        match self.draw(16) {
-            0..=4 => self.put(rt, stock, name, number)?,
-            5 => {
+        match self.draw(256) {
+            0 => self.declare(rt, stock)?,
+            1..=79 => self.put(rt, stock, name, number)?,
+            80..=95 => {
                 self.note(Deed::Remove(number))?;
                 self.session.remove(rt, *name)?;
             }
-            6..=9 => {
+            96..=159 => {
                 self.note(Deed::Ask(number))?;
                 self.session.ask(rt, name, providers)?;
             }
-            _ => self.glance(name, number)?,
+            160..=239 => self.glance(name, number)?,
+            _ => self.work(alloc, name, number, providers)?,
         }
         Ok(())
     }
@@ -212,13 +278,14 @@ impl<E: Ending> Seat<E> {
     fn sit<R: Wait>(
         &mut self,
         rt: &R,
+        alloc: Global,
         stock: &Stock,
         names: &[Name],
         providers: &Providers,
         count: u32,
     ) {
         for _turn in 0..count {
-            if self.act(rt, stock, names, providers).is_err() {
+            if self.act(rt, alloc, stock, names, providers).is_err() {
                 return;
             }
         }
@@ -240,7 +307,7 @@ fn seats<E: Ending>(
             dice: Pcg32::new(seed, stream),
             log: Log {
                 calls: Vec::new(alloc),
-                glances: Vec::new(alloc),
+                readings: Vec::new(alloc),
             },
             is_done: false,
         })?;
@@ -268,9 +335,10 @@ fn risen<E: Ending>(alloc: Global, seats: Vec<Seat<E>>) -> io::Result<(Vec<Sessi
     Ok((sessions, logs))
 }
 
-/// Has each session make so many calls and glances, on a thread of its own.
+/// Has each session make so many calls and readings, on a thread of its own.
 fn sit_all<R: Threads + Wait + Sync, E: Ending + Send>(
     rt: &R,
+    alloc: Global,
     stock: &Stock,
     names: &[Name],
     providers: &Providers,
@@ -282,55 +350,55 @@ fn sit_all<R: Threads + Wait + Sync, E: Ending + Send>(
         rt,
         seats,
         threads,
-        &|_index: usize, seat: &mut Seat<E>| seat.sit(rt, stock, names, providers, count),
+        &|_index: usize, seat: &mut Seat<E>| seat.sit(rt, alloc, stock, names, providers, count),
     );
 }
 
-/// How many calls and glances these are.
-fn counted(logs: &[Log], nanos: u128) -> Round {
-    let mut round = Round {
-        calls: 0,
-        glances: 0,
-        nanos,
-    };
-    for log in logs {
-        round.calls = round.calls.saturating_add(log.calls.len() as u64);
-        round.glances = round.glances.saturating_add(log.glances.len() as u64);
+impl Tally {
+    /// These calls and readings, and those of a round that took so long.
+    fn with(self, logs: &[Log], nanos: u128) -> Tally {
+        let mut all = self;
+        for log in logs {
+            all.calls = all.calls.saturating_add(log.calls.len() as u64);
+            all.readings = all.readings.saturating_add(log.readings.len() as u64);
+        }
+        all.nanos = all.nanos.saturating_add(nanos);
+        all
     }
-    round
 }
 
-/// A round of a new database: each session makes so many calls and glances, the database is closed, and its history is compared with a
-/// map. Fails where they differ.
+/// A round of a new database: each session makes calls and readings, the database is closed, and its history is compared with a map, as
+/// are the readings. Adds them to a tally. Fails where they differ.
 fn make_round<R: Threads + Wait + Clock + Sync>(
     rt: &R,
     alloc: Global,
     stock: &Stock,
-    names: &[Name],
     providers: &Providers,
+    shape: Shape,
     seed: u64,
-    count: u32,
-) -> io::Result<Round> {
-    let capacity = count.saturating_mul(u32::from(SESSIONS));
+    all: Tally,
+) -> io::Result<Tally> {
+    let names = names(alloc, shape.functions)?;
+    let capacity = shape.turns.saturating_mul(u32::from(SESSIONS));
     let Ok((db, sessions)) = Db::open(alloc, Waiting::new(rt), 0, capacity, SESSIONS) else {
         return Err(ErrorKind::OutOfMemory.into());
     };
     let mut seats = seats(alloc, seed, sessions)?;
     let start = Instant::now(rt)?;
-    sit_all(rt, stock, names, providers, count, &mut seats);
+    sit_all(rt, alloc, stock, &names, providers, shape.turns, &mut seats);
     let nanos = start.elapsed(rt)?.as_nanos();
     let (sessions, logs) = risen(alloc, seats)?;
     let Ok(history) = db.close(rt, sessions) else {
         return Err(ErrorKind::InvalidData.into());
     };
-    if !agree(alloc, names, &logs, history.entries())? {
+    if !agree(alloc, &names, &logs, history.entries())? {
         return Err(ErrorKind::InvalidData.into());
     }
-    Ok(counted(&logs, nanos))
+    Ok(all.with(&logs, nanos))
 }
 
-/// Shows how many calls and glances a second sixteen sessions make in rounds of a new database each, until they have taken so many
-/// seconds. Fails where a history, or what was glanced at, is not what a map says. (Own.)
+/// Shows how many calls a second sixteen sessions make in rounds of a new database each, until they have taken so many seconds. Fails
+/// where a history, or what was read, is not what a map says. (Own.)
 pub fn show_load<R: AllocGlobal + Threads + Wait + Clock + Sync, W: Write>(
     rt: &R,
     providers: &Providers,
@@ -339,34 +407,23 @@ pub fn show_load<R: AllocGlobal + Threads + Wait + Clock + Sync, W: Write>(
 ) -> io::Result<()> {
     let alloc = rt.alloc();
     let stock = Stock::new(alloc)?;
-    let names = names(alloc)?;
-    let mut all = Round {
-        calls: 0,
-        glances: 0,
-        nanos: 1,
-    };
+    let mut all = NOTHING;
     for seed in 0..u64::from(u32::MAX) {
         if all.nanos >= u128::from(seconds).saturating_mul(1_000_000_000) {
             break;
         }
-        let one = make_round(rt, alloc, &stock, &names, providers, seed, MANY)?;
-        all.calls = all.calls.saturating_add(one.calls);
-        all.glances = all.glances.saturating_add(one.glances);
-        all.nanos = all.nanos.saturating_add(one.nanos);
+        all = make_round(rt, alloc, &stock, providers, LONG, seed, all)?;
     }
-    let Round {
-        calls,
-        glances,
-        nanos,
-    } = all;
-    let rate = u128::from(calls).saturating_mul(1_000_000_000) / nanos.max(1);
+    let rate = u128::from(all.calls).saturating_mul(1_000_000_000) / all.nanos.max(1);
     writeln!(
         out,
-        "{calls} calls, {rate} a second, and {glances} glances agree with a map"
+        "{} calls, {rate} a second, and {} readings agree with a map",
+        all.calls, all.readings
     )
 }
 
-/// Shows that a history of sixteen sessions, and all that they glanced at, is what a map says. Fails where it is not. (Own.)
+/// Shows that the histories of sixteen sessions, and all that they read, are what a map says: over many names, and over four that all
+/// write. Fails where they are not. (Own.)
 pub fn show_agreement<R: AllocGlobal + Threads + Wait + Clock + Sync, W: Write>(
     rt: &R,
     providers: &Providers,
@@ -374,12 +431,19 @@ pub fn show_agreement<R: AllocGlobal + Threads + Wait + Clock + Sync, W: Write>(
 ) -> io::Result<()> {
     let alloc = rt.alloc();
     let stock = Stock::new(alloc)?;
-    let names = names(alloc)?;
-    let round = make_round(rt, alloc, &stock, &names, providers, 0, FEW)?;
-    let calls = round.calls;
-    let glances = round.glances;
+    let wide = make_round(rt, alloc, &stock, providers, WIDE, 0, NOTHING)?;
+    let mut narrow = NOTHING;
+    for seed in 0..NARROW_ROUNDS {
+        narrow = make_round(rt, alloc, &stock, providers, NARROW, seed, narrow)?;
+    }
     writeln!(
         out,
-        "#sessions on threads\n{calls} calls and {glances} glances agree with a map"
+        "#sessions on threads\n{} calls and {} readings of many names agree with a map",
+        wide.calls, wide.readings
+    )?;
+    writeln!(
+        out,
+        "{} calls and {} readings of four names agree with a map",
+        narrow.calls, narrow.readings
     )
 }

@@ -1,4 +1,4 @@
-//! Sixteen sessions make calls on threads and glance at names, and what they leave is compared with a map of names. With a number they do
+//! Sixteen sessions make calls on threads and read beside them, and what they leave and see is compared with a map of names. With a number they do
 //! so for that many seconds, and how fast they were is shown.
 #![tactic(auto)]
 

@@ -1,5 +1,5 @@
-//! What a map of names says of the calls and the glances of sessions, and nothing else: it knows of no revision, of no piece and of no
-//! memo. It is compared with the history of a database, entry by entry, and each session's glances with the beginnings of that history.
+//! What a map of names says of the calls and the readings of sessions, and nothing else: it knows of no revision, of no piece and of no
+//! memo. It is compared with the history of a database, entry by entry, and each session's readings with the beginnings of that history.
 use bc_calls::{Entry, Event, MOST_BODIES, PutReply, RemoveReply};
 use bc_fixtures::Sight;
 use bc_text::Name;
@@ -22,24 +22,32 @@ pub(crate) enum Kind {
 /// A call that a session made, by the number of the name, with what is known of the unit that it put.
 #[derive(Clone, Copy)]
 pub(crate) enum Deed {
+    Types,
     Put(usize, Kind),
     Remove(usize),
     Ask(usize),
 }
 
-/// A glance of a session: how many calls it had made before, the number of the name, and what was shown.
+/// What a session saw of a name without a call: the answer that a glance shows, or what its own work finds outside the lock.
 #[derive(Clone, Copy)]
-pub(crate) struct Glance {
-    pub(crate) behind: usize,
-    pub(crate) name: usize,
-    pub(crate) shown: Option<Sight>,
+pub(crate) enum Seen {
+    Answer(Option<Sight>),
+    Found(Sight),
 }
 
-/// What a session did: its calls, and its glances, both in their order.
+/// A reading of a session: how many calls it had made before, the number of the name, and what was seen.
+#[derive(Clone, Copy)]
+pub(crate) struct Reading {
+    pub(crate) behind: usize,
+    pub(crate) name: usize,
+    pub(crate) seen: Seen,
+}
+
+/// What a session did: its calls, and its readings, both in their order.
 #[derive(Drop)]
 pub(crate) struct Log {
     pub(crate) calls: Vec<Deed>,
-    pub(crate) glances: Vec<Glance>,
+    pub(crate) readings: Vec<Reading>,
 }
 
 /// What is held under each name, and the answer of each.
@@ -89,6 +97,13 @@ impl Map {
         }
         self.set_answer(name, None);
         self.set_answer(name - name % FAMILY, None);
+    }
+
+    /// Makes all answers void.
+    fn void_all(&mut self) {
+        for answer in self.answers.iter_mut() {
+            *answer = None;
+        }
     }
 
     /// Sets the answer of a name.
@@ -147,6 +162,10 @@ impl Map {
     /// Makes a call, and answers whether the event is that call with that reply.
     fn take(&mut self, names: &[Name], deed: Deed, event: &Event) -> bool {
         match (deed, event) {
+            (Deed::Types, Event::Types(_)) => {
+                self.void_all();
+                true
+            }
             (Deed::Put(name, kind), Event::Put(at, _, reply)) => {
                 names.get(name) == Some(at) && self.put(name, kind) == *reply
             }
@@ -156,15 +175,23 @@ impl Map {
             (Deed::Ask(name), Event::Ask(at, outcome)) => {
                 names.get(name) == Some(at) && self.ask(names, name) == Sight::of(outcome.get())
             }
-            (Deed::Put(_, _) | Deed::Remove(_) | Deed::Ask(_), _) => false,
+            (Deed::Types | Deed::Put(_, _) | Deed::Remove(_) | Deed::Ask(_), _) => false,
         }
     }
 
-    /// The glances behind those that were made behind so many calls and show what is answered now.
-    fn rest<'a>(&self, glances: &'a [Glance], behind: usize) -> &'a [Glance] {
-        let mut rest = glances;
-        for glance in glances {
-            if glance.behind != behind || self.answer(glance.name) != glance.shown {
+    /// Whether this is what there is to see of a name now.
+    fn fits(&self, names: &[Name], name: usize, seen: &Seen) -> bool {
+        match seen {
+            Seen::Answer(answer) => self.answer(name) == *answer,
+            Seen::Found(found) => self.found(names, name) == *found,
+        }
+    }
+
+    /// The readings behind those that were made behind so many calls and saw what there is to see now.
+    fn rest<'a>(&self, names: &[Name], readings: &'a [Reading], behind: usize) -> &'a [Reading] {
+        let mut rest = readings;
+        for reading in readings {
+            if reading.behind != behind || !self.fits(names, reading.name, &reading.seen) {
                 break;
             }
             if let Some((_, others)) = rest.split_first() {
@@ -211,63 +238,60 @@ fn deed_of(logs: &[Log], entry: &Entry) -> Option<Deed> {
     Some(*log.calls.get(entry.number as usize)?)
 }
 
-/// Whether the entries are the calls of the sessions, each with the reply of a map.
-fn replies_agree(
-    alloc: Global,
-    names: &[Name],
-    logs: &[Log],
-    entries: &[Entry],
-) -> Result<bool, AllocError> {
-    let mut map = Map::new(alloc, names.len())?;
-    for entry in entries {
-        let Some(deed) = deed_of(logs, entry) else {
-            return Ok(false);
-        };
-        if !map.take(names, deed, &entry.event) {
-            return Ok(false);
-        }
-    }
-    Ok(true)
+/// What a session read that fits no beginning of the history yet, and how many calls that beginning has of it.
+#[derive(Clone, Copy)]
+struct Reader<'a> {
+    rest: &'a [Reading],
+    behind: usize,
 }
 
-/// Whether each glance of a session shows what a beginning of the history leaves, which is no shorter than that of the glance before, has
-/// the calls that the session had made and none that it made later.
-fn glances_agree(
-    alloc: Global,
-    names: &[Name],
-    logs: &[Log],
-    entries: &[Entry],
-    session: u8,
-    glances: &[Glance],
-) -> Result<bool, AllocError> {
-    let mut map = Map::new(alloc, names.len())?;
-    let mut rest = glances;
-    let mut behind: usize = 0;
-    for entry in entries {
-        rest = map.rest(rest, behind);
-        if entry.session == session {
-            behind = behind.saturating_add(1);
-        }
-        if let Some(deed) = deed_of(logs, entry) {
-            map.take(names, deed, &entry.event);
-        }
+/// A reader for each session.
+fn readers(alloc: Global, logs: &[Log]) -> Result<Vec<Reader<'_>>, AllocError> {
+    let mut readers = Vec::with_capacity(alloc, logs.len())?;
+    for log in logs {
+        readers.push(Reader {
+            rest: &log.readings,
+            behind: 0,
+        })?;
     }
-    Ok(map.rest(rest, behind).is_empty())
+    Ok(readers)
 }
 
-/// Whether the history is what a map of these names says of the calls of the sessions, and shows all that they glanced at.
+/// Has each session's readings go on that saw what there is to see now.
+fn read_on(map: &Map, names: &[Name], readers: &mut [Reader<'_>]) {
+    for reader in readers.iter_mut() {
+        reader.rest = map.rest(names, reader.rest, reader.behind);
+    }
+}
+
+/// Counts a call of a session.
+fn count(readers: &mut [Reader<'_>], session: u8) {
+    if let Some(reader) = readers.get_mut(usize::from(session)) {
+        reader.behind = reader.behind.saturating_add(1);
+    }
+}
+
+/// Whether the history is what a map of these names says of the calls of the sessions, and shows all that they saw: each reading of a
+/// session saw what a beginning of the history leaves, which is no shorter than that of the reading before, has the calls that the session
+/// had made and none that it made later.
 pub(crate) fn agree(
     alloc: Global,
     names: &[Name],
     logs: &[Log],
     entries: &[Entry],
 ) -> Result<bool, AllocError> {
-    let mut session: u8 = 0;
-    for log in logs {
-        if !glances_agree(alloc, names, logs, entries, session, &log.glances)? {
+    let mut map = Map::new(alloc, names.len())?;
+    let mut readers = readers(alloc, logs)?;
+    for entry in entries {
+        read_on(&map, names, &mut readers);
+        let Some(deed) = deed_of(logs, entry) else {
+            return Ok(false);
+        };
+        if !map.take(names, deed, &entry.event) {
             return Ok(false);
         }
-        session = session.saturating_add(1);
+        count(&mut readers, entry.session);
     }
-    replies_agree(alloc, names, logs, entries)
+    read_on(&map, names, &mut readers);
+    Ok(readers.iter().all(|reader| reader.rest.is_empty()))
 }

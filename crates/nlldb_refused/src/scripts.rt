@@ -4,9 +4,8 @@ use crate::calls::{WRITES_LAST, WRITES_WHILE_BORROWED};
 use crate::turns::{Turn, show_entry};
 use anyhow::bail;
 use bc_book::Refusal;
-use bc_fixtures::run_freely;
 use bc_prov::Providers;
-use bc_share::{Db, End, History, Script, Session};
+use bc_share::{Db, End, Gate, History, Script, Session, Stage, run_sessions};
 use bc_versions::{Ending, Waiting};
 use std::alloc::Global;
 use std::io;
@@ -35,6 +34,14 @@ const CALLS: [[Turn; 5]; 2] = [
 /// How many calls each makes.
 const EACH: usize = 5;
 
+/// A gate that nobody is held up at.
+#[derive(Clone, Copy)]
+struct Open;
+
+impl Gate for Open {
+    fn pause(&self, _session: u8, _stage: Stage) {}
+}
+
 /// The script of the calls behind the first ones, of which there are so many.
 fn script(alloc: Global, calls: &[Turn], made: usize) -> anyhow::Result<Script> {
     let mut script = Vec::new(alloc);
@@ -51,6 +58,21 @@ fn scripts(alloc: Global, made: &[usize]) -> anyhow::Result<Vec<Script>> {
         scripts.push(script(alloc, calls, *made)?)?;
     }
     Ok(scripts)
+}
+
+/// Has the sessions make their scripts. They come back as the `Err` where there are not as many scripts, or for want of memory.
+fn run_freely<R: Threads + Wait + Sync, E: Ending + Send>(
+    rt: &R,
+    alloc: Global,
+    db: &Db<E>,
+    sessions: Vec<Session<E>>,
+    scripts: Vec<Script>,
+    providers: &Providers,
+) -> Result<Vec<(Session<E>, End)>, Vec<Session<E>>> {
+    if sessions.len() != scripts.len() {
+        return Err(sessions);
+    }
+    run_sessions(rt, alloc, db, sessions, scripts, providers, &Open)
 }
 
 /// Has the sessions make the calls that are not made yet, once more where room for the result is refused.

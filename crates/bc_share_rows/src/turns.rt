@@ -1,10 +1,8 @@
 //! Calls with the replies that they are to have.
-use crate::bodies::{CLOSURE, WRITES_LAST};
-use crate::outcomes::{Found, found_by};
-use crate::texts::{name, shared_types, shared_unit};
 use anyhow::bail;
 use bc_book::Refusal;
 use bc_calls::{PutReply, RemoveReply};
+use bc_fixtures::{CLOSURE, Found, WRITES_LAST, found_by, name, shared_types, shared_unit};
 use bc_prov::Providers;
 use bc_share::{Db, History, Session};
 use bc_syntax::Unit;
@@ -13,9 +11,9 @@ use bc_versions::{Ending, Waiting};
 use std::alloc::Global;
 use std::sync::{Arc, Wait};
 
-/// A call with the reply that it is to have, or the refusal; or puts of new bodies under 256 names; or of new closures under 252. (Own.)
+/// A call with the reply that it is to have, or the refusal; or puts of new bodies under 256 names; or of new closures under 252.
 #[derive(Clone, Copy)]
-pub enum Turn<'a> {
+pub(crate) enum Turn<'a> {
     Put(&'a [u8], &'a [u8], Result<PutReply, Refusal>),
     Types(&'a [u8], Result<(), Refusal>),
     Remove(&'a [u8], Result<RemoveReply, Refusal>),
@@ -82,8 +80,8 @@ fn fills_below<R: Wait, E: Ending>(
     Ok(true)
 }
 
-/// Makes a call, and answers whether it has its reply; fails where a text spells nothing, or for want of memory. (Own.)
-pub fn goes<R: Wait, E: Ending>(
+/// Makes a call, and answers whether it has its reply; fails where a text spells nothing, or for want of memory.
+pub(crate) fn goes<R: Wait, E: Ending>(
     rt: &R,
     alloc: Global,
     session: &mut Session<E>,
@@ -106,8 +104,8 @@ pub fn goes<R: Wait, E: Ending>(
     }
 }
 
-/// Makes calls in their order; fails at the first one that has not its reply, and tells its place. (Own.)
-pub fn all_go<R: Wait, E: Ending>(
+/// Makes calls in their order; fails at the first one that has not its reply, and tells its place.
+pub(crate) fn all_go<R: Wait, E: Ending>(
     rt: &R,
     alloc: Global,
     session: &mut Session<E>,
@@ -122,8 +120,8 @@ pub fn all_go<R: Wait, E: Ending>(
     Ok(())
 }
 
-/// The history of a new database with so many entries at most, whose session makes these calls, by these providers. (Own.)
-pub fn history_by<R: Wait>(
+/// The history of a new database with so many entries at most, whose session makes these calls, by these providers.
+pub(crate) fn history_by<R: Wait>(
     rt: &R,
     alloc: Global,
     providers: &Providers,

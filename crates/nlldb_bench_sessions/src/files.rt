@@ -1,8 +1,7 @@
 //! A file of many bodies, checked as the command does.
-use crate::readings::checksum;
 use anyhow::bail;
 use bc_analyses::providers;
-use bc_bench::timed;
+use bc_bench::{checksum, timed};
 use bc_check::check;
 use bc_prov::Providers;
 use std::alloc::Global;
