@@ -37,6 +37,33 @@ impl Findings {
             published: None,
         }
     }
+
+    /// An outcome that is to be remembered, if there is one, and pieces that are to be kept and published. Answers `AllocError` only
+    /// where memory was refused.
+    fn of(
+        alloc: Global,
+        row: Option<(Name, Remembered)>,
+        pieces: Pieces,
+    ) -> Result<Findings, AllocError>
+        ensures { IfOk result (λ findings. findings.row ≡ row) }
+    {
+        let published = share_pieces(alloc, &pieces)?;
+        Ok(Findings {
+            row,
+            kept: Some(pieces),
+            published: Some(published),
+        })
+    }
+}
+
+/// Two more owners of an outcome.
+fn two_owners(outcome: &Shared<Outcome>) -> Result<(Shared<Outcome>, Shared<Outcome>), AllocError>
+    ensures first { IfOk result (λ both. both.0 ≡ outcome.now) }
+    ensures second { IfOk result (λ both. both.1 ≡ outcome.now) }
+{
+    let first = outcome.clone()?;
+    let second = outcome.clone()?;
+    Ok((first, second))
 }
 
 /// A book: the history of all calls, what it leaves, what is remembered of it, and the writer that publishes it. Contracts see how many
@@ -186,16 +213,11 @@ impl<E: Ending> Book<E> {
         self.ledger.reserve()?;
         let name = *work.name();
         let Found { outcome, pieces } = self.ledger.outcome(alloc, work, providers)?;
-        let mine = outcome.clone()?;
-        let answer = outcome.clone()?;
-        let published = share_pieces(alloc, &pieces)?;
-        let findings = Findings {
-            row: self.ledger.row(alloc, &name, &outcome)?,
-            kept: Some(pieces),
-            published: Some(published),
-        };
+        let row = self.ledger.row(alloc, &name, &outcome)?;
+        let findings = Findings::of(alloc, row, pieces)?;
+        let told = two_owners(&outcome)?;
         self.append(rt, session, Event::Ask(name, outcome), findings)?;
-        Ok((mine, answer))
+        Ok(told)
     }
 
     // Adds a session's event, whose reply is the one that what is held gives it, publishes it, and remembers an outcome and keeps pieces,

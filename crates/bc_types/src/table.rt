@@ -169,6 +169,28 @@ fn extern_at(declarations: &[Declaration], position: usize) -> Option<&ExternDec
     }
 }
 
+/// Appends a struct to declarations.
+fn push_struct(
+    declarations: &mut Sequence<Declaration>,
+    declaration: &StructDeclaration,
+) -> Result<(), AllocError>
+    ensures { OnOk result (declarations.new ≡ declarations.old ++ Declaration.Struct declaration.now ∷ []) }
+{
+    let copy = Declaration::Struct(copy_struct(declaration)?);
+    declarations.push(copy)
+}
+
+/// Appends an extern function to declarations.
+fn push_extern(
+    declarations: &mut Sequence<Declaration>,
+    declaration: &ExternDeclaration,
+) -> Result<(), AllocError>
+    ensures { OnOk result (declarations.new ≡ declarations.old ++ Declaration.Extern declaration.now ∷ []) }
+{
+    let copy = Declaration::Extern(copy_extern(declaration)?);
+    declarations.push(copy)
+}
+
 impl Table {
     /// No declarations.
     pub(crate) fn new(alloc: Global) -> Table
@@ -202,19 +224,18 @@ impl Table {
             position: self.declarations.len(),
             holds_drop: self.finds_drop(declaration),
         };
-        let copy = Declaration::Struct(copy_struct(declaration)?);
         let Table {
             mut declarations,
             mut structs,
             externs,
         } = self;
+        push_struct(&mut declarations, declaration)?;
         add_struct(
             alloc,
             &mut structs,
             declaration.name.bytes.as_slice(),
             known,
         )?;
-        declarations.push(copy)?;
         Ok(Table {
             declarations,
             structs,
@@ -230,19 +251,18 @@ impl Table {
         ensures { IfOk result (λ table. table ≡ self ++ Declaration.Extern declaration.now ∷ []) }
     {
         let position = self.declarations.len();
-        let copy = Declaration::Extern(copy_extern(declaration)?);
         let Table {
             mut declarations,
             structs,
             mut externs,
         } = self;
+        push_extern(&mut declarations, declaration)?;
         add_extern(
             alloc,
             &mut externs,
             declaration.name.bytes.as_slice(),
             position,
         )?;
-        declarations.push(copy)?;
         Ok(Table {
             declarations,
             structs,

@@ -1,5 +1,4 @@
-use Rattle.std.proofs.Common.{◌++◌, ◌∷◌, [], refl, ap, ◌∙◌}
-use Rattle.bc_syntax.specs.declared.syntax.Declaration.TheVariants.{Struct}
+use Rattle.std.proofs.Common.{refl, ◌∙◌}
 use Rattle.bc_types.proofs.Growing.{with-struct}
 use Rattle.bc_types.proofs.table.Table.with_struct.Goals as goal
 
@@ -7,5 +6,4 @@ pub invariant_of-result : goal.invariant_of-result
 invariant_of-result c =
     let here = c.self.inside in
     let holds = c.finds_drop.ensures ∙ rw (← c.self.view_is) refl in
-    let grown = c.in_ok-push.ensures.ok ∙ ap (λ d. here.declarations ++ Struct d ∷ []) c.in_ok-copy_struct.ensures in
-    with-struct (λ key. key.items) here.declarations c.push.new.self c.args.declaration.now here.structs c.add_struct.new.structs here.externs c.as_slice.result.now c.len.result c.finds_drop.result c.len.ensures holds c.as_slice.ensures c.in_ok-add_struct.ensures grown c.self.invariant
+    with-struct (λ key. key.items) here.declarations c.push_struct.new.declarations c.args.declaration.now here.structs c.add_struct.new.structs here.externs c.as_slice.result.now c.len.result c.finds_drop.result c.len.ensures holds c.as_slice.ensures c.in_ok-add_struct.ensures c.in_ok-push_struct.ensures c.self.invariant
