@@ -32,6 +32,42 @@ fn finds_one<R: Wait, E: Ending>(
     Ok(found_by(&outcome) == Found::Errors(1))
 }
 
+/// Has a session put a body and ask for it, by the program's providers.
+fn ask_once<R: Wait, E: Ending>(
+    rt: &R,
+    alloc: Global,
+    session: &mut Session<E>,
+    turns: &[Turn],
+) -> Result<(), Fail> {
+    let providers = providers!(alloc);
+    Ok(all_go(rt, alloc, session, &providers, turns)?)
+}
+
+/// Whether a session finds one error where it settles the work of another database's.
+fn finds_theirs<R: Wait, E: Ending>(
+    rt: &R,
+    alloc: Global,
+    session: &mut Session<E>,
+    other: &mut Session<E>,
+    providers: &Providers,
+) -> Result<bool, Fail> {
+    let theirs = work_on(alloc, other, providers)?;
+    finds_one(rt, session, theirs, providers)
+}
+
+/// Whether a session finds one error where it settles its own work, while which it makes calls.
+fn finds_own<R: Wait, E: Ending>(
+    rt: &R,
+    alloc: Global,
+    session: &mut Session<E>,
+    providers: &Providers,
+    turns: &[Turn],
+) -> Result<bool, Fail> {
+    let own = work_on(alloc, session, providers)?;
+    all_go(rt, alloc, session, providers, turns)?;
+    finds_one(rt, session, own, providers)
+}
+
 /// Settles, by providers that always want memory, the work of another database's session, which has asked for the same body, and then
 /// asks; and settles its own work where a closure that the body does not create is put below meanwhile.
 fn all_told<R: Abort + Wait, E: Ending>(
@@ -40,24 +76,35 @@ fn all_told<R: Abort + Wait, E: Ending>(
     session: &mut Session<E>,
     other: &mut Session<E>,
 ) -> Result<(), Fail> {
-    let refusing = refusing!(alloc);
     let put = Turn::Put(b"f", WRITES_WHILE_BORROWED, Ok(PutReply::Added));
     let beside = Turn::Put(b"f/3", CLOSURE, Ok(PutReply::Added));
     let ask = Turn::Ask(b"f", Ok(Found::Errors(1)));
-    all_go(rt, alloc, other, &providers!(alloc), &[put, ask])?;
+    ask_once(rt, alloc, other, &[put, ask])?;
+    let refusing = refusing!(alloc);
     all_go(rt, alloc, session, &refusing, &[put])?;
-    let theirs = work_on(alloc, other, &refusing)?;
     assert!(rt;
-        finds_one(rt, session, theirs, &refusing)?,
+        finds_theirs(rt, alloc, session, other, &refusing)?,
         "the work stands"
     );
     all_go(rt, alloc, session, &refusing, &[ask])?;
-    let own = work_on(alloc, session, &refusing)?;
-    all_go(rt, alloc, session, &refusing, &[beside])?;
     assert!(rt;
-        finds_one(rt, session, own, &refusing)?,
+        finds_own(rt, alloc, session, &refusing, &[beside])?,
         "what is remembered stands"
     );
+    Ok(())
+}
+
+/// The same, beside a database of its own.
+fn all_told_beside<R: Abort + Wait, E: Ending>(
+    rt: &R,
+    alloc: Global,
+    ending: E,
+    session: &mut Session<E>,
+) -> Result<(), Fail> {
+    let (_db, mut others) = Db::open(alloc, ending, 1, 9, 1)?;
+    for other in others.iter_mut() {
+        all_told(rt, alloc, session, other)?;
+    }
     Ok(())
 }
 
@@ -65,12 +112,9 @@ fn all_told<R: Abort + Wait, E: Ending>(
 /// the book's in what is published: where a database has an answer and no piece, only the answer spares the providers.
 #[test]
 fn an_answer_is_told_where_no_piece_is_kept(rt: HostRuntime) -> Result<(), Fail> {
-    let (_first, mut others) = Db::open(rt.alloc(), Waiting::new(&rt), 1, 9, 1)?;
-    let (_second, mut sessions) = Db::open(rt.alloc(), Waiting::new(&rt), 2, 9, 1)?;
+    let (_db, mut sessions) = Db::open(rt.alloc(), Waiting::new(&rt), 2, 9, 1)?;
     for session in sessions.iter_mut() {
-        for other in others.iter_mut() {
-            all_told(&rt, rt.alloc(), session, other)?;
-        }
+        all_told_beside(&rt, rt.alloc(), Waiting::new(&rt), session)?;
     }
     Ok(())
 }

@@ -10,9 +10,9 @@ use bc_fixtures::{
 };
 use bc_mir::Typed;
 use bc_prov::{Liveness, Providers, Scoping, Solver};
-use bc_share::Db;
+use bc_share::{Db, Session};
 use bc_solve::Values;
-use bc_versions::Waiting;
+use bc_versions::{Ending, Waiting};
 use std::alloc::Global;
 use std::sync::atomic::AtomicU32;
 use std::sync::atomic::Ordering::SeqCst;
@@ -112,30 +112,77 @@ fn no_provider_is_called_where_there_is_a_fault(rt: HostRuntime) -> Result<(), F
     Ok(())
 }
 
-/// Catches the wrong body `report_ignores_providers`: where a provider always wants memory, so does the report of a body.
-#[test]
-fn a_report_wants_memory_where_a_provider_does(rt: HostRuntime) -> Result<(), Fail> {
-    let alloc = rt.alloc();
-    let providers = Providers::new(
+/// The program's providers, of which the solver always wants memory.
+fn wanting_to_solve(alloc: Global) -> Result<Providers, Fail> {
+    Ok(Providers::new(
         Box::new(alloc, find_live)?,
         Box::new(alloc, want_memory)?,
         Box::new(alloc, find_scopes)?,
-    );
+    ))
+}
+
+/// How many entries calls make by such providers.
+fn entries_without_values<R: Wait>(rt: &R, alloc: Global, turns: &[Turn]) -> Result<usize, Fail> {
+    let providers = wanting_to_solve(alloc)?;
+    let history = history_by(rt, alloc, &providers, 3, turns)?;
+    Ok(history.entries().len())
+}
+
+/// Catches the wrong body `report_ignores_providers`: where a provider always wants memory, so does the report of a body.
+#[test]
+fn a_report_wants_memory_where_a_provider_does(rt: HostRuntime) -> Result<(), Fail> {
     let turns = [
         Turn::Put(b"f", WRITES_LAST, Ok(PutReply::Added)),
         Turn::Ask(b"f", Err(Refusal::NoMemory)),
         Turn::Ask(b"g", Ok(Found::NoBody)),
     ];
-    let history = history_by(&rt, alloc, &providers, 3, &turns)?;
-    assert!(rt; history.entries().len() == 2, "the refused Ask is no entry");
+    let entries = entries_without_values(&rt, rt.alloc(), &turns)?;
+    assert!(rt; entries == 2, "the refused Ask is no entry");
     Ok(())
+}
+
+/// Makes calls by the program's providers.
+fn go_by_the_program<R: Wait, E: Ending>(
+    rt: &R,
+    alloc: Global,
+    session: &mut Session<E>,
+    turns: &[Turn],
+) -> Result<(), Fail> {
+    let providers = providers!(alloc);
+    Ok(all_go(rt, alloc, session, &providers, turns)?)
+}
+
+/// Makes calls by providers that always want memory.
+fn go_without_a_provider<R: Wait, E: Ending>(
+    rt: &R,
+    alloc: Global,
+    session: &mut Session<E>,
+    turns: &[Turn],
+) -> Result<(), Fail> {
+    let providers = refusing!(alloc);
+    Ok(all_go(rt, alloc, session, &providers, turns)?)
+}
+
+/// How many entries a session of a new database makes by calls of both kinds.
+fn entries_of<R: Wait>(
+    rt: &R,
+    alloc: Global,
+    first: &[Turn],
+    second: &[Turn],
+) -> Result<usize, Fail> {
+    let (db, mut sessions) = Db::open(alloc, Waiting::new(rt), 0, 9, 1)?;
+    for session in sessions.iter_mut() {
+        go_by_the_program(rt, alloc, session, first)?;
+        go_without_a_provider(rt, alloc, session, second)?;
+    }
+    let history = db.close(rt, sessions)?;
+    Ok(history.entries().len())
 }
 
 /// What was found is told again where each provider wants memory, by its answer or by its pieces, and no longer once a closure that it
 /// rests on is replaced.
 #[test]
 fn a_second_ask_of_an_unchanged_name_calls_no_provider(rt: HostRuntime) -> Result<(), Fail> {
-    let alloc = rt.alloc();
     let found = Turn::Ask(b"f", Ok(Found::Three(0, 0, 0)));
     let first = [
         Turn::Put(b"f", INVOKES, Ok(PutReply::Added)),
@@ -150,12 +197,7 @@ fn a_second_ask_of_an_unchanged_name_calls_no_provider(rt: HostRuntime) -> Resul
         Turn::Put(b"f/0/1", CLOSURE_WRITES, Ok(PutReply::Replaced)),
         Turn::Ask(b"f", Err(Refusal::NoMemory)),
     ];
-    let (db, mut sessions) = Db::open(alloc, Waiting::new(&rt), 0, 9, 1)?;
-    for session in sessions.iter_mut() {
-        all_go(&rt, alloc, session, &providers!(alloc), &first)?;
-        all_go(&rt, alloc, session, &refusing!(alloc), &second)?;
-    }
-    let history = db.close(&rt, sessions)?;
-    assert!(rt; history.entries().len() == 8, "the refused Ask is no entry");
+    let entries = entries_of(&rt, rt.alloc(), &first, &second)?;
+    assert!(rt; entries == 8, "the refused Ask is no entry");
     Ok(())
 }

@@ -98,8 +98,43 @@ fn put_closures<R: Abort + Wait, E: Ending>(
     Ok(true)
 }
 
-/// Whether the one session of a new database, which first puts so many closures of `f`, has the reply of each step of each part, where
-/// so many bodies are solved in it.
+/// Whether a session, which first puts so many closures of `f`, has the reply of each step of each part, where so many bodies are solved
+/// in it.
+fn all_parts_solve<R: Abort + Wait, E: Ending>(
+    rt: &R,
+    alloc: Global,
+    session: &mut Session<E>,
+    providers: &Providers,
+    solved: &AtomicU32,
+    closures: u8,
+    parts: &[&[Step]],
+) -> Result<bool, Fail> {
+    let mut all = put_closures(rt, alloc, session, providers, closures)?;
+    for steps in parts {
+        all = all && all_solve(rt, alloc, session, providers, solved, steps)?;
+    }
+    Ok(all)
+}
+
+/// The same, of the one session of a new database.
+fn solve_by<R: Abort + Wait>(
+    rt: &R,
+    alloc: Global,
+    providers: &Providers,
+    solved: &AtomicU32,
+    closures: u8,
+    parts: &[&[Step]],
+) -> Result<bool, Fail> {
+    let (db, mut sessions) = Db::open(alloc, Waiting::new(rt), 0, 99, 1)?;
+    let mut all = true;
+    for session in sessions.iter_mut() {
+        all = all && all_parts_solve(rt, alloc, session, providers, solved, closures, parts)?;
+    }
+    let _history = db.close(rt, sessions)?;
+    Ok(all)
+}
+
+/// The same, by providers that count the bodies that are solved.
 fn solve<R: Abort + Wait>(
     rt: &R,
     alloc: Global,
@@ -114,16 +149,7 @@ fn solve<R: Abort + Wait>(
         to_solve.fetch_add(1, SeqCst);
         find_values(alloc, facts)
     });
-    let (db, mut sessions) = Db::open(alloc, Waiting::new(rt), 0, 99, 1)?;
-    let mut all = true;
-    for session in sessions.iter_mut() {
-        all = all && put_closures(rt, alloc, session, &providers, closures)?;
-        for steps in parts {
-            all = all && all_solve(rt, alloc, session, &providers, &solved, steps)?;
-        }
-    }
-    let _history = db.close(rt, sessions)?;
-    Ok(all)
+    solve_by(rt, alloc, &providers, &solved, closures, parts)
 }
 
 #[test]

@@ -1,7 +1,7 @@
 //! What sessions see of what is published: glances at names, and beginnings of them, between the calls of a session.
-use crate::turns::{Turn, goes};
+use crate::turns::{Turn, goes, late_sessions};
 use bc_analyses::providers;
-use bc_calls::{PutReply, RemoveReply};
+use bc_calls::{PutReply, RemoveReply, Work};
 use bc_fixtures::{
     CLOSURE, CLOSURE_WRITES, Found, INVOKES, MARKED_INVARIANT, NESTED, WRITES_LAST,
     WRITES_WHILE_BORROWED, found_by, name, refusing,
@@ -62,6 +62,17 @@ fn glances<E: Ending>(session: &mut Session<E>, text: &[u8]) -> Result<Option<Fo
     }
 }
 
+/// The work on what a session has begun of a name.
+fn work_on<E: Ending>(
+    alloc: Global,
+    session: &mut Session<E>,
+    text: &[u8],
+    providers: &Providers,
+) -> Result<Work, Fail> {
+    let begun = session.begin(&name(text)?)?;
+    Ok(begun.work(alloc, providers)?)
+}
+
 /// What the work on a name finds that a session begins.
 fn begins<E: Ending>(
     alloc: Global,
@@ -69,8 +80,7 @@ fn begins<E: Ending>(
     text: &[u8],
     providers: &Providers,
 ) -> Result<Found, Fail> {
-    let begun = session.begin(&name(text)?)?;
-    let work = begun.work(alloc, providers)?;
+    let work = work_on(alloc, session, text, providers)?;
     Ok(found_by(work.outcome()))
 }
 
@@ -83,10 +93,20 @@ fn settles<R: Wait, E: Ending>(
     providers: &Providers,
     refusing: &Providers,
 ) -> Result<Found, Fail> {
-    let begun = session.begin(&name(text)?)?;
-    let work = begun.work(alloc, providers)?;
+    let work = work_on(alloc, session, text, providers)?;
     let outcome = session.settle(rt, work, refusing)?;
     Ok(found_by(&outcome))
+}
+
+/// Makes a call of session 0, and answers whether it has its reply.
+fn calls<R: Wait, E: Ending>(
+    rt: &R,
+    alloc: Global,
+    sessions: &mut [Session<E>],
+    providers: &Providers,
+    turn: &Turn,
+) -> Result<bool, Fail> {
+    Ok(goes(rt, alloc, at(sessions, 0)?, providers, turn)?)
 }
 
 /// Makes a step, and answers whether what is to be found is found.
@@ -99,7 +119,7 @@ fn steps<R: Wait, E: Ending>(
     step: &Step,
 ) -> Result<bool, Fail> {
     match *step {
-        Step::Call(turn) => Ok(goes(rt, alloc, at(sessions, 0)?, providers, &turn)?),
+        Step::Call(turn) => calls(rt, alloc, sessions, providers, &turn),
         Step::Glance(number, text, found) => Ok(glances(at(sessions, number)?, text)? == found),
         Step::Begin(number, text, found) => {
             Ok(begins(alloc, at(sessions, number)?, text, providers)? == found)
@@ -114,6 +134,24 @@ fn steps<R: Wait, E: Ending>(
     }
 }
 
+/// Makes all steps, by these providers.
+fn all_step_by<R: Abort + Wait, E: Ending>(
+    rt: &R,
+    alloc: Global,
+    sessions: &mut [Session<E>],
+    providers: &Providers,
+    refusing: &Providers,
+    taken: &[Step],
+) -> Result<(), Fail> {
+    for (number, step) in taken.iter().enumerate() {
+        assert!(rt;
+            steps(rt, alloc, sessions, providers, refusing, step)?,
+            "step {number}"
+        );
+    }
+    Ok(())
+}
+
 /// Makes all steps.
 fn all_step<R: Abort + Wait, E: Ending>(
     rt: &R,
@@ -123,13 +161,7 @@ fn all_step<R: Abort + Wait, E: Ending>(
 ) -> Result<(), Fail> {
     let providers = providers!(alloc);
     let refusing = refusing!(alloc);
-    for (number, step) in taken.iter().enumerate() {
-        assert!(rt;
-            steps(rt, alloc, sessions, &providers, &refusing, step)?,
-            "step {number}"
-        );
-    }
-    Ok(())
+    all_step_by(rt, alloc, sessions, &providers, &refusing, taken)
 }
 
 /// Makes all steps with the two sessions of a new database, which is closed then: the close audits what session 0 called.
@@ -294,9 +326,7 @@ fn sees_nothing<E: Ending>(session: &mut Session<E>) -> Result<bool, Fail> {
 /// Two databases may have one tag: the one closed with the other's session leaves its own, for which nothing is published any more.
 #[test]
 fn nothing_is_seen_of_a_closed_database(rt: HostRuntime) -> Result<(), Fail> {
-    let (first, mut late) = Db::open(rt.alloc(), Waiting::new(&rt), 7, 9, 1)?;
-    let (_second, twins) = Db::open(rt.alloc(), Waiting::new(&rt), 7, 9, 1)?;
-    let _history = first.close(&rt, twins)?;
+    let mut late = late_sessions(&rt, rt.alloc())?;
     for session in late.iter_mut() {
         assert!(rt; sees_nothing(session)?, "nothing is seen");
     }

@@ -1,7 +1,7 @@
 //! Work that is settled by other providers, in another book, or late.
 use bc_analyses::providers;
 use bc_book::Book;
-use bc_calls::Work;
+use bc_calls::{Begun, Work};
 use bc_fixtures::{
     CLOSURE, Found, WRITES_LAST, WRITES_WHILE_BORROWED, found_by, name, refusing, shared_unit,
 };
@@ -36,10 +36,20 @@ fn book_with<R: Wait, E: Ending>(
     Ok(book)
 }
 
+/// What was begun of `f` in a book.
+fn begun_in<E: Ending>(alloc: Global, book: &Book<E>) -> Result<Begun, Fail> {
+    Ok(book.snapshot(alloc, &name(b"f")?)?)
+}
+
+/// The work on what was begun, by the program's providers.
+fn worked(alloc: Global, begun: Begun) -> Result<Work, Fail> {
+    let providers = providers!(alloc);
+    Ok(begun.work(alloc, &providers)?)
+}
+
 /// The work on `f` in a book, by the program's providers.
 fn work_in<E: Ending>(alloc: Global, book: &Book<E>) -> Result<Work, Fail> {
-    let begun = book.snapshot(alloc, &name(b"f")?)?;
-    Ok(begun.work(alloc, &providers!(alloc))?)
+    worked(alloc, begun_in(alloc, book)?)
 }
 
 /// What a book finds where it settles the work.
@@ -54,125 +64,133 @@ fn settles<R: Wait, E: Ending>(
     Ok(found_by(outcome.get()))
 }
 
-/// What a book finds where it settles work on `f` at once.
-fn settles_at_once<R: Wait, E: Ending>(
-    rt: &R,
-    alloc: Global,
-    book: &mut Book<E>,
-    providers: &Providers,
-) -> Result<Found, Fail> {
-    let work = work_in(alloc, book)?;
-    settles(rt, alloc, book, work, providers)
-}
-
 /// The same, by the program's providers.
 fn settles_by_the_program<R: Wait, E: Ending>(
     rt: &R,
     alloc: Global,
     book: &mut Book<E>,
+    work: Work,
 ) -> Result<Found, Fail> {
     let providers = providers!(alloc);
-    settles_at_once(rt, alloc, book, &providers)
+    settles(rt, alloc, book, work, &providers)
 }
 
-/// What a book finds that has settled work on `f`, where a closure that the body does not create is put below while more work is done.
+/// The same, by providers that always want memory.
+fn settles_without_a_provider<R: Wait, E: Ending>(
+    rt: &R,
+    alloc: Global,
+    book: &mut Book<E>,
+    work: Work,
+) -> Result<Found, Fail> {
+    let providers = refusing!(alloc);
+    settles(rt, alloc, book, work, &providers)
+}
+
+/// What a book finds where it settles work on `f` at once, by providers that always want memory.
+fn settles_at_once<R: Wait, E: Ending>(
+    rt: &R,
+    alloc: Global,
+    book: &mut Book<E>,
+) -> Result<Found, Fail> {
+    let work = work_in(alloc, book)?;
+    settles_without_a_provider(rt, alloc, book, work)
+}
+
+/// The same, where a closure that the body does not create is put below while the work is done.
 fn settles_beside<R: Wait, E: Ending>(
     rt: &R,
     alloc: Global,
     book: &mut Book<E>,
-    providers: &Providers,
 ) -> Result<Found, Fail> {
-    let _found = settles_by_the_program(rt, alloc, book)?;
     let work = work_in(alloc, book)?;
     put_at(rt, alloc, book, b"f/3", CLOSURE)?;
-    settles(rt, alloc, book, work, providers)
+    settles_without_a_provider(rt, alloc, book, work)
 }
 
-/// What a book finds where a body is put at `f` while the work on it is done.
+/// Settles work on `f`, so that it is remembered.
+fn remember<R: Wait, E: Ending>(rt: &R, alloc: Global, book: &mut Book<E>) -> Result<(), Fail> {
+    let work = work_in(alloc, book)?;
+    let _found = settles_by_the_program(rt, alloc, book, work)?;
+    Ok(())
+}
+
+/// What a book finds, by the program's providers, where a body is put at `f` while the work on it is done.
 fn settles_late<R: Wait, E: Ending>(
     rt: &R,
     alloc: Global,
     book: &mut Book<E>,
     text: &[u8],
-    providers: &Providers,
 ) -> Result<Found, Fail> {
     let work = work_in(alloc, book)?;
     put_at(rt, alloc, book, b"f", text)?;
-    settles(rt, alloc, book, work, providers)
+    settles_by_the_program(rt, alloc, book, work)
 }
 
-/// What a book with a body at `f` finds where it settles the work on another body there in another book.
+/// The work on a body at `f` of a book of its own.
+fn work_elsewhere<R: Wait, E: Ending>(
+    rt: &R,
+    alloc: Global,
+    ending: E,
+    text: &[u8],
+) -> Result<Work, Fail> {
+    let elsewhere = book_with(rt, alloc, ending, text)?;
+    work_in(alloc, &elsewhere)
+}
+
+/// What a book with a body at `f` finds, by the program's providers, where it settles the work on another body there in another book.
 fn settles_elsewhere<R: Wait, E: Ending>(
     rt: &R,
     alloc: Global,
     book: &mut Book<E>,
     ending: E,
     other: &[u8],
-    providers: &Providers,
 ) -> Result<Found, Fail> {
-    let elsewhere = book_with(rt, alloc, ending, other)?;
-    let work = work_in(alloc, &elsewhere)?;
-    settles(rt, alloc, book, work, providers)
+    let work = work_elsewhere(rt, alloc, ending, other)?;
+    settles_by_the_program(rt, alloc, book, work)
 }
 
 /// Catches the wrong body `settle_always_works_again`: work that stands is settled without a provider.
 #[test]
 fn work_that_stands_is_settled_without_a_provider(rt: HostRuntime) -> Result<(), Fail> {
-    let providers = refusing!(rt.alloc());
     let mut book = book_with(&rt, rt.alloc(), Waiting::new(&rt), WRITES_WHILE_BORROWED)?;
-    assert!(rt; settles_at_once(&rt, rt.alloc(), &mut book, &providers)? == Found::Errors(1));
+    assert!(rt; settles_at_once(&rt, rt.alloc(), &mut book)? == Found::Errors(1));
     Ok(())
 }
 
 /// Catches the wrong body `settle_takes_stale_work`: the body is replaced between.
 #[test]
 fn work_that_does_not_stand_is_done_again(rt: HostRuntime) -> Result<(), Fail> {
-    let providers = providers!(rt.alloc());
     let mut book = book_with(&rt, rt.alloc(), Waiting::new(&rt), WRITES_LAST)?;
-    let found = settles_late(
-        &rt,
-        rt.alloc(),
-        &mut book,
-        WRITES_WHILE_BORROWED,
-        &providers,
-    )?;
-    assert!(rt; found == Found::Errors(1));
+    assert!(rt;
+        settles_late(&rt, rt.alloc(), &mut book, WRITES_WHILE_BORROWED)? == Found::Errors(1)
+    );
     Ok(())
 }
 
 /// Work on a name that is absent then, at which a body is put between.
 #[test]
 fn work_on_an_absent_name_is_done_again_once_it_is_put(rt: HostRuntime) -> Result<(), Fail> {
-    let providers = providers!(rt.alloc());
     let mut book = Book::new(rt.alloc(), Waiting::new(&rt), 9, 1)?;
-    let found = settles_late(&rt, rt.alloc(), &mut book, WRITES_LAST, &providers)?;
-    assert!(rt; found == Found::Errors(0));
+    assert!(rt; settles_late(&rt, rt.alloc(), &mut book, WRITES_LAST)? == Found::Errors(0));
     Ok(())
 }
 
 /// Two books with the same revisions and another body: work of the one does not stand in the other.
 #[test]
 fn work_of_another_book_does_not_stand(rt: HostRuntime) -> Result<(), Fail> {
-    let alloc = rt.alloc();
-    let providers = providers!(alloc);
-    let mut book = book_with(&rt, alloc, Waiting::new(&rt), WRITES_WHILE_BORROWED)?;
-    let found = settles_elsewhere(
-        &rt,
-        alloc,
-        &mut book,
-        Waiting::new(&rt),
-        WRITES_LAST,
-        &providers,
-    )?;
-    assert!(rt; found == Found::Errors(1));
+    let mut book = book_with(&rt, rt.alloc(), Waiting::new(&rt), WRITES_WHILE_BORROWED)?;
+    let ending = Waiting::new(&rt);
+    assert!(rt;
+        settles_elsewhere(&rt, rt.alloc(), &mut book, ending, WRITES_LAST)? == Found::Errors(1)
+    );
     Ok(())
 }
 
 /// The work does not stand, and what is remembered does, and the piece of the body too.
 #[test]
 fn what_is_remembered_is_told_where_the_work_does_not_stand(rt: HostRuntime) -> Result<(), Fail> {
-    let providers = refusing!(rt.alloc());
     let mut book = book_with(&rt, rt.alloc(), Waiting::new(&rt), WRITES_WHILE_BORROWED)?;
-    assert!(rt; settles_beside(&rt, rt.alloc(), &mut book, &providers)? == Found::Errors(1));
+    remember(&rt, rt.alloc(), &mut book)?;
+    assert!(rt; settles_beside(&rt, rt.alloc(), &mut book)? == Found::Errors(1));
     Ok(())
 }

@@ -1,4 +1,5 @@
 //! Sessions that make the calls of scripts on threads, and what comes after a close.
+use crate::turns::late_sessions;
 use bc_analyses::{find_values, providers};
 use bc_book::Refusal;
 use bc_calls::{Call, Entry, Event, PutReply};
@@ -200,7 +201,25 @@ fn run_both<R: Threads + Wait + Sync, G: Gate + Sync>(
     run_by(rt, alloc, capacity, first, second, &providers, gate)
 }
 
-/// How many bodies were solved when the last Ask of a script of two calls had begun, and how many when its work was done.
+/// How many bodies were solved when the last Ask of a script of two calls had begun, and how many when its work was done, by providers
+/// that count them.
+fn solved_by<R: Threads + Wait + Sync>(
+    rt: &R,
+    alloc: Global,
+    script: Script,
+    providers: &Providers,
+    solved: &AtomicU32,
+) -> Result<(u32, u32), Fail> {
+    let watch = Watch::new(solved);
+    let none = Script::new(Vec::new(alloc));
+    let (ends, _history) = run_by(rt, alloc, 2, script, none, providers, &watch)?;
+    if !are_done(&ends) {
+        return Err("a call was refused")?;
+    }
+    Ok((watch.at_begun.load(SeqCst), watch.at_worked.load(SeqCst)))
+}
+
+/// The same, by new providers.
 fn solved_at_stages<R: Threads + Wait + Sync>(
     rt: &R,
     alloc: Global,
@@ -214,13 +233,7 @@ fn solved_at_stages<R: Threads + Wait + Sync>(
         to_solve.fetch_add(1, SeqCst);
         find_values(alloc, facts)
     });
-    let watch = Watch::new(&solved);
-    let none = Script::new(Vec::new(alloc));
-    let (ends, _history) = run_by(rt, alloc, 2, script, none, &providers, &watch)?;
-    if !are_done(&ends) {
-        return Err("a call was refused")?;
-    }
-    Ok((watch.at_begun.load(SeqCst), watch.at_worked.load(SeqCst)))
+    solved_by(rt, alloc, script, &providers, &solved)
 }
 
 /// Whether the entries of a session are so many, and numbered in their order.
@@ -349,28 +362,34 @@ fn a_refused_call_ends_its_script(rt: HostRuntime) -> Result<(), Fail> {
     Ok(())
 }
 
-/// Whether a session finds a full history where it puts a body, and cannot begin an Ask.
-fn is_late<R: Wait, E: Ending>(
+/// Whether a session finds a full history where it puts a body.
+fn puts_late<R: Wait, E: Ending>(
     rt: &R,
     alloc: Global,
     session: &mut Session<E>,
-    providers: &Providers,
 ) -> Result<bool, Fail> {
     let put = session.put(rt, name(b"f")?, shared_unit(alloc, WRITES_LAST)?);
-    let asked = session.ask(rt, &name(b"f")?, providers);
-    Ok(put == Err(Refusal::HistoryFull) && matches!(asked, Err(Refusal::NoMemory)))
+    Ok(put == Err(Refusal::HistoryFull))
+}
+
+/// Whether a session cannot begin an Ask.
+fn asks_late<R: Wait, E: Ending>(
+    rt: &R,
+    alloc: Global,
+    session: &mut Session<E>,
+) -> Result<bool, Fail> {
+    let providers = providers!(alloc);
+    let asked = session.ask(rt, &name(b"f")?, &providers);
+    Ok(matches!(asked, Err(Refusal::NoMemory)))
 }
 
 /// Two databases may have one tag: the one closed with the other's session leaves its own, which comes too late.
 #[test]
 fn a_late_session_finds_a_full_history(rt: HostRuntime) -> Result<(), Fail> {
-    let (first, mut late) = Db::open(rt.alloc(), Waiting::new(&rt), 7, 9, 1)?;
-    let (_second, twins) = Db::open(rt.alloc(), Waiting::new(&rt), 7, 9, 1)?;
-    let history = first.close(&rt, twins)?;
-    assert!(rt; history.entries().is_empty(), "nothing was entered");
-    let providers = providers!(rt.alloc());
+    let mut late = late_sessions(&rt, rt.alloc())?;
     for session in late.iter_mut() {
-        assert!(rt; is_late(&rt, rt.alloc(), session, &providers)?, "too late");
+        assert!(rt; puts_late(&rt, rt.alloc(), session)?, "a full history");
+        assert!(rt; asks_late(&rt, rt.alloc(), session)?, "no memory");
     }
     Ok(())
 }

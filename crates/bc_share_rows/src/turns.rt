@@ -80,6 +80,31 @@ fn fills_below<R: Wait, E: Ending>(
     Ok(true)
 }
 
+/// Puts a body, and answers whether that has its reply.
+fn puts<R: Wait, E: Ending>(
+    rt: &R,
+    alloc: Global,
+    session: &mut Session<E>,
+    put: &[u8],
+    text: &[u8],
+    wanted: Result<PutReply, Refusal>,
+) -> anyhow::Result<bool> {
+    let unit = shared_unit(alloc, text)?;
+    Ok(session.put(rt, name(put)?, unit) == wanted)
+}
+
+/// Puts declarations, and answers whether that has its reply.
+fn puts_types<R: Wait, E: Ending>(
+    rt: &R,
+    alloc: Global,
+    session: &mut Session<E>,
+    text: &[u8],
+    wanted: Result<(), Refusal>,
+) -> anyhow::Result<bool> {
+    let types = shared_types(alloc, text)?;
+    Ok(session.put_types(rt, types) == wanted)
+}
+
 /// Makes a call, and answers whether it has its reply; fails where a text spells nothing, or for want of memory.
 pub(crate) fn goes<R: Wait, E: Ending>(
     rt: &R,
@@ -89,14 +114,8 @@ pub(crate) fn goes<R: Wait, E: Ending>(
     turn: &Turn,
 ) -> anyhow::Result<bool> {
     match *turn {
-        Turn::Put(put, unit, wanted) => {
-            let unit = shared_unit(alloc, unit)?;
-            Ok(session.put(rt, name(put)?, unit) == wanted)
-        }
-        Turn::Types(types, wanted) => {
-            let types = shared_types(alloc, types)?;
-            Ok(session.put_types(rt, types) == wanted)
-        }
+        Turn::Put(put, unit, wanted) => puts(rt, alloc, session, put, unit, wanted),
+        Turn::Types(types, wanted) => puts_types(rt, alloc, session, types, wanted),
         Turn::Remove(removed, wanted) => Ok(session.remove(rt, name(removed)?) == wanted),
         Turn::Ask(asked, wanted) => finds(rt, session, providers, asked, wanted),
         Turn::Fill => fills(rt, session, &shared_unit(alloc, WRITES_LAST)?),
@@ -133,4 +152,18 @@ pub(crate) fn history_by<R: Wait>(
         all_go(rt, alloc, session, providers, turns)?;
     }
     Ok(db.close(rt, sessions)?)
+}
+
+/// The sessions of a database that was closed with those of another one of its tag: they come too late.
+pub(crate) fn late_sessions<R: Wait>(
+    rt: &R,
+    alloc: Global,
+) -> anyhow::Result<Vec<Session<Waiting<&R>>>> {
+    let (first, late) = Db::open(alloc, Waiting::new(rt), 7, 9, 1)?;
+    let (_second, twins) = Db::open(alloc, Waiting::new(rt), 7, 9, 1)?;
+    let history = first.close(rt, twins)?;
+    if !history.entries().is_empty() {
+        bail!("something was entered");
+    }
+    Ok(late)
 }

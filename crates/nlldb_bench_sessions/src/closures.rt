@@ -96,26 +96,63 @@ fn ask_again<R: Clock + Wait, E: Ending>(
     Ok(())
 }
 
+/// Puts a function with its closures, and asks for it first and again.
+fn ask_all<R: Clock + Wait, E: Ending>(
+    rt: &R,
+    session: &mut Session<E>,
+    units: &Units,
+    providers: &Providers,
+    first: &mut Best,
+    again: &mut Best,
+) -> anyhow::Result<()> {
+    let Some(function) = Name::read(b"f") else {
+        bail!("no name");
+    };
+    put_all(rt, session, &function, units)?;
+    ask(rt, session, &function, providers, first)?;
+    ask_again(rt, session, &function, units, providers, again)
+}
+
 /// Puts a function with its closures in a new database, and asks for it first and again. Gives how many entries the history has.
 fn asked<R: Clock + Wait>(
     rt: &R,
     alloc: Global,
     units: &Units,
+    providers: &Providers,
     first: &mut Best,
     again: &mut Best,
 ) -> anyhow::Result<usize> {
-    let Some(function) = Name::read(b"f") else {
-        bail!("no name");
-    };
-    let providers = providers!(alloc);
     let (db, mut sessions) = Db::open(alloc, Waiting::new(rt), 0, 1000, 1)?;
     for session in sessions.iter_mut() {
-        put_all(rt, session, &function, units)?;
-        ask(rt, session, &function, &providers, first)?;
-        ask_again(rt, session, &function, units, &providers, again)?;
+        ask_all(rt, session, units, providers, first, again)?;
     }
     let history = db.close(rt, sessions)?;
     Ok(history.entries().len())
+}
+
+/// Measures Asks for a function of these units, whose closures have so many points each.
+fn measure_units<R: AllocGlobal + Clock + Wait, O: Write, E: Write>(
+    rt: &R,
+    points: u32,
+    units: &Units,
+    providers: &Providers,
+    out: &mut O,
+    err: &mut E,
+) -> anyhow::Result<()> {
+    let mut first = Best::new();
+    let mut again = Best::new();
+    let mut calls = 0;
+    for _ in 0..TURNS {
+        calls = asked(rt, rt.alloc(), units, providers, &mut first, &mut again)?;
+    }
+    writeln!(out, "closures of {points} points: {calls} calls")?;
+    let first = first.each(1);
+    let again = again.each(1);
+    writeln!(
+        err,
+        "closures of {points} points: nanoseconds: first {first} again {again}"
+    )?;
+    Ok(())
 }
 
 /// Asks for a function whose closures have so many loans each, first and after one was replaced. Writes how many calls that made to
@@ -127,19 +164,7 @@ pub fn measure_closures<R: AllocGlobal + Clock + Wait, O: Write, E: Write>(
     err: &mut E,
 ) -> anyhow::Result<()> {
     let units = make_units(rt.alloc(), loans)?;
-    let mut first = Best::new();
-    let mut again = Best::new();
-    let mut calls = 0;
-    for _ in 0..TURNS {
-        calls = asked(rt, rt.alloc(), &units, &mut first, &mut again)?;
-    }
+    let providers = providers!(rt.alloc());
     let points = loans.saturating_mul(2).saturating_add(1);
-    writeln!(out, "closures of {points} points: {calls} calls")?;
-    let first = first.each(1);
-    let again = again.each(1);
-    writeln!(
-        err,
-        "closures of {points} points: nanoseconds: first {first} again {again}"
-    )?;
-    Ok(())
+    measure_units(rt, points, &units, &providers, out, err)
 }

@@ -46,6 +46,33 @@ fn checked<R: AllocGlobal + Wait>(
     Ok((status, reports))
 }
 
+/// A status, and the checksum of the reports.
+fn summed(left: (u8, Vec<u8>)) -> (u8, u64) {
+    let (status, reports) = left;
+    (status, checksum(&reports))
+}
+
+/// Measures what `check` takes for a file, by these providers.
+fn measure_by<R: AllocGlobal + Clock + Wait, O: Write, E: Write>(
+    rt: &R,
+    name: &str,
+    providers: &Providers,
+    file: &[u8],
+    out: &mut O,
+    err: &mut E,
+) -> anyhow::Result<()> {
+    write!(err, "{name}: microseconds:")?;
+    let left = timed(rt, "checking", || checked(rt, providers, file), err)?;
+    let (status, sum) = summed(left);
+    let bytes = file.len();
+    writeln!(
+        out,
+        "{name}: {bytes} bytes, status {status}, checksum {sum}"
+    )?;
+    writeln!(err)?;
+    Ok(())
+}
+
 /// Checks a file, and writes what `check` leaves of it to `out` and the shortest time to `err`.
 pub fn measure_file<R: AllocGlobal + Clock + Wait, O: Write, E: Write>(
     rt: &R,
@@ -55,14 +82,5 @@ pub fn measure_file<R: AllocGlobal + Clock + Wait, O: Write, E: Write>(
     err: &mut E,
 ) -> anyhow::Result<()> {
     let providers = providers!(rt.alloc());
-    write!(err, "{name}: microseconds:")?;
-    let (status, reports) = timed(rt, "checking", || checked(rt, &providers, file), err)?;
-    let bytes = file.len();
-    let sum = checksum(&reports);
-    writeln!(
-        out,
-        "{name}: {bytes} bytes, status {status}, checksum {sum}"
-    )?;
-    writeln!(err)?;
-    Ok(())
+    measure_by(rt, name, &providers, file, out, err)
 }

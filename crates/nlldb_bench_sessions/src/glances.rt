@@ -67,7 +67,7 @@ fn draws(alloc: Global, names: &[Name]) -> anyhow::Result<Vec<Name>> {
 }
 
 /// Puts a unit under each name, and asks for each once.
-pub fn answer_all<R: Wait, E: Ending>(
+fn answer_all<R: Wait, E: Ending>(
     rt: &R,
     session: &mut Session<E>,
     names: &[Name],
@@ -158,28 +158,27 @@ fn put_all<R: Wait, E: Ending>(
     Ok(replaced)
 }
 
-/// Glances at names that were drawn, and looks them up in rows of the session's own.
-fn measure_glances<R: AllocGlobal + Clock, E: Ending, O: Write, F: Write>(
+/// Glances at names that were drawn, and looks them up in rows.
+fn measure_draws<R: Clock, E: Ending, O: Write, F: Write>(
     rt: &R,
     session: &mut Session<E>,
-    names: &[Name],
+    rows: &[(Name, Arc<Outcome, Global>)],
+    draws: &[Name],
     out: &mut O,
     err: &mut F,
 ) -> anyhow::Result<()> {
-    let draws = draws(rt.alloc(), names)?;
-    let rows = rows(rt.alloc(), session, names)?;
     let mut glances = Best::new();
     let mut searches = Best::new();
     for _ in 0..TURNS {
         let start = Instant::now(rt)?;
-        let _answered = glance_all(session, &draws)?;
+        let _answered = glance_all(session, draws)?;
         glances.take(rt, start)?;
         let start = Instant::now(rt)?;
-        let _found = look_up_all(&rows, &draws)?;
+        let _found = look_up_all(rows, draws)?;
         searches.take(rt, start)?;
     }
-    let answered = glance_all(session, &draws)?;
-    let found = look_up_all(&rows, &draws)?;
+    let answered = glance_all(session, draws)?;
+    let found = look_up_all(rows, draws)?;
     writeln!(out, "glances: {answered} answered, {found} looked up")?;
     let (glance, search) = (glances.each(DRAWS), searches.each(DRAWS));
     writeln!(
@@ -189,7 +188,42 @@ fn measure_glances<R: AllocGlobal + Clock, E: Ending, O: Write, F: Write>(
     Ok(())
 }
 
+/// Glances at names that are drawn, and looks them up in rows of the session's own.
+fn measure_glances<R: AllocGlobal + Clock, E: Ending, O: Write, F: Write>(
+    rt: &R,
+    session: &mut Session<E>,
+    names: &[Name],
+    out: &mut O,
+    err: &mut F,
+) -> anyhow::Result<()> {
+    let draws = draws(rt.alloc(), names)?;
+    let rows = rows(rt.alloc(), session, names)?;
+    measure_draws(rt, session, &rows, &draws, out, err)
+}
+
 /// Puts a unit under names that were drawn.
+fn measure_draws_put<R: Clock + Wait, E: Ending, O: Write, F: Write>(
+    rt: &R,
+    session: &mut Session<E>,
+    draws: &[Name],
+    unit: &Arc<Unit, Global>,
+    out: &mut O,
+    err: &mut F,
+) -> anyhow::Result<()> {
+    let mut puts = Best::new();
+    for _ in 0..TURNS {
+        let start = Instant::now(rt)?;
+        let _replaced = put_all(rt, session, draws, unit)?;
+        puts.take(rt, start)?;
+    }
+    let replaced = put_all(rt, session, draws, unit)?;
+    writeln!(out, "{replaced} replaced")?;
+    let put = puts.each(DRAWS);
+    writeln!(err, " a put {put}")?;
+    Ok(())
+}
+
+/// Puts a unit under names that are drawn.
 fn measure_puts<R: AllocGlobal + Clock + Wait, E: Ending, O: Write, F: Write>(
     rt: &R,
     session: &mut Session<E>,
@@ -199,20 +233,40 @@ fn measure_puts<R: AllocGlobal + Clock + Wait, E: Ending, O: Write, F: Write>(
     err: &mut F,
 ) -> anyhow::Result<()> {
     let draws = draws(rt.alloc(), names)?;
-    let mut puts = Best::new();
-    for _ in 0..TURNS {
-        let start = Instant::now(rt)?;
-        let _replaced = put_all(rt, session, &draws, unit)?;
-        puts.take(rt, start)?;
-    }
-    let replaced = put_all(rt, session, &draws, unit)?;
-    writeln!(out, "{replaced} replaced")?;
-    let put = puts.each(DRAWS);
-    writeln!(err, " a put {put}")?;
-    Ok(())
+    measure_draws_put(rt, session, &draws, unit, out, err)
 }
 
-/// Has the first of so many sessions hold all names, answered, and measures its puts; and its glances, where it is alone.
+/// Puts a unit under each name, and asks for each once, by the program's providers.
+pub fn answer_by_the_program<R: AllocGlobal + Wait, E: Ending>(
+    rt: &R,
+    session: &mut Session<E>,
+    names: &[Name],
+    unit: &Arc<Unit, Global>,
+) -> anyhow::Result<()> {
+    let providers = providers!(rt.alloc());
+    answer_all(rt, session, names, unit, &providers)
+}
+
+/// Has a session, one of so many, hold all names, answered, and measures its puts; and its glances, where it is alone.
+fn measure_session<R: AllocGlobal + Clock + Wait, E: Ending, O: Write, F: Write>(
+    rt: &R,
+    sessions: u8,
+    session: &mut Session<E>,
+    names: &[Name],
+    out: &mut O,
+    err: &mut F,
+) -> anyhow::Result<()> {
+    let unit = shared_unit(rt.alloc(), BODY)?;
+    answer_by_the_program(rt, session, names, &unit)?;
+    if sessions == 1 {
+        measure_glances(rt, session, names, out, err)?;
+    }
+    write!(out, "puts, sessions {sessions}: ")?;
+    write!(err, "puts, sessions {sessions}: nanoseconds:")?;
+    measure_puts(rt, session, names, &unit, out, err)
+}
+
+/// Measures the first of so many sessions of a new database.
 fn measure_held<R: AllocGlobal + Clock + Wait, O: Write, F: Write>(
     rt: &R,
     sessions: u8,
@@ -220,35 +274,27 @@ fn measure_held<R: AllocGlobal + Clock + Wait, O: Write, F: Write>(
     err: &mut F,
 ) -> anyhow::Result<()> {
     let alloc = rt.alloc();
-    let providers = providers!(alloc);
-    let unit = shared_unit(alloc, BODY)?;
     let names = names(alloc)?;
     let (_db, mut seats) = Db::open(alloc, Waiting::new(rt), 0, CAPACITY, sessions)?;
     let Some(session) = seats.first_mut() else {
         bail!("no session");
     };
-    answer_all(rt, session, &names, &unit, &providers)?;
-    if sessions == 1 {
-        measure_glances(rt, session, &names, out, err)?;
-    }
-    write!(out, "puts, sessions {sessions}: ")?;
-    write!(err, "puts, sessions {sessions}: nanoseconds:")?;
-    measure_puts(rt, session, &names, &unit, out, err)
+    measure_session(rt, sessions, session, &names, out, err)
 }
 
 /// Holds closures below a root, so many units in all.
-fn hold_below<R: Wait, E: Ending>(
+fn hold_below<R: AllocGlobal + Wait, E: Ending>(
     rt: &R,
     session: &mut Session<E>,
     root: &Name,
     units: u8,
-    closure: &Arc<Unit, Global>,
 ) -> anyhow::Result<()> {
+    let closure = shared_unit(rt.alloc(), CLOSURE)?;
     for number in 1..units {
         let Some(name) = root.child(number) else {
             bail!("no such closure");
         };
-        let _reply = session.put(rt, name, Arc::try_clone(closure)?)?;
+        let _reply = session.put(rt, name, Arc::try_clone(&closure)?)?;
     }
     Ok(())
 }
@@ -262,8 +308,7 @@ fn measure_part<R: AllocGlobal + Clock + Wait, E: Ending, O: Write, F: Write>(
     out: &mut O,
     err: &mut F,
 ) -> anyhow::Result<()> {
-    let closure = shared_unit(rt.alloc(), CLOSURE)?;
-    hold_below(rt, session, root, units, &closure)?;
+    hold_below(rt, session, root, units)?;
     let mut best = Best::new();
     for _ in 0..TURNS {
         let start = Instant::now(rt)?;
@@ -276,23 +321,26 @@ fn measure_part<R: AllocGlobal + Clock + Wait, E: Ending, O: Write, F: Write>(
     Ok(())
 }
 
-/// Begins roots whose parts are of 1, 16 and 64 units, among as many units as may be held.
-fn measure_parts<R: AllocGlobal + Clock + Wait, O: Write, F: Write>(
+/// Holds a unit under each root.
+fn hold<R: AllocGlobal + Wait, E: Ending>(
     rt: &R,
+    session: &mut Session<E>,
+    roots: &[Name],
+) -> anyhow::Result<()> {
+    let unit = shared_unit(rt.alloc(), BODY)?;
+    let _replaced = put_all(rt, session, roots, &unit)?;
+    Ok(())
+}
+
+/// Begins the first roots, whose parts are of 1, 16 and 64 units.
+fn measure_roots<R: AllocGlobal + Clock + Wait, E: Ending, O: Write, F: Write>(
+    rt: &R,
+    session: &mut Session<E>,
+    roots: &[Name],
     out: &mut O,
     err: &mut F,
 ) -> anyhow::Result<()> {
-    let alloc = rt.alloc();
-    let unit = shared_unit(alloc, BODY)?;
-    let names = names(alloc)?;
-    let (_db, mut seats) = Db::open(alloc, Waiting::new(rt), 0, CAPACITY, 1)?;
-    let Some(session) = seats.first_mut() else {
-        bail!("no session");
-    };
-    let Some(roots) = names.get(..ROOTS) else {
-        bail!("no roots");
-    };
-    let _replaced = put_all(rt, session, roots, &unit)?;
+    hold(rt, session, roots)?;
     write!(out, "beginnings:")?;
     write!(err, "beginnings: nanoseconds:")?;
     for (root, units) in roots.iter().zip([1u8, 16, 64]) {
@@ -301,6 +349,23 @@ fn measure_parts<R: AllocGlobal + Clock + Wait, O: Write, F: Write>(
     writeln!(out, " units")?;
     writeln!(err)?;
     Ok(())
+}
+
+/// Begins roots among as many units as may be held.
+fn measure_parts<R: AllocGlobal + Clock + Wait, O: Write, F: Write>(
+    rt: &R,
+    out: &mut O,
+    err: &mut F,
+) -> anyhow::Result<()> {
+    let names = names(rt.alloc())?;
+    let Some(roots) = names.get(..ROOTS) else {
+        bail!("no roots");
+    };
+    let (_db, mut seats) = Db::open(rt.alloc(), Waiting::new(rt), 0, CAPACITY, 1)?;
+    let Some(session) = seats.first_mut() else {
+        bail!("no session");
+    };
+    measure_roots(rt, session, roots, out, err)
 }
 
 /// Glances at names, puts under them and begins parts, by a session alone and by one of sixteen. Writes how many were answered and

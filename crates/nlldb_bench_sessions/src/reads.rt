@@ -1,5 +1,5 @@
 //! Reads by one session while others write on threads of their own: at its front, and as it would be under a lock.
-use crate::glances::{BODY, answer_all, names};
+use crate::glances::{BODY, answer_by_the_program, names};
 use anyhow::bail;
 use bc_analyses::providers;
 use bc_book::Book;
@@ -325,7 +325,52 @@ fn seated<'a, E: Ending>(
     Ok(seats)
 }
 
-/// Measures reads at a front, of a new database.
+/// What sessions read and write by.
+fn fronts<'a, E: Ending>(
+    alloc: Global,
+    reading: Reading,
+    sessions: Vec<Session<E>>,
+) -> anyhow::Result<Vec<Access<'a, E>>> {
+    let mut accesses = Vec::new(alloc);
+    for session in sessions {
+        accesses.push(reading.by(session))?;
+    }
+    Ok(accesses)
+}
+
+/// Has the first session, if there is one, put a unit under each name and ask for each.
+fn answer_by_the_first<R: AllocGlobal + Wait, E: Ending>(
+    rt: &R,
+    sessions: &mut [Session<E>],
+    names: &[Name],
+    unit: &Arc<Unit, Global>,
+) -> anyhow::Result<()> {
+    match sessions.first_mut() {
+        Some(session) => answer_by_the_program(rt, session, names, unit),
+        None => Ok(()),
+    }
+}
+
+/// Measures reads at the front of a session of a new database.
+fn measure_sessions<R: AllocGlobal + Threads + Wait + Clock + Sync, O: Write, F: Write>(
+    rt: &R,
+    reading: Reading,
+    writers: u8,
+    names: &[Name],
+    unit: &Arc<Unit, Global>,
+    out: &mut O,
+    err: &mut F,
+) -> anyhow::Result<()> {
+    let alloc = rt.alloc();
+    let count = writers.saturating_add(1);
+    let (_db, mut sessions) = Db::open(alloc, Waiting::new(rt), 0, CAPACITY, count)?;
+    answer_by_the_first(rt, &mut sessions, names, unit)?;
+    let mut seats = seated(alloc, fronts(alloc, reading, sessions)?, names)?;
+    run_all(rt, alloc, &mut seats, unit);
+    write_deeds(reading.name(), writers, &seats, out, err)
+}
+
+/// Measures reads at a front, of all names.
 fn measure_front<R: AllocGlobal + Threads + Wait + Clock + Sync, O: Write, F: Write>(
     rt: &R,
     reading: Reading,
@@ -333,22 +378,25 @@ fn measure_front<R: AllocGlobal + Threads + Wait + Clock + Sync, O: Write, F: Wr
     out: &mut O,
     err: &mut F,
 ) -> anyhow::Result<()> {
-    let alloc = rt.alloc();
-    let providers = providers!(alloc);
-    let unit = shared_unit(alloc, BODY)?;
-    let names = names(alloc)?;
-    let count = writers.saturating_add(1);
-    let (_db, mut sessions) = Db::open(alloc, Waiting::new(rt), 0, CAPACITY, count)?;
-    if let Some(session) = sessions.first_mut() {
-        answer_all(rt, session, &names, &unit, &providers)?;
-    }
-    let mut accesses = Vec::new(alloc);
-    for session in sessions {
-        accesses.push(reading.by(session))?;
-    }
-    let mut seats = seated(alloc, accesses, &names)?;
-    run_all(rt, alloc, &mut seats, &unit);
-    write_deeds(reading.name(), writers, &seats, out, err)
+    let unit = shared_unit(rt.alloc(), BODY)?;
+    let names = names(rt.alloc())?;
+    measure_sessions(rt, reading, writers, &names, &unit, out, err)
+}
+
+/// Puts a unit in a book under a name, and settles an Ask of it.
+fn settle<R: Wait, E: Ending>(
+    rt: &R,
+    alloc: Global,
+    book: &mut Book<E>,
+    name: &Name,
+    unit: &Arc<Unit, Global>,
+    providers: &Providers,
+) -> anyhow::Result<()> {
+    let unit = Shared::new(Arc::try_clone(unit)?);
+    let _reply = book.put(rt, alloc, 0, *name, unit)?;
+    let work = book.snapshot(alloc, name)?.work(alloc, providers)?;
+    let _outcomes = book.settle(rt, alloc, 0, work, providers)?;
+    Ok(())
 }
 
 /// Puts a unit in a book under each name, and settles an Ask of each.
@@ -358,39 +406,64 @@ fn settle_all<R: Wait, E: Ending>(
     book: &mut Book<E>,
     names: &[Name],
     unit: &Arc<Unit, Global>,
-    providers: &Providers,
 ) -> anyhow::Result<()> {
+    let providers = providers!(alloc);
     for name in names {
-        let unit = Shared::new(Arc::try_clone(unit)?);
-        let _reply = book.put(rt, alloc, 0, *name, unit)?;
-        let work = book.snapshot(alloc, name)?.work(alloc, providers)?;
-        let _outcomes = book.settle(rt, alloc, 0, work, providers)?;
+        settle(rt, alloc, book, name, unit, &providers)?;
     }
     Ok(())
 }
 
-/// Measures reads under a lock, of a new book.
+/// Measures reads of a book under a lock.
+fn measure_locked<
+    R: AllocGlobal + Threads + Wait + Clock + Sync,
+    E: Ending + Send,
+    O: Write,
+    F: Write,
+>(
+    rt: &R,
+    writers: u8,
+    book: &Mutex<Book<E>>,
+    names: &[Name],
+    unit: &Arc<Unit, Global>,
+    out: &mut O,
+    err: &mut F,
+) -> anyhow::Result<()> {
+    let mut accesses = Vec::new(rt.alloc());
+    for _ in 0..1 + usize::from(writers) {
+        accesses.push(Access::Locked(book))?;
+    }
+    let mut seats = seated(rt.alloc(), accesses, names)?;
+    run_all(rt, rt.alloc(), &mut seats, unit);
+    write_deeds("snapshots under the lock", writers, &seats, out, err)
+}
+
+/// Measures reads under a lock, of a new book that holds these names.
+fn measure_book<R: AllocGlobal + Threads + Wait + Clock + Sync, O: Write, F: Write>(
+    rt: &R,
+    writers: u8,
+    names: &[Name],
+    unit: &Arc<Unit, Global>,
+    out: &mut O,
+    err: &mut F,
+) -> anyhow::Result<()> {
+    let readers = 1 + usize::from(writers);
+    let mut book = Book::new(rt.alloc(), Waiting::new(rt), CAPACITY, readers)?;
+    settle_all(rt, rt.alloc(), &mut book, names, unit)?;
+    let book = Mutex::new(book);
+    measure_locked(rt, writers, &book, names, unit, out, err)
+}
+
+/// Measures reads under a lock, of all names.
 fn measure_lock<R: AllocGlobal + Threads + Wait + Clock + Sync, O: Write, F: Write>(
     rt: &R,
     writers: u8,
     out: &mut O,
     err: &mut F,
 ) -> anyhow::Result<()> {
-    let alloc = rt.alloc();
-    let providers = providers!(alloc);
-    let unit = shared_unit(alloc, BODY)?;
-    let names = names(alloc)?;
-    let readers = 1 + usize::from(writers);
-    let mut book = Book::new(alloc, Waiting::new(rt), CAPACITY, readers)?;
-    settle_all(rt, alloc, &mut book, &names, &unit, &providers)?;
-    let book = Mutex::new(book);
-    let mut accesses = Vec::new(alloc);
-    for _ in 0..readers {
-        accesses.push(Access::Locked(&book))?;
-    }
-    let mut seats = seated(alloc, accesses, &names)?;
-    run_all(rt, alloc, &mut seats, &unit);
-    write_deeds("snapshots under the lock", writers, &seats, out, err)
+    let unit = shared_unit(rt.alloc(), BODY)?;
+    let names = names(rt.alloc())?;
+    measure_book(rt, writers, &names, &unit, out, err)
 }
 
 /// Reads names again and again by one session, alone and while others write: at its front, and from a book under a lock. Writes how

@@ -1,11 +1,10 @@
 //! Sessions that make each call once more where it is refused.
-use crate::again::again;
 use crate::turns::{Turn, show_entry};
 use anyhow::bail;
 use bc_calls::Work;
 use bc_fixtures::name;
 use bc_prov::{Outcome, Providers};
-use bc_share::{Db, Session};
+use bc_share::{Db, OpenFault, Session};
 use bc_text::Name;
 use bc_versions::{Ending, Waiting};
 use std::alloc::{AllocError, Global};
@@ -129,6 +128,19 @@ fn show_history<R: Wait, E: Ending, W: Write>(
     Ok(())
 }
 
+/// A new database with so many entries at most, and its sessions; once more where that is refused.
+pub(crate) fn opened<R: Wait>(
+    rt: &R,
+    alloc: Global,
+    capacity: u32,
+    sessions: u8,
+) -> Result<(Db<Waiting<&R>>, Vec<Session<Waiting<&R>>>), OpenFault> {
+    match Db::open(alloc, Waiting::new(rt), 0, capacity, sessions) {
+        Ok(opened) => Ok(opened),
+        Err(_) => Db::open(alloc, Waiting::new(rt), 0, capacity, sessions),
+    }
+}
+
 /// Has the one session of a new database make calls, and shows its history.
 fn show_calls<R: Wait, W: Write>(
     rt: &R,
@@ -137,7 +149,7 @@ fn show_calls<R: Wait, W: Write>(
     turns: &[Turn],
     out: &mut W,
 ) -> anyhow::Result<()> {
-    let (db, mut sessions) = again(|| Ok(Db::open(alloc, Waiting::new(rt), 0, 20, 1)?))?;
+    let (db, mut sessions) = opened(rt, alloc, 20, 1)?;
     for session in sessions.iter_mut() {
         make_all(rt, alloc, session, providers, turns)?;
     }
@@ -168,6 +180,22 @@ fn work<E: Ending>(
     begun.work(alloc, providers)
 }
 
+/// Settles a work on a name, and works on it and settles once more where that is refused.
+fn settle<R: Wait, E: Ending>(
+    rt: &R,
+    alloc: Global,
+    session: &mut Session<E>,
+    name: &Name,
+    done: Work,
+    providers: &Providers,
+) -> anyhow::Result<()> {
+    if session.settle(rt, done, providers).is_err() {
+        let again = work_again(alloc, session, name, providers)?;
+        session.settle(rt, again, providers)?;
+    }
+    Ok(())
+}
+
 /// Has the second session work on a name, and settle that behind a call of the first.
 fn settle_late<R: Wait, E: Ending>(
     rt: &R,
@@ -177,20 +205,25 @@ fn settle_late<R: Wait, E: Ending>(
     providers: &Providers,
 ) -> anyhow::Result<()> {
     let f = name(b"f")?;
-    make(rt, alloc, first, providers, Turn::Put(b"f", WRITES_LAST))?;
+    let put = Turn::Put(b"f", WRITES_LAST);
+    make(rt, alloc, first, providers, put)?;
     let late = work_again(alloc, second, &f, providers)?;
-    make(
-        rt,
-        alloc,
-        first,
-        providers,
-        Turn::Put(b"f", WRITES_WHILE_BORROWED),
-    )?;
-    if second.settle(rt, late, providers).is_err() {
-        let late = work_again(alloc, second, &f, providers)?;
-        second.settle(rt, late, providers)?;
+    let replace = Turn::Put(b"f", WRITES_WHILE_BORROWED);
+    make(rt, alloc, first, providers, replace)?;
+    settle(rt, alloc, second, &f, late, providers)
+}
+
+/// Has the second of two sessions settle late.
+fn settle_between<R: Wait, E: Ending>(
+    rt: &R,
+    alloc: Global,
+    sessions: &mut [Session<E>],
+    providers: &Providers,
+) -> anyhow::Result<()> {
+    match sessions {
+        [first, second] => settle_late(rt, alloc, first, second, providers),
+        _ => bail!("no two sessions"),
     }
-    Ok(())
 }
 
 /// Shows the history of two sessions, of which one settles late.
@@ -200,14 +233,8 @@ fn show_late<R: Wait, W: Write>(
     providers: &Providers,
     out: &mut W,
 ) -> anyhow::Result<()> {
-    let (db, mut sessions) = again(|| Ok(Db::open(alloc, Waiting::new(rt), 0, 3, 2)?))?;
-    let Some(mut second) = sessions.pop() else {
-        bail!("no session");
-    };
-    for first in sessions.iter_mut() {
-        settle_late(rt, alloc, first, &mut second, providers)?;
-    }
-    sessions.push(second)?;
+    let (db, mut sessions) = opened(rt, alloc, 3, 2)?;
+    settle_between(rt, alloc, &mut sessions, providers)?;
     show_history(rt, db, sessions, out)
 }
 

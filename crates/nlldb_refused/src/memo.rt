@@ -107,16 +107,32 @@ fn show_remembered<W: Write>(
     Ok(())
 }
 
-/// Shows what is remembered for a name that is held: an outcome, and nothing once its unit is put again. (Own.)
-pub fn show<W: Write>(alloc: Global, out: &mut W) -> anyhow::Result<()> {
+/// Holds a unit, remembers an outcome of it, and puts the unit again. Shows what is remembered behind each put.
+fn show_on<W: Write>(
+    alloc: Global,
+    shelf: &mut Shelf,
+    unit: &Shared<Unit>,
+    outcome: &Shared<Outcome>,
+    out: &mut W,
+) -> anyhow::Result<()> {
     let at = name(b"f")?;
-    let unit = Shared::new(again(|| shared_unit(alloc, WRITES_LAST))?);
+    let mut memo = Memo::new(alloc);
+    put(alloc, shelf, at, unit, 1)?;
+    install_again(alloc, &mut memo, shelf, at, outcome)?;
+    show_remembered(&memo, shelf, &at, out)?;
+    put(alloc, shelf, at, unit, 2)?;
+    show_remembered(&memo, shelf, &at, out)
+}
+
+/// Shows what is remembered of a unit.
+fn show_unit<W: Write>(alloc: Global, unit: &Shared<Unit>, out: &mut W) -> anyhow::Result<()> {
     let outcome = again(|| no_body(alloc))?;
     let mut shelf = again(|| Ok(Shelf::new(alloc, no_declarations(alloc)?, 1)?))?;
-    let mut memo = Memo::new(alloc);
-    put(alloc, &mut shelf, at, &unit, 1)?;
-    install_again(alloc, &mut memo, &shelf, at, &outcome)?;
-    show_remembered(&memo, &shelf, &at, out)?;
-    put(alloc, &mut shelf, at, &unit, 2)?;
-    show_remembered(&memo, &shelf, &at, out)
+    show_on(alloc, &mut shelf, unit, &outcome, out)
+}
+
+/// Shows what is remembered for a name that is held: an outcome, and nothing once its unit is put again. (Own.)
+pub fn show<W: Write>(alloc: Global, out: &mut W) -> anyhow::Result<()> {
+    let unit = Shared::new(again(|| shared_unit(alloc, WRITES_LAST))?);
+    show_unit(alloc, &unit, out)
 }

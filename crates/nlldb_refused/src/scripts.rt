@@ -1,12 +1,12 @@
 //! Scripts on threads, of which the rest is made where a session was stopped.
 use crate::again::again;
-use crate::calls::{WRITES_LAST, WRITES_WHILE_BORROWED};
+use crate::calls::{WRITES_LAST, WRITES_WHILE_BORROWED, opened};
 use crate::turns::{Turn, show_entry};
 use anyhow::bail;
 use bc_book::Refusal;
 use bc_prov::Providers;
 use bc_share::{Db, End, Gate, History, Script, Session, Stage, run_sessions};
-use bc_versions::{Ending, Waiting};
+use bc_versions::Ending;
 use std::alloc::Global;
 use std::io;
 use std::io::Write;
@@ -129,6 +129,27 @@ fn risen<E: Ending>(alloc: Global, ran: Vec<(Session<E>, End)>) -> anyhow::Resul
     Ok(sessions)
 }
 
+/// Has the sessions make their calls for the first time. Gives how many each made, too.
+fn run_first<R: Threads + Wait + Sync, E: Ending + Send>(
+    rt: &R,
+    alloc: Global,
+    db: &Db<E>,
+    sessions: Vec<Session<E>>,
+    providers: &Providers,
+) -> anyhow::Result<(Vec<Session<E>>, Vec<usize>)> {
+    let ran = run_again(rt, alloc, db, sessions, &[0, 0], providers)?;
+    let made = again(|| made_by_each(alloc, &ran))?;
+    Ok((risen(alloc, ran)?, made))
+}
+
+/// The sessions that have made all their calls. Fails where one was stopped.
+fn done<E: Ending>(alloc: Global, ran: Vec<(Session<E>, End)>) -> anyhow::Result<Vec<Session<E>>> {
+    if ran.iter().any(|seat| seat.1 != End::Done) {
+        bail!("a session was stopped twice");
+    }
+    risen(alloc, ran)
+}
+
 /// Has the sessions make all their calls. Fails where more than one of them is stopped.
 fn run_all<R: Threads + Wait + Sync, E: Ending + Send>(
     rt: &R,
@@ -137,17 +158,11 @@ fn run_all<R: Threads + Wait + Sync, E: Ending + Send>(
     sessions: Vec<Session<E>>,
     providers: &Providers,
 ) -> anyhow::Result<Vec<Session<E>>> {
-    let ran = run_again(rt, alloc, db, sessions, &[0, 0], providers)?;
-    let made = again(|| made_by_each(alloc, &ran))?;
-    let sessions = risen(alloc, ran)?;
+    let (sessions, made) = run_first(rt, alloc, db, sessions, providers)?;
     if made.iter().all(|made| *made < EACH) {
         bail!("both sessions were stopped");
     }
-    let ran = run_again(rt, alloc, db, sessions, &made, providers)?;
-    if ran.iter().any(|seat| seat.1 != End::Done) {
-        bail!("a session was stopped twice");
-    }
-    risen(alloc, ran)
+    done(alloc, run_again(rt, alloc, db, sessions, &made, providers)?)
 }
 
 /// Shows the entries of each session in turn.
@@ -162,6 +177,18 @@ fn show_by_session<W: Write>(history: &History, out: &mut W) -> io::Result<()> {
     Ok(())
 }
 
+/// The history of a database whose sessions make all their calls.
+fn history_of<R: Threads + Wait + Sync, E: Ending + Send>(
+    rt: &R,
+    alloc: Global,
+    db: Db<E>,
+    sessions: Vec<Session<E>>,
+    providers: &Providers,
+) -> anyhow::Result<History> {
+    let sessions = run_all(rt, alloc, &db, sessions, providers)?;
+    Ok(db.close(rt, sessions)?)
+}
+
 /// Shows what two sessions on threads did, by session. Where a request for memory is refused, that session alone is stopped, and makes the
 /// rest of its calls then. (Own.)
 pub fn show<R: Threads + Wait + Sync, W: Write>(
@@ -170,9 +197,8 @@ pub fn show<R: Threads + Wait + Sync, W: Write>(
     providers: &Providers,
     out: &mut W,
 ) -> anyhow::Result<()> {
-    let (db, sessions) = again(|| Ok(Db::open(alloc, Waiting::new(rt), 0, 10, 2)?))?;
-    let sessions = run_all(rt, alloc, &db, sessions, providers)?;
-    let history = db.close(rt, sessions)?;
+    let (db, sessions) = opened(rt, alloc, 10, 2)?;
+    let history = history_of(rt, alloc, db, sessions, providers)?;
     show_by_session(&history, out)?;
     Ok(())
 }

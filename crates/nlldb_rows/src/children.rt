@@ -158,14 +158,40 @@ fn show_with<W: Write>(
     }
 }
 
+/// Shows a body over the children of a file; `InvalidData` where they are not its own.
+fn show_unit<W: Write>(
+    alloc: Global,
+    types: &Arc<GoodTypes, Global>,
+    unit: &Unit,
+    file: &[u8],
+    out: &mut W,
+) -> io::Result<()> {
+    let children = children_in(alloc, file)?;
+    show_with(alloc, types, unit, &children, out)
+}
+
+/// Shows the body of a file over its children.
+fn show_body<W: Write>(
+    alloc: Global,
+    types: &Arc<GoodTypes, Global>,
+    file: &[u8],
+    out: &mut W,
+) -> io::Result<()> {
+    let unit = body_of(alloc, file)?;
+    show_unit(alloc, types, &unit, file, out)
+}
+
+/// Shows the body of a file over its declarations and its children.
+fn show_file<W: Write>(alloc: Global, file: &[u8], out: &mut W) -> io::Result<()> {
+    let types = Arc::new(alloc, declared(alloc, file)?)?;
+    show_body(alloc, &types, file, out)
+}
+
 fn show_row<W: Write>(alloc: Global, row: &str, out: &mut W) -> io::Result<()> {
     let mut file = Vec::new(alloc);
     let name = spell_row("", row, &mut file)?;
     writeln!(out, "#{name}")?;
-    let types = Arc::new(alloc, declared(alloc, &file)?)?;
-    let unit = body_of(alloc, &file)?;
-    let children = children_in(alloc, &file)?;
-    show_with(alloc, &types, &unit, &children, out)
+    show_file(alloc, &file, out)
 }
 
 /// Shows of each row of `children.txt` what its body demands over its children, or where it breaks a rule. It fails where the file

@@ -39,12 +39,15 @@ fn types_come_back(alloc: Global, types: &Types) -> io::Result<bool> {
     Ok(is_read_as_types(alloc, &printed, types))
 }
 
+/// Shows whether declarations are printed, and read back as they were.
+fn show_known_types<O: Write>(alloc: Global, types: &Types, out: &mut O) -> io::Result<()> {
+    let come_back = types_come_back(alloc, types)?;
+    writeln!(out, "declarations are read back: {come_back}")
+}
+
 fn show_types<O: Write>(alloc: Global, text: &[u8], out: &mut O) -> io::Result<()> {
     match read_types(alloc, text) {
-        Ok(types) => {
-            let come_back = types_come_back(alloc, &types)?;
-            writeln!(out, "declarations are read back: {come_back}")
-        }
+        Ok(types) => show_known_types(alloc, &types, out),
         Err(fault) => writeln!(out, "declarations: {fault}"),
     }
 }
@@ -64,12 +67,15 @@ fn unit_comes_back(alloc: Global, unit: &Unit) -> io::Result<bool> {
     Ok(is_read_as_unit(alloc, &printed, unit))
 }
 
+/// Shows whether a unit is printed, and read back as it was.
+fn show_known_unit<O: Write>(alloc: Global, unit: &Unit, out: &mut O) -> io::Result<()> {
+    let comes_back = unit_comes_back(alloc, unit)?;
+    writeln!(out, "the body is read back: {comes_back}")
+}
+
 fn show_unit<O: Write>(alloc: Global, text: &[u8], out: &mut O) -> io::Result<()> {
     match read_unit(alloc, text) {
-        Ok(unit) => {
-            let comes_back = unit_comes_back(alloc, &unit)?;
-            writeln!(out, "the body is read back: {comes_back}")
-        }
+        Ok(unit) => show_known_unit(alloc, &unit, out),
         Err(fault) => writeln!(out, "the body: {fault}"),
     }
 }

@@ -19,6 +19,7 @@ use bc_check::check_and_tell;
 use bc_line::{CheckLine, Line, read_line};
 use bc_prov::Providers;
 use std::alloc::Global;
+use std::fs::Files;
 use std::io::{BufWriter, ErrorKind, Write};
 use std::sync::Wait;
 use std::{env, fs, io};
@@ -105,6 +106,17 @@ fn show_rows<R: Wait, O: Write + Drop>(
     Ok(())
 }
 
+/// Prints what the command leaves of each row of a file of rows.
+fn show_file<R: AllocGlobal + Files + Wait, O: Write + Drop>(
+    rt: &R,
+    solvers: &Solvers,
+    name: &str,
+    out: &mut BufWriter<O>,
+) -> io::Result<()> {
+    let text = fs::read_to_string(rt, name)?;
+    show_rows(rt, rt.alloc(), solvers, &text, out)
+}
+
 fn main(rt: HostRuntime) -> io::Result<()> {
     let mut out = BufWriter::new(rt.alloc(), rt.stdout())?;
     let solvers = Solvers {
@@ -112,8 +124,7 @@ fn main(rt: HostRuntime) -> io::Result<()> {
         plain: providers!(rt.alloc(), find_plain_values),
     };
     for name in env::args(&rt)?.skip(1) {
-        let text = fs::read_to_string(&rt, &name)?;
-        show_rows(&rt, rt.alloc(), &solvers, &text, &mut out)?;
+        show_file(&rt, &solvers, &name, &mut out)?;
     }
     show_steps(&rt, &mut out)?;
     show_children(&rt, &mut out)?;

@@ -259,19 +259,28 @@ pub(crate) fn body_of(alloc: Global, file: &[u8]) -> io::Result<Unit> {
     }
 }
 
-/// The body of a file over its declarations; `InvalidData` where it has children or breaks a typing rule, and as `declared` and
-/// `body_of`.
-fn typed(alloc: Global, file: &[u8]) -> io::Result<Typed> {
-    let good = Arc::new(alloc, declared(alloc, file)?)?;
-    let unit = body_of(alloc, file)?;
+/// A body over declarations; `InvalidData` where it has children or breaks a typing rule.
+fn typed_unit(alloc: Global, types: &Arc<GoodTypes, Global>, unit: &Unit) -> io::Result<Typed> {
     let children = unit.body().children(alloc)?;
     match children.as_slice() {
-        [] => match type_unit(alloc, &good, &unit, &[]) {
+        [] => match type_unit(alloc, types, unit, &[]) {
             Ok(typed) => Ok(typed),
             Err(_) => Err(ErrorKind::InvalidData.into()),
         },
         [_, ..] => Err(ErrorKind::InvalidData.into()),
     }
+}
+
+/// The body of a file over declarations; `InvalidData` as `body_of` and `typed_unit`.
+fn typed_body(alloc: Global, types: &Arc<GoodTypes, Global>, file: &[u8]) -> io::Result<Typed> {
+    let unit = body_of(alloc, file)?;
+    typed_unit(alloc, types, &unit)
+}
+
+/// The body of a file over its declarations; `InvalidData` as `declared` and `typed_body`.
+fn typed(alloc: Global, file: &[u8]) -> io::Result<Typed> {
+    let types = Arc::new(alloc, declared(alloc, file)?)?;
+    typed_body(alloc, &types, file)
 }
 
 fn show_row<W: Write>(alloc: Global, row: &str, out: &mut W) -> io::Result<()> {

@@ -1,6 +1,6 @@
 use Rattle.std.proofs.Common.{◌≡◌, ◌<◌, ℕ, List, [], ◌∷◌, length, refl, ap, ◌∙◌, arith}
 use Rattle.bc_syntax.specs.Children.{children_of}
-use Rattle.nlldb_rows.proofs.steps.typed.Goals as goal
+use Rattle.nlldb_rows.proofs.steps.typed_unit.Goals as goal
 
 none-left : (numbers : List ℕ) → length numbers < 1 → [] ≡ numbers
 none-left [] below = refl
