@@ -1,6 +1,5 @@
 //! Answers that are told where no piece of a body is kept: work that carries the answer of one database is settled in another.
-use crate::turns::{Turn, all_go};
-use bc_analyses::providers;
+use crate::turns::{Turn, all_go, go_by_the_program};
 use bc_calls::{PutReply, Work};
 use bc_fixtures::{CLOSURE, Found, WRITES_WHILE_BORROWED, found_by, name, refusing};
 use bc_prov::Providers;
@@ -30,17 +29,6 @@ fn finds_one<R: Wait, E: Ending>(
 ) -> Result<bool, Fail> {
     let outcome = session.settle(rt, work, providers)?;
     Ok(found_by(&outcome) == Found::Errors(1))
-}
-
-/// Has a session put a body and ask for it, by the program's providers.
-fn ask_once<R: Wait, E: Ending>(
-    rt: &R,
-    alloc: Global,
-    session: &mut Session<E>,
-    turns: &[Turn],
-) -> Result<(), Fail> {
-    let providers = providers!(alloc);
-    Ok(all_go(rt, alloc, session, &providers, turns)?)
 }
 
 /// Whether a session finds one error where it settles the work of another database's.
@@ -79,7 +67,7 @@ fn all_told<R: Abort + Wait, E: Ending>(
     let put = Turn::Put(b"f", WRITES_WHILE_BORROWED, Ok(PutReply::Added));
     let beside = Turn::Put(b"f/3", CLOSURE, Ok(PutReply::Added));
     let ask = Turn::Ask(b"f", Ok(Found::Errors(1)));
-    ask_once(rt, alloc, other, &[put, ask])?;
+    go_by_the_program(rt, alloc, other, &[put, ask])?;
     let refusing = refusing!(alloc);
     all_go(rt, alloc, session, &refusing, &[put])?;
     assert!(rt;

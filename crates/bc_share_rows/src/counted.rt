@@ -1,6 +1,6 @@
 //! Asks by providers of a test: such as count their calls, and such as always want memory.
-use crate::turns::{Turn, all_go, history_by};
-use bc_analyses::{find_live, find_scopes, find_values, providers};
+use crate::turns::{Turn, all_go, go_by_the_program, history_by};
+use bc_analyses::{find_live, find_scopes, find_values};
 use bc_book::Refusal;
 use bc_calls::PutReply;
 use bc_cons::Facts;
@@ -139,17 +139,6 @@ fn a_report_wants_memory_where_a_provider_does(rt: HostRuntime) -> Result<(), Fa
     let entries = entries_without_values(&rt, rt.alloc(), &turns)?;
     assert!(rt; entries == 2, "the refused Ask is no entry");
     Ok(())
-}
-
-/// Makes calls by the program's providers.
-fn go_by_the_program<R: Wait, E: Ending>(
-    rt: &R,
-    alloc: Global,
-    session: &mut Session<E>,
-    turns: &[Turn],
-) -> Result<(), Fail> {
-    let providers = providers!(alloc);
-    Ok(all_go(rt, alloc, session, &providers, turns)?)
 }
 
 /// Makes calls by providers that always want memory.

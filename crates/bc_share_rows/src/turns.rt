@@ -1,5 +1,6 @@
 //! Calls with the replies that they are to have.
 use anyhow::bail;
+use bc_analyses::providers;
 use bc_book::Refusal;
 use bc_calls::{PutReply, RemoveReply};
 use bc_fixtures::{CLOSURE, Found, WRITES_LAST, found_by, name, shared_types, shared_unit};
@@ -137,6 +138,17 @@ pub(crate) fn all_go<R: Wait, E: Ending>(
         }
     }
     Ok(())
+}
+
+/// Makes calls in their order, as `all_go`, by the program's providers.
+pub(crate) fn go_by_the_program<R: Wait, E: Ending>(
+    rt: &R,
+    alloc: Global,
+    session: &mut Session<E>,
+    turns: &[Turn],
+) -> anyhow::Result<()> {
+    let providers = providers!(alloc);
+    all_go(rt, alloc, session, &providers, turns)
 }
 
 /// The history of a new database with so many entries at most, whose session makes these calls, by these providers.
