@@ -13,8 +13,8 @@ use Rattle.bc_calls.specs.declared.call.Event.{Event}
 use Rattle.bc_calls.specs.declared.call.Event.TheVariants.{Types, Put, Remove, Ask}
 use Rattle.bc_calls.specs.declared.call.Entry.{Entry}
 use Rattle.bc_calls.specs.Calls.{IsLegal, calls}
-use Rattle.bc_check.specs.Text.{line}
-use Rattle.bc_check.specs.Report.{report}
+use Rattle.bc_report.specs.Text.{line}
+use Rattle.bc_report.specs.Report.{report}
 use Rattle.bc_json.specs.Json.{json_line}
 
 -- the calls of a file: those of its sections, then an Ask of each of its names

@@ -9,7 +9,7 @@ use Rattle.bc_share.specs.declared.db.OpenFault.TheVariants as open_faults
 use Rattle.bc_share.specs.declared.db.CloseFault.{CloseFault}
 use Rattle.bc_share.specs.declared.db.CloseFault.TheVariants as close_faults
 use Rattle.bc_check.specs.Faults.{message}
-use Rattle.bc_check.specs.Text.{line}
+use Rattle.bc_report.specs.Text.{line}
 
 -- the last line on standard error
 abbrev pub last_line : List ℕ → Stop → List ℕ

@@ -1,5 +1,4 @@
-//! Tests of the command line and the JSON form of outcomes, and of both commands over readers and writers in memory, also such as fail at
-//! one call, and of their limits.
+//! Tests of both commands over readers and writers in memory, also such as fail at one call, and of their limits.
 #![tactic(auto)]
 
 #[cfg(test)]
@@ -11,8 +10,4 @@ mod failing;
 #[cfg(test)]
 mod limits;
 #[cfg(test)]
-mod reports;
-#[cfg(test)]
 mod runs;
-#[cfg(test)]
-mod words;

@@ -7,10 +7,10 @@ use Rattle.std.proofs.lemmas.List.{get_or_append_left, get_or-map, length-map}
 use Rattle.bc_calls.specs.declared.call.Call.{Call}
 use Rattle.bc_calls.specs.declared.call.Entry.{Entry}
 use Rattle.bc_calls.specs.Calls.{calls, call_of}
-use Rattle.bc_share.specs.declared.run.End.{End}
-use Rattle.bc_share.specs.declared.run.End.TheVariants.{Done, Stopped}
+use Rattle.bc_scripts.specs.declared.run.End.{End}
+use Rattle.bc_scripts.specs.declared.run.End.TheVariants.{Done, Stopped}
 use Rattle.bc_share.specs.Sessions.{SessionView, new_session, new_sessions}
-use Rattle.bc_share.specs.Runs.{AreRuns, IsRun, HasMade}
+use Rattle.bc_scripts.specs.Runs.{AreRuns, IsRun, HasMade}
 use Rattle.bc_share.specs.Closings.{IsOneHistory, numbers}
 use Rattle.bc_share.proofs.Closings.{length-new_sessions}
 use Rattle.bc_run.specs.declared.file.SessionCall.{SessionCall}

@@ -2,7 +2,7 @@
 use Rattle.std.proofs.Common.{◌≡◌, ◌<◌, ℕ, suc, max, List, [], ◌∷◌, ◌++◌, ◌+◌, length, take, get_or, ap, sym, ◌∙◌, append_assoc, append-nil, arith}
 use Rattle.std.proofs.lemmas.List.{take_more}
 use Rattle.bc_calls.specs.declared.call.Entry.{Entry}
-use Rattle.bc_share.specs.declared.run.End.{End}
+use Rattle.bc_scripts.specs.declared.run.End.{End}
 use Rattle.bc_check.specs.Run.{event_status, greatest}
 use Rattle.bc_run.specs.Print.{stopped_line, stopped_lines}
 use Rattle.bc_run.specs.Runs.{events_of, end_status, greatest_end}

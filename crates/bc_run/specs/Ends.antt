@@ -4,7 +4,7 @@ use Rattle.std.specs.List.{flat_map}
 use Rattle.std.specs.Io.KnownBytes.{Appends, Keeps}
 use Rattle.bc_calls.specs.declared.call.Entry.{Entry}
 use Rattle.bc_share.specs.declared.db.TheConstants.{MOST_ENTRIES}
-use Rattle.bc_share.specs.declared.run.End.{End}
+use Rattle.bc_scripts.specs.declared.run.End.{End}
 use Rattle.bc_line.specs.declared.line.Line.{Line}
 use Rattle.bc_line.specs.declared.line.Line.TheVariants.{Check, Run}
 use Rattle.bc_check.specs.declared.stop.Stop.{Stop}

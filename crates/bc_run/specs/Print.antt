@@ -10,10 +10,10 @@ use Rattle.bc_calls.specs.declared.call.RemoveReply.{RemoveReply}
 use Rattle.bc_calls.specs.declared.call.RemoveReply.TheVariants.{Removed, Absent}
 use Rattle.bc_book.specs.declared.ledger.Refusal.{Refusal}
 use Rattle.bc_book.specs.declared.ledger.Refusal.TheVariants as refusals
-use Rattle.bc_share.specs.declared.run.End.{End}
-use Rattle.bc_share.specs.declared.run.End.TheVariants.{Done, Stopped}
-use Rattle.bc_check.specs.Text.{line}
-use Rattle.bc_check.specs.Report.{report}
+use Rattle.bc_scripts.specs.declared.run.End.{End}
+use Rattle.bc_scripts.specs.declared.run.End.TheVariants.{Done, Stopped}
+use Rattle.bc_report.specs.Text.{line}
+use Rattle.bc_report.specs.Report.{report}
 
 -- the word of a put's reply
 abbrev pub put_word : PutReply → List ℕ

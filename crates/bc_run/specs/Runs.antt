@@ -5,8 +5,8 @@ use Rattle.bc_calls.specs.declared.call.Call.{Call}
 use Rattle.bc_calls.specs.declared.call.Event.{Event}
 use Rattle.bc_calls.specs.declared.call.Entry.{Entry}
 use Rattle.bc_calls.specs.Calls.{IsLegal, calls, call_of}
-use Rattle.bc_share.specs.declared.run.End.{End}
-use Rattle.bc_share.specs.declared.run.End.TheVariants.{Done, Stopped}
+use Rattle.bc_scripts.specs.declared.run.End.{End}
+use Rattle.bc_scripts.specs.declared.run.End.TheVariants.{Done, Stopped}
 use Rattle.bc_share.specs.Sessions.{SessionView}
 use Rattle.bc_run.specs.declared.file.SessionCall.{SessionCall}
 use Rattle.bc_run.specs.Calls.{calls_for}

@@ -2,13 +2,13 @@
 ghost use Rattle.std.specs.Prelude.{◌≡◌, ◌≤◌, OnOk, length};
 ghost use Rattle.std.specs.List.{flat_map};
 ghost use Rattle.std.specs.Io.KnownBytes.{Appends};
-ghost use Rattle.bc_check.specs.Text.{line};
+ghost use Rattle.bc_report.specs.Text.{line};
 ghost use Rattle.bc_run.specs.Print.{put_word, remove_word, event_text, entry_line, outcome_lines, refusal_text, entry_lines, stopped_line, stopped_lines};
 
 use bc_book::Refusal;
 use bc_calls::{Entry, Event, PutReply, RemoveReply};
-use bc_check::write_report;
-use bc_share::End;
+use bc_report::write_report;
+use bc_scripts::End;
 use std::io;
 use std::io::Write;
 

@@ -4,7 +4,7 @@ ghost use Rattle.bc_run.specs.Calls.{calls_for, own_call, scripts};
 
 use crate::file::SessionCall;
 use bc_calls::Call;
-use bc_share::Script;
+use bc_scripts::Script;
 use std::alloc::{AllocError, Global};
 
 /// The same call, with one more owner of what it brings. `AllocError` only where memory was refused.

@@ -1,4 +1,3 @@
 pub mod Noting
 pub mod Audits
 pub mod Closings
-pub mod Running

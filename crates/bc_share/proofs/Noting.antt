@@ -101,17 +101,5 @@ pub refused_again : {T E : Type 0} (r : Result T E) (old mid new : SessionView) 
 refused_again (Ok t) old mid new stays refused = tt
 refused_again (Err e) old mid new stays refused = stays_again old mid new stays refused
 
-pub on_err : {T E : Type 0} (r : Result T E) (P : Type 0) → P → OnErr r P
-on_err (Ok t) P p = tt
-on_err (Err e) P p = p
-
--- what stays is the same session
-pub same_of : (old new : SessionView) → Stays old new → IsSame old new
-same_of old new stays = record { tag = stays.tag; number = stays.number; own = stays.own; later = stays.later }
-
--- and so is what stays, and stays again
-pub same_again : (old mid new : SessionView) → Stays old mid → Stays mid new → IsSame old new
-same_again old mid new first second = same_of old new (stays_again old mid new first second)
-
 pub same_session : (s : SessionView) → IsSame s s
 same_session s = record { tag = refl; number = refl; own = refl; later = starts_same s.seen }

@@ -1,3 +1,2 @@
 pub mod Sessions
 pub mod Closings
-pub mod Runs

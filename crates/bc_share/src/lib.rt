@@ -6,9 +6,7 @@ mod audit;
 mod db;
 mod desk;
 mod notes;
-mod run;
 mod session;
 
 pub use db::{CloseFault, Db, History, MOST_ENTRIES, OpenFault};
-pub use run::{End, Gate, Script, Stage, run_sessions};
 pub use session::Session;

@@ -1,7 +1,7 @@
 //! Answers that are told where no piece of a body is kept: work that carries the answer of one database is settled in another.
-use crate::turns::{Turn, all_go, go_by_the_program};
+use crate::turns::{Turn, all_go, go_by_the_program, work_on};
 use bc_calls::{PutReply, Work};
-use bc_fixtures::{CLOSURE, Found, WRITES_WHILE_BORROWED, found_by, name, refusing};
+use bc_fixtures::{CLOSURE, Found, WRITES_WHILE_BORROWED, found_by, refusing};
 use bc_prov::Providers;
 use bc_share::{Db, Session};
 use bc_versions::{Ending, Waiting};
@@ -9,16 +9,6 @@ use std::alloc::Global;
 use std::process::Abort;
 use std::sync::Wait;
 use std::test::Fail;
-
-/// The work of a session on `f`.
-fn work_on<E: Ending>(
-    alloc: Global,
-    session: &mut Session<E>,
-    providers: &Providers,
-) -> Result<Work, Fail> {
-    let begun = session.begin(&name(b"f")?)?;
-    Ok(begun.work(alloc, providers)?)
-}
 
 /// Whether a session finds one error where it settles work.
 fn finds_one<R: Wait, E: Ending>(
@@ -39,7 +29,7 @@ fn finds_theirs<R: Wait, E: Ending>(
     other: &mut Session<E>,
     providers: &Providers,
 ) -> Result<bool, Fail> {
-    let theirs = work_on(alloc, other, providers)?;
+    let theirs = work_on(alloc, other, b"f", providers)?;
     finds_one(rt, session, theirs, providers)
 }
 
@@ -51,7 +41,7 @@ fn finds_own<R: Wait, E: Ending>(
     providers: &Providers,
     turns: &[Turn],
 ) -> Result<bool, Fail> {
-    let own = work_on(alloc, session, providers)?;
+    let own = work_on(alloc, session, b"f", providers)?;
     all_go(rt, alloc, session, providers, turns)?;
     finds_one(rt, session, own, providers)
 }

@@ -1,6 +1,5 @@
-//! Tests of the database: its calls and their replies, what sessions see of what is published, and scripts on threads; and of what it
-//! answers by: how often its providers are called, which bodies are worked on, what is told where no piece is kept, and work that is
-//! settled by other providers, in another book, or late.
+//! Tests of the database: its calls and their replies, and what sessions see of what is published; and of what it answers by: how often
+//! its providers are called, which bodies are worked on, and what is told where no piece is kept.
 #![tactic(auto)]
 
 #[cfg(test)]
@@ -12,10 +11,6 @@ mod cutoff;
 #[cfg(test)]
 mod seen;
 #[cfg(test)]
-mod settled;
-#[cfg(test)]
 mod tests;
-#[cfg(test)]
-mod threads;
 #[cfg(test)]
 mod turns;

@@ -1,7 +1,7 @@
 //! What sessions see of what is published: glances at names, and beginnings of them, between the calls of a session.
-use crate::turns::{Turn, goes, late_sessions};
+use crate::turns::{Turn, goes, late_sessions, work_on};
 use bc_analyses::providers;
-use bc_calls::{PutReply, RemoveReply, Work};
+use bc_calls::{PutReply, RemoveReply};
 use bc_fixtures::{
     CLOSURE, CLOSURE_WRITES, Found, INVOKES, MARKED_INVARIANT, NESTED, WRITES_LAST,
     WRITES_WHILE_BORROWED, found_by, name, refusing,
@@ -60,17 +60,6 @@ fn glances<E: Ending>(session: &mut Session<E>, text: &[u8]) -> Result<Option<Fo
         Some(outcome) => Ok(Some(found_by(&outcome))),
         None => Ok(None),
     }
-}
-
-/// The work on what a session has begun of a name.
-fn work_on<E: Ending>(
-    alloc: Global,
-    session: &mut Session<E>,
-    text: &[u8],
-    providers: &Providers,
-) -> Result<Work, Fail> {
-    let begun = session.begin(&name(text)?)?;
-    Ok(begun.work(alloc, providers)?)
 }
 
 /// What the work on a name finds that a session begins.

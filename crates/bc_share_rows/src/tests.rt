@@ -1,11 +1,11 @@
 //! Databases: their ranges, their sessions, their histories.
-use crate::turns::{Turn, history_by};
+use crate::turns::{Turn, history_by, late_sessions};
 use bc_analyses::providers;
 use bc_book::Refusal;
 use bc_calls::{Entry, Event, PutReply, RemoveReply};
 use bc_fixtures::{
     CLOSURE, CLOSURE_WRITES, Found, INVARIANT_BUT_MARKED_COVARIANT, INVOKES, MARKED_INVARIANT,
-    NESTED, WRITES_LAST, WRITES_WHILE_BORROWED, found_by,
+    NESTED, WRITES_LAST, WRITES_WHILE_BORROWED, found_by, name, shared_unit,
 };
 use bc_share::{CloseFault, Db, History, OpenFault, Session};
 use bc_versions::{Ending, Waiting};
@@ -242,5 +242,37 @@ fn closures_count_among_the_256_bodies(rt: HostRuntime) -> Result<(), Fail> {
     ];
     let history = history_of(&rt, rt.alloc(), 300, &turns)?;
     assert!(rt; history.entries().len() == 262, "262 entries");
+    Ok(())
+}
+
+/// Whether a session finds a full history where it puts a body.
+fn puts_late<R: Wait, E: Ending>(
+    rt: &R,
+    alloc: Global,
+    session: &mut Session<E>,
+) -> Result<bool, Fail> {
+    let put = session.put(rt, name(b"f")?, shared_unit(alloc, WRITES_LAST)?);
+    Ok(put == Err(Refusal::HistoryFull))
+}
+
+/// Whether a session cannot begin an Ask.
+fn asks_late<R: Wait, E: Ending>(
+    rt: &R,
+    alloc: Global,
+    session: &mut Session<E>,
+) -> Result<bool, Fail> {
+    let providers = providers!(alloc);
+    let asked = session.ask(rt, &name(b"f")?, &providers);
+    Ok(matches!(asked, Err(Refusal::NoMemory)))
+}
+
+/// Two databases may have one tag: the one closed with the other's session leaves its own, which comes too late.
+#[test]
+fn a_late_session_finds_a_full_history(rt: HostRuntime) -> Result<(), Fail> {
+    let mut late = late_sessions(&rt, rt.alloc())?;
+    for session in late.iter_mut() {
+        assert!(rt; puts_late(&rt, rt.alloc(), session)?, "a full history");
+        assert!(rt; asks_late(&rt, rt.alloc(), session)?, "no memory");
+    }
     Ok(())
 }

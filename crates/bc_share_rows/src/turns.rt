@@ -2,7 +2,7 @@
 use anyhow::bail;
 use bc_analyses::providers;
 use bc_book::Refusal;
-use bc_calls::{PutReply, RemoveReply};
+use bc_calls::{PutReply, RemoveReply, Work};
 use bc_fixtures::{CLOSURE, Found, WRITES_LAST, found_by, name, shared_types, shared_unit};
 use bc_prov::Providers;
 use bc_share::{Db, History, Session};
@@ -164,6 +164,17 @@ pub(crate) fn history_by<R: Wait>(
         all_go(rt, alloc, session, providers, turns)?;
     }
     Ok(db.close(rt, sessions)?)
+}
+
+/// The work on what a session has begun of a name.
+pub(crate) fn work_on<E: Ending>(
+    alloc: Global,
+    session: &mut Session<E>,
+    text: &[u8],
+    providers: &Providers,
+) -> anyhow::Result<Work> {
+    let begun = session.begin(&name(text)?)?;
+    Ok(begun.work(alloc, providers)?)
 }
 
 /// The sessions of a database that was closed with those of another one of its tag: they come too late.

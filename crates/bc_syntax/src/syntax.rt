@@ -191,7 +191,7 @@ pub enum Terminator {
 }
 
 /// A block: its statements in order, and its terminator. (rustc-dev-guide, "The MIR".)
-#[derive(Clone, Drop, PartialEq)]
+#[derive(Drop, PartialEq)]
 pub struct Block {
     pub statements: Sequence<Statement>,
     pub terminator: Terminator,
@@ -237,7 +237,7 @@ pub struct Header {
 
 /// A header with its body. Local 0 has the result's type; then come the captures, the parameters and the `let` locals.
 /// (rustc-dev-guide, "The MIR".)
-#[derive(Clone, Drop, PartialEq)]
+#[derive(Drop, PartialEq)]
 pub struct Body {
     pub header: Header,
     pub lets: Sequence<Ty>,

@@ -1,17 +1,17 @@
 //! Asks for a body again, and for a function one of whose closures was replaced; glances at names, begins parts and puts bodies; reads
-//! names while others are written; and checks a file of many bodies, many times. What was answered goes to standard output and is the same
+//! names while others are written; and reads, puts and asks for many bodies, many times. What was answered goes to standard output and is the same
 //! at each run; how fast goes to standard error.
 #![tactic(auto)]
 
 mod asks;
+mod bodies;
 mod closures;
-mod files;
 mod glances;
 mod reads;
 
 use crate::asks::measure_asks;
+use crate::bodies::measure_bodies;
 use crate::closures::measure_closures;
-use crate::files::{many_bodies, measure_file};
 use crate::glances::measure_names;
 use crate::reads::measure_reads;
 use bc_bench::borrows_and_reads;
@@ -43,6 +43,5 @@ fn main(rt: HostRuntime) -> anyhow::Result<()> {
     measure_asking(&rt, &mut out, &mut err)?;
     measure_names(&rt, &mut out, &mut err)?;
     measure_reads(&rt, &mut out, &mut err)?;
-    let file = many_bodies(rt.alloc())?;
-    measure_file(&rt, "many bodies", &file, &mut out, &mut err)
+    measure_bodies(&rt, &mut out, &mut err)
 }

@@ -2,7 +2,7 @@
 use crate::turns::{Turn, show_entry};
 use anyhow::bail;
 use bc_calls::Work;
-use bc_fixtures::name;
+use bc_fixtures::{WRITES_LAST, WRITES_WHILE_BORROWED, name};
 use bc_prov::{Outcome, Providers};
 use bc_share::{Db, OpenFault, Session};
 use bc_text::Name;
@@ -10,14 +10,6 @@ use bc_versions::{Ending, Waiting};
 use std::alloc::{AllocError, Global};
 use std::io::Write;
 use std::sync::{Arc, Wait};
-
-/// Writes the local once the borrow of it is used no more: no error.
-pub(crate) const WRITES_LAST: &[u8] =
-    b"fn () -> int { let _1: int; let _2: &'?0 int; bb0 { _1 = 1; _2 = &'?1 _1; _0 = copy _2.*; _1 = 2; return; } }";
-
-/// Writes the local while the borrow of it is still used: one conflict.
-pub(crate) const WRITES_WHILE_BORROWED: &[u8] =
-    b"fn () -> int { let _1: int; let _2: &'?0 int; bb0 { _1 = 1; _2 = &'?1 _1; _1 = 2; _0 = copy _2.*; return; } }";
 
 /// The calls of one session with one name: each reply that there is of one, but a refused one.
 const OF_ONE_NAME: [Turn; 5] = [

@@ -3,13 +3,12 @@ ghost use Rattle.std.specs.Prelude.{◌↔◌, ◌<◌, IfOk, IsTrue, OnOk};
 ghost use Rattle.bc_prov.specs.State.{Suits};
 
 use crate::again::again;
-use crate::calls::WRITES_LAST;
 use anyhow::bail;
 use bc_calls::no_declarations;
-use bc_check::write_report;
-use bc_fixtures::{name, shared_unit};
+use bc_fixtures::{WRITES_LAST, name, shared_unit};
 use bc_memo::{Change, Memo, Shelf, suits};
 use bc_prov::{Outcome, Shared};
+use bc_report::write_report;
 use bc_syntax::Unit;
 use bc_text::Name;
 use std::alloc::{AllocError, Global};

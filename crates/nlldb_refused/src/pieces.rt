@@ -2,10 +2,9 @@
 ghost use Rattle.std.specs.Prelude.{◌≡◌, []};
 
 use crate::again::again;
-use crate::calls::WRITES_WHILE_BORROWED;
 use anyhow::bail;
 use bc_calls::no_declarations;
-use bc_fixtures::shared_unit;
+use bc_fixtures::{WRITES_WHILE_BORROWED, shared_unit};
 use bc_prov::{Declared, Piece, Providers, Shared, piece};
 use bc_syntax::Unit;
 use std::alloc::Global;

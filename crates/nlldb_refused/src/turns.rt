@@ -1,8 +1,8 @@
 //! The calls that sessions make, and what is printed of a history.
 use bc_calls::{Call, Entry, Event};
-use bc_check::write_report;
 use bc_fixtures::{name, shared_types, shared_unit};
 use bc_prov::{Providers, Shared};
+use bc_report::write_report;
 use bc_share::Session;
 use bc_text::Name;
 use bc_versions::Ending;

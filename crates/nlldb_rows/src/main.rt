@@ -1,19 +1,17 @@
-//! What the command `check` leaves of each row of the files that are named, by either solver, what each step of the analysis finds, and which bodies
-//! keep the typing rules over their children.
+//! What the command `check` leaves of each row of the files that are named, and of a body at all limits, by either solver; and what both commands leave
+//! of the examples.
 //!
 //! `#` begins a row: its name, to the end of the line, and then its file, up to the next `#`. What stands before the first
 //! row stands at the head of each. (Own.)
 #![tactic(auto)]
 
-mod children;
+mod examples;
 mod limits;
 mod spelled;
-mod steps;
 
-use crate::children::show_children;
+use crate::examples::show_examples;
 use crate::limits::show_limits;
 use crate::spelled::spell_row;
-use crate::steps::show_steps;
 use bc_analyses::{find_plain_values, providers};
 use bc_check::check_and_tell;
 use bc_line::{CheckLine, Line, read_line};
@@ -126,8 +124,7 @@ fn main(rt: HostRuntime) -> io::Result<()> {
     for name in env::args(&rt)?.skip(1) {
         show_file(&rt, &solvers, &name, &mut out)?;
     }
-    show_steps(&rt, &mut out)?;
-    show_children(&rt, &mut out)?;
     show_limits(&rt, &solvers, &mut out)?;
+    show_examples(&rt, &solvers, &mut out)?;
     out.flush()
 }

@@ -1,6 +1,6 @@
 use Rattle.std.proofs.Common.{◌≡◌, ◌≤◌, [], ◌∷◌, length, length-append, arith, ap, sym, ◌∙◌, rules}
 use Rattle.std.proofs.lemmas.List.{nil_from_length}
-use Rattle.bc_share.specs.declared.run.End.{End}
+use Rattle.bc_scripts.specs.declared.run.End.{End}
 use Rattle.bc_share.specs.Sessions.{SessionView}
 use Rattle.bc_run.proofs.Parting.{part_init, part_more, part_done}
 use Rattle.bc_run.proofs.make.part.Goals as goal

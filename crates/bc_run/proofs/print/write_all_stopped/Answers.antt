@@ -1,7 +1,7 @@
 use Rattle.std.proofs.Common.{arith, ◌≡◌, ◌+◌, ◌≤◌, ◌<◌, ℕ, List, ◌++◌, take, get_or, length, min, sym, ap, ◌∙◌, subst}
 use Rattle.std.specs.Io.KnownBytes.{Appends}
 use Rattle.std.proofs.lemmas.List.{take_more, length-take-le}
-use Rattle.bc_share.specs.declared.run.End.TheVariants.{Done}
+use Rattle.bc_scripts.specs.declared.run.End.TheVariants.{Done}
 use Rattle.bc_check.proofs.Serving.{added_then}
 use Rattle.bc_run.specs.Print.{stopped_line, stopped_lines}
 use Rattle.bc_run.proofs.Statuses.{stopped-snoc}

@@ -1,0 +1,27 @@
+-- The text form of an outcome.
+use Rattle.std.specs.Prelude.{ℕ, List, ◌++◌, length, decimal, codes, flat_map}
+use Rattle.bc_text.specs.Names.{name_text}
+use Rattle.bc_prov.specs.declared.outcome.BodyErrors.{BodyErrors}
+use Rattle.bc_judge.specs.declared.error.BorrowError.{BorrowError}
+use Rattle.bc_prov.specs.declared.outcome.Outcome.{Outcome}
+use Rattle.bc_prov.specs.declared.outcome.Outcome.TheVariants.{NoBody, Missing, BadTypes, Ill, Report}
+use Rattle.bc_mir.specs.Lines.{place_text}
+use Rattle.bc_judge.specs.Lines.{error_text}
+use Rattle.bc_report.specs.Text.{line}
+
+-- the line of an error
+unfoldable pub error_line : BorrowError → List ℕ
+error_line error = line (codes "  " ++ error_text error)
+
+-- the line of a body, with the number of its errors, and a line for each of them
+abbrev pub body_lines : BodyErrors → List ℕ
+body_lines body =
+    line (name_text body.name ++ codes " " ++ decimal (length body.errors)) ++ flat_map error_line body.errors
+
+-- the lines of an outcome
+abbrev pub report : Outcome → List ℕ
+report NoBody = line (codes "no body")
+report (Missing name) = line (codes "missing " ++ name_text name)
+report (BadTypes index) = line (codes "bad declaration " ++ decimal index)
+report (Ill name place) = line (codes "ill " ++ name_text name ++ codes " at " ++ place_text place)
+report (Report bodies) = flat_map body_lines bodies

@@ -1,0 +1,363 @@
+//! Sessions that make the calls of scripts on threads.
+use bc_analyses::{find_values, providers};
+use bc_book::Refusal;
+use bc_calls::{Call, Entry, Event, PutReply};
+use bc_cons::Facts;
+use bc_fixtures::{Found, WRITES_LAST, WRITES_WHILE_BORROWED, found_by, name, shared_unit};
+use bc_prov::{Providers, Shared};
+use bc_scripts::{End, Gate, Script, Stage, run_sessions};
+use bc_share::{Db, History, Session};
+use bc_versions::{Ending, Waiting};
+use std::alloc::Global;
+use std::sync::atomic::AtomicU32;
+use std::sync::atomic::Ordering::SeqCst;
+use std::sync::{Arc, Wait};
+use std::test::Fail;
+use std::thread;
+use std::thread::Threads;
+use std::time::{Clock, Duration};
+
+/// How many turns of a millisecond a gate holds a session up before the test fails.
+const MOST_TURNS: u32 = 10_000;
+
+/// A call of a script: a put of a unit under a name, or an Ask of a name.
+#[derive(Clone, Copy)]
+enum Step {
+    Put(&'static [u8], &'static [u8]),
+    Ask(&'static [u8]),
+}
+
+/// A gate that nobody is held up at.
+#[derive(Clone, Copy)]
+struct Open;
+
+impl Gate for Open {
+    fn pause(&self, _session: u8, _stage: Stage) {}
+}
+
+/// A gate that holds session 1 up at its first Ask until session 0 has worked, and session 0 there until session 1 has begun its
+/// second Ask. It counts the waits that took too long.
+#[derive(Drop)]
+struct Turnstile<'a, C: Clock> {
+    clock: &'a C,
+    worked: AtomicU32,
+    begun: AtomicU32,
+    late: AtomicU32,
+}
+
+impl<'a, C: Clock> Turnstile<'a, C> {
+    fn new(clock: &'a C) -> Turnstile<'a, C> {
+        Turnstile {
+            clock,
+            worked: AtomicU32::new(0),
+            begun: AtomicU32::new(0),
+            late: AtomicU32::new(0),
+        }
+    }
+
+    /// Waits until something was done so often.
+    fn hold(&self, done: &AtomicU32, times: u32) {
+        for _turn in 0..MOST_TURNS {
+            if done.load(SeqCst) >= times {
+                return;
+            }
+            thread::sleep(self.clock, Duration::from_millis(1));
+        }
+        self.late.fetch_add(1, SeqCst);
+    }
+}
+
+impl<'a, C: Clock> Gate for Turnstile<'a, C> {
+    fn pause(&self, session: u8, stage: Stage) {
+        if session == 0 && stage == Stage::Worked {
+            self.worked.fetch_add(1, SeqCst);
+            self.hold(&self.begun, 2);
+        }
+        if session == 1 && stage == Stage::Begun && self.begun.fetch_add(1, SeqCst) == 0 {
+            self.hold(&self.worked, 1);
+        }
+    }
+}
+
+/// What is noted of a stage that no Ask came to.
+const NEVER: u32 = u32::MAX;
+
+/// A gate that nobody is held up at. It notes how many bodies were solved when an Ask came to each stage last.
+#[derive(Drop)]
+struct Watch<'a> {
+    solved: &'a AtomicU32,
+    at_begun: AtomicU32,
+    at_worked: AtomicU32,
+}
+
+impl<'a> Watch<'a> {
+    fn new(solved: &'a AtomicU32) -> Watch<'a> {
+        Watch {
+            solved,
+            at_begun: AtomicU32::new(NEVER),
+            at_worked: AtomicU32::new(NEVER),
+        }
+    }
+}
+
+impl<'a> Gate for Watch<'a> {
+    fn pause(&self, _session: u8, stage: Stage) {
+        let solved = self.solved.load(SeqCst);
+        match stage {
+            Stage::Begun => self.at_begun.store(solved, SeqCst),
+            Stage::Worked => self.at_worked.store(solved, SeqCst),
+        }
+    }
+}
+
+/// A call of a script; fails where a text spells nothing, or for want of memory.
+fn call_of(alloc: Global, step: Step) -> Result<Call, Fail> {
+    match step {
+        Step::Put(put, unit) => Ok(Call::Put(name(put)?, Shared::new(shared_unit(alloc, unit)?))),
+        Step::Ask(asked) => Ok(Call::Ask(name(asked)?)),
+    }
+}
+
+/// A script of these steps, so many times.
+fn script_of(alloc: Global, steps: &[Step], times: u32) -> Result<Script, Fail> {
+    let mut calls = Vec::new(alloc);
+    for _time in 0..times {
+        for step in steps {
+            calls.push(call_of(alloc, *step)?)?;
+        }
+    }
+    Ok(Script::new(calls))
+}
+
+/// Two scripts.
+fn both(alloc: Global, first: Script, second: Script) -> Result<Vec<Script>, Fail> {
+    let mut scripts = Vec::new(alloc);
+    scripts.push(first)?;
+    scripts.push(second)?;
+    Ok(scripts)
+}
+
+/// Sessions and how their scripts ended, apart.
+fn parted<E: Ending>(
+    alloc: Global,
+    ran: Vec<(Session<E>, End)>,
+) -> Result<(Vec<Session<E>>, Vec<End>), Fail> {
+    let mut sessions = Vec::new(alloc);
+    let mut ends = Vec::new(alloc);
+    for (session, end) in ran {
+        sessions.push(session)?;
+        ends.push(end)?;
+    }
+    Ok((sessions, ends))
+}
+
+/// How the scripts end that the sessions of a database make by these providers, and its history.
+fn close_behind<R: Threads + Wait + Sync, E: Ending + Send, G: Gate + Sync>(
+    rt: &R,
+    alloc: Global,
+    db: Db<E>,
+    sessions: Vec<Session<E>>,
+    scripts: Vec<Script>,
+    providers: &Providers,
+    gate: &G,
+) -> Result<(Vec<End>, History), Fail> {
+    if scripts.len() != sessions.len() {
+        return Err("as many scripts as sessions")?;
+    }
+    match run_sessions(rt, alloc, &db, sessions, scripts, providers, gate) {
+        Ok(ran) => {
+            let (sessions, ends) = parted(alloc, ran)?;
+            Ok((ends, db.close(rt, sessions)?))
+        }
+        Err(_) => Err("memory")?,
+    }
+}
+
+/// The same, of a new database of two sessions, whose history may have so many entries.
+fn run_by<R: Threads + Wait + Sync, G: Gate + Sync>(
+    rt: &R,
+    alloc: Global,
+    capacity: u32,
+    first: Script,
+    second: Script,
+    providers: &Providers,
+    gate: &G,
+) -> Result<(Vec<End>, History), Fail> {
+    let scripts = both(alloc, first, second)?;
+    let (db, sessions) = Db::open(alloc, Waiting::new(rt), 0, capacity, 2)?;
+    close_behind(rt, alloc, db, sessions, scripts, providers, gate)
+}
+
+/// The same, by the program's providers.
+fn run_both<R: Threads + Wait + Sync, G: Gate + Sync>(
+    rt: &R,
+    alloc: Global,
+    capacity: u32,
+    first: Script,
+    second: Script,
+    gate: &G,
+) -> Result<(Vec<End>, History), Fail> {
+    let providers = providers!(alloc);
+    run_by(rt, alloc, capacity, first, second, &providers, gate)
+}
+
+/// How many bodies were solved when the last Ask of a script of two calls had begun, and how many when its work was done, by providers
+/// that count them.
+fn solved_by<R: Threads + Wait + Sync>(
+    rt: &R,
+    alloc: Global,
+    script: Script,
+    providers: &Providers,
+    solved: &AtomicU32,
+) -> Result<(u32, u32), Fail> {
+    let watch = Watch::new(solved);
+    let none = Script::new(Vec::new(alloc));
+    let (ends, _history) = run_by(rt, alloc, 2, script, none, providers, &watch)?;
+    if !are_done(&ends) {
+        return Err("a call was refused")?;
+    }
+    Ok((watch.at_begun.load(SeqCst), watch.at_worked.load(SeqCst)))
+}
+
+/// The same, by new providers.
+fn solved_at_stages<R: Threads + Wait + Sync>(
+    rt: &R,
+    alloc: Global,
+    script: Script,
+) -> Result<(u32, u32), Fail> {
+    let Ok(solved) = Arc::new(alloc, AtomicU32::new(0)) else {
+        return Err("memory")?;
+    };
+    let to_solve = Arc::try_clone(&solved)?;
+    let providers = providers!(alloc, move |alloc: Global, facts: &Facts| {
+        to_solve.fetch_add(1, SeqCst);
+        find_values(alloc, facts)
+    });
+    solved_by(rt, alloc, script, &providers, &solved)
+}
+
+/// Whether the entries of a session are so many, and numbered in their order.
+fn are_numbered(entries: &[Entry], session: u8, count: u32) -> bool {
+    let mut next: u32 = 0;
+    for entry in entries {
+        if entry.session == session {
+            if entry.number != next {
+                return false;
+            }
+            next = next.saturating_add(1);
+        }
+    }
+    next == count
+}
+
+/// The place of a session's entry of this number; behind all where there is none.
+fn place_of(entries: &[Entry], session: u8, number: u32) -> usize {
+    for (place, entry) in entries.iter().enumerate() {
+        if entry.session == session && entry.number == number {
+            return place;
+        }
+    }
+    entries.len()
+}
+
+/// Whether the entry at a place is a put that replaced a unit.
+fn is_replaced(entries: &[Entry], place: usize) -> bool {
+    match entries.get(place) {
+        Some(entry) => matches!(entry.event, Event::Put(_, _, PutReply::Replaced)),
+        None => false,
+    }
+}
+
+/// What the entry at a place found, where it is an Ask.
+fn found_at(entries: &[Entry], place: usize) -> Found {
+    match entries.get(place) {
+        Some(entry) => match &entry.event {
+            Event::Ask(_, outcome) => found_by(outcome.get()),
+            Event::Types(_) | Event::Put(_, _, _) | Event::Remove(_, _) => Found::Other,
+        },
+        None => Found::Other,
+    }
+}
+
+/// Whether all scripts were made whole.
+fn are_done(ends: &[End]) -> bool {
+    ends.iter().all(|end| *end == End::Done)
+}
+
+/// Catches the wrong bodies `put_logs_an_ask`, `call_entered_twice`, `repeated_call_not_entered` and `logs_for_a_stranger`, at each
+/// of which the close is refused.
+#[test]
+fn two_sessions_have_forty_entries(rt: HostRuntime) -> Result<(), Fail> {
+    let steps = [Step::Put(b"f", WRITES_LAST), Step::Ask(b"f")];
+    let first = script_of(rt.alloc(), &steps, 10)?;
+    let second = script_of(rt.alloc(), &steps, 10)?;
+    let (ends, history) = run_both(&rt, rt.alloc(), 40, first, second, &Open)?;
+    assert!(rt; are_done(&ends), "all calls are made");
+    assert!(rt; are_numbered(history.entries(), 0, 20), "session 0");
+    assert!(rt; are_numbered(history.entries(), 1, 20), "session 1");
+    Ok(())
+}
+
+/// Catches the wrong body `works_under_the_lock`, and all sessions on one thread in turn: session 0 settles what it found of a body
+/// that session 1 has replaced meanwhile.
+#[test]
+fn a_body_is_replaced_while_another_session_works_on_it(rt: HostRuntime) -> Result<(), Fail> {
+    let first = [Step::Put(b"f", WRITES_LAST), Step::Ask(b"f")];
+    let second = [
+        Step::Ask(b"g"),
+        Step::Put(b"f", WRITES_WHILE_BORROWED),
+        Step::Ask(b"g"),
+    ];
+    let first = script_of(rt.alloc(), &first, 1)?;
+    let second = script_of(rt.alloc(), &second, 1)?;
+    let gate = Turnstile::new(&rt);
+    let (ends, history) = run_both(&rt, rt.alloc(), 5, first, second, &gate)?;
+    assert!(rt; are_done(&ends), "all calls are made");
+    assert!(rt; gate.late.load(SeqCst) == 0, "nobody waits too long");
+    let entries = history.entries();
+    let put = place_of(entries, 1, 1);
+    let ask = place_of(entries, 0, 1);
+    assert!(rt; is_replaced(entries, put), "session 1 replaces the body");
+    assert!(rt; put < ask, "the Ask stands behind that put");
+    assert!(rt;
+        found_at(entries, ask) == Found::Errors(1),
+        "and finds what it left"
+    );
+    Ok(())
+}
+
+/// Catches the two stages swapped, and a stage that an Ask does not come to or comes to on the other side of its work.
+#[test]
+fn an_ask_has_begun_before_its_work_is_done(rt: HostRuntime) -> Result<(), Fail> {
+    let steps = [Step::Put(b"f", WRITES_LAST), Step::Ask(b"f")];
+    let script = script_of(rt.alloc(), &steps, 1)?;
+    let (begun, worked) = solved_at_stages(&rt, rt.alloc(), script)?;
+    assert!(rt; begun == 0, "nothing is solved where the Ask has begun");
+    assert!(rt; worked == 1, "the body is solved where its work is done");
+    Ok(())
+}
+
+/// A script ends at the call that is refused; what was made before stands, and the close is audited.
+#[test]
+fn a_refused_call_ends_its_script(rt: HostRuntime) -> Result<(), Fail> {
+    let steps = [Step::Put(b"f", WRITES_LAST), Step::Ask(b"f")];
+    let first = script_of(rt.alloc(), &steps, 2)?;
+    let (ends, history) = run_both(
+        &rt,
+        rt.alloc(),
+        3,
+        first,
+        Script::new(Vec::new(rt.alloc())),
+        &Open,
+    )?;
+    let stopped = End::Stopped {
+        number: 3,
+        refusal: Refusal::HistoryFull,
+    };
+    assert!(rt;
+        ends.as_slice() == [stopped, End::Done].as_slice(),
+        "the fourth call is refused"
+    );
+    assert!(rt; are_numbered(history.entries(), 0, 3), "three entries");
+    Ok(())
+}

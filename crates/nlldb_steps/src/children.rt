@@ -1,0 +1,200 @@
+//! Which bodies keep the typing rules over the headers of their children: `children.txt`, rows of declarations, a body `f` and its
+//! children `f/K`, at most two, ascending.
+//!
+//! Below a row stands the place where a rule fails first, or what the points of the body demand of regions, each with the longer
+//! region and then the shorter by their numbers. (Own.)
+ghost use Rattle.std.specs.Prelude.{◌≡◌, ⊤, map, MatchOption};
+ghost use Rattle.bc_syntax.specs.Children.{children_of};
+
+use crate::rows::{headed, named};
+use crate::steps::{body_of, declared, facts_of, show_demands, show_points};
+use bc_live::live;
+use bc_mir::{GoodTypes, IllFault, KidHeader, Typed, Where, type_unit};
+use bc_syntax::{Unit, UnitKind};
+use bc_text::{Name, read_unit};
+use std::alloc::Global;
+use std::io::{ErrorKind, Write};
+use std::sync::Arc;
+use std::{fs, io};
+
+/// A child of a row: its number and its unit.
+#[derive(Drop)]
+struct Child {
+    number: u8,
+    unit: Unit,
+}
+
+/// The number of the child that a header puts, if it puts one.
+fn child_number(header: &str) -> Option<u8> {
+    let name = Name::read(header.strip_prefix("put ")?.as_bytes())?;
+    match name.segments() {
+        [number] => Some(*number),
+        _ => None,
+    }
+}
+
+/// The children of a row; `InvalidData` where the text of one is not read.
+fn children_in(alloc: Global, sections: &str) -> io::Result<Vec<Child>> {
+    let mut children = Vec::new(alloc);
+    for section in sections.split('@').skip(1) {
+        let (header, text) = headed(section);
+        if let Some(number) = child_number(header) {
+            let Ok(unit) = read_unit(alloc, text) else {
+                return Err(ErrorKind::InvalidData.into());
+            };
+            children.push(Child { number, unit })?;
+        }
+    }
+    Ok(children)
+}
+
+/// What typing has to know of a child; `None` where it is no closure, or its number too great.
+fn kid_of(child: &Child) -> Option<KidHeader<'_>>
+    ensures { MatchOption result ⊤ (λ kid. kid.number ≡ child.now.number) }
+{
+    if child.number > 63 {
+        return None;
+    }
+    match child.unit.body().header.kind {
+        UnitKind::Closure => Some(KidHeader::of(child.number, &child.unit)),
+        UnitKind::Function => None,
+    }
+}
+
+fn show_typed<W: Write>(alloc: Global, typed: &Typed, out: &mut W) -> io::Result<()> {
+    show_points(alloc, typed, out)?;
+    let live = live(alloc, typed)?;
+    let facts = facts_of(alloc, typed, &live)?;
+    show_demands(&facts, out)
+}
+
+/// Shows what a body over its children demands, or where it breaks a rule.
+fn show_over<W: Write>(
+    alloc: Global,
+    types: &Arc<GoodTypes, Global>,
+    unit: &Unit,
+    kids: &[KidHeader<'_>],
+    out: &mut W,
+) -> io::Result<()>
+    requires { map (λ kid. kid.number) kids.now ≡ children_of unit.now }
+{
+    match type_unit(alloc, types, unit, kids) {
+        Ok(typed) => show_typed(alloc, &typed, out),
+        Err(IllFault::Ill(Where::Header)) => writeln!(out, "ill at header"),
+        Err(IllFault::Ill(Where::At(point))) => writeln!(out, "ill at {point}"),
+        Err(IllFault::NoMemory) => Err(ErrorKind::OutOfMemory.into()),
+    }
+}
+
+/// Shows a body with one child; `InvalidData` where it has others.
+fn show_with_one<W: Write>(
+    alloc: Global,
+    types: &Arc<GoodTypes, Global>,
+    unit: &Unit,
+    child: &Child,
+    out: &mut W,
+) -> io::Result<()> {
+    let wanted = unit.body().children(alloc)?;
+    let Some(kid) = kid_of(child) else {
+        return Err(ErrorKind::InvalidData.into());
+    };
+    match wanted.as_slice() {
+        [number] => {
+            if *number != child.number {
+                return Err(ErrorKind::InvalidData.into());
+            }
+            show_over(alloc, types, unit, &[kid], out)
+        }
+        _ => Err(ErrorKind::InvalidData.into()),
+    }
+}
+
+/// Shows a body with two children; `InvalidData` where it has others.
+fn show_with_two<W: Write>(
+    alloc: Global,
+    types: &Arc<GoodTypes, Global>,
+    unit: &Unit,
+    first: &Child,
+    second: &Child,
+    out: &mut W,
+) -> io::Result<()> {
+    let wanted = unit.body().children(alloc)?;
+    let Some(one) = kid_of(first) else {
+        return Err(ErrorKind::InvalidData.into());
+    };
+    let Some(other) = kid_of(second) else {
+        return Err(ErrorKind::InvalidData.into());
+    };
+    match wanted.as_slice() {
+        [least, greatest] => {
+            if *least != first.number || *greatest != second.number {
+                return Err(ErrorKind::InvalidData.into());
+            }
+            show_over(alloc, types, unit, &[one, other], out)
+        }
+        _ => Err(ErrorKind::InvalidData.into()),
+    }
+}
+
+/// Shows a body with these children; `InvalidData` where they are not its own.
+fn show_with<W: Write>(
+    alloc: Global,
+    types: &Arc<GoodTypes, Global>,
+    unit: &Unit,
+    children: &[Child],
+    out: &mut W,
+) -> io::Result<()> {
+    match children {
+        [] => {
+            let wanted = unit.body().children(alloc)?;
+            match wanted.as_slice() {
+                [] => show_over(alloc, types, unit, &[], out),
+                [_, ..] => Err(ErrorKind::InvalidData.into()),
+            }
+        }
+        [child] => show_with_one(alloc, types, unit, child, out),
+        [first, second] => show_with_two(alloc, types, unit, first, second, out),
+        [_, _, _, ..] => Err(ErrorKind::InvalidData.into()),
+    }
+}
+
+/// Shows a body over the children of a row; `InvalidData` where they are not its own.
+fn show_unit<W: Write>(
+    alloc: Global,
+    types: &Arc<GoodTypes, Global>,
+    unit: &Unit,
+    sections: &str,
+    out: &mut W,
+) -> io::Result<()> {
+    let children = children_in(alloc, sections)?;
+    show_with(alloc, types, unit, &children, out)
+}
+
+/// Shows the body of a row over its children.
+fn show_body<W: Write>(
+    alloc: Global,
+    types: &Arc<GoodTypes, Global>,
+    sections: &str,
+    out: &mut W,
+) -> io::Result<()> {
+    let unit = body_of(alloc, sections)?;
+    show_unit(alloc, types, &unit, sections, out)
+}
+
+/// Shows a row: the body over its declarations and its children.
+fn show_row<W: Write>(alloc: Global, row: &str, out: &mut W) -> io::Result<()> {
+    let (name, sections) = named(row);
+    writeln!(out, "#{name}")?;
+    let types = declared(alloc, sections)?;
+    show_body(alloc, &types, sections, out)
+}
+
+/// Shows of each row of `children.txt` what its body demands over its children, or where it breaks a rule. It fails where the file
+/// cannot be read or `out` cannot be written, where the children are not those of the body, and for want of memory. (Own.)
+pub fn show_children<W: Write>(rt: &HostRuntime, out: &mut W) -> io::Result<()> {
+    let text = fs::read_to_string(rt, "children.txt")?;
+    for row in text.split('#').skip(1) {
+        show_row(rt.alloc(), row, out)?;
+    }
+    Ok(())
+}

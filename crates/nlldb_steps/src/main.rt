@@ -1,0 +1,19 @@
+//! What each step of the analysis finds in bodies, and which bodies keep the typing rules over their children. It stands below the
+//! database, so that it is proved beside it. (Own.)
+#![tactic(auto)]
+
+mod children;
+mod rows;
+mod steps;
+
+use crate::children::show_children;
+use crate::steps::show_steps;
+use std::io;
+use std::io::{BufWriter, Write};
+
+fn main(rt: HostRuntime) -> io::Result<()> {
+    let mut out = BufWriter::new(rt.alloc(), rt.stdout())?;
+    show_steps(&rt, &mut out)?;
+    show_children(&rt, &mut out)?;
+    out.flush()
+}

@@ -1,0 +1,23 @@
+//! Rows of a file: `#` begins one, its name, to the end of the line; then come its sections, each a line that begins with `@`, and a text.
+
+/// The name of a row, and its sections. (Own.)
+pub fn named(row: &str) -> (&str, &str) {
+    row.split_once('\n').unwrap_or((row, ""))
+}
+
+/// What a section asks for, its line without the `@`, and its text. (Own.)
+pub fn headed(section: &str) -> (&str, &[u8]) {
+    let (header, text) = named(section);
+    (header, text.as_bytes())
+}
+
+/// The text of the first section that asks for this; empty where there is none. (Own.)
+pub fn text_under<'a>(sections: &'a str, wanted: &str) -> &'a [u8] {
+    for section in sections.split('@').skip(1) {
+        let (header, text) = headed(section);
+        if header == wanted {
+            return text;
+        }
+    }
+    &[]
+}
