@@ -1,15 +1,17 @@
 //! What the tests of the database share, and some programs with them: bodies, what texts spell, what is seen of an outcome, providers that
-//! always want memory, and the first steps of an analysis. It stands below the database, so that it is proved beside it.
+//! always want memory, calls that are made once more where they are refused, and the first steps of an analysis. It stands below the database, so that it is proved beside it.
 #![tactic(auto)]
 
 ghost use Rattle.std.specs.Prelude.{IfOk};
 ghost use Rattle.bc_prov.specs.Facts.{AreLive, AreScopes, AreValues};
 
+mod again;
 mod alone;
 mod bodies;
 mod outcomes;
 mod texts;
 
+pub use again::again;
 pub use alone::{facts_alone, good_types, typed_alone};
 use bc_cons::Facts;
 use bc_live::LiveSets;

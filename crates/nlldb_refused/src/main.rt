@@ -1,12 +1,8 @@
-//! Calls that take memory, each made once more where it is refused. What they answer is printed, and it is the same where any one request
-//! for memory is refused: `.ci/refused-memory` refuses each in turn. (Own.)
+//! Calls of a database that take memory, each made once more where it is refused. What they answer is printed, and it is the same where any
+//! one request for memory is refused: `.ci/refused-memory` refuses each in turn. (Own.)
 #![tactic(auto)]
 
-mod again;
-mod analyses;
 mod calls;
-mod memo;
-mod pieces;
 mod scripts;
 mod turns;
 
@@ -21,15 +17,12 @@ fn show_by_providers<R: AllocGlobal + Threads + Wait + Sync, W: Write>(
     out: &mut W,
 ) -> anyhow::Result<()> {
     let providers = providers!(rt.alloc());
-    pieces::show(rt.alloc(), &providers, out)?;
     calls::show(rt, rt.alloc(), &providers, out)?;
     scripts::show(rt, rt.alloc(), &providers, out)
 }
 
 fn main(rt: HostRuntime) -> anyhow::Result<()> {
     let mut out = rt.stdout();
-    analyses::show(rt.alloc(), &mut out)?;
-    memo::show(rt.alloc(), &mut out)?;
     if show_by_providers(&rt, &mut out).is_err() {
         show_by_providers(&rt, &mut out)?;
     }

@@ -1,10 +1,9 @@
 //! Scripts on threads, of which the rest is made where a session was stopped.
-use crate::again::again;
 use crate::calls::opened;
 use crate::turns::{Turn, show_entry};
 use anyhow::bail;
 use bc_book::Refusal;
-use bc_fixtures::{WRITES_LAST, WRITES_WHILE_BORROWED};
+use bc_fixtures::{WRITES_LAST, WRITES_WHILE_BORROWED, again};
 use bc_prov::Providers;
 use bc_scripts::{End, Gate, Script, Stage, run_sessions};
 use bc_share::{Db, History, Session};

@@ -2,10 +2,9 @@
 ghost use Rattle.std.specs.Prelude.{◌↔◌, ◌<◌, IfOk, IsTrue, OnOk};
 ghost use Rattle.bc_prov.specs.State.{Suits};
 
-use crate::again::again;
 use anyhow::bail;
 use bc_calls::no_declarations;
-use bc_fixtures::{WRITES_LAST, name, shared_unit};
+use bc_fixtures::{WRITES_LAST, again, name, shared_unit};
 use bc_memo::{Change, Memo, Shelf, suits};
 use bc_prov::{Outcome, Shared};
 use bc_report::write_report;

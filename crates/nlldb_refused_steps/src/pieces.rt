@@ -1,10 +1,9 @@
 //! The piece of a body, made once more where it is refused.
 ghost use Rattle.std.specs.Prelude.{◌≡◌, []};
 
-use crate::again::again;
 use anyhow::bail;
 use bc_calls::no_declarations;
-use bc_fixtures::{WRITES_WHILE_BORROWED, shared_unit};
+use bc_fixtures::{WRITES_WHILE_BORROWED, again, shared_unit};
 use bc_prov::{Declared, Piece, Providers, Shared, piece};
 use bc_syntax::Unit;
 use std::alloc::Global;

@@ -1,7 +1,7 @@
 //! Calls that are made once more where they are refused.
 
-/// What a call answers, which is made once more where it is refused.
-pub(crate) fn again<T: Drop, F: Fn() -> anyhow::Result<T>>(call: F) -> anyhow::Result<T>
+/// What a call answers, which is made once more where it is refused. (Own.)
+pub fn again<T: Drop, F: Fn() -> anyhow::Result<T>>(call: F) -> anyhow::Result<T>
     requires { F.IsAlwaysCallable call }
 {
     match call() {

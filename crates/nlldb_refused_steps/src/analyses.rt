@@ -1,7 +1,6 @@
 //! The steps of the analysis of one body, each made once more where it is refused.
-use crate::again::again;
 use bc_cons::Facts;
-use bc_fixtures::{facts_alone, good_types, typed_alone};
+use bc_fixtures::{again, facts_alone, good_types, typed_alone};
 use bc_judge::{judge, known_relations};
 use bc_live::{LiveSets, live};
 use bc_loans::{Scopes, in_scope, loans};
