@@ -3,7 +3,7 @@ ghost use Rattle.std.specs.Prelude.{◌≡◌, ◌≤◌, ◌<◌, ◌+◌, ◌�
 ghost use Rattle.std.specs.Io.Buffered.{writer_buffer, writer_contents};
 ghost use Rattle.std.specs.Io.KnownBytes.{Appends, Keeps};
 ghost use Rattle.bc_calls.specs.declared.call.Call.TheVariants as calls;
-ghost use Rattle.bc_scripts.specs.Runs.{Makes};
+ghost use Rattle.bc_share.specs.Sessions.{Makes};
 ghost use Rattle.bc_check.specs.Changes.{seen};
 ghost use Rattle.bc_check.specs.Stops.{is_of_calls};
 ghost use Rattle.bc_check.specs.Ends.{Checked, IsEnd, IsEndOf, Leaves, OfFile};

@@ -5,13 +5,12 @@
 ghost use Rattle.std.specs.Prelude.{IfOk};
 ghost use Rattle.bc_prov.specs.Facts.{AreLive, AreScopes, AreValues};
 
-mod again;
 mod alone;
 mod bodies;
 mod outcomes;
+mod refused;
 mod texts;
 
-pub use again::again;
 pub use alone::{facts_alone, good_types, typed_alone};
 use bc_cons::Facts;
 use bc_live::LiveSets;
@@ -24,6 +23,7 @@ pub use bodies::{
     WRITES_LAST, WRITES_WHILE_BORROWED,
 };
 pub use outcomes::{Found, Sight, found_by};
+pub use refused::again;
 use std::alloc::{AllocError, Global};
 pub use texts::{name, shared_types, shared_unit};
 

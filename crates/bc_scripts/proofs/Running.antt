@@ -6,10 +6,10 @@ use Rattle.bc_calls.specs.declared.call.Call.{Call}
 use Rattle.bc_calls.specs.declared.call.Event.{Event}
 use Rattle.bc_calls.specs.Calls.{call_of}
 use Rattle.bc_calls.proofs.Beginnings.{starts_again}
-use Rattle.bc_share.specs.Sessions.{SessionView, IsAnswered, IsSame, Stays}
+use Rattle.bc_share.specs.Sessions.{SessionView, IsAnswered, IsSame, Makes, Stays}
 use Rattle.bc_scripts.specs.declared.run.End.{End}
 use Rattle.bc_scripts.specs.declared.run.End.TheVariants.{Done}
-use Rattle.bc_scripts.specs.Runs.{AreRuns, HasMade, Makes, seats}
+use Rattle.bc_scripts.specs.Runs.{AreRuns, HasMade, seats}
 use Rattle.bc_share.proofs.Noting.{starts_same, stays_again, stays_answered}
 
 pub on_err : {T E : Type 0} (r : Result T E) (P : Type 0) → P → OnErr r P

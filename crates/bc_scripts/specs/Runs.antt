@@ -5,11 +5,7 @@ use Rattle.bc_calls.specs.declared.call.Event.{Event}
 use Rattle.bc_calls.specs.Calls.{StartsWith, call_of}
 use Rattle.bc_scripts.specs.declared.run.End.{End}
 use Rattle.bc_scripts.specs.declared.run.End.TheVariants.{Done, Stopped}
-use Rattle.bc_share.specs.Sessions.{SessionView, IsAnswered}
-
--- the session made this call, with some reply
-abbrev pub Makes : SessionView → SessionView → Call → Type 0
-Makes old new call = (event : Event) × (call_of event ≡ call) × IsAnswered event old new
+use Rattle.bc_share.specs.Sessions.{SessionView}
 
 -- the session made these calls, in their order: its own list is longer by them, each with a reply, it is the same session, and what it
 -- has seen begins with what it had seen

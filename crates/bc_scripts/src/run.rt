@@ -2,8 +2,8 @@
 ghost use Rattle.std.specs.Prelude.{◌≡◌, ◌<◌, ◌≤◌, [], List, IfErr, IfOk, OnErr, OnOk, length, map, slice_index_or, vec_capacity};
 ghost use Rattle.bc_calls.specs.declared.call.Call.{Call};
 ghost use Rattle.bc_calls.specs.declared.call.Call.TheVariants as calls;
-ghost use Rattle.bc_scripts.specs.Runs.{AreRuns, IsRun, Makes, seats};
-ghost use Rattle.bc_share.specs.Sessions.{IsSame};
+ghost use Rattle.bc_scripts.specs.Runs.{AreRuns, IsRun, seats};
+ghost use Rattle.bc_share.specs.Sessions.{IsSame, Makes};
 
 use bc_book::Refusal;
 use bc_calls::Call;

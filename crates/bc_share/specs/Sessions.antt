@@ -1,8 +1,9 @@
 -- What a session knows, and what a call leaves of it.
 use Rattle.std.specs.Prelude.{◌≡◌, ℕ, ◌<◌, zero, suc, Some, List, [], ◌∷◌, ◌++◌, length}
+use Rattle.bc_calls.specs.declared.call.Call.{Call}
 use Rattle.bc_calls.specs.declared.call.Entry.{Entry}
 use Rattle.bc_calls.specs.declared.call.Event.{Event}
-use Rattle.bc_calls.specs.Calls.{IsLegal, StartsWith, calls, last_of}
+use Rattle.bc_calls.specs.Calls.{IsLegal, StartsWith, call_of, calls, last_of}
 use Rattle.bc_book.specs.Ledgers.{most_sessions}
 
 -- the tag of its database, its number, its own calls with their replies, and the entries that it has seen
@@ -60,3 +61,7 @@ pub record IsAnswered (event : Event) (old new : SessionView) : Type 0 where
   pub legal : IsLegal new.seen
   pub last : last_of new.seen ≡ Some (record { session = old.number; number = length old.own; event = event })
   pub mine : calls new.number new.seen ≡ new.own
+
+-- the session made this call, with some reply
+abbrev pub Makes : SessionView → SessionView → Call → Type 0
+Makes old new call = (event : Event) × (call_of event ≡ call) × IsAnswered event old new
