@@ -8,7 +8,7 @@ use Rattle.bc_text.specs.Names.{NameParts}
 use Rattle.bc_prov.specs.declared.outcome.Outcome.{Outcome}
 use Rattle.bc_prov.specs.State.{at_name}
 use Rattle.bc_prov.specs.Outcome.{IsOutcomeIn}
-use Rattle.bc_prov.proofs.Unique.{one_outcome}
+use Rattle.bc_outcomes.proofs.Unique.{one_outcome}
 use Rattle.bc_memo.specs.declared.place.Place.{Place}
 use Rattle.bc_memo.specs.declared.change.Change.TheVariants as changes
 use Rattle.bc_memo.specs.declared.memo.Remembered.{Remembered}

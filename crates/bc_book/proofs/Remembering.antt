@@ -9,7 +9,7 @@ use Rattle.bc_prov.specs.State.{at_name}
 use Rattle.bc_prov.specs.Outcome.{IsOutcomeIn}
 use Rattle.bc_prov.specs.declared.outcome.Outcome.{Outcome}
 use Rattle.bc_prov.specs.Snapshots.{SnapshotView, IsPartOf, names_used}
-use Rattle.bc_prov.proofs.Used.{outcome_used, used_listed}
+use Rattle.bc_outcomes.proofs.Used.{outcome_used, used_listed}
 use Rattle.bc_memo.specs.declared.place.Place.{Place}
 use Rattle.bc_memo.specs.declared.change.Change.{Change}
 use Rattle.bc_memo.specs.declared.change.Change.TheVariants as changes

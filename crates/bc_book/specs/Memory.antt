@@ -3,7 +3,7 @@ use Rattle.std.specs.Prelude.{◌≡◌, ℕ, ◌≤◌, Option, Some, None, IsS
 use Rattle.bc_text.specs.Names.{NameParts}
 use Rattle.bc_prov.specs.State.{State, at_name}
 use Rattle.bc_prov.specs.Outcome.{IsOutcomeIn}
-use Rattle.bc_prov.specs.Laws.{IsUsed}
+use Rattle.bc_outcomes.specs.Laws.{IsUsed}
 use Rattle.bc_memo.specs.declared.memo.Remembered.{Remembered}
 use Rattle.bc_memo.specs.Places.{ShelfView, revision_at}
 use Rattle.bc_calls.specs.declared.call.Entry.{Entry}

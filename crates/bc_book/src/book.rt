@@ -10,7 +10,8 @@ ghost use Rattle.bc_book.specs.Ledgers.{Appends, HasPlace, IsFull, IsRow, Keeps,
 use crate::ledger::{Ledger, MOST_SESSIONS, Refusal};
 use bc_calls::{Begun, Entry, Event, PutReply, RemoveReply, Work, no_declarations};
 use bc_memo::Remembered;
-use bc_prov::{Declared, Found, Outcome, Pieces, Providers, Shared, share_pieces};
+use bc_outcomes::Found;
+use bc_prov::{Declared, Outcome, Pieces, Providers, Shared, share_pieces};
 use bc_syntax::Unit;
 use bc_text::Name;
 use bc_versions::{Ending, Fronts, Press};
@@ -69,10 +70,19 @@ fn two_owners(outcome: &Shared<Outcome>) -> Result<(Shared<Outcome>, Shared<Outc
 /// A book: the history of all calls, what it leaves, what is remembered of it, and the writer that publishes it. Contracts see how many
 /// entries it may have, those that it has, what is held, and what is remembered. The entries that it has are those that were
 /// published, and so is what is held, with its revisions and its answers: its type keeps it. (Own.)
-#[derive(Drop)]
 pub struct Book<E: Ending> {
     ledger: Ledger,
     press: Press<E>,
+}
+
+// Written out: the crates above call this, and prove nothing of its parts again.
+impl<E: Ending> Drop for Book<E> {
+    fn drop(self) {
+        let Self {
+            ledger: _,
+            press: _,
+        } = self;
+    }
 }
 
 impl<E: Ending> Model for Book<E> {
@@ -267,6 +277,7 @@ impl<E: Ending> Book<E> {
         ensures entries { result.items ≡ self.entries }
         ensures legal { IsLegal self.entries }
     {
-        self.ledger.into_history()
+        let Book { ledger, press: _ } = self;
+        ledger.into_history()
     }
 }

@@ -13,7 +13,8 @@ ghost use Rattle.bc_book.specs.Ledgers.{HasPlace, IsRow, Recalls, SameLedger, ke
 use crate::reply::{put_reply, remove_reply};
 use bc_calls::{Begun, Entry, Event, MOST_BODIES, PutReply, RemoveReply, Work, no_declarations};
 use bc_memo::{Change, Memo, Remembered, Shelf};
-use bc_prov::{Found, Outcome, Pieces, Providers, Shared};
+use bc_outcomes::Found;
+use bc_prov::{Outcome, Pieces, Providers, Shared};
 use bc_syntax::Unit;
 use bc_text::Name;
 use std::alloc::{AllocError, Global};

@@ -11,8 +11,8 @@ use Rattle.bc_syntax.specs.declared.syntax.Body.{Body}
 use Rattle.bc_prov.specs.declared.outcome.Outcome.{Outcome}
 use Rattle.bc_prov.specs.State.{State, Bodies}
 use Rattle.bc_prov.specs.Outcome.{IsOutcomeIn}
-use Rattle.bc_prov.specs.Laws.{HaveSamePart}
-use Rattle.bc_prov.proofs.Local.{outcome_same}
+use Rattle.bc_outcomes.specs.Laws.{HaveSamePart}
+use Rattle.bc_outcomes.proofs.Local.{outcome_same}
 use Rattle.bc_calls.specs.declared.call.Event.{Event}
 use Rattle.bc_calls.specs.declared.call.Event.TheVariants.{Types, Put, Remove, Ask}
 use Rattle.bc_calls.specs.declared.call.Entry.{Entry}

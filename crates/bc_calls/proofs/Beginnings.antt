@@ -22,9 +22,6 @@ last_of-snoc [] e = refl
 last_of-snoc (x ∷ []) e = refl
 last_of-snoc (x ∷ y ∷ h) e = last_of-snoc (y ∷ h) e
 
-pub legal_front : (h rest : List Entry) → IsLegal (h ++ rest) → IsLegal h
-legal_front h rest legal before e more is = legal before e (more ++ rest) (ap (λ l. l ++ rest) is ∙ append_assoc before (e ∷ more) rest)
-
 pub starts_more : (g h more : List Entry) → StartsWith g h → StartsWith (g ++ more) h
 starts_more g h more s = (s.0 ++ more, ap (λ l. l ++ more) s.1 ∙ append_assoc h s.0 more)
 

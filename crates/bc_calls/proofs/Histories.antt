@@ -32,9 +32,6 @@ legal_snoc h x legal fits before e rest is =
     (λ (t : (front : List Entry) × (rest ≡ front ++ x ∷ []) × (h ≡ before ++ e ∷ front)). legal before e t.0 t.2)
     (snoc_split h x before e rest is)
 
-pub legal_more : (h l : List Entry) (x : Entry) → IsLegal h → MayComeNext h x → l ≡ h ++ x ∷ [] → IsLegal l
-legal_more h l x legal fits is = subst IsLegal (sym is) (legal_snoc h x legal fits)
-
 pub after-snoc : (h : List Entry) (e : Entry) → after (h ++ e ∷ []) ≡ next (after h) e.event
 after-snoc h e = fold-append (λ (s : State) (x : Entry). next s x.event) opening h (e ∷ [])
 

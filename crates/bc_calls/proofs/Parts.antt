@@ -6,7 +6,7 @@ use Rattle.bc_prov.specs.declared.outcome.Outcome.{Outcome}
 use Rattle.bc_prov.specs.State.{State, at_name, state_of}
 use Rattle.bc_prov.specs.Outcome.{IsOutcomeIn}
 use Rattle.bc_prov.specs.Snapshots.{SnapshotView, IsPartOf}
-use Rattle.bc_prov.proofs.Local.{outcome_same}
+use Rattle.bc_outcomes.proofs.Local.{outcome_same}
 use Rattle.bc_memo.specs.Places.{ShelfView, units_in}
 use Rattle.bc_memo.proofs.Places.{units_at}
 use Rattle.bc_calls.specs.declared.call.Entry.{Entry}

@@ -8,7 +8,8 @@ ghost use Rattle.bc_prov.specs.State.{State, state_of};
 ghost use Rattle.bc_calls.specs.Works.{StandsIn, Stood};
 
 use bc_memo::{Part, Shelf};
-use bc_prov::{Found, Outcome, Pieces, Providers, Shared, Snapshot};
+use bc_outcomes::{Found, find_outcome};
+use bc_prov::{Outcome, Pieces, Providers, Shared, Snapshot};
 use bc_text::Name;
 use std::alloc::{AllocError, Global};
 use std::marker::Model;
@@ -92,7 +93,7 @@ impl Begun {
         ensures outcome { IfOk result (λ found. IsOutcomeIn (state_of self.now.types self.now.units) self.now.root found.outcome) }
         ensures carried { IfSome self.now.carried (λ outcome. IfOk result (λ found. (found.outcome ≡ outcome) × (found.pieces.items ≡ []))) }
     {
-        self.snapshot.find(alloc, providers)
+        find_outcome(alloc, providers, &self.snapshot)
     }
 
     /// Finds the outcome of the snapshot's name: the one that the snapshot carries, without a provider, else the one that the providers

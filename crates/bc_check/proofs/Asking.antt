@@ -42,12 +42,6 @@ same_some x y e = cc
 roots-snoc : (calls : List Call) (call : Call) (found : Option NameParts) → root_put call ≡ found → map root_put (calls ++ call ∷ []) ≡ map root_put calls ++ found ∷ []
 roots-snoc calls call found is = map-append root_put calls (call ∷ []) ∙ ap (λ (o : Option NameParts). map root_put calls ++ o ∷ []) is
 
-pub asked_none : (calls : List Call) (names : List NameParts) → names ≡ [] → IsStrictlySortedBy name_order names → AreAsked (take 0 calls) names
-asked_none calls names none sorted = record {
-  ascending = sorted;
-  exact = λ name. (λ h. absurd (omega (arith, h.1, ap length none)), λ h. absurd (omega (arith, h.1)));
-}
-
 -- one root name more
 added : NamesAreToldApart → (calls : List Call) (call : Call) (name : NameParts) (names new : List NameParts) → AreAsked calls names → root_put call ≡ Some name → new ≡ insert_key name_order names name → IsStrictlySortedBy name_order new → AreAsked (calls ++ call ∷ []) new
 added apart calls call name names new h root is sorted =

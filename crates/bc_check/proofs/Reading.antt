@@ -5,7 +5,7 @@ use Rattle.std.specs.List.{AllZip}
 use Rattle.bc_text.specs.declared.fault.ReadFault.{ReadFault}
 use Rattle.bc_text.specs.declared.fault.ReadFault.TheVariants as read_faults
 use Rattle.bc_text.specs.Names.{NameParts}
-use Rattle.bc_text.specs.Reading.{read, read_types}
+use Rattle.bc_text.specs.Reading.{read}
 use Rattle.bc_check.specs.declared.fault.FaultKind.{FaultKind}
 use Rattle.bc_check.specs.declared.fault.FileFault.{FileFault}
 use Rattle.bc_check.specs.declared.heading.Heading.{Heading}
@@ -24,9 +24,6 @@ given_more Gives [] [] section one h is = (is, tt)
 given_more Gives [] (g ∷ given) section one h is = absurd h
 given_more Gives (s ∷ sections) [] section one h is = absurd h
 given_more Gives (s ∷ sections) (g ∷ given) section one h is = (h.0, given_more Gives sections given section one h.1 is)
-
-pub read_none : {Given : Type 0} (Gives : Part → Given → Type 0) (all : List Part) → HasRead Gives all all []
-read_none Gives all = record { before = []; cut = refl; good = tt }
 
 -- one section more
 pub read_more : {Given : Type 0} (Gives : Part → Given → Type 0) (all left rest : List Part) (given : List Given) (section : Part) (one : Given) → HasRead Gives all left given → left ≡ section ∷ rest → Gives section one → HasRead Gives all rest (given ++ one ∷ [])
@@ -69,10 +66,6 @@ told_unread Good Takes section heading found (read_faults.Token at) taken wrong 
 told_unread Good Takes section heading found (read_faults.Grammar at) taken wrong unread = (refl, inr (heading, taken, wrong _ (_, unread (λ e. absurd cc), refl)))
 told_unread Good Takes section heading found (read_faults.Limit at) taken wrong unread = (refl, inr (heading, taken, wrong _ (_, unread (λ e. absurd cc), refl)))
 told_unread Good Takes section heading found read_faults.NoMemory taken wrong unread = tt
-
-pub told_types : {T : Type 0} (Good : T → Type 0) (Takes : Heading → List ℕ → Type 0) (section : Part) (fault : ReadFault)
-    → Takes headings.Types section.header → (fault ≢ read_faults.NoMemory → read_types section.text ≡ Err fault) → Answers Good (Tells Takes section) (Err (stop_of section.line fault))
-told_types Good Takes section fault taken unread = told_unread Good Takes section headings.Types (read_types section.text) fault taken (λ kind is. is) unread
 
 pub told_body : {T : Type 0} (Good : T → Type 0) (Takes : Heading → List ℕ → Type 0) (section : Part) (name : NameParts) (fault : ReadFault)
     → Takes (headings.Put name) section.header → (fault ≢ read_faults.NoMemory → read section.text ≡ Err fault) → Answers Good (Tells Takes section) (Err (stop_of section.line fault))

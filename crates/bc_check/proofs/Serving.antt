@@ -1,5 +1,5 @@
 -- Calls that are made one after another.
-use Rattle.std.proofs.Common.{◌≡◌, ℕ, max, List, [], ◌∷◌, ◌++◌, Option, Some, None, map, refl, sym, ap, ◌∙◌, subst, append_assoc, append-nil, arith, inl}
+use Rattle.std.proofs.Common.{◌≡◌, ℕ, max, List, [], ◌∷◌, ◌++◌, Option, Some, None, map, refl, sym, ap, ◌∙◌, subst, append_assoc, append-nil, arith}
 use Rattle.std.specs.Prelude.{Result, Ok, Err, IsErrAnd, IsErrOf}
 use Rattle.std.specs.List.{flat_map}
 use Rattle.std.specs.Io.KnownBytes.{Appends, Keeps}
@@ -9,7 +9,6 @@ use Rattle.bc_calls.specs.declared.call.Call.{Call}
 use Rattle.bc_calls.specs.declared.call.Event.{Event}
 use Rattle.bc_calls.specs.Calls.{call_of}
 use Rattle.bc_share.specs.Sessions.{SessionView}
-use Rattle.bc_share.proofs.Noting.{same_session}
 use Rattle.bc_check.specs.declared.stop.Stop.{Stop}
 use Rattle.bc_check.specs.Run.{event_status, greatest}
 use Rattle.bc_check.specs.Served.{Adds, Serves, Served, ServedPart, IsAtMostOneMore}
@@ -85,11 +84,6 @@ making_more {X} call_at all left rest x text m n old mid new u v w h next k = re
   served = subst (λ (cs : List Call). Served cs text (max m n) old new u w) (sym (map-append call_at h.front (x ∷ []))) (served_more (map call_at h.front) (call_at x) text m n old mid new u v w h.served k);
 }
 
-pub making_all : {X : Type 0} (call_at : X → Call) (all left : List X) (text : Event → List ℕ) (exit : ℕ) (old new : SessionView) (u v : Option (List ℕ)) → Making call_at all left text exit old new u v → left ≡ [] → Served (map call_at all) text exit old new u v
-making_all {X} call_at all left text exit old new u v h none =
-    let same : all ≡ h.front = h.cut ∙ ap (λ (xs : List X). h.front ++ xs) none ∙ append-nil h.front in
-    subst (λ (xs : List X). Served (map call_at xs) text exit old new u v) (sym same) h.served
-
 pub served_kept : (list : List Call) (text : Event → List ℕ) (exit : ℕ) (old new : SessionView) (u v w : Option (List ℕ)) → Served list text exit old new u v → Keeps v w → Served list text exit old new u w
 served_kept list text exit old new u v w h k = record {
   events = h.events;
@@ -110,9 +104,6 @@ making_part {X} call_at all left text exit old mid new u v w h last k = record {
   served = served_kept (map call_at h.front) text exit old mid u v w h.served k;
   last = last;
 }
-
-pub part_of_all : (list : List Call) (text : Event → List ℕ) (exit : ℕ) (old new : SessionView) (u v : Option (List ℕ)) → Served list text exit old new u v → ServedPart list text old new u v
-part_of_all list text exit old new u v h = record { front = list; ahead = []; cut = append-nil list; exit = exit; between = new; served = h; last = inl (same_session new) }
 
 -- a stop that is passed on is the one that came
 pub same_stop : {A B : Type 0} (r : Result A Stop) (x n : Stop) → IsErrAnd r (λ y. y ≡ x) → r ≡ Err n → IsErrOf {T = B} (Err x) n

@@ -10,7 +10,7 @@ use Rattle.bc_flow.specs.Graph.{HasEdge}
 use Rattle.bc_flow.specs.BitSet.{has, absent_count}
 use Rattle.bc_flow.specs.Flow.{row, holds}
 use Rattle.bc_flow.specs.Reach.{Reaches, begins, goes_on, Spreads}
-use Rattle.bc_flow.proofs.Membership.{Contains-nil, Contains-one}
+use Rattle.bc_flow.proofs.Membership.{Contains-nil}
 use Rattle.bc_flow.proofs.Entries.{entered}
 use Rattle.bc_flow.proofs.DepthFirst.{marked}
 use Rattle.bc_flow.proofs.Visits.{itself, only}
@@ -21,20 +21,6 @@ Spreads-none node fact enters rows pending = record {
   others = λ n f apart. refl;
   kept = λ n h. h;
   spread = λ n e _. absurd (Contains-nil (record { from = node; to = n }) e);
-  no_more = λ n h. inl h;
-  pending_kept = λ n h. h;
-  pending_new = λ n h. inl h;
-  pending_only = λ n h. inl h;
-  progress = omega arith;
-}
-
--- where the node does not let in, or has the fact
-pub Spreads-skipped : (node next fact : ℕ) (enters : ℕ → Bool) (rows : List (List Bool)) (pending : List ℕ) → (enters next ≡ true → holds rows next fact ≡ true) →
-    Spreads (record { from = node; to = next } ∷ []) node fact enters rows rows pending pending
-Spreads-skipped node next fact enters rows pending there = record {
-  others = λ n f apart. refl;
-  kept = λ n h. h;
-  spread = λ n e lets. let at : n ≡ next = only node next n e in rw at (there (rw at at lets));
   no_more = λ n h. inl h;
   pending_kept = λ n h. h;
   pending_new = λ n h. inl h;
@@ -127,17 +113,6 @@ pub record IsWalk (edges : List Edge) (passes enters : ℕ → Bool) (start fact
   pub reached : (n : ℕ) → holds rows n fact ≡ true → Reaches edges passes enters start n
   pub known : (n : ℕ) → Contains pending n → (n ≡ start) ⊎ (holds rows n fact ≡ true)
   pub handed_on : (m n : ℕ) → (m ≡ start) ⊎ (holds rows m fact ≡ true) → passes m ≡ true → HasEdge edges m n → enters n ≡ true → (holds rows n fact ≡ true) ⊎ Contains pending m
-
-pub IsWalk-start : (edges : List Edge) (passes enters : ℕ → Bool) (start fact : ℕ) (rows : List (List Bool)) (pending : List ℕ) → ((n : ℕ) → holds rows n fact ≡ false) → pending ≡ start ∷ [] →
-    IsWalk edges passes enters start fact rows pending
-IsWalk-start edges passes enters start fact rows pending fresh only_start = record {
-  reached = λ n h. absurd (both_ways (holds rows n fact) (fresh n) h);
-  known = λ n h. inl (sym (Contains-one start n (rw only_start at h)));
-  handed_on = λ m n from _ _ _. elim from [
-    | inl at ↦ inr (rw (only_start, at) (Contains-push [] start))
-    | inr h ↦ absurd (both_ways (holds rows m fact) (fresh m) h)
-  ];
-}
 
 -- the node that was taken from the list, and the rest
 taken : (node m : ℕ) (before rest : List ℕ) → before ≡ rest ++ node ∷ [] → Contains before m → Contains rest m ⊎ (m ≡ node)

@@ -296,9 +296,6 @@ start_found {X} es k i ordered f = record {
       | inr apart ↦ subst (λ (m : NameParts). is_gt (name_order m (get_or es j d).0) ≡ false) (f.at d) (ap is_gt (ordered_at es i j d ordered (omega arith) less))
     ]
 
-pub start_gap : {X : Type 0} (es : List (NameParts × X)) (k : NameParts) (i : ℕ) → IsGapAt es k i → IsStartAt es k i
-start_gap es k i f = record { within = f.within; above = f.above; later = λ j d from less. ap is_gt (f.below j d from less) }
-
 -- what is taken where there is nothing
 pub take_missed : {X : Type 0} (es : List (NameParts × X)) (k : NameParts) (i : ℕ) → IsAbove es k i → IsBelow es k i → es ≡ remove_entry (is_at (name_order k)) es
 take_missed [] k i above below = refl

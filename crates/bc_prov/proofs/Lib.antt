@@ -1,13 +1,4 @@
 pub mod Equality
 pub mod Starts
 pub mod Numbers
-pub mod Steps
-pub mod Unique
-pub mod Local
 pub mod Lookup
-pub mod Used
-pub mod Looking
-pub mod Gathering
-pub mod Walking
-pub mod Folding
-pub mod Faults

@@ -5,5 +5,3 @@ pub mod Verdicts
 pub mod Outcome
 pub mod Pieces
 pub mod Snapshots
-pub mod Visits
-pub mod Laws

@@ -9,18 +9,24 @@ use std::alloc::{AllocError, Global};
 use std::marker::Model;
 use std::sync::Arc;
 
-/// What the check of declarations found: declarations of which none is bad, or the first bad one, counted from 0.
+/// What the check of declarations found: declarations of which none is bad, or the first bad one, counted from 0. (Own.)
 #[derive(Drop)]
-pub(crate) enum Check {
+pub enum Check {
     Good(Arc<GoodTypes, Global>),
     Bad(usize),
 }
 
 /// Declarations with what their check found, so that they are checked once. Contracts see the declarations. (Own.)
-#[derive(Drop)]
 pub struct Declared {
     types: Shared<Types>,
     check: Check,
+}
+
+// Written out: the crates above call this, and prove nothing of its parts again.
+impl Drop for Declared {
+    fn drop(self) {
+        let Self { types: _, check: _ } = self;
+    }
 }
 
 impl Model for Declared {
@@ -71,8 +77,8 @@ impl Declared {
         Ok(Declared { types, check })
     }
 
-    /// What their check found.
-    pub(crate) fn found(&self) -> &Check
+    /// What their check found. Own.
+    pub fn found(&self) -> &Check
         ensures { IsCheckOf self.now result.now }
     {
         &self.check

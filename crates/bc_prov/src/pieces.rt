@@ -25,7 +25,6 @@ pub type Pieces = Vec<(Name, Shared<Piece>)>;
 /// headers of its children (the unit was typed over them), and what these require. Its type keeps that they are those of the body by
 /// definition, and nothing else makes one. (Own; rustc-dev-guide, "Queries": a query's result is taken again where all that it was
 /// found from is the same.)
-#[derive(Drop)]
 pub struct Piece {
     types: Shared<Declared>,
     unit: Shared<Unit>,
@@ -44,6 +43,19 @@ pub fn share_pieces(alloc: Global, pieces: &[(Name, Shared<Piece>)]) -> Result<P
         shares.push((entry.0, piece))?;
     }
     Ok(shares)
+}
+
+// Written out: the crates above call this, and prove nothing of its parts again.
+impl Drop for Piece {
+    fn drop(self) {
+        let Self {
+            types: _,
+            unit: _,
+            typed: _,
+            kids: _,
+            verdict: _,
+        } = self;
+    }
 }
 
 impl Model for Piece {
@@ -87,8 +99,8 @@ impl Piece {
         &self.verdict.requirements
     }
 
-    /// The unit as it was typed.
-    pub(crate) fn typed(&self) -> &Shared<Typed>
+    /// The unit as it was typed. Own.
+    pub fn typed(&self) -> &Shared<Typed>
         ensures value { result.now ≡ self.now.mir }
         ensures right { IsPiece self.now }
     {
@@ -102,8 +114,8 @@ impl Piece {
         self.types == *types && self.unit == *unit
     }
 
-    /// The numbers of the unit's children, ascending. Answers `AllocError` only where memory was refused.
-    pub(crate) fn children(&self, alloc: Global) -> Result<Vec<u8>, AllocError>
+    /// The numbers of the unit's children, ascending. Answers `AllocError` only where memory was refused. (Own.)
+    pub fn children(&self, alloc: Global) -> Result<Vec<u8>, AllocError>
         ensures value { IfOk result (λ numbers. numbers.items ≡ children_of self.now.unit) }
         ensures low { IfOk result (λ numbers. list_all (λ number. nat_le number 63) numbers.items ≡ true) }
     {
@@ -115,8 +127,8 @@ impl Piece {
         Ok(numbers)
     }
 
-    /// Whether its children required so much.
-    pub(crate) fn is_from(&self, kids: &[(u8, Requirements)]) -> bool
+    /// Whether its children required so much. Own.
+    pub fn is_from(&self, kids: &[(u8, Requirements)]) -> bool
         ensures same { IsTrue result ↔ (self.now.kids ≡ kids.now) }
         ensures right { IsPiece self.now }
     {
@@ -170,9 +182,10 @@ fn same_kids(one: &[(u8, Requirements)], other: &[(u8, Requirements)]) -> bool
     }
 }
 
-/// The piece of a unit that was typed over declarations and the headers of its children, where these require so much. Answers
-/// `AllocError` only where memory was refused, as a provider may answer too.
-pub(crate) fn piece_of(
+/// The piece of a unit that was typed over declarations and the headers of its children, where these require so much. It asks that the
+/// unit was typed so, and that a child requires nothing of its local regions. Answers `AllocError` only where memory was refused, as a
+/// provider may answer too. (Own; the errors are RFC 2094's.)
+pub fn piece_of(
     alloc: Global,
     providers: &Providers,
     types: Shared<Declared>,

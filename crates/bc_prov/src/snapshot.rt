@@ -19,7 +19,6 @@ use std::marker::Model;
 
 /// Declarations, a name, and the units held at that name and at names that begin with it and `/`. A name that is not in the list
 /// is absent. A snapshot may carry the outcome of its name, and pieces of its bodies. (Own.)
-#[derive(Drop)]
 pub struct Snapshot {
     types: Shared<Declared>,
     root: Name,
@@ -27,6 +26,20 @@ pub struct Snapshot {
     carried: Option<Shared<Outcome>>,
     kept: Option<Pieces>,
     offered: Option<Pieces>,
+}
+
+// Written out: the crates above call this, and prove nothing of its parts again.
+impl Drop for Snapshot {
+    fn drop(self) {
+        let Self {
+            types: _,
+            root: _,
+            units: _,
+            carried: _,
+            kept: _,
+            offered: _,
+        } = self;
+    }
 }
 
 impl Model for Snapshot {
@@ -87,13 +100,21 @@ impl Snapshot {
         requires { ArePieces self.types self.units pieces.items }
         ensures { result ≡ self }
     {
+        let Snapshot {
+            types,
+            root,
+            units,
+            carried,
+            kept: _,
+            offered,
+        } = self;
         Snapshot {
-            types: self.types,
-            root: self.root,
-            units: self.units,
-            carried: self.carried,
+            types,
+            root,
+            units,
+            carried,
             kept: Some(pieces),
-            offered: self.offered,
+            offered,
         }
     }
 
@@ -104,12 +125,20 @@ impl Snapshot {
         ensures { result ≡ self }
     {
         let pieces = self.fitting(pieces);
+        let Snapshot {
+            types,
+            root,
+            units,
+            carried,
+            kept,
+            offered: _,
+        } = self;
         Snapshot {
-            types: self.types,
-            root: self.root,
-            units: self.units,
-            carried: self.carried,
-            kept: self.kept,
+            types,
+            root,
+            units,
+            carried,
+            kept,
             offered: Some(pieces),
         }
     }
@@ -133,8 +162,8 @@ impl Snapshot {
         }
     }
 
-    /// A piece of the body at a name, if one is carried or kept. It takes no memory.
-    pub(crate) fn piece(&self, name: &Name) -> Option<&Shared<Piece>>
+    /// A piece of the body at a name, if one is carried or kept. It takes no memory. (Own.)
+    pub fn piece(&self, name: &Name) -> Option<&Shared<Piece>>
         ensures { IfSome result (λ piece. IsPieceFor self.now.types (at_name self.now.units name.now) piece.now) }
     {
         match piece_of_name(&self.offered, name) {
@@ -151,8 +180,8 @@ impl Snapshot {
         }
     }
 
-    /// Those pieces of its bodies that are not kept already.
-    pub(crate) fn without_kept(&self, pieces: Pieces) -> Pieces {
+    /// Those pieces of its bodies that are not kept already. Which these are is not told. (Own.)
+    pub fn without_kept(&self, pieces: Pieces) -> Pieces {
         let mut pieces = pieces;
         pieces.retain(|entry| !self.keeps(entry));
         pieces
@@ -164,13 +193,21 @@ impl Snapshot {
         requires { IsOutcomeIn (state_of self.types self.units) self.root outcome }
         ensures { result ≡ record self { carried = Some outcome } }
     {
+        let Snapshot {
+            types,
+            root,
+            units,
+            carried: _,
+            kept,
+            offered,
+        } = self;
         Snapshot {
-            types: self.types,
-            root: self.root,
-            units: self.units,
+            types,
+            root,
+            units,
             carried: Some(outcome),
-            kept: self.kept,
-            offered: self.offered,
+            kept,
+            offered,
         }
     }
 
@@ -204,8 +241,8 @@ impl Snapshot {
         &self.units
     }
 
-    /// The unit of a name, if it is in the list. It takes no memory.
-    pub(crate) fn unit(&self, name: &Name) -> Option<&Shared<Unit>>
+    /// The unit of a name, if it is in the list. It takes no memory. (Own.)
+    pub fn unit(&self, name: &Name) -> Option<&Shared<Unit>>
         ensures unit { option_copied result ≡ at_name self.now.units name.now }
         ensures suited { AreSuited (at_name self.now.units) }
     {

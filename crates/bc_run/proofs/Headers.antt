@@ -1,7 +1,6 @@
 -- Header lines that ask no session for anything.
-use Rattle.std.proofs.Common.{◌≡◌, ℕ, ◌+◌, ◌<◌, List, ◌++◌, Option, Some, None, sym, ◌∙◌, subst, append_assoc, arith, inl, inr}
+use Rattle.std.proofs.Common.{◌≡◌, ℕ, ◌+◌, List, ◌++◌, Option, Some, None, sym, ◌∙◌, append_assoc}
 use Rattle.std.specs.Prelude.{IfNone, codes}
-use Rattle.std.proofs.lemmas.Bool.{cases_lt}
 use Rattle.std.proofs.lemmas.List.{append_cancel_left}
 use Rattle.bc_check.specs.declared.heading.Heading.{Heading}
 use Rattle.bc_check.specs.Headings.{IsHeading, IsNamed, heading_text}
@@ -15,10 +14,3 @@ no_blank header behind rest number (Some x) at is none = tt
 pub no_heading : (header maker words : List ℕ) (r : Option Heading) → header ≡ codes "@" ++ maker ++ words → IfNone r ((heading : Heading) → IsHeading heading words → ⊥) → IfNone r ((heading : Heading) → IsNamed heading × (header ≡ codes "@" ++ maker ++ heading_text heading) → ⊥)
 no_heading header maker words None is none = λ heading at. none heading (at.0, append_cancel_left maker words (heading_text heading) (append_cancel_left (codes "@") (maker ++ words) _ (sym is ∙ at.1)))
 no_heading header maker words (Some x) is none = tt
-
--- nor any of one session more
-pub none_more : {X : Type 0} (P : ℕ → X → Type 0) (n : ℕ) → ((k : ℕ) (x : X) → k < n → P k x → ⊥) → ((x : X) → P n x → ⊥) → (k : ℕ) (x : X) → k < n + 1 → P k x → ⊥
-none_more P n before here k x below is = elim (cases_lt k n) [
-  | inl less ↦ before k x less is
-  | inr most ↦ here x (subst (λ (j : ℕ). P j x) (let same : k ≡ n = omega (arith, most, below) in same) is)
-]

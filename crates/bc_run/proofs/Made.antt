@@ -1,6 +1,6 @@
 -- What sessions that ran leave of a file's calls.
-use Rattle.std.proofs.Common.{◌≡◌, ℕ, zero, suc, ◌+◌, ◌<◌, ◌≤◌, List, [], ◌∷◌, ◌++◌, map, take, length, length-append, get_or, refl, sym, ap, ◌∙◌, subst, arith, inl, inr}
-use Rattle.std.specs.List.{All, Contains}
+use Rattle.std.proofs.Common.{◌≡◌, ℕ, zero, suc, ◌+◌, ◌<◌, List, [], ◌∷◌, ◌++◌, map, take, length, length-append, get_or, refl, sym, ap, ◌∙◌, subst, arith, inl, inr}
+use Rattle.std.specs.List.{Contains}
 use Rattle.std.proofs.Math.Seq.{get_or-append_seam}
 use Rattle.std.proofs.lemmas.Bool.{cases_lt}
 use Rattle.std.proofs.lemmas.List.{get_or_append_left, get_or-map, length-map}
@@ -35,9 +35,6 @@ length-scripts (suc n) given = length-append (scripts n given) (calls_for n give
 nth_script : (n : ℕ) (given : List SessionCall) (k : ℕ) (d : List Call) → k < n → get_or (scripts n given) k d ≡ calls_for k given
 nth_script zero given k d h = absurd (omega (arith, h))
 nth_script (suc n) given k d h = last_or_before (scripts n given) n k d (λ (j : ℕ). calls_for j given) (length-scripts n given) h (nth_script n given k d)
-
-pub script_more : (n : ℕ) (given : List SessionCall) → scripts n given ++ calls_for n given ∷ [] ≡ scripts (n + 1) given
-script_more n given = ap (λ (m : ℕ). scripts m given) (let e : suc n ≡ n + 1 = omega arith in e)
 
 pub scripts_sized : (n : ℕ) (given : List SessionCall) (opened : List SessionView) (lists : List (List Call)) → opened ≡ new_sessions 0 n → lists ≡ scripts n given → length lists ≡ length opened
 scripts_sized n given opened lists is are = ap length are ∙ length-scripts n given ∙ sym (length-new_sessions 0 n) ∙ ap length (sym is)

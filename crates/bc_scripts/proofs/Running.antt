@@ -1,16 +1,13 @@
 -- What scripts leave, call by call.
-use Rattle.std.proofs.Common.{◌≡◌, ℕ, ◌+◌, ◌<◌, ◌≤◌, List, [], ◌∷◌, ◌++◌, length, take, drop, get_or, append_assoc, refl, sym, ap, ◌∙◌, subst, Result, Ok, Err, arith}
+use Rattle.std.proofs.Common.{◌≡◌, ℕ, ◌+◌, List, [], ◌∷◌, ◌++◌, length, take, drop, append_assoc, refl, sym, ap, ◌∙◌, subst, Result, Ok, Err, arith}
 use Rattle.std.specs.Prelude.{OnErr, map}
-use Rattle.std.proofs.lemmas.List.{append-nil, drop_all, length-map, map-append, take_all, take_more}
+use Rattle.std.proofs.lemmas.List.{append-nil, drop_all, length-map, take_all}
 use Rattle.bc_calls.specs.declared.call.Call.{Call}
-use Rattle.bc_calls.specs.declared.call.Event.{Event}
-use Rattle.bc_calls.specs.Calls.{call_of}
-use Rattle.bc_calls.proofs.Beginnings.{starts_again}
-use Rattle.bc_share.specs.Sessions.{SessionView, IsAnswered, IsSame, Makes, Stays}
+use Rattle.bc_share.specs.Sessions.{SessionView, IsSame, Stays}
 use Rattle.bc_scripts.specs.declared.run.End.{End}
 use Rattle.bc_scripts.specs.declared.run.End.TheVariants.{Done}
-use Rattle.bc_scripts.specs.Runs.{AreRuns, HasMade, seats}
-use Rattle.bc_share.proofs.Noting.{starts_same, stays_again, stays_answered}
+use Rattle.bc_scripts.specs.Runs.{AreRuns, seats}
+use Rattle.bc_share.proofs.Noting.{stays_again}
 
 pub on_err : {T E : Type 0} (r : Result T E) (P : Type 0) → P → OnErr r P
 on_err (Ok t) P p = tt
@@ -23,38 +20,6 @@ same_of old new stays = record { tag = stays.tag; number = stays.number; own = s
 -- and so is what stays, and stays again
 pub same_again : (old mid new : SessionView) → Stays old mid → Stays mid new → IsSame old new
 same_again old mid new first second = same_of old new (stays_again old mid new first second)
-
--- a call that is made where the session stayed before it
-pub made_later : (event : Event) (old mid new : SessionView) (call : Call) → Stays old mid → IsAnswered event mid new → call_of event ≡ call → Makes old new call
-made_later event old mid new call first second is = (event, is, stays_answered event old mid new first second)
-
-pub made_none : (s : SessionView) → HasMade s s []
-made_none s = record { tag = refl; number = refl; events = []; own = sym (append-nil s.own); made = refl; later = starts_same s.seen }
-
-pub made_more : (old mid new : SessionView) (script : List Call) (i : ℕ) (call : Call) → HasMade old mid (take i script) → i < length script → call ≡ get_or script i call → Makes mid new call
-    → HasMade old new (take (i + 1) script)
-made_more old mid new script i call ran small there made =
-    let event = made.0 in record {
-      tag = made.2.tag ∙ ran.tag;
-      number = made.2.number ∙ ran.number;
-      events = ran.events ++ event ∷ [];
-      own = made.2.own ∙ ap (λ l. l ++ event ∷ []) ran.own ∙ append_assoc old.own ran.events (event ∷ []);
-      made = map-append call_of ran.events (event ∷ []) ∙ ap (λ l. l ++ call_of event ∷ []) ran.made ∙ ap (λ c. take i script ++ c ∷ []) (made.1 ∙ there) ∙ sym (take_more script i call small);
-      later = starts_again new.seen mid.seen old.seen made.2.later ran.later;
-    }
-
-pub made_kept : (old mid new : SessionView) (calls : List Call) → HasMade old mid calls → IsSame mid new → HasMade old new calls
-made_kept old mid new calls ran same = record {
-  tag = same.tag ∙ ran.tag;
-  number = same.number ∙ ran.number;
-  events = ran.events;
-  own = same.own ∙ ran.own;
-  made = ran.made;
-  later = starts_again new.seen mid.seen old.seen same.later ran.later;
-}
-
-pub made_all : (old new : SessionView) (script : List Call) (i : ℕ) → HasMade old new (take i script) → length script ≤ i → HasMade old new script
-made_all old new script i ran done = subst (HasMade old new) (take_all i script done) ran
 
 -- ---- sessions that go to their places
 

@@ -13,10 +13,6 @@ pub each_more : {X : Type 0} (P : X → Type 0) (xs : List X) (i : ℕ) (x : X) 
 each_more {X} P xs i x before small there here k d h =
     below_more (λ (j : ℕ). (y : X) → P (get_or xs j y)) i (λ j g y. before j y g) (λ y. subst P (there ∙ get_or_default xs i x y small) here) k h d
 
--- it holds of all, once all are seen
-pub each_all : {X : Type 0} (P : X → Type 0) (xs : List X) (i : ℕ) → ((k : ℕ) (d : X) → k < i → P (get_or xs k d)) → length xs ≤ i → Decides true (All P xs)
-each_all P xs i before done = ((λ yes k d small. before k d (omega (arith, done, small))), λ all. refl)
-
 -- it does not hold of all, where it fails of one
 pub each_fails : {X : Type 0} (P : X → Type 0) (xs : List X) (i : ℕ) (x : X) → i < length xs → x ≡ get_or xs i x → (P x → ⊥) → Decides false (All P xs)
 each_fails P xs i x small there fails = ((λ e. absurd (true≢false (sym e))), λ all. absurd (fails (subst P (sym there) (all i x small))))

@@ -24,16 +24,6 @@ noted_none number own seen range none nothing = record {
   listed = sym none;
 }
 
--- where more was seen
-pub noted_later : (number : ℕ) (own : List Event) (seen seen' : List Entry) → IsNoted number own seen → StartsWith seen' seen → IsLegal seen' → IsNoted number own seen'
-noted_later number own seen seen' noted later legal = record {
-  range = noted.range;
-  legal = legal;
-  noted = noted.noted;
-  begins = starts_again seen' seen noted.noted later noted.begins;
-  listed = noted.listed;
-}
-
 -- the session's calls in what it has seen are its own list, where the last that it has seen is its next call
 mine : (number : ℕ) (own own' : List Event) (seen seen' : List Entry) (event : Event) → IsNoted number own seen → own' ≡ own ++ event ∷ [] → StartsWith seen' seen → IsLegal seen'
     → last_of seen' ≡ Some (record { session = number; number = length own; event = event }) → calls number seen' ≡ own'
@@ -63,11 +53,6 @@ answered_more tag number own own' seen seen' event noted longer later legal last
   last = last;
   mine = mine number own own' seen seen' event noted longer later legal last;
 }
-
--- a session that stays as it was
-pub stays_same : (old new : SessionView) → IsLegal old.seen → new ≡ old → Stays old new
-stays_same old new legal same =
-    subst (Stays old) (sym same) (record { tag = refl; number = refl; own = refl; later = starts_same old.seen; legal = legal })
 
 -- a session that stays, and stays again, or is answered
 pub stays_again : (old mid new : SessionView) → Stays old mid → Stays mid new → Stays old new

@@ -71,12 +71,23 @@ impl History {
 }
 
 /// A database. Contracts see its tag, and how many sessions it has.
-#[derive(Drop)]
 pub struct Db<E: Ending> {
     alloc: Global,
     tag: u64,
     count: u8,
     desk: Arc<Desk<E>, Global>,
+}
+
+// Written out: the crates above call this, and prove nothing of its parts again.
+impl<E: Ending> Drop for Db<E> {
+    fn drop(self) {
+        let Self {
+            alloc: _,
+            tag: _,
+            count: _,
+            desk: _,
+        } = self;
+    }
 }
 
 impl<E: Ending> Model for Db<E> {
@@ -124,10 +135,16 @@ impl<E: Ending> Db<E> {
         ensures theirs { OnOk result (AreSessionsOf self.tag self.count sessions.items) }
         ensures fault { IfErr result (λ fault. IsCloseFault self.tag self.count sessions.items fault) }
     {
-        if !are_sessions(self.tag, self.count, &sessions) {
+        let Db {
+            alloc,
+            tag,
+            count,
+            desk,
+        } = self;
+        if !are_sessions(tag, count, &sessions) {
             return Err(CloseFault::Foreign);
         }
-        let entries = self.desk.take_history(rt, self.alloc);
+        let entries = desk.take_history(rt, alloc);
         let agreed = agree(&sessions, &entries);
         let history = History { entries };
         if agreed {

@@ -1,27 +1,16 @@
 -- Marks of several lists, one behind the other.
-use Rattle.std.proofs.Common.{◌≡◌, ℕ, zero, suc, ◌+◌, ◌<◌, Bool, true, false, List, [], ◌∷◌, ◌++◌, length, take, get_or, refl, sym, ap, ◌∙◌, append_assoc, append-nil, arith, inl, inr, set, subst, map, cond, replicate}
+use Rattle.std.proofs.Common.{◌≡◌, ℕ, zero, suc, ◌+◌, ◌<◌, Bool, true, false, List, [], ◌∷◌, ◌++◌, length, take, get_or, refl, sym, ap, ◌∙◌, append_assoc, append-nil, arith, subst, map, cond, replicate}
 use Rattle.std.specs.Prelude.{◌||◌, ◌==◌, nat_le}
 use Rattle.std.specs.List.{flat_map, list_all, filter, range_with_len}
 use Rattle.std.proofs.lemmas.List.FromFn.{filter_of_map_range_with_len_more}
 use Rattle.std.proofs.lemmas.List.Folds.{list_any-append}
-use Rattle.std.proofs.lemmas.List.{get_or-set_same, get_or-set_other, get_or-replicate}
-use Rattle.std.proofs.lemmas.Bool.{cases_eq, eq-eqb, ne_eqb, le-leb, and_from, and_parts}
+use Rattle.std.proofs.lemmas.List.{get_or-replicate}
+use Rattle.std.proofs.lemmas.Bool.{le-leb, and_from, and_parts}
 use Rattle.bc_syntax.specs.Children.{AreMarked, is_among}
-
-or_false : (b : Bool) → b ≡ (b || false)
-or_false true = refl
-or_false false = refl
-
-or_true : (b : Bool) → true ≡ (b || true)
-or_true true = refl
-or_true false = refl
 
 or_assoc : (a b c : Bool) → ((a || b) || c) ≡ (a || (b || c))
 or_assoc true b c = refl
 or_assoc false b c = refl
-
-pub marked_none : (a : List Bool) → AreMarked a [] a
-marked_none a k below = or_false (get_or a k false)
 
 pub marked_both : (a b c : List Bool) (xs ys : List ℕ) → AreMarked a xs b → AreMarked b ys c → AreMarked a (xs ++ ys) c
 marked_both a b c xs ys p q k below =
@@ -40,21 +29,6 @@ module _ {A : Type 0} (item : A → List ℕ) where
   pub marked_one_more : (a b c : List Bool) (xs : List A) (i : ℕ) (d x : A) → i < length xs → x ≡ get_or xs i d → AreMarked a (flat_map item (take i xs)) b → AreMarked b (item x) c → AreMarked a (flat_map item (take (i + 1) xs)) c
   marked_one_more a b c xs i d x below is p q =
       subst (λ (l : List ℕ). AreMarked a l c) (sym (one_more_item xs i d below)) (marked_both a b c (flat_map item (take i xs)) (item (get_or xs i d)) p (subst (λ (y : A). AreMarked b (item y) c) is q))
-
--- one mark
-pub marked_one : (a : List Bool) (number : ℕ) → number < length a → AreMarked a (number ∷ []) (set a number true)
-marked_one a number within k below = elim (cases_eq k number) [
-  | inl same ↦
-      subst (λ n. get_or (set a number true) n false ≡ (get_or a n false || (number == n || false))) (sym same)
-      (get_or-set_same a number true false within ∙ or_true (get_or a number false) ∙ ap (λ t. get_or a number false || (t || false)) (sym (eq-eqb number number refl)))
-  | inr apart ↦
-      get_or-set_other a number k true false apart ∙ or_false (get_or a k false)
-      ∙ ap (λ t. get_or a k false || (t || false)) (sym (ne_eqb number k (λ is. absurd (apart (sym is)))))
-]
-
-pub past_marks : (a : List Bool) (number : ℕ) → (number < 64 → ⊥) → AreMarked a (number ∷ []) a
-past_marks a number past k below =
-    or_false (get_or a k false) ∙ ap (λ t. get_or a k false || (t || false)) (sym (ne_eqb number k (λ is. absurd (omega (arith, is, below, past)))))
 
 -- where none was marked before
 pub marked_from_none : (b : List Bool) (xs : List ℕ) → AreMarked (replicate 64 false) xs b → (k : ℕ) → k < 64 → get_or b k false ≡ is_among xs k

@@ -264,14 +264,14 @@ pub struct StructDeclaration {
 }
 
 /// `extern NAME<regions> where clauses (parameters) -> result`. Own.
-#[derive(Clone, Drop, PartialEq)]
+#[derive(Drop, PartialEq)]
 pub struct ExternDeclaration {
     pub name: ItemName,
     pub signature: Signature,
 }
 
 /// A struct, or a function that is declared alone. Own.
-#[derive(Clone, Drop, PartialEq)]
+#[derive(Drop, PartialEq)]
 pub enum Declaration {
     Struct(StructDeclaration),
     Extern(ExternDeclaration),

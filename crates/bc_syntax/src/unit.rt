@@ -10,9 +10,16 @@ use std::marker::Model;
 /// 4,096 points, 15 declared regions, 32 clauses, 16 captures, parameters and operands in a list, closures up to 63,
 /// region variables up to 1,023), its regions and locals are declared, and its names are words. A function captures
 /// nothing, and closure types are those of whole `let` locals alone. Own.
-#[derive(Drop, PartialEq)]
+#[derive(PartialEq)]
 pub struct Unit {
     body: Body,
+}
+
+// Written out: the crates above call this, and prove nothing of its parts again.
+impl Drop for Unit {
+    fn drop(self) {
+        let Self { body: _ } = self;
+    }
 }
 
 impl Model for Unit {

@@ -21,12 +21,6 @@ pub counts_more : (digits : List ℕ) (i number : ℕ) → i < length digits →
 counts_more digits i number lt (inl e) small = inl (omega (arith, e, one_more digits i lt))
 counts_more digits i number lt (inr p) small = absurd (omega (arith, p.0, small))
 
--- one digit more, where those so far count 2 ^ 32 or more
-pub counts_past : (digits : List ℕ) (i number : ℕ) → i < length digits → Counts number (value (take i digits)) → 2 ^ 32 ≤ number
-    → Counts number (value (take (i + 1) digits))
-counts_past digits i number lt (inl e) large = inr (large, omega (arith, e, large, one_more digits i lt))
-counts_past digits i number lt (inr p) large = inr (large, omega (arith, p.1, one_more digits i lt))
-
 -- what `value_within` tells of a number
 abbrev Told : ℕ → ℕ → Option ℕ → Type 0
 Told limit n found = found ≡ cond (nat_le n limit) (Some n) None

@@ -305,10 +305,6 @@ lexeme_region bytes token len first is-token is-len =
     let no : (slice_index bytes 0 == 63) ≡ false = grind (arith, nat_tests) in
     rw (no, is-token, is-len) refl
 
-pub lexeme_quoted : (bytes rest : List ℕ) (token : Token) (len : ℕ) → slice_index bytes 0 ≡ 39 → rest ≡ drop 1 bytes → (token, 1 + len) ≡ lexeme (39 ∷ rest)
-    → (token, 1 + len) ≡ lexeme bytes
-lexeme_quoted bytes rest token len first rest-is e = e ∙ ap (λ (l : List ℕ). lexeme (39 ∷ l)) rest-is ∙ ap lexeme (sym (begins_with 38 bytes first))
-
 pub lexeme_arrow : (bytes : List ℕ) → slice_index bytes 0 ≡ 45 → slice_index bytes 1 ≡ 62 → (Fixed Arrow, 2) ≡ lexeme bytes
 unfolding lexeme
 lexeme_arrow bytes first second = rw (first, second) refl

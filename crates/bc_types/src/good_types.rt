@@ -63,9 +63,15 @@ fn fill(alloc: Global, declarations: &[Declaration]) -> Result<Table, DeclFault>
 /// Declarations of which none is bad: no name is used twice by structs or twice by extern functions, each struct that is
 /// mentioned is an earlier declaration and has its number of regions, and no parameter marked `+` stands in an invariant
 /// position of a field (rustc-dev-guide, "Variance"). It borrows nothing.
-#[derive(Drop)]
 pub struct GoodTypes {
     table: Table,
+}
+
+// Written out: the crates above call this, and prove nothing of its parts again.
+impl Drop for GoodTypes {
+    fn drop(self) {
+        let Self { table: _ } = self;
+    }
 }
 
 impl Model for GoodTypes {

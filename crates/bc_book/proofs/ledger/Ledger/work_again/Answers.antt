@@ -2,7 +2,7 @@ use Rattle.std.proofs.Common.{sym, subst}
 use Rattle.bc_prov.specs.Outcome.{IsOutcomeIn}
 use Rattle.bc_prov.specs.Snapshots.{SnapshotView, IsPartOf}
 use Rattle.bc_prov.specs.State.{state_of}
-use Rattle.bc_prov.specs.declared.reporting.Found.{Found}
+use Rattle.bc_outcomes.specs.declared.reporting.Found.{Found}
 use Rattle.bc_calls.specs.Calls.{after}
 use Rattle.bc_calls.proofs.Parts.{ok_map, part_outcome}
 use Rattle.bc_book.proofs.ledger.Ledger.work_again.Goals as goal

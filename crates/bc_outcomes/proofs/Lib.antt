@@ -1,0 +1,9 @@
+pub mod Steps
+pub mod Unique
+pub mod Local
+pub mod Used
+pub mod Looking
+pub mod Gathering
+pub mod Walking
+pub mod Folding
+pub mod Faults

@@ -1,0 +1,4 @@
+pub mod Visited
+pub mod Visits
+pub mod Reported
+pub mod Laws

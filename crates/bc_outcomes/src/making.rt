@@ -1,0 +1,96 @@
+//! Pieces that are made by themselves.
+ghost use Rattle.std.specs.Prelude.{◌≡◌, Err, None, Some, IfOk, OnOk, length, map};
+ghost use Rattle.bc_syntax.specs.Children.{children_of};
+ghost use Rattle.bc_types.specs.Declarations.{first_bad};
+ghost use Rattle.bc_cons.specs.Requirements.{AreOfChildren};
+ghost use Rattle.bc_mir.specs.Mir.{mir_of};
+ghost use Rattle.bc_mir.specs.Typing.{misfit};
+ghost use Rattle.bc_mir.specs.declared.typed.Where.{Where};
+ghost use Rattle.bc_prov.specs.Pieces.{IsFoundFrom};
+ghost use Rattle.bc_outcomes.specs.Reported.{kid_header, kid_requirements};
+ghost use Rattle.bc_prov.specs.State.{number_of_child};
+
+use crate::stack::Stack;
+use crate::verdicts::take_kids;
+use bc_cons::Requirements;
+use bc_mir::{Child, IllFault, KidHeader, Typed, type_unit};
+use bc_prov::{Check, Declared, Piece, Providers, Shared, piece_of, share};
+use bc_syntax::Unit;
+use std::alloc::{AllocError, Global};
+
+/// The headers of children, and what the children require, apart.
+fn apart<'a>(
+    alloc: Global,
+    kids: Vec<(KidHeader<'a>, Requirements)>,
+) -> Result<(Vec<KidHeader<'a>>, Vec<Requirements>), AllocError>
+    ensures headers { IfOk result (λ r. r.0.items ≡ map kid_header kids.entry.items) }
+    ensures requirements { IfOk result (λ r. r.1.items ≡ map (λ kid. kid.1) kids.entry.items) }
+{
+    let mut headers = Vec::with_capacity(alloc, kids.len())?;
+    let mut requirements = Vec::with_capacity(alloc, kids.len())?;
+    for (header, required) in kids {
+        headers.push(header)?;
+        requirements.push(required)?;
+    }
+    Ok((headers, requirements))
+}
+
+/// A unit as it is typed over declarations of which none is bad, and over the headers of its children. Answers `Ill` with the place of
+/// the first misfit where a typing rule fails, and `NoMemory` only where memory was refused.
+fn typed_over(
+    alloc: Global,
+    types: &Shared<Declared>,
+    unit: &Shared<Unit>,
+    headers: &[KidHeader<'_>],
+) -> Result<Shared<Typed>, IllFault>
+    requires good { first_bad types.now ≡ None }
+    requires children { map number_of_child headers.now ≡ children_of unit.now }
+    ensures ok { IfOk result (λ typed. typed ≡ mir_of types.now headers.now unit.now) }
+    ensures fits { OnOk result (misfit (mir_of types.now headers.now unit.now) ≡ None) }
+    ensures ill { (place : Where) → result ≡ Err (IllFault.Ill place) → misfit (mir_of types.now headers.now unit.now) ≡ Some place }
+{
+    let Check::Good(good) = types.get().found() else {
+        unreachable!();
+    };
+    let typed = type_unit(alloc, good, unit.get(), headers)?;
+    Ok(share(alloc, typed)?)
+}
+
+/// What children require, each with its child's number. It asks for as many as there are children.
+fn numbered(
+    alloc: Global,
+    children: &[Child],
+    requirements: Vec<Requirements>,
+) -> Result<Vec<(u8, Requirements)>, AllocError>
+    requires { length children.now ≡ length requirements.items }
+    ensures numbers { IfOk result (λ kids. map (λ k. k.0) kids.items ≡ map number_of_child children.now) }
+    ensures requirements { IfOk result (λ kids. map (λ k. k.1) kids.items ≡ requirements.items) }
+{
+    let mut required = Stack::of(requirements);
+    take_kids(alloc, children, &mut required)
+}
+
+/// The piece of a unit over declarations of which none is bad, with the header of each child, ascending, and what the child requires.
+/// It asks that a child requires nothing of its local regions. It answers `Ill` with the place of the first misfit where a typing
+/// rule fails: the header if a header rule fails, else the least point at which a rule fails; and `NoMemory` only where memory was
+/// refused, as a provider may answer too. (Own; the errors are RFC 2094's, the requirements rustc-dev-guide's, "Propagating closure
+/// constraints".)
+pub fn piece(
+    alloc: Global,
+    providers: &Providers,
+    types: &Shared<Declared>,
+    unit: &Shared<Unit>,
+    kids: Vec<(KidHeader<'_>, Requirements)>,
+) -> Result<Piece, IllFault>
+    requires good { first_bad types.now ≡ None }
+    requires children { map (λ kid. number_of_child kid.0) kids.items ≡ children_of unit.now }
+    requires external { AreOfChildren (map kid_header kids.items) (map kid_requirements kids.items) }
+    ensures from { IfOk result (IsFoundFrom types.now unit.now (mir_of types.now (map kid_header kids.entry.items) unit.now) (map kid_requirements kids.entry.items)) }
+    ensures ill { (place : Where) → result ≡ Err (IllFault.Ill place) → misfit (mir_of types.now (map kid_header kids.entry.items) unit.now) ≡ Some place }
+{
+    let (headers, requirements) = apart(alloc, kids)?;
+    let typed = typed_over(alloc, types, unit, &headers)?;
+    let kids = numbered(alloc, typed.get().children(), requirements)?;
+    let piece = piece_of(alloc, providers, types.clone()?, unit.clone()?, typed, kids)?;
+    Ok(piece)
+}

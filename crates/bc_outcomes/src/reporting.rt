@@ -1,0 +1,155 @@
+//! The outcome of a snapshot.
+ghost use Rattle.std.specs.Prelude.{◌≡◌, [], None, Some, IfOk, IfSome};
+ghost use Rattle.bc_prov.specs.Outcome.{IsOutcomeAfter, IsOutcomeIn, IsOutcomeOf, fault_at};
+ghost use Rattle.bc_outcomes.specs.Reported.{ArePiecesOf};
+ghost use Rattle.bc_prov.specs.State.{AreSuited, at_name, state_of};
+ghost use Rattle.bc_outcomes.specs.Visits.{state_in};
+
+use crate::held::Held;
+use crate::verdicts::errors_of;
+use crate::walk::walk;
+use bc_prov::{Check, Outcome, Pieces, Providers, Shared, Snapshot, share};
+use bc_syntax::{Sequence, Unit};
+use std::alloc::{AllocError, Global};
+
+/// The outcome of the root of a snapshot, which holds this unit, over declarations of which none is bad, with the pieces of its
+/// bodies where it is a report.
+fn outcome_held(
+    alloc: Global,
+    providers: &Providers,
+    held: &Held<'_>,
+    unit: &Shared<Unit>,
+) -> Result<(Outcome, Pieces), AllocError>
+    requires suited { AreSuited (at_name held.now.snapshot.now.units) }
+    requires held { at_name held.now.snapshot.now.units held.now.snapshot.now.root ≡ Some unit.now }
+    ensures outcome { IfOk result (λ found. IsOutcomeAfter (state_in held.now) held.now.snapshot.now.root (fault_at (state_in held.now) held.now.snapshot.now.root) found.0) }
+    ensures pieces { IfOk result (λ found. ArePiecesOf (state_in held.now) held.now.snapshot.now.root None found.0 found.1.items) }
+{
+    let mut visits = Vec::new(alloc);
+    let root = held.snapshot.root();
+    let _bytes = root.root();
+    match walk(alloc, held, *root, unit, &mut visits)? {
+        Some(fault) => Ok((fault, Vec::new(alloc))),
+        None => {
+            let pieces = held.pieces_of(alloc, providers, visits)?;
+            let found = errors_of(alloc, &pieces)?;
+            Ok((Outcome::Report(Sequence::from(found)), pieces))
+        }
+    }
+}
+
+/// The outcome of the root of a snapshot over declarations of which none is bad, with its pieces.
+fn outcome_among(
+    alloc: Global,
+    providers: &Providers,
+    held: &Held<'_>,
+) -> Result<(Outcome, Pieces), AllocError>
+    ensures outcome { IfOk result (λ found. IsOutcomeOf (state_in held.now) held.now.snapshot.now.root (at_name held.now.snapshot.now.units held.now.snapshot.now.root) found.0) }
+    ensures pieces { IfOk result (λ found. ArePiecesOf (state_in held.now) held.now.snapshot.now.root None found.0 found.1.items) }
+{
+    match held.snapshot.unit(held.snapshot.root()) {
+        Some(unit) => outcome_held(alloc, providers, held, unit),
+        None => Ok((Outcome::NoBody, Vec::new(alloc))),
+    }
+}
+
+/// A copy of an outcome.
+fn copy(outcome: &Outcome) -> Result<Outcome, AllocError>
+    ensures { IfOk result (λ copy. copy ≡ outcome.now) }
+{
+    outcome.clone()
+}
+
+/// The outcome of the root of a snapshot that carries none, with its pieces.
+fn worked_out(
+    alloc: Global,
+    providers: &Providers,
+    snapshot: &Snapshot,
+) -> Result<(Outcome, Pieces), AllocError>
+    ensures outcome { IfOk result (λ found. IsOutcomeIn (state_of snapshot.now.types snapshot.now.units) snapshot.now.root found.0) }
+    ensures pieces { IfOk result (λ found. ArePiecesOf (state_of snapshot.now.types snapshot.now.units) snapshot.now.root None found.0 found.1.items) }
+{
+    match snapshot.types().get().found() {
+        Check::Good(types) => outcome_among(alloc, providers, &Held { types, snapshot }),
+        Check::Bad(index) => Ok((Outcome::BadTypes(*index), Vec::new(alloc))),
+    }
+}
+
+/// The outcome of the root of a snapshot, as `report` finds it, and with a report that is not carried the pieces of its bodies, one
+/// for each, in the order of the visit; with any other outcome none. A piece that the snapshot has is taken where all that it was
+/// found from is there; else one is made, by the providers. Answers `AllocError` only where memory was refused, as a provider may
+/// answer too. (rustc-dev-guide, "Queries" and "Incremental compilation"; the pieces are own.)
+pub fn report_pieces(
+    alloc: Global,
+    providers: &Providers,
+    snapshot: &Snapshot,
+) -> Result<(Outcome, Pieces), AllocError>
+    ensures outcome { IfOk result (λ found. IsOutcomeIn (state_of snapshot.now.types snapshot.now.units) snapshot.now.root found.0) }
+    ensures pieces { IfOk result (λ found. ArePiecesOf (state_of snapshot.now.types snapshot.now.units) snapshot.now.root snapshot.now.carried found.0 found.1.items) }
+{
+    match snapshot.carried() {
+        Some(outcome) => Ok((copy(outcome.get())?, Vec::new(alloc))),
+        None => worked_out(alloc, providers, snapshot),
+    }
+}
+
+/// The outcome of the root of a snapshot. Where the snapshot carries one, a copy of that, and no provider is called. Else, by
+/// the providers: `BadTypes` of the first bad declaration where one is bad, else `NoBody` where the root is absent. Else bodies
+/// are visited from the root on, each before its closures, and these ascending: at a body the least child that is absent gives
+/// `Missing`, then a typing rule that it breaks `Ill` with the least misfit. The first such fault is the outcome, and no
+/// provider is called; without one it is `Report`, with every visited body's errors. Where the snapshot has a piece of a body, and all
+/// that this was found from is there, the body's errors are the piece's, and no provider is called for it. Answers `AllocError` only
+/// where memory was refused, as a provider may answer too.
+/// (Own; the errors are RFC 2094's, "Borrow checker phase 1", "Borrow checker phase 2" and "Named lifetimes".)
+pub fn report(
+    alloc: Global,
+    providers: &Providers,
+    snapshot: &Snapshot,
+) -> Result<Outcome, AllocError>
+    ensures { IfOk result (IsOutcomeIn (state_of snapshot.now.types snapshot.now.units) snapshot.now.root) }
+{
+    let found = report_pieces(alloc, providers, snapshot)?;
+    Ok(found.0)
+}
+
+/// What is found of a snapshot: the outcome of its name, which others may own too, and with a report the pieces of its bodies that the
+/// snapshot does not keep already, each under its body's name. (Own.)
+#[derive(Drop)]
+pub struct Found {
+    pub outcome: Shared<Outcome>,
+    pub pieces: Pieces,
+}
+
+impl Found {
+    /// An outcome for which no piece was made. It takes no memory. (Own.)
+    pub fn without_pieces(alloc: Global, outcome: Shared<Outcome>) -> Found
+        ensures outcome { result.outcome ≡ outcome }
+        ensures pieces { result.pieces.items ≡ [] }
+    {
+        Found {
+            outcome,
+            pieces: Vec::new(alloc),
+        }
+    }
+}
+
+/// The outcome of the root of a snapshot: the one that it carries, as one more owner, and no provider is called; else the one that
+/// `report` finds, with the pieces that were made for it. Answers `AllocError` only where memory was refused, as a provider may answer
+/// too, or where the carried one has too many owners. (Own.)
+pub fn find_outcome(
+    alloc: Global,
+    providers: &Providers,
+    snapshot: &Snapshot,
+) -> Result<Found, AllocError>
+    ensures outcome { IfOk result (λ found. IsOutcomeIn (state_of snapshot.now.types snapshot.now.units) snapshot.now.root found.outcome) }
+    ensures carried { IfSome snapshot.now.carried (λ outcome. IfOk result (λ found. (found.outcome ≡ outcome) × (found.pieces.items ≡ []))) }
+{
+    if let Some(outcome) = snapshot.carried() {
+        return Ok(Found::without_pieces(alloc, outcome.clone()?));
+    }
+    let (outcome, pieces) = report_pieces(alloc, providers, snapshot)?;
+    Ok(Found {
+        outcome: share(alloc, outcome)?,
+        pieces: snapshot.without_kept(pieces),
+    })
+}

@@ -1,0 +1,205 @@
+//! The walk over the bodies from a name on, in the order of a visit.
+ghost use Rattle.std.specs.Prelude.{◌≡◌, ◌≢◌, ◌<◌, ◌≤◌, ◌↔◌, ◌++◌, [], true, length, map, nat_le, Some, None, IfOk, IfSome, IsTrue, OnOk};
+ghost use Rattle.std.specs.List.{AllByRecursion, list_all};
+ghost use Rattle.bc_syntax.specs.Children.{children_of};
+ghost use Rattle.bc_mir.specs.Typing.{misfit};
+ghost use Rattle.bc_mir.specs.declared.typed.Where.{Where};
+ghost use Rattle.bc_prov.specs.Outcome.{fault_at, units_at};
+ghost use Rattle.bc_prov.specs.Pieces.{IsPiece, IsPieceFor};
+ghost use Rattle.bc_prov.specs.State.{AreSuited, at_name, number_of_child};
+ghost use Rattle.bc_outcomes.specs.Visits.{AreKids, ChildKid, IsLooked, child_of_kid, mir_in, state_in, visit_of};
+
+use crate::held::Held;
+use crate::visit::Visit;
+use bc_mir::{Child, IllFault, KidHeader, type_unit};
+use bc_prov::{Outcome, Piece, Shared, Snapshot, share};
+use bc_syntax::Unit;
+use bc_text::Name;
+use std::alloc::{AllocError, Global};
+
+/// A closure of a body: its number and its unit.
+#[derive(Clone, Copy)]
+struct Kid<'a> {
+    number: u8,
+    unit: &'a Shared<Unit>,
+}
+
+/// The closures of a body, or the first one that is absent.
+enum Kids<'a> {
+    Held(Vec<Kid<'a>>),
+    Absent(Name),
+}
+
+/// What a body alone gives: its visit, with its children, or its fault.
+enum Looked<'a> {
+    Fitting(Visit, Vec<Kid<'a>>),
+    Faulty(Outcome),
+}
+
+/// The closures of these numbers.
+fn find_kids<'a>(
+    alloc: Global,
+    held: &Held<'a>,
+    name: Name,
+    numbers: &[u8],
+) -> Result<Kids<'a>, AllocError>
+    requires suited { AreSuited (at_name held.now.snapshot.now.units) }
+    requires few { numbers.now ≢ [] → length name.segments < 7 }
+    requires low { list_all (λ number. nat_le number 63) numbers.now ≡ true }
+    ensures { IfOk result (AreKids (state_in held.now) name numbers.now) }
+{
+    let mut kids = Vec::new(alloc);
+    for number in numbers {
+        let child = name.child(*number).unwrap();
+        match held.snapshot.unit(&child) {
+            Some(unit) => kids.push(Kid {
+                number: *number,
+                unit,
+            })?,
+            None => return Ok(Kids::Absent(child)),
+        }
+    }
+    Ok(Kids::Held(kids))
+}
+
+/// The headers of closures.
+fn headers<'a>(alloc: Global, kids: &[Kid<'a>]) -> Result<Vec<KidHeader<'a>>, AllocError>
+    requires { AllByRecursion ChildKid kids.now }
+    ensures { IfOk result (λ headers. headers.items ≡ map child_of_kid kids.now) }
+{
+    let mut headers = Vec::new(alloc);
+    for kid in kids {
+        headers.push(KidHeader::of(kid.number, kid.unit.get()))?;
+    }
+    Ok(headers)
+}
+
+/// Whether children have the headers of these closures.
+fn have_headers(children: &[Child], kids: &[Kid<'_>]) -> bool
+    ensures { IsTrue result ↔ (children.now ≡ map child_of_kid kids.now) }
+{
+    match children {
+        [] => kids.is_empty(),
+        [child, more @ ..] => match kids {
+            [] => false,
+            [kid, rest @ ..] => has_header(child, kid) && have_headers(more, rest),
+        },
+    }
+}
+
+fn has_header(child: &Child, kid: &Kid<'_>) -> bool
+    ensures { IsTrue result ↔ (child.now ≡ child_of_kid kid.now) }
+{
+    child.number == kid.number && child.header == kid.unit.get().body().header
+}
+
+/// The numbers of a body's closures: those that a piece of it has, if one is kept, else those that are found in it.
+fn numbers_at(
+    alloc: Global,
+    snapshot: &Snapshot,
+    name: &Name,
+    unit: &Shared<Unit>,
+) -> Result<Vec<u8>, AllocError>
+    requires held { at_name snapshot.now.units name.now ≡ Some unit.now }
+    ensures value { IfOk result (λ numbers. numbers.items ≡ children_of unit.now) }
+    ensures low { IfOk result (λ numbers. list_all (λ number. nat_le number 63) numbers.items ≡ true) }
+{
+    match snapshot.piece(name) {
+        Some(piece) => piece.get().children(alloc),
+        None => unit.get().body().children(alloc),
+    }
+}
+
+/// The piece that is kept of a body with these closures, if it was found from closures with their headers.
+fn piece_with<'a>(held: &Held<'a>, name: &Name, kids: &[Kid<'_>]) -> Option<&'a Shared<Piece>>
+    ensures over { IfSome result (λ piece. IsPieceFor held.now.snapshot.now.types (at_name held.now.snapshot.now.units name.now) piece.now) }
+    ensures from { IfSome result (λ piece. piece.now.mir.children ≡ map child_of_kid kids.now) }
+    ensures right { IfSome result (λ piece. IsPiece piece.now) }
+{
+    let piece = held.snapshot.piece(name)?;
+    if have_headers(piece.get().typed().get().children(), kids) {
+        Some(piece)
+    } else {
+        None
+    }
+}
+
+/// The visit of a body with these closures: as a piece of it has it, if one is kept that was found from closures with their headers,
+/// else typed. Answers `Ill` with the place of the first misfit where a typing rule fails, and `NoMemory` only where memory was
+/// refused.
+fn visited(
+    alloc: Global,
+    held: &Held<'_>,
+    name: Name,
+    unit: &Shared<Unit>,
+    kids: &[Kid<'_>],
+) -> Result<Visit, IllFault>
+    requires kids { AllByRecursion ChildKid kids.now }
+    requires numbers { map number_of_child (map child_of_kid kids.now) ≡ children_of unit.now }
+    requires held { at_name held.now.snapshot.now.units name ≡ Some unit.now }
+    ensures ok { IfOk result (λ visit. visit ≡ record { name = name; unit = unit.now; typed = mir_in held.now kids.now unit.now }) }
+    ensures fits { OnOk result (misfit (mir_in held.now kids.now unit.now) ≡ None) }
+    ensures ill { (place : Where) → result ≡ Err (IllFault.Ill place) → misfit (mir_in held.now kids.now unit.now) ≡ Some place }
+{
+    if let Some(piece) = piece_with(held, &name, kids) {
+        return Ok(Visit::kept(name, piece)?);
+    }
+    let headers = headers(alloc, kids)?;
+    let typed = type_unit(alloc, held.types, unit.get(), &headers)?;
+    let typed = share(alloc, typed)?;
+    let unit = unit.clone()?;
+    Ok(Visit::of(name, unit, typed))
+}
+
+/// Looks at a body alone: its children first, then its typing.
+fn look<'a>(
+    alloc: Global,
+    held: &Held<'a>,
+    name: Name,
+    unit: &Shared<Unit>,
+) -> Result<Looked<'a>, AllocError>
+    requires short { length name.segments ≤ 7 }
+    requires suited { AreSuited (at_name held.now.snapshot.now.units) }
+    requires held { at_name held.now.snapshot.now.units name ≡ Some unit.now }
+    ensures { IfOk result (IsLooked (state_in held.now) name unit.now) }
+{
+    let numbers = numbers_at(alloc, held.snapshot, &name, unit)?;
+    match find_kids(alloc, held, name, &numbers)? {
+        Kids::Absent(child) => Ok(Looked::Faulty(Outcome::Missing(child))),
+        Kids::Held(kids) => match visited(alloc, held, name, unit, &kids) {
+            Ok(visit) => Ok(Looked::Fitting(visit, kids)),
+            Err(IllFault::Ill(place)) => Ok(Looked::Faulty(Outcome::Ill(name, place))),
+            Err(IllFault::NoMemory) => Err(AllocError),
+        },
+    }
+}
+
+/// Visits the bodies from a name on, and adds each to `visits`. Answers the first fault, if there is one.
+pub(crate) fn walk(
+    alloc: Global,
+    held: &Held<'_>,
+    name: Name,
+    unit: &Shared<Unit>,
+    visits: &mut Vec<Visit>,
+) -> Result<Option<Outcome>, AllocError>
+    requires short { length name.segments ≤ 7 }
+    requires suited { AreSuited (at_name held.now.snapshot.now.units) }
+    requires held { at_name held.now.snapshot.now.units name ≡ Some unit.now }
+    ensures fault { IfOk result (λ fault. fault ≡ fault_at (state_in held.now) name) }
+    ensures visits { result ≡ Ok None → visits.new.items ≡ visits.old.items ++ map (visit_of (state_in held.now)) (units_at (state_in held.now) name) }
+{
+    match look(alloc, held, name, unit)? {
+        Looked::Faulty(fault) => Ok(Some(fault)),
+        Looked::Fitting(visit, kids) => {
+            visits.push(visit)?;
+            for kid in &kids {
+                let child = name.child(kid.number).unwrap();
+                let below = walk(alloc, held, child, kid.unit, visits)?;
+                if below.is_some() {
+                    return Ok(below);
+                }
+            }
+            Ok(None)
+        }
+    }
+}

@@ -1,5 +1,0 @@
-use Rattle.bc_prov.proofs.Local.{outcome_same}
-use Rattle.bc_prov.proofs.laws.outcomes_are_local.Goals as goal
-
-pub returns : goal.returns
-returns c = outcome_same

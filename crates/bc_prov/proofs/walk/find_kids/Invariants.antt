@@ -1,6 +1,0 @@
-use Rattle.bc_prov.proofs.Gathering.{Gathers}
-use Rattle.bc_prov.specs.Visits.{state_in}
-use Rattle.bc_prov.proofs.walk.find_kids.Given as goal
-
-abbrev pub invariant-loop-number : goal.invariant-loop-number
-invariant-loop-number l = Gathers (state_in l.held) l.name l.numbers l.number-index l.kids.items
