@@ -5,6 +5,7 @@ ghost use Rattle.bc_text.specs.Names.{NameParts};
 ghost use Rattle.bc_prov.specs.Outcome.{IsOutcomeIn};
 ghost use Rattle.bc_prov.specs.Snapshots.{IsPartOf};
 ghost use Rattle.bc_prov.specs.State.{State, state_of};
+ghost use Rattle.bc_outcomes.specs.Reported.{AreAmongPiecesOf};
 ghost use Rattle.bc_calls.specs.Works.{StandsIn, Stood};
 
 use bc_memo::{Part, Shelf};
@@ -91,6 +92,7 @@ impl Begun {
     /// refused, as a provider may answer too. (Own.)
     pub fn find(&self, alloc: Global, providers: &Providers) -> Result<Found, AllocError>
         ensures outcome { IfOk result (λ found. IsOutcomeIn (state_of self.now.types self.now.units) self.now.root found.outcome) }
+        ensures pieces { IfOk result (λ found. AreAmongPiecesOf (state_of self.now.types self.now.units) self.now.root self.now.carried found.outcome found.pieces.items) }
         ensures carried { IfSome self.now.carried (λ outcome. IfOk result (λ found. (found.outcome ≡ outcome) × (found.pieces.items ≡ []))) }
     {
         find_outcome(alloc, providers, &self.snapshot)

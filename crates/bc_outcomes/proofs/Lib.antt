@@ -1,7 +1,7 @@
 pub mod Steps
 pub mod Unique
-pub mod Local
 pub mod Used
+pub mod Local
 pub mod Looking
 pub mod Gathering
 pub mod Walking

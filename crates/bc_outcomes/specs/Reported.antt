@@ -13,7 +13,7 @@ use Rattle.bc_prov.specs.declared.outcome.Outcome.TheVariants.{NoBody, Missing, 
 use Rattle.bc_prov.specs.State.{State, child, mir_at}
 use Rattle.bc_prov.specs.Verdicts.{IsVerdictAt, requirements_by}
 use Rattle.bc_prov.specs.Outcome.{units_at}
-use Rattle.bc_prov.specs.Pieces.{PieceView, IsPieceFor}
+use Rattle.bc_prov.specs.Pieces.{PieceView, AreSomeOf, IsPieceFor}
 
 -- a child as it is handed in with what it requires: its header
 abbrev pub kid_header : Child × Requirements → Child
@@ -50,3 +50,7 @@ ArePiecesOf state root None (Missing absent) pieces = pieces ≡ []
 ArePiecesOf state root None (BadTypes index) pieces = pieces ≡ []
 ArePiecesOf state root None (Ill name place) pieces = pieces ≡ []
 ArePiecesOf state root None (Report found) pieces = AllZip (IsPieceAt state) (units_at state root) pieces × (found ≡ map errors_in pieces)
+
+-- some of the pieces that come with an outcome
+abbrev pub AreAmongPiecesOf : State → NameParts → Option Outcome → Outcome → List (NameParts × PieceView) → Type 0
+AreAmongPiecesOf state root carried outcome pieces = (all : List (NameParts × PieceView)) × ArePiecesOf state root carried outcome all × AreSomeOf all pieces

@@ -1,7 +1,7 @@
 //! The outcome of a snapshot.
 ghost use Rattle.std.specs.Prelude.{◌≡◌, [], None, Some, IfOk, IfSome};
 ghost use Rattle.bc_prov.specs.Outcome.{IsOutcomeAfter, IsOutcomeIn, IsOutcomeOf, fault_at};
-ghost use Rattle.bc_outcomes.specs.Reported.{ArePiecesOf};
+ghost use Rattle.bc_outcomes.specs.Reported.{AreAmongPiecesOf, ArePiecesOf};
 ghost use Rattle.bc_prov.specs.State.{AreSuited, at_name, state_of};
 ghost use Rattle.bc_outcomes.specs.Visits.{state_in};
 
@@ -142,6 +142,7 @@ pub fn find_outcome(
     snapshot: &Snapshot,
 ) -> Result<Found, AllocError>
     ensures outcome { IfOk result (λ found. IsOutcomeIn (state_of snapshot.now.types snapshot.now.units) snapshot.now.root found.outcome) }
+    ensures pieces { IfOk result (λ found. AreAmongPiecesOf (state_of snapshot.now.types snapshot.now.units) snapshot.now.root snapshot.now.carried found.outcome found.pieces.items) }
     ensures carried { IfSome snapshot.now.carried (λ outcome. IfOk result (λ found. (found.outcome ≡ outcome) × (found.pieces.items ≡ []))) }
 {
     if let Some(outcome) = snapshot.carried() {

@@ -1,6 +1,6 @@
 -- The verdict on one body, with all that it was found from.
-use Rattle.std.specs.Prelude.{◌≡◌, ℕ, List, map, Option, Some, None}
-use Rattle.std.specs.List.{AllByRecursion}
+use Rattle.std.specs.Prelude.{◌≡◌, ℕ, Bool, List, map, Option, Some, None}
+use Rattle.std.specs.List.{AllByRecursion, items_where_true}
 use Rattle.bc_syntax.specs.declared.syntax.Declaration.{Declaration}
 use Rattle.bc_syntax.specs.declared.syntax.Body.{Body}
 use Rattle.bc_syntax.specs.Children.{children_of}
@@ -49,3 +49,7 @@ pub record IsPieceFor (held_types : List Declaration) (held : Option Body) (piec
 -- each piece is of the body that a list has at its name, over these declarations
 abbrev pub ArePieces : List Declaration → List (NameParts × Body) → List (NameParts × PieceView) → Type 0
 ArePieces types units pieces = AllByRecursion (λ (p : NameParts × PieceView). IsPieceFor types (at_name units p.0) p.1) pieces
+
+-- some of these pieces are left, in their order
+abbrev pub AreSomeOf : List (NameParts × PieceView) → List (NameParts × PieceView) → Type 0
+AreSomeOf all left = (stays : List Bool) × (left ≡ items_where_true stays all)

@@ -4,7 +4,7 @@ ghost use Rattle.std.specs.List.{list_all};
 ghost use Rattle.std.specs.Option.{option_copied};
 ghost use Rattle.bc_prov.specs.Outcome.{IsOutcomeIn};
 ghost use Rattle.bc_syntax.specs.Children.{children_of};
-ghost use Rattle.bc_prov.specs.Pieces.{ArePieces, IsPieceFor};
+ghost use Rattle.bc_prov.specs.Pieces.{ArePieces, AreSomeOf, IsPieceFor};
 ghost use Rattle.bc_prov.specs.Snapshots.{IsAmongPieces, IsSnapshot, names_used};
 ghost use Rattle.bc_prov.specs.State.{AreSuited, at_name, child, state_of};
 
@@ -180,8 +180,10 @@ impl Snapshot {
         }
     }
 
-    /// Those pieces of its bodies that are not kept already. Which these are is not told. (Own.)
-    pub fn without_kept(&self, pieces: Pieces) -> Pieces {
+    /// Those of these pieces that are not kept already, in their order. Which of them are kept is not told. It takes no memory. (Own.)
+    pub fn without_kept(&self, pieces: Pieces) -> Pieces
+        ensures { AreSomeOf pieces.items result.items }
+    {
         let mut pieces = pieces;
         pieces.retain(|entry| !self.keeps(entry));
         pieces
