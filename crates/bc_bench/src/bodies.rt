@@ -28,7 +28,8 @@ fn in_line(alloc: Global, loans: u32, behind: &str) -> io::Result<Vec<u8>> {
     Ok(out)
 }
 
-/// A closure of points in a line: so many loans, each with a read through it, and what stands before the last point.
+/// A closure of points in a line: so many loans, each with a read through it, and what stands before the last point. Fails only
+/// for want of memory. (Own.)
 pub fn closure_in_line(alloc: Global, loans: u32, before: &str) -> io::Result<Vec<u8>> {
     let mut out = Vec::new(alloc);
     write!(out, "closure[]()->int{{let _1:int;let _2:&'?1000 int;bb0{{")?;
@@ -39,7 +40,7 @@ pub fn closure_in_line(alloc: Global, loans: u32, before: &str) -> io::Result<Ve
     Ok(out)
 }
 
-/// A function that creates so many closures.
+/// A function that creates so many closures. Fails only for want of memory. (Own.)
 pub fn creator_of(alloc: Global, closures: u8) -> io::Result<Vec<u8>> {
     let mut out = Vec::new(alloc);
     write!(out, "fn()->int{{")?;
@@ -56,12 +57,14 @@ pub fn creator_of(alloc: Global, closures: u8) -> io::Result<Vec<u8>> {
     Ok(out)
 }
 
-/// 3,799 points in a line with 1,899 loans: a borrow, and then a read through it.
+/// 3,799 points in a line with 1,899 loans: a borrow, and then a read through it. Fails only for want of memory.
+/// (Own.)
 pub fn borrows_and_reads(alloc: Global) -> io::Result<Vec<u8>> {
     in_line(alloc, 1899, "")
 }
 
-/// 3,796 points in a line with 1,265 loans: a borrow, a read through it, and a write of what was borrowed.
+/// 3,796 points in a line with 1,265 loans: a borrow, a read through it, and a write of what was borrowed. Fails only
+/// for want of memory. (Own.)
 pub fn borrows_and_writes(alloc: Global) -> io::Result<Vec<u8>> {
     in_line(alloc, 1265, "_1=7;")
 }
@@ -76,7 +79,7 @@ fn write_block<W: Write>(block: u32, out: &mut W) -> io::Result<()> {
     write!(out, "nop;if copy _0 bb{next} bb{other};}}")
 }
 
-/// 250 blocks of 16 points with branches forward and back, and 1,750 loans.
+/// 250 blocks of 16 points with branches forward and back, and 1,750 loans. Fails only for want of memory. (Own.)
 pub fn branches(alloc: Global) -> io::Result<Vec<u8>> {
     let mut out = Vec::new(alloc);
     out.write_all(HEAD.as_bytes())?;

@@ -1,6 +1,7 @@
 //! What lies under the lock: the history, what it leaves, what is remembered, and what publishes it.
-ghost use Rattle.std.specs.Prelude.{◌≡◌, ◌<◌, ◌^◌, None, length, IfOk, IfErr, OnErr, OnOk};
+ghost use Rattle.std.specs.Prelude.{◌≡◌, ◌<◌, ◌^◌, None, length, IfOk, IfSome, IfErr, OnErr, OnOk};
 ghost use Rattle.std.specs.Option.{ForSome};
+ghost use Rattle.bc_prov.specs.Outcome.{IsOutcomeIn};
 ghost use Rattle.bc_prov.specs.Snapshots.{IsPartOf};
 ghost use Rattle.bc_memo.specs.Memos.{IsRemembered};
 ghost use Rattle.bc_calls.specs.Calls.{IsLegal, IsReply, after};
@@ -189,11 +190,12 @@ impl<E: Ending> Book<E> {
     }
 
     /// The part of what is held that the outcome of a name rests on: the declarations, and the units at the name and at all names that
-    /// begin with it and `/`, with their revisions; it carries the outcome that is remembered for the name and stands, if there is one.
-    /// Nothing is entered. `AllocError` only where memory was refused. Own.
+    /// begin with it and `/`, with their revisions; it carries the outcome that is remembered for the name and stands, if there is one,
+    /// which is the name's outcome in what is held. Nothing is entered. `AllocError` only where memory was refused. Own.
     pub fn snapshot(&self, alloc: Global, name: &Name) -> Result<Begun, AllocError>
         ensures part { IfOk result (λ begun. IsPartOf begun name.now (after self.now.entries)) }
         ensures remembered { IfOk result (λ begun. IsRemembered self.now.shelf self.now.answers name.now begun.carried) }
+        ensures right { IfOk result (λ begun. IfSome begun.carried (IsOutcomeIn (after self.now.entries) name.now)) }
         ensures legal { OnOk result (IsLegal self.now.entries) }
     {
         self.ledger.begin(alloc, name)

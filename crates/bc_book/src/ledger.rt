@@ -146,6 +146,7 @@ impl Ledger {
     pub(crate) fn begin(&self, alloc: Global, name: &Name) -> Result<Begun, AllocError>
         ensures part { IfOk result (λ begun. IsPartOf begun name.now (after self.now.entries)) }
         ensures remembered { IfOk result (λ begun. IsRemembered self.now.shelf self.now.answers name.now begun.carried) }
+        ensures right { IfOk result (λ begun. IfSome begun.carried (IsOutcomeIn (after self.now.entries) name.now)) }
         ensures legal { OnOk result (IsLegal self.now.entries) }
     {
         let answer = self.shared_answer(name)?;

@@ -61,7 +61,7 @@ fn find_header(text: &[u8], first: usize) -> (usize, usize)
 impl<'a> Sections<'a> {
     ghost use Rattle.bc_check.specs.Left.{left};
 
-    /// The sections of the file.
+    /// The sections of the file. (Own.)
     pub fn of(file: &'a [u8]) -> Self
         ensures { left result ≡ sections_of file.now }
     {

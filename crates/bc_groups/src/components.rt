@@ -11,7 +11,7 @@ ghost use Rattle.bc_groups.specs.Spread.{IsSpread, AreOpened, spread_work};
 use bc_flow::{Edge, EdgeChains, edge_chains, every_node, postorder, reversed};
 use std::alloc::{AllocError, Global};
 
-/// For each node the number of its group, and how many groups there are.
+/// For each node the number of its group, and how many groups there are. (Own.)
 #[derive(Drop)]
 pub struct Grouping {
     pub group_of: Vec<usize>,
@@ -22,7 +22,7 @@ pub struct Grouping {
 ///
 /// The groups are the strong components, by a search in postorder and one back along the edges (Kosaraju's), and a third
 /// search shows it: a node that it does not find again is in a group of its own. Groups are numbered along the edges between
-/// them, which only the time of a caller depends on. The only error is want of memory.
+/// them, which only the time of a caller depends on. The only error is want of memory. (The field's.)
 pub fn strong_components(
     alloc: Global,
     nodes: usize,

@@ -8,7 +8,7 @@ use std::marker::Model;
 /// How many sessions a run may have at most (own).
 pub const MOST_SESSIONS: u8 = 16;
 
-/// A line of `check`. Contracts see it as its parts.
+/// A line of `check`. Contracts see it as its parts. (Own.)
 #[derive(Drop)]
 #[derive_where(Debug)]
 pub struct CheckLine {
@@ -60,7 +60,7 @@ impl CheckLine {
     }
 }
 
-/// A line of `run`. Contracts see it as its parts. It has 1 to 16 sessions.
+/// A line of `run`. Contracts see it as its parts. It has 1 to 16 sessions. (Own.)
 #[derive(Drop)]
 #[derive_where(Debug)]
 pub struct RunLine {

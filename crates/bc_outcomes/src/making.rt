@@ -73,8 +73,8 @@ fn numbered(
 /// The piece of a unit over declarations of which none is bad, with the header of each child, ascending, and what the child requires.
 /// It asks that a child requires nothing of its local regions. It answers `Ill` with the place of the first misfit where a typing
 /// rule fails: the header if a header rule fails, else the least point at which a rule fails; and `NoMemory` only where memory was
-/// refused, as a provider may answer too. (Own; the errors are RFC 2094's, the requirements rustc-dev-guide's, "Propagating closure
-/// constraints".)
+/// refused, as a provider may answer too. (Own; the errors are those of RFC 2094, "Borrow checker phase 2" and "Named lifetimes", the
+/// requirements those of the rustc-dev-guide, "Propagating closure constraints".)
 pub fn piece(
     alloc: Global,
     providers: &Providers,

@@ -184,7 +184,7 @@ fn same_kids(one: &[(u8, Requirements)], other: &[(u8, Requirements)]) -> bool
 
 /// The piece of a unit that was typed over declarations and the headers of its children, where these require so much. It asks that the
 /// unit was typed so, and that a child requires nothing of its local regions. Answers `AllocError` only where memory was refused, as a
-/// provider may answer too. (Own; the errors are RFC 2094's.)
+/// provider may answer too. (Own; the errors are those of RFC 2094, "Borrow checker phase 2" and "Named lifetimes".)
 pub fn piece_of(
     alloc: Global,
     providers: &Providers,

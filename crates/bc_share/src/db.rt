@@ -29,8 +29,8 @@ pub enum OpenFault {
     NoMemory,
 }
 
-/// Why a database could not be closed: the sessions are not its own, each once; or the history, which is handed
-/// out, does not agree with them. (Own.)
+/// Why a database could not be closed: the sessions are not as many as it has, of its tag, each number once; or the history,
+/// which is handed out, does not agree with them. (Own.)
 #[derive(Debug, Drop, Error)]
 pub enum CloseFault {
     #[error("the sessions are not those of this database")]
@@ -39,7 +39,7 @@ pub enum CloseFault {
     Audit(History),
 }
 
-/// A legal history. Contracts see it as its entries.
+/// A legal history. Contracts see it as its entries. (Own.)
 #[derive(Drop)]
 #[derive_where(Debug)]
 pub struct History {
@@ -61,7 +61,7 @@ impl Model for History {
 }
 
 impl History {
-    /// The entries, in order.
+    /// The entries, in order. (Own.)
     pub fn entries(&self) -> &[Entry]
         ensures entries { result.now ≡ self.now }
         ensures legal { IsLegal self.now }
@@ -70,7 +70,7 @@ impl History {
     }
 }
 
-/// A database. Contracts see its tag, and how many sessions it has.
+/// A database. Contracts see its tag, and how many sessions it has. (Own.)
 pub struct Db<E: Ending> {
     alloc: Global,
     tag: u64,
@@ -100,7 +100,7 @@ impl<E: Ending> Model for Db<E> {
 
 impl<E: Ending> Db<E> {
     /// Opens a database of this tag, whose history may have so many entries, with so many sessions, which are numbered from 0. What
-    /// ends it is handed in.
+    /// ends it is handed in, and ends what was opened also where this is refused; it may wait, though nobody reads then.
     ///
     /// `Range` exactly where the capacity is not 1 to 1,000,000 or the sessions are not 1 to 16 (own). `NoMemory` only
     /// where memory was refused.
@@ -124,10 +124,10 @@ impl<E: Ending> Db<E> {
         }
     }
 
-    /// Ends the sessions, and hands out the history. It takes no memory. What sessions it was not given find a full history from then
-    /// on, and nothing to read.
+    /// Ends the sessions, and hands out the history. It takes no memory. But for `Foreign`, which leaves the book in its place, sessions
+    /// that it was not given find a full history from then on, and nothing to read.
     ///
-    /// `Foreign` exactly where these are not the database's sessions, each once; `Audit`, with the history, exactly
+    /// `Foreign` exactly where these are not as many as the database has, of its tag, each number once; `Audit`, with the history, exactly
     /// where they are, and a session's own list is not what the history has of it or an entry is of none of them
     /// (own). The database is gone in each case.
     pub fn close<R: Wait>(self, rt: &R, sessions: Vec<Session<E>>) -> Result<History, CloseFault>

@@ -143,7 +143,8 @@ impl<E: Ending> Session<E> {
     }
 
     /// Asks the name of a work: what is remembered for it or what the work found, where that is still so, else it is worked out
-    /// again from what is held now (RFC 2094; the rest is own). The work may be another database's.
+    /// again from what is held now (its errors by RFC 2094, "Borrow checker phase 2" and "Named lifetimes"; the rest is own). The
+    /// work may be another database's.
     ///
     /// Room in the session's own list is made first. Refused as `put_types` is, and with `NoMemory` where a provider
     /// wants memory; the work is then gone.
@@ -165,7 +166,8 @@ impl<E: Ending> Session<E> {
 
     /// Whether the body under a name is borrow-correct now: the outcome of what the name holds, under the declarations
     /// that are held: their first bad one, `NoBody`, `Missing`, `Ill`, or the errors of the body and of its closures
-    /// (RFC 2094; the rest is own). What is published is begun and worked on with nothing held, and settled then.
+    /// (RFC 2094, "Borrow checker phase 2" and "Named lifetimes"; the rest is own). What is
+    /// published is begun and worked on with nothing held, and settled then.
     ///
     /// Refused as `settle` is, and with `NoMemory` where the reading is refused, as it is once the database is closed.
     pub fn ask<R: Wait>(

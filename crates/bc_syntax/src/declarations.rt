@@ -112,8 +112,9 @@ impl Model for Types {
 }
 
 impl Types {
-    /// The types of declarations, or `None` exactly where a number is past its limit, a name is no word, or a region is
-    /// declared twice or not at all. Own.
+    /// The types of declarations, or `None` exactly where no text spells them: a number or a count is past its limit, a name is
+    /// none, a region is declared twice, is declared as `'static` or is not declared, a struct has not one variance for each region,
+    /// or a variable or a closure stands in a type. Own.
     pub fn new(declarations: Sequence<Declaration>) -> Option<Types>
         ensures declarations { IfSome result (λ types. types ≡ declarations) }
         ensures fit { IfSome result (λ _. TypesFit declarations) }

@@ -36,8 +36,9 @@ impl Model for Unit {
 }
 
 impl Unit {
-    /// The unit of a body, or `None` exactly where a number is past its limit, a region or local is not declared, or a
-    /// name is no word. Own.
+    /// The unit of a body, or `None` exactly where no text spells it: a number or a count is past its limit, a region is declared
+    /// twice, is declared as `'static` or is not declared, a local is not declared, a name is none, a variable stands in a header, a
+    /// closure stands where none may, a function has captures, or there is no block. Own.
     pub fn new(body: Body) -> Option<Unit>
         ensures body { IfSome result (λ unit. unit ≡ body) }
         ensures fits { IfSome result (λ _. Fits body) }

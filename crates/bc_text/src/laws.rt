@@ -19,9 +19,9 @@ pub fn printed_types_are_read()
     ensures read { PrintedTypesAreRead }
 {}
 
-/// The fault of a refused text tells one of its tokens: some unit's tokens begin with those before it, limits and side
-/// conditions aside, and no unit's tokens with those up to it, with it. And the fault is that of each text with the same bytes
-/// up to the one behind that token, with it, since a name ends where the next byte says. Own.
+/// The fault of a refused text that is not too long tells one of its tokens: some unit's tokens begin with those before it, limits
+/// and side conditions aside, and no unit's tokens with those up to it, with it. And the fault is that of each text that is not too
+/// long and has the same bytes up to the one behind that token, with it, since a name ends where the next byte says. Own.
 pub fn refused_units_have_a_bad_token()
     ensures bad { RefusedHaveABadToken read SomeUnitBegins NoUnitBegins }
     ensures local { FaultsAreLocal read }

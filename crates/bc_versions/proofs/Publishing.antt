@@ -38,12 +38,17 @@ looks seat seen table views h at = (
   (h.3 seat seen at, h.1, h.2),
 )
 
+-- who has seen the table's last entry has seen all that was published
+pub all_seen : (table : TableView) (views : List (List Entry)) (seat : ℕ) (seen : List Entry) (rule : IsPublished table views)
+    → get_elem? views seat ≡ some seen → table.last ≡ last_of seen → rule.0 ≡ seen
+all_seen table views seat seen rule at ends = same_end rule.0 seen rule.1 (rule.3 seat seen at) (sym ends ∙ rule.2.last)
+
 -- the writer has seen all that was published, as the last entry shows; so the next entry goes behind it
 pub adds : (seat : ℕ) (seen : List Entry) (table next : TableView) (u : UpdateView)
     → table.last ≡ last_of seen → next ≡ updated table u → MayComeNext seen u.entry → TurnsAt IsPublished seat seen table next Adds
 adds seat seen table next u ends is fits views h at =
     let e = u.entry in
-    let whole : h.0 ≡ seen = same_end h.0 seen h.1 (h.3 seat seen at) (sym ends ∙ h.2.last) in
+    let whole : h.0 ≡ seen = all_seen table views seat seen h at ends in
     let fits' : MayComeNext h.0 e = subst (λ (l : List Entry). MayComeNext l e) (sym whole) fits in (
       seen ++ e ∷ [],
       (

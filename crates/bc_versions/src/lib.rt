@@ -4,12 +4,14 @@
 
 mod ending;
 mod front;
+mod laws;
 mod press;
 mod rule;
 mod table;
 
 pub use ending::{Ending, Waiting};
 pub use front::{Front, Fronts};
+pub use laws::writers_have_seen_all;
 pub use press::Press;
 pub use rule::{Published, Seen, TableReader, TableWriter};
 pub use table::{Table, Update};
