@@ -16,8 +16,8 @@ const CONFLICT: &[u8] =
     b"@put f\nfn () -> int { let _1: int; let _2: &'?0 int; bb0 { _1 = 1; _2 = &'?1 _1; _1 = 2; _0 = copy _2.*; return; } }\n";
 
 /// Of `check`: files with an error, with a put that stores nothing, with a fault and with nothing, some with the reports as text and as JSON,
-/// and one whose first Ask is refused.
-const CHECKS: [Case<'static>; 8] = [
+/// and two of which an Ask is refused: the first, and the second.
+const CHECKS: [Case<'static>; 9] = [
     Case {
         words: checks::TEXT,
         file: CONFLICT,
@@ -88,6 +88,15 @@ const CHECKS: [Case<'static>; 8] = [
         out: b"",
         err: b"put f/0 wrongkind\nno memory\n",
         unwritten: b"put f/0 wrongkind\ncannot write\n",
+        wants_memory: true,
+    },
+    Case {
+        words: checks::TEXT,
+        file: b"@put a\nclosure[]()->int{bb0{return;}}\n@put f\nfn()->int{bb0{_0=1;return;}}\n",
+        status: 3,
+        out: b"ask a\nno body\n",
+        err: b"put a wrongkind\nno memory\n",
+        unwritten: b"put a wrongkind\ncannot write\n",
         wants_memory: true,
     },
 ];
@@ -178,15 +187,17 @@ fn each_write_fails_in_turn(rt: HostRuntime) -> Result<(), Fail> {
 }
 
 /// Each write on standard error fails in turn: of the line of a put, of the line of a fault, and of the line of a session that did not
-/// end. Where one failed `check` has printed nothing, and `run` its history.
+/// end. Where the line of a put failed `check` has printed nothing, and where its last line did what it printed till then; `run` has printed
+/// its history.
 #[test]
 fn each_line_fails_in_turn(rt: HostRuntime) -> Result<(), Fail> {
     for (number, case) in CHECKS.iter().enumerate() {
-        let stops = stops_at_each_tell(case, b"", |devices| leave_case(&rt, case, devices))?;
+        let puts = case.unwritten.len().saturating_sub(b"cannot write\n".len());
+        let stops = stops_at_each_tell(case, puts, |devices| leave_case(&rt, case, devices))?;
         assert!(rt; stops, "case {number} of check");
     }
     for (number, case) in RUNS.iter().enumerate() {
-        let stops = stops_at_each_tell(case, case.out, |devices| leave_case(&rt, case, devices))?;
+        let stops = stops_at_each_tell(case, 0, |devices| leave_case(&rt, case, devices))?;
         assert!(rt; stops, "case {number} of run");
     }
     Ok(())

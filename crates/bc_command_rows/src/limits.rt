@@ -1,8 +1,14 @@
 //! The limits of a file, and the line and the status of each stop.
 use crate::checks::leaves_of;
+use crate::command::leave;
+use crate::{checks, runs};
 use bc_check::{FaultKind, FileFault, Stop, find_capacity, stop_with};
+use bc_devices::{Devices, Left, SOUND};
 use bc_text::MAX_TEXT;
+use std::io;
+use std::sync::Wait;
 use std::test::Fail;
+use std::thread::Threads;
 
 /// Two puts, the second of a text of so many bytes: a unit of 21, and blanks.
 fn text_of(rt: &HostRuntime, count: usize) -> Result<Vec<u8>, Fail> {
@@ -61,4 +67,40 @@ fn a_file_makes_a_million_calls_and_no_more(rt: HostRuntime) {
     assert!(rt; matches!(find_capacity(999_998, 2), Ok(1_000_000)));
     assert!(rt; matches!(find_capacity(999_999, 2), Err(Stop::TooManyCalls)));
     assert!(rt; matches!(find_capacity(1, 1_000_000), Err(Stop::TooManyCalls)));
+}
+
+/// A section so many times.
+fn repeated(rt: &HostRuntime, section: &[u8], times: u32) -> Result<Vec<u8>, Fail> {
+    let mut file = Vec::new(rt.alloc());
+    for _section in 0..times {
+        file.extend_from_slice(section)?;
+    }
+    Ok(file)
+}
+
+/// What a command of these words leaves of a file that is read in large parts.
+fn leave_at_once<R: AllocGlobal + Threads + Wait + Sync>(
+    rt: &R,
+    words: &[&str],
+    file: &[u8],
+) -> io::Result<Left> {
+    let chunk = 1 << 20;
+    leave(rt, words, file, Devices { chunk, ..SOUND })
+}
+
+#[test]
+fn runs_no_file_of_a_million_and_one_calls(rt: HostRuntime) -> Result<(), Fail> {
+    let file = repeated(&rt, b"@0 ask f\n", 1_000_001)?;
+    let left = leave_at_once(&rt, runs::ONE, &file)?;
+    assert!(rt; left.is(3, b"", b"too many calls\n"));
+    Ok(())
+}
+
+#[test]
+fn checks_no_file_of_a_million_sections_and_a_name(rt: HostRuntime) -> Result<(), Fail> {
+    let mut file = repeated(&rt, b"@types\n", 999_999)?;
+    file.extend_from_slice(b"@put f\nfn()->int{bb0{stop;}}\n")?;
+    let left = leave_at_once(&rt, checks::TEXT, &file)?;
+    assert!(rt; left.is(3, b"", b"too many calls\n"));
+    Ok(())
 }

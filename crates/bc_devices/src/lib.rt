@@ -122,7 +122,7 @@ impl Write for Output {
 const NEVER: u32 = u32::MAX;
 
 /// How the devices of a run behave: how many bytes are read at a time, how many the buffer of the reports holds, and at
-/// which call each device fails.
+/// which call each device fails. (Own.)
 #[derive(Clone, Copy)]
 pub struct Devices {
     pub chunk: usize,
@@ -247,10 +247,11 @@ pub fn stops_at_each_write<F: Fn(Devices) -> io::Result<Left>>(
     Ok(stops)
 }
 
-/// Whether a command leaves the case, and has printed this and makes no further call on standard error once any one write there fails. (Own.)
+/// Whether a command leaves the case, and makes no further call on standard error once any one write there fails, when it has printed all, or
+/// nothing where so many bytes that it tells before it prints were not told. (Own.)
 pub fn stops_at_each_tell<F: Fn(Devices) -> io::Result<Left>>(
     case: &Case<'_>,
-    printed: &[u8],
+    before: usize,
     run: F,
 ) -> io::Result<bool>
     requires { F.IsAlwaysCallable run }
@@ -259,6 +260,11 @@ pub fn stops_at_each_tell<F: Fn(Devices) -> io::Result<Left>>(
     let mut stops = whole.is_of(case);
     for tell in 0..whole.tells {
         let cut = run(Devices { tell, ..SOUND })?;
+        let printed = if cut.err.len() < before {
+            b""
+        } else {
+            case.out
+        };
         let is_printed = cut.out.as_slice() == printed;
         stops = is_printed && cut.stopped_at_tell(tell, case.err) && stops;
     }
