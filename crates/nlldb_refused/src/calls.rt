@@ -1,8 +1,8 @@
 //! Sessions that make each call once more where it is refused.
-use crate::turns::{Turn, show_entry};
+use crate::turns::{Turn, is_answered, make_call, show_entry};
 use anyhow::bail;
-use bc_calls::Work;
-use bc_fixtures::{WRITES_LAST, WRITES_WHILE_BORROWED, name};
+use bc_calls::{Call, Work};
+use bc_fixtures::{WRITES_LAST, WRITES_WHILE_BORROWED, again, name};
 use bc_prov::{Outcome, Providers};
 use bc_share::{Db, OpenFault, Session};
 use bc_text::Name;
@@ -73,7 +73,27 @@ fn is_kept<E: Ending>(
     Ok(are_same(before, &after))
 }
 
-/// Makes a call, and once more where it is refused. Fails where the refused one leaves another answer of its name than there was.
+/// Makes a call of a name, and once more where memory for it is refused. Fails where it is refused otherwise, or where the refused one
+/// leaves another answer of the name than there was.
+fn make_again<R: Wait, E: Ending>(
+    rt: &R,
+    session: &mut Session<E>,
+    providers: &Providers,
+    name: &Name,
+    call: &Call,
+) -> anyhow::Result<()> {
+    let before = glance(session, name)?;
+    if is_answered(make_call(rt, session, call, providers))? {
+        return Ok(());
+    }
+    if !is_kept(session, name, &before)? {
+        bail!("a refused call left another answer");
+    }
+    make_call(rt, session, call, providers)?;
+    Ok(())
+}
+
+/// Makes a call as `make_again` does, once what it stores or puts is read.
 fn make<R: Wait, E: Ending>(
     rt: &R,
     alloc: Global,
@@ -82,14 +102,8 @@ fn make<R: Wait, E: Ending>(
     turn: Turn,
 ) -> anyhow::Result<()> {
     let name = turn.name()?;
-    let before = glance(session, &name)?;
-    if turn.make(rt, alloc, session, providers).is_ok() {
-        return Ok(());
-    }
-    if !is_kept(session, &name, &before)? {
-        bail!("a refused call left another answer");
-    }
-    turn.make(rt, alloc, session, providers)
+    let call = again(|| turn.call(alloc))?;
+    make_again(rt, session, providers, &name, &call)
 }
 
 /// Makes calls in their order.
@@ -172,7 +186,7 @@ fn work<E: Ending>(
     begun.work(alloc, providers)
 }
 
-/// Settles a work on a name, and works on it and settles once more where that is refused.
+/// Settles a work on a name, and works on it and settles once more where memory for that is refused. Fails as `make_again` does.
 fn settle<R: Wait, E: Ending>(
     rt: &R,
     alloc: Global,
@@ -181,10 +195,15 @@ fn settle<R: Wait, E: Ending>(
     done: Work,
     providers: &Providers,
 ) -> anyhow::Result<()> {
-    if session.settle(rt, done, providers).is_err() {
-        let again = work_again(alloc, session, name, providers)?;
-        session.settle(rt, again, providers)?;
+    let before = glance(session, name)?;
+    if is_answered(session.settle(rt, done, providers))? {
+        return Ok(());
     }
+    if !is_kept(session, name, &before)? {
+        bail!("a refused settling left another answer");
+    }
+    let done = work_again(alloc, session, name, providers)?;
+    session.settle(rt, done, providers)?;
     Ok(())
 }
 

@@ -3,7 +3,7 @@ use crate::calls::opened;
 use crate::turns::{Turn, show_entry};
 use anyhow::bail;
 use bc_book::Refusal;
-use bc_fixtures::{WRITES_LAST, WRITES_WHILE_BORROWED, again};
+use bc_fixtures::{MARKED_INVARIANT, WRITES_LAST, WRITES_WHILE_BORROWED, again};
 use bc_prov::Providers;
 use bc_scripts::{End, Gate, Script, Stage, run_sessions};
 use bc_share::{Db, History, Session};
@@ -14,9 +14,10 @@ use std::io::Write;
 use std::sync::Wait;
 use std::thread::Threads;
 
-/// The calls of each of two sessions, with a name of its own.
-const CALLS: [[Turn; 5]; 2] = [
+/// The calls of each of two sessions, with declarations and a name of its own.
+const CALLS: [[Turn; 6]; 2] = [
     [
+        Turn::Types(b"struct G<+'a> drop { &'a int; }"),
         Turn::Put(b"f", WRITES_LAST),
         Turn::Ask(b"f"),
         Turn::Put(b"f", WRITES_WHILE_BORROWED),
@@ -29,11 +30,12 @@ const CALLS: [[Turn; 5]; 2] = [
         Turn::Put(b"g", WRITES_LAST),
         Turn::Ask(b"g"),
         Turn::Remove(b"g"),
+        Turn::Types(MARKED_INVARIANT),
     ],
 ];
 
 /// How many calls each makes.
-const EACH: usize = 5;
+const EACH: usize = 6;
 
 /// A gate that nobody is held up at.
 #[derive(Clone, Copy)]
@@ -198,7 +200,7 @@ pub fn show<R: Threads + Wait + Sync, W: Write>(
     providers: &Providers,
     out: &mut W,
 ) -> anyhow::Result<()> {
-    let (db, sessions) = opened(rt, alloc, 10, 2)?;
+    let (db, sessions) = opened(rt, alloc, 12, 2)?;
     let history = history_of(rt, alloc, db, sessions, providers)?;
     show_by_session(&history, out)?;
     Ok(())

@@ -1,4 +1,6 @@
 //! The calls that sessions make, and what is printed of a history.
+use anyhow::bail;
+use bc_book::Refusal;
 use bc_calls::{Call, Entry, Event};
 use bc_fixtures::{name, shared_types, shared_unit};
 use bc_prov::{Providers, Shared};
@@ -29,32 +31,7 @@ impl Turn {
         }
     }
 
-    /// Has a session make it.
-    pub(crate) fn make<R: Wait, E: Ending>(
-        &self,
-        rt: &R,
-        alloc: Global,
-        session: &mut Session<E>,
-        providers: &Providers,
-    ) -> anyhow::Result<()> {
-        match self {
-            Turn::Types(text) => {
-                session.put_types(rt, shared_types(alloc, text)?)?;
-            }
-            Turn::Put(at, text) => {
-                session.put(rt, name(at)?, shared_unit(alloc, text)?)?;
-            }
-            Turn::Remove(at) => {
-                session.remove(rt, name(at)?)?;
-            }
-            Turn::Ask(at) => {
-                session.ask(rt, &name(at)?, providers)?;
-            }
-        }
-        Ok(())
-    }
-
-    /// The call of a script that it is.
+    /// The call that it is.
     pub(crate) fn call(&self, alloc: Global) -> anyhow::Result<Call> {
         match self {
             Turn::Types(text) => Ok(Call::Types(Shared::new(shared_types(alloc, text)?))),
@@ -62,6 +39,39 @@ impl Turn {
             Turn::Remove(at) => Ok(Call::Remove(name(at)?)),
             Turn::Ask(at) => Ok(Call::Ask(name(at)?)),
         }
+    }
+}
+
+/// Has a session make a call.
+pub(crate) fn make_call<R: Wait, E: Ending>(
+    rt: &R,
+    session: &mut Session<E>,
+    call: &Call,
+    providers: &Providers,
+) -> Result<(), Refusal> {
+    match call {
+        Call::Types(types) => {
+            session.put_types(rt, types.clone()?.into_arc())?;
+        }
+        Call::Put(name, unit) => {
+            session.put(rt, *name, unit.clone()?.into_arc())?;
+        }
+        Call::Remove(name) => {
+            session.remove(rt, *name)?;
+        }
+        Call::Ask(name) => {
+            session.ask(rt, name, providers)?;
+        }
+    }
+    Ok(())
+}
+
+/// Whether a call was answered. Fails where it was refused otherwise than for want of memory.
+pub(crate) fn is_answered<T: Drop>(reply: Result<T, Refusal>) -> anyhow::Result<bool> {
+    match reply {
+        Ok(_) => Ok(true),
+        Err(Refusal::NoMemory) => Ok(false),
+        Err(Refusal::HistoryFull) => bail!("a full history"),
     }
 }
 
