@@ -1,4 +1,5 @@
-//! The steps of the analysis of one body, each made once more where it is refused.
+//! The steps of the analysis of two bodies, each made once more where it is refused.
+use crate::{lookups, wide};
 use bc_cons::Facts;
 use bc_fixtures::{again, facts_alone, good_types, typed_alone};
 use bc_judge::{judge, known_relations};
@@ -116,6 +117,7 @@ fn show_typed<W: Write>(alloc: Global, typed: &Typed, out: &mut W) -> anyhow::Re
     let loans = again(|| count_loans(alloc, typed))?;
     let known = again(|| is_known(alloc, typed))?;
     writeln!(out, "{edges} edges, {loans} loans, 1 outlives 2: {known}")?;
+    lookups::show(alloc, typed, out)?;
     let live = again(|| Ok(live(alloc, typed)?))?;
     show_live(alloc, typed, &live, out)
 }
@@ -131,18 +133,30 @@ fn show_unit<W: Write>(
     show_typed(alloc, &typed, out)
 }
 
-/// Shows what is found of the body over declarations.
+/// Shows what is found of the body of a text over declarations.
 fn show_over<W: Write>(
     alloc: Global,
     types: &Arc<GoodTypes, Global>,
+    text: &[u8],
     out: &mut W,
 ) -> anyhow::Result<()> {
-    let unit = again(|| Ok(read_unit(alloc, BODY)?))?;
+    let unit = again(|| Ok(read_unit(alloc, text)?))?;
     show_unit(alloc, types, &unit, out)
 }
 
-/// Shows what the steps of the analysis find of a body, each made once more where it is refused. (Own.)
+/// Shows what is found of the body of one text over the declarations of another.
+fn show_body<W: Write>(
+    alloc: Global,
+    declarations: &[u8],
+    text: &[u8],
+    out: &mut W,
+) -> anyhow::Result<()> {
+    let types = again(|| good_types(alloc, declarations))?;
+    show_over(alloc, &types, text, out)
+}
+
+/// Shows what the steps of the analysis find of two bodies, each made once more where it is refused. (Own.)
 pub fn show<W: Write>(alloc: Global, out: &mut W) -> anyhow::Result<()> {
-    let types = again(|| good_types(alloc, DECLARATIONS))?;
-    show_over(alloc, &types, out)
+    show_body(alloc, DECLARATIONS, BODY, out)?;
+    show_body(alloc, wide::DECLARATIONS, wide::BODY, out)
 }

@@ -1,11 +1,9 @@
-//! An outcome that a memo remembers, each call made once more where it is refused.
-ghost use Rattle.std.specs.Prelude.{◌↔◌, ◌<◌, IfOk, IsTrue, OnOk};
-ghost use Rattle.bc_prov.specs.State.{Suits};
-
+//! Outcomes that a memo remembers, each call made once more where it is refused.
+use crate::shelves::{names, put};
 use anyhow::bail;
 use bc_calls::no_declarations;
-use bc_fixtures::{WRITES_LAST, again, name, shared_unit};
-use bc_memo::{Change, Memo, Shelf, suits};
+use bc_fixtures::{WRITES_LAST, again, shared_unit};
+use bc_memo::{Memo, Shelf};
 use bc_prov::{Outcome, Shared};
 use bc_report::write_report;
 use bc_syntax::Unit;
@@ -14,42 +12,8 @@ use std::alloc::{AllocError, Global};
 use std::io::Write;
 use std::sync::Arc;
 
-/// Whether a unit may be held at a name.
-fn fits(alloc: Global, unit: &Shared<Unit>, at: &Name) -> Result<bool, AllocError>
-    ensures { IfOk result (λ fits. IsTrue fits ↔ Suits unit.now at.now) }
-{
-    match suits(alloc, unit.get(), at) {
-        Ok(fits) => Ok(fits),
-        Err(_) => suits(alloc, unit.get(), at),
-    }
-}
-
-/// Makes room for one unit.
-fn make_room(shelf: &mut Shelf) -> Result<(), AllocError>
-    ensures { OnOk result (0 < shelf.new.room) }
-{
-    match shelf.reserve() {
-        Ok(()) => Ok(()),
-        Err(_) => shelf.reserve(),
-    }
-}
-
-/// Holds a unit at a name, at this revision.
-fn put(
-    alloc: Global,
-    shelf: &mut Shelf,
-    at: Name,
-    unit: &Shared<Unit>,
-    revision: u32,
-) -> anyhow::Result<()> {
-    if !fits(alloc, unit, &at)? {
-        bail!("the unit does not suit the name");
-    }
-    let unit = unit.clone()?;
-    make_room(shelf)?;
-    shelf.change(Change::Put(at, unit), revision);
-    Ok(())
-}
+/// The names of five functions.
+const NAMES: [&[u8]; 5] = [b"f", b"g", b"h", b"i", b"j"];
 
 /// An outcome.
 fn no_body(alloc: Global) -> anyhow::Result<Shared<Outcome>> {
@@ -59,36 +23,77 @@ fn no_body(alloc: Global) -> anyhow::Result<Shared<Outcome>> {
     }
 }
 
-/// Has a memo remember an outcome for a name that is held.
+/// Has a memo remember an outcome for a name that is held, as one that rests on these names.
 fn install(
     alloc: Global,
     memo: &mut Memo,
     shelf: &Shelf,
     at: Name,
+    names: &[Name],
     outcome: &Shared<Outcome>,
 ) -> anyhow::Result<()> {
     if !shelf.is_held(&at) {
         bail!("nothing is held");
     }
-    memo.install(alloc, shelf, at, &[], outcome.clone()?)?;
+    memo.install(alloc, shelf, at, names, outcome.clone()?)?;
     Ok(())
 }
 
-/// The same, once more where it is refused: then nothing is remembered yet.
-fn install_again(
+/// Whether an outcome is remembered for exactly the first of these names, so many.
+fn are_first(memo: &Memo, shelf: &Shelf, names: &[Name], count: usize) -> bool {
+    for (place, name) in names.iter().enumerate() {
+        if memo.lookup(shelf, name).is_some() != (place < count) {
+            return false;
+        }
+    }
+    true
+}
+
+/// Has a memo that remembers an outcome for the first of these names, so many, remember it for the next, once more where that is refused:
+/// then it remembers what it did before.
+fn install_next(
     alloc: Global,
     memo: &mut Memo,
     shelf: &Shelf,
-    at: Name,
+    names: &[Name],
+    count: usize,
+    next: Name,
     outcome: &Shared<Outcome>,
 ) -> anyhow::Result<()> {
-    if install(alloc, memo, shelf, at, outcome).is_ok() {
+    if install(alloc, memo, shelf, next, names, outcome).is_ok() {
         return Ok(());
     }
-    if memo.lookup(shelf, &at).is_some() {
-        bail!("what was refused is remembered");
+    if !are_first(memo, shelf, names, count) {
+        bail!("a refused outcome changed what is remembered");
     }
-    install(alloc, memo, shelf, at, outcome)
+    install(alloc, memo, shelf, next, names, outcome)
+}
+
+/// Holds a unit at each of these names.
+fn put_all(
+    alloc: Global,
+    shelf: &mut Shelf,
+    names: &[Name],
+    unit: &Shared<Unit>,
+) -> anyhow::Result<()> {
+    for at in names {
+        put(alloc, shelf, *at, unit, 1)?;
+    }
+    Ok(())
+}
+
+/// Has a memo remember an outcome for each of these names, as one that rests on all of them.
+fn install_all(
+    alloc: Global,
+    memo: &mut Memo,
+    shelf: &Shelf,
+    names: &[Name],
+    outcome: &Shared<Outcome>,
+) -> anyhow::Result<()> {
+    for (count, next) in names.iter().enumerate() {
+        install_next(alloc, memo, shelf, names, count, *next, outcome)?;
+    }
+    Ok(())
 }
 
 /// Shows what a memo remembers for a name.
@@ -105,32 +110,54 @@ fn show_remembered<W: Write>(
     Ok(())
 }
 
-/// Holds a unit, remembers an outcome of it, and puts the unit again. Shows what is remembered behind each put.
+/// Shows what a memo remembers for each of these names.
+fn show_all<W: Write>(
+    memo: &Memo,
+    shelf: &Shelf,
+    names: &[Name],
+    out: &mut W,
+) -> anyhow::Result<()> {
+    for at in names {
+        show_remembered(memo, shelf, at, out)?;
+    }
+    Ok(())
+}
+
+/// Holds a unit at each of these names, remembers an outcome of each, and puts the unit of one again. Shows what is remembered before that
+/// and behind it.
 fn show_on<W: Write>(
     alloc: Global,
     shelf: &mut Shelf,
+    names: &[Name],
     unit: &Shared<Unit>,
     outcome: &Shared<Outcome>,
     out: &mut W,
 ) -> anyhow::Result<()> {
-    let at = name(b"f")?;
     let mut memo = Memo::new(alloc);
-    put(alloc, shelf, at, unit, 1)?;
-    install_again(alloc, &mut memo, shelf, at, outcome)?;
-    show_remembered(&memo, shelf, &at, out)?;
-    put(alloc, shelf, at, unit, 2)?;
-    show_remembered(&memo, shelf, &at, out)
+    put_all(alloc, shelf, names, unit)?;
+    install_all(alloc, &mut memo, shelf, names, outcome)?;
+    show_all(&memo, shelf, names, out)?;
+    if let [first, ..] = names {
+        put(alloc, shelf, *first, unit, 2)?;
+    }
+    show_all(&memo, shelf, names, out)
 }
 
-/// Shows what is remembered of a unit.
-fn show_unit<W: Write>(alloc: Global, unit: &Shared<Unit>, out: &mut W) -> anyhow::Result<()> {
+/// Shows what is remembered of a unit at these names.
+fn show_unit<W: Write>(
+    alloc: Global,
+    names: &[Name],
+    unit: &Shared<Unit>,
+    out: &mut W,
+) -> anyhow::Result<()> {
     let outcome = again(|| no_body(alloc))?;
     let mut shelf = again(|| Ok(Shelf::new(alloc, no_declarations(alloc)?, 1)?))?;
-    show_on(alloc, &mut shelf, unit, &outcome, out)
+    show_on(alloc, &mut shelf, names, unit, &outcome, out)
 }
 
-/// Shows what is remembered for a name that is held: an outcome, and nothing once its unit is put again. (Own.)
+/// Shows what is remembered for names that are held: an outcome, and nothing once the unit of one on which they rest is put again. (Own.)
 pub fn show<W: Write>(alloc: Global, out: &mut W) -> anyhow::Result<()> {
+    let names = again(|| names(alloc, &NAMES))?;
     let unit = Shared::new(again(|| shared_unit(alloc, WRITES_LAST))?);
-    show_unit(alloc, &unit, out)
+    show_unit(alloc, &names, &unit, out)
 }

@@ -1,14 +1,20 @@
-//! The piece of a body, made once more where it is refused.
+//! The piece of a body, and pieces that a memo keeps, each call made once more where it is refused.
 ghost use Rattle.std.specs.Prelude.{◌≡◌, []};
 
+use crate::shelves::names;
 use anyhow::bail;
 use bc_calls::no_declarations;
-use bc_fixtures::{WRITES_WHILE_BORROWED, again, shared_unit};
+use bc_fixtures::{WRITES_WHILE_BORROWED, again, name, shared_unit};
+use bc_memo::PieceMemo;
 use bc_outcomes::piece;
-use bc_prov::{Declared, Piece, Providers, Shared};
+use bc_prov::{Declared, Piece, Providers, Shared, share};
 use bc_syntax::Unit;
-use std::alloc::Global;
+use bc_text::Name;
+use std::alloc::{AllocError, Global};
 use std::io::Write;
+
+/// Five names, three of them in one part.
+const NAMES: [&[u8]; 5] = [b"h", b"f/0", b"g", b"f", b"f/0/1"];
 
 /// The piece of a unit that names no closure, over declarations that there are none of.
 fn piece_over(
@@ -16,23 +22,89 @@ fn piece_over(
     providers: &Providers,
     types: &Shared<Declared>,
     unit: &Shared<Unit>,
-) -> anyhow::Result<Piece>
+) -> anyhow::Result<Shared<Piece>>
     requires { types.now ≡ [] }
 {
     let children = unit.get().body().children(alloc)?;
     match children.as_slice() {
-        [] => Ok(piece(alloc, providers, types, unit, Vec::new(alloc))?),
+        [] => {
+            let made = piece(alloc, providers, types, unit, Vec::new(alloc))?;
+            Ok(share(alloc, made)?)
+        }
         [_, ..] => bail!("the body names a closure"),
     }
 }
 
 /// The piece of a unit over no declarations.
-fn piece_alone(alloc: Global, providers: &Providers, unit: &Shared<Unit>) -> anyhow::Result<Piece> {
+fn piece_alone(
+    alloc: Global,
+    providers: &Providers,
+    unit: &Shared<Unit>,
+) -> anyhow::Result<Shared<Piece>> {
     let types = no_declarations(alloc)?;
     piece_over(alloc, providers, &types, unit)
 }
 
-/// Shows the errors of a piece.
+/// Whether a piece is kept for exactly the first of these names, so many.
+fn are_first(memo: &PieceMemo, names: &[Name], count: usize) -> bool {
+    for (place, name) in names.iter().enumerate() {
+        if memo.kept(name).is_some() != (place < count) {
+            return false;
+        }
+    }
+    true
+}
+
+/// Keeps a piece for a name.
+fn keep(memo: &mut PieceMemo, at: Name, piece: &Shared<Piece>) -> Result<(), AllocError> {
+    memo.keep(at, piece.clone()?)
+}
+
+/// Has a memo that keeps a piece for the first of these names, so many, keep it for the next, once more where that is refused: then it
+/// keeps what it did before.
+fn keep_next(
+    memo: &mut PieceMemo,
+    names: &[Name],
+    count: usize,
+    next: Name,
+    piece: &Shared<Piece>,
+) -> anyhow::Result<()> {
+    if keep(memo, next, piece).is_ok() {
+        return Ok(());
+    }
+    if !are_first(memo, names, count) {
+        bail!("a refused piece changed what is kept");
+    }
+    keep(memo, next, piece)?;
+    Ok(())
+}
+
+/// Keeps a piece for each of these names.
+fn keep_all(memo: &mut PieceMemo, names: &[Name], piece: &Shared<Piece>) -> anyhow::Result<()> {
+    for (count, next) in names.iter().enumerate() {
+        keep_next(memo, names, count, *next, piece)?;
+    }
+    Ok(())
+}
+
+/// Shows how many pieces of a name's part are kept.
+fn show_part<W: Write>(alloc: Global, memo: &PieceMemo, out: &mut W) -> anyhow::Result<()> {
+    let f = name(b"f")?;
+    let pieces = again(|| Ok(memo.part(alloc, &f)?))?;
+    let count = pieces.len();
+    writeln!(out, "{count} pieces are kept of {f}")?;
+    Ok(())
+}
+
+/// Keeps a piece for names, for none of which a memo has memory at first.
+fn show_kept<W: Write>(alloc: Global, piece: &Shared<Piece>, out: &mut W) -> anyhow::Result<()> {
+    let names = again(|| names(alloc, &NAMES))?;
+    let mut memo = again(|| Ok(PieceMemo::new(alloc, 0)?))?;
+    keep_all(&mut memo, &names, piece)?;
+    show_part(alloc, &memo, out)
+}
+
+/// Shows the errors of a piece, and how many pieces are kept of a part.
 fn show_of<W: Write>(
     alloc: Global,
     providers: &Providers,
@@ -40,13 +112,13 @@ fn show_of<W: Write>(
     out: &mut W,
 ) -> anyhow::Result<()> {
     let piece = again(|| piece_alone(alloc, providers, unit))?;
-    for error in piece.errors().as_slice() {
+    for error in piece.get().errors().as_slice() {
         writeln!(out, "{error}")?;
     }
-    Ok(())
+    show_kept(alloc, &piece, out)
 }
 
-/// Shows the errors of the piece of a body, made once more where it is refused. (Own.)
+/// Shows the errors of the piece of a body, and how many pieces are kept of a part. (Own.)
 pub fn show<W: Write>(alloc: Global, providers: &Providers, out: &mut W) -> anyhow::Result<()> {
     let unit = Shared::new(again(|| shared_unit(alloc, WRITES_WHILE_BORROWED))?);
     show_of(alloc, providers, &unit, out)

@@ -1,0 +1,125 @@
+//! Outcomes of each kind, and their lines of JSON, each found once more where that is refused.
+use crate::shelves::{declare, declared, put_text};
+use crate::wide;
+use bc_fixtures::{CLOSURE, INVARIANT_BUT_MARKED_COVARIANT, again, name};
+use bc_json::json_report;
+use bc_memo::{Part, Shelf};
+use bc_outcomes::{report, report_pieces};
+use bc_prov::{Outcome, Pieces, Providers, Snapshot};
+use bc_text::Name;
+use std::alloc::Global;
+use std::io::Write;
+
+/// A shelf that holds declarations and no unit.
+fn empty_shelf(alloc: Global) -> anyhow::Result<Shelf> {
+    let types = declared(alloc, wide::DECLARATIONS)?;
+    Ok(Shelf::new(alloc, types, 1)?)
+}
+
+/// The part of what is held that the outcome of `f` rests on.
+fn part_of_f(alloc: Global, shelf: &Shelf) -> anyhow::Result<Part> {
+    let f = name(b"f")?;
+    Ok(shelf.part(alloc, &f)?)
+}
+
+/// Shows the line of a name and its outcome.
+fn show_line<W: Write>(
+    alloc: Global,
+    at: &Name,
+    outcome: &Outcome,
+    out: &mut W,
+) -> anyhow::Result<()> {
+    let line = again(|| Ok(json_report(alloc, at, outcome)?))?;
+    writeln!(out, "{line}")?;
+    Ok(())
+}
+
+/// Shows the outcome of a snapshot.
+fn show_snapshot<W: Write>(
+    alloc: Global,
+    providers: &Providers,
+    snapshot: &Snapshot,
+    out: &mut W,
+) -> anyhow::Result<()> {
+    let outcome = again(|| Ok(report(alloc, providers, snapshot)?))?;
+    show_line(alloc, snapshot.root(), &outcome, out)
+}
+
+/// Shows the outcome of `f` in what is held.
+fn show_outcome<W: Write>(
+    alloc: Global,
+    providers: &Providers,
+    shelf: &Shelf,
+    out: &mut W,
+) -> anyhow::Result<()> {
+    let part = again(|| part_of_f(alloc, shelf))?;
+    show_snapshot(alloc, providers, &part.snapshot, out)
+}
+
+/// The pieces of the bodies of a snapshot.
+fn pieces_of(alloc: Global, providers: &Providers, snapshot: &Snapshot) -> anyhow::Result<Pieces> {
+    let (_outcome, pieces) = report_pieces(alloc, providers, snapshot)?;
+    Ok(pieces)
+}
+
+/// Shows how many errors each piece of a snapshot has, and how much it requires.
+fn show_pieces_of<W: Write>(
+    alloc: Global,
+    providers: &Providers,
+    snapshot: &Snapshot,
+    out: &mut W,
+) -> anyhow::Result<()> {
+    let pieces = again(|| pieces_of(alloc, providers, snapshot))?;
+    for (at, piece) in &pieces {
+        let errors = piece.get().errors().len();
+        let required = piece.get().requirements().pairs.len();
+        writeln!(out, "piece of {at}: {errors} errors, {required} required")?;
+    }
+    Ok(())
+}
+
+/// Shows the pieces of `f` in what is held.
+fn show_pieces<W: Write>(
+    alloc: Global,
+    providers: &Providers,
+    shelf: &Shelf,
+    out: &mut W,
+) -> anyhow::Result<()> {
+    let part = again(|| part_of_f(alloc, shelf))?;
+    show_pieces_of(alloc, providers, &part.snapshot, out)
+}
+
+/// Shows the outcome of `f` where nothing is held, where its closure is missing, and where that is held, with its pieces.
+fn show_found<W: Write>(
+    alloc: Global,
+    providers: &Providers,
+    shelf: &mut Shelf,
+    out: &mut W,
+) -> anyhow::Result<()> {
+    show_outcome(alloc, providers, shelf, out)?;
+    put_text(alloc, shelf, b"f", wide::CREATOR, 1)?;
+    show_outcome(alloc, providers, shelf, out)?;
+    put_text(alloc, shelf, b"f/0", wide::CLOSURE, 2)?;
+    show_outcome(alloc, providers, shelf, out)?;
+    show_pieces(alloc, providers, shelf, out)
+}
+
+/// Shows the outcome of `f` where another closure is put, so that it breaks a typing rule, and where a declaration is bad.
+fn show_broken<W: Write>(
+    alloc: Global,
+    providers: &Providers,
+    shelf: &mut Shelf,
+    out: &mut W,
+) -> anyhow::Result<()> {
+    put_text(alloc, shelf, b"f/0", CLOSURE, 3)?;
+    show_outcome(alloc, providers, shelf, out)?;
+    declare(alloc, shelf, INVARIANT_BUT_MARKED_COVARIANT, 4)?;
+    show_outcome(alloc, providers, shelf, out)
+}
+
+/// Shows the outcome of a name of each kind, by its line of JSON. (Own.)
+pub fn show<W: Write>(alloc: Global, providers: &Providers, out: &mut W) -> anyhow::Result<()> {
+    let mut shelf = again(|| empty_shelf(alloc))?;
+    show_found(alloc, providers, &mut shelf, out)?;
+    show_broken(alloc, providers, &mut shelf, out)
+}
