@@ -5,7 +5,6 @@ use bc_calls::no_declarations;
 use bc_fixtures::{WRITES_LAST, again, shared_unit};
 use bc_memo::{Memo, Shelf};
 use bc_prov::{Outcome, Shared};
-use bc_report::write_report;
 use bc_syntax::Unit;
 use bc_text::Name;
 use std::alloc::{AllocError, Global};
@@ -96,35 +95,8 @@ fn install_all(
     Ok(())
 }
 
-/// Shows what a memo remembers for a name.
-fn show_remembered<W: Write>(
-    memo: &Memo,
-    shelf: &Shelf,
-    at: &Name,
-    out: &mut W,
-) -> anyhow::Result<()> {
-    match memo.lookup(shelf, at) {
-        Some(outcome) => write_report(outcome.get(), out)?,
-        None => writeln!(out, "nothing is remembered")?,
-    }
-    Ok(())
-}
-
-/// Shows what a memo remembers for each of these names.
-fn show_all<W: Write>(
-    memo: &Memo,
-    shelf: &Shelf,
-    names: &[Name],
-    out: &mut W,
-) -> anyhow::Result<()> {
-    for at in names {
-        show_remembered(memo, shelf, at, out)?;
-    }
-    Ok(())
-}
-
-/// Holds a unit at each of these names, remembers an outcome of each, and puts the unit of one again. Shows what is remembered before that
-/// and behind it.
+/// Holds a unit at each of these names, remembers an outcome of each, and puts the unit of one again. Shows whether all are remembered
+/// before that, and none behind it.
 fn show_on<W: Write>(
     alloc: Global,
     shelf: &mut Shelf,
@@ -136,11 +108,13 @@ fn show_on<W: Write>(
     let mut memo = Memo::new(alloc);
     put_all(alloc, shelf, names, unit)?;
     install_all(alloc, &mut memo, shelf, names, outcome)?;
-    show_all(&memo, shelf, names, out)?;
+    let all = are_first(&memo, shelf, names, names.len());
     if let [first, ..] = names {
         put(alloc, shelf, *first, unit, 2)?;
     }
-    show_all(&memo, shelf, names, out)
+    let none = are_first(&memo, shelf, names, 0);
+    writeln!(out, "all are remembered: {all}, none then: {none}")?;
+    Ok(())
 }
 
 /// Shows what is remembered of a unit at these names.
@@ -155,7 +129,7 @@ fn show_unit<W: Write>(
     show_on(alloc, &mut shelf, names, unit, &outcome, out)
 }
 
-/// Shows what is remembered for names that are held: an outcome, and nothing once the unit of one on which they rest is put again. (Own.)
+/// Shows that an outcome is remembered for names that are held, and none once the unit of one on which they rest is put again. (Own.)
 pub fn show<W: Write>(alloc: Global, out: &mut W) -> anyhow::Result<()> {
     let names = again(|| names(alloc, &NAMES))?;
     let unit = Shared::new(again(|| shared_unit(alloc, WRITES_LAST))?);

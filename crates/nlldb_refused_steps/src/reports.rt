@@ -1,4 +1,4 @@
-//! Outcomes of each kind, and their lines of JSON, each found once more where that is refused.
+//! Outcomes of each kind with their lines of JSON and the pieces of their bodies, each found once more where that is refused.
 use crate::shelves::{declare, declared, put_text};
 use crate::wide;
 use bc_fixtures::{CLOSURE, INVARIANT_BUT_MARKED_COVARIANT, again, name};
@@ -45,17 +45,6 @@ fn show_snapshot<W: Write>(
     show_line(alloc, snapshot.root(), &outcome, out)
 }
 
-/// Shows the outcome of `f` in what is held.
-fn show_outcome<W: Write>(
-    alloc: Global,
-    providers: &Providers,
-    shelf: &Shelf,
-    out: &mut W,
-) -> anyhow::Result<()> {
-    let part = again(|| part_of_f(alloc, shelf))?;
-    show_snapshot(alloc, providers, &part.snapshot, out)
-}
-
 /// The pieces of the bodies of a snapshot.
 fn pieces_of(alloc: Global, providers: &Providers, snapshot: &Snapshot) -> anyhow::Result<Pieces> {
     let (_outcome, pieces) = report_pieces(alloc, providers, snapshot)?;
@@ -63,7 +52,7 @@ fn pieces_of(alloc: Global, providers: &Providers, snapshot: &Snapshot) -> anyho
 }
 
 /// Shows how many errors each piece of a snapshot has, and how much it requires.
-fn show_pieces_of<W: Write>(
+fn show_pieces<W: Write>(
     alloc: Global,
     providers: &Providers,
     snapshot: &Snapshot,
@@ -78,18 +67,19 @@ fn show_pieces_of<W: Write>(
     Ok(())
 }
 
-/// Shows the pieces of `f` in what is held.
-fn show_pieces<W: Write>(
+/// Shows the outcome of `f` in what is held, and its pieces.
+fn show_outcome<W: Write>(
     alloc: Global,
     providers: &Providers,
     shelf: &Shelf,
     out: &mut W,
 ) -> anyhow::Result<()> {
     let part = again(|| part_of_f(alloc, shelf))?;
-    show_pieces_of(alloc, providers, &part.snapshot, out)
+    show_snapshot(alloc, providers, &part.snapshot, out)?;
+    show_pieces(alloc, providers, &part.snapshot, out)
 }
 
-/// Shows the outcome of `f` where nothing is held, where its closure is missing, and where that is held, with its pieces.
+/// Shows the outcome of `f` where nothing is held, where its closure is missing, and where that is held.
 fn show_found<W: Write>(
     alloc: Global,
     providers: &Providers,
@@ -100,8 +90,7 @@ fn show_found<W: Write>(
     put_text(alloc, shelf, b"f", wide::CREATOR, 1)?;
     show_outcome(alloc, providers, shelf, out)?;
     put_text(alloc, shelf, b"f/0", wide::CLOSURE, 2)?;
-    show_outcome(alloc, providers, shelf, out)?;
-    show_pieces(alloc, providers, shelf, out)
+    show_outcome(alloc, providers, shelf, out)
 }
 
 /// Shows the outcome of `f` where another closure is put, so that it breaks a typing rule, and where a declaration is bad.
