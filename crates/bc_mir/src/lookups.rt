@@ -25,7 +25,7 @@ fn any_holds_drop(types: &GoodTypes, captures: &[Ty]) -> bool
 
 impl Typed {
     /// The type of a place: that of its local, behind each projection in turn; `None` where it has none. The error is want of
-    /// memory alone. (RFC 2094, "The MIR".)
+    /// memory alone. (rustc-dev-guide, "The MIR".)
     pub fn place_type(&self, alloc: Global, place: &Place) -> Result<Option<Ty>, AllocError>
         ensures { IfOk result (λ ty. ty ≡ place_there self.now place.now) }
     {
@@ -33,7 +33,7 @@ impl Typed {
     }
 
     /// The type of a place that has one and goes through no field, as it stands in the type of its local; `None` for any other.
-    /// It takes no memory. (RFC 2094, "The MIR".)
+    /// It takes no memory. (rustc-dev-guide, "The MIR".)
     pub fn lent_type_of_place(&self, place: &Place) -> Option<TyRef<'_>>
         ensures { MatchOption result ⊤ (λ ty. place_there self.now place.now ≡ Some ty) }
     {

@@ -24,7 +24,7 @@ pub struct Point {
 }
 
 /// What happens at a point.
-/// (RFC 2094, "The MIR".)
+/// (rustc-dev-guide, "The MIR".)
 #[derive(Drop)]
 pub enum Instruction {
     Statement(Statement),
@@ -32,7 +32,7 @@ pub enum Instruction {
 }
 
 /// A point with what happens there.
-/// (RFC 2094, "The MIR".)
+/// (rustc-dev-guide, "The MIR".)
 #[derive(Drop)]
 pub struct Step {
     pub point: Point,

@@ -185,7 +185,7 @@ fn share(types: &Arc<GoodTypes, Global>) -> Result<Arc<GoodTypes, Global>, Alloc
 }
 
 /// Types a unit over declarations and the headers of its children, one for each closure that the unit names, ascending (the
-/// rules are own, over the language of RFC 2094, "The MIR"). It answers `Ill` with the place of the first misfit where a rule
+/// rules are own, over the language of the rustc-dev-guide, "The MIR"). It answers `Ill` with the place of the first misfit where a rule
 /// fails: the header if a header rule fails, else the least point at which a rule fails; and `NoMemory` only where memory was
 /// refused.
 pub fn type_unit(

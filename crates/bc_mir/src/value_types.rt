@@ -1,4 +1,4 @@
-//! Types of operands and rvalues (own, over the language of RFC 2094, "The MIR").
+//! Types of operands and rvalues (own, over the language of the rustc-dev-guide, "The MIR").
 ghost use Rattle.std.specs.Prelude.{◌≡◌, ⊤, Some, IfOk, MatchOption};
 ghost use Rattle.bc_mir.specs.Children.{closure_type as type_closure};
 ghost use Rattle.bc_mir.specs.Rules.{int_type as type_int, type_of_operand as operand_there, type_to_write as written_there, type_reached as reached_there, type_to_borrow as borrowed_there, unless_closure as closure_refused, closure_in as closure_there, type_referenced as referenced, struct_type as type_struct, type_of_rvalue as rvalue_there};

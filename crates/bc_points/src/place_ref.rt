@@ -6,7 +6,7 @@ use bc_syntax::{Place, Projection};
 use std::marker::Model;
 
 /// A place that is lent: its local, and its projections where they stand. It takes no memory, and contracts see it as the place.
-/// (After `PlaceRef` of rustc; RFC 2094, "The MIR".)
+/// (After `PlaceRef` of rustc; rustc-dev-guide, "The MIR".)
 #[derive(Drop)]
 pub struct PlaceRef<'a> {
     local: u8,
