@@ -1,6 +1,6 @@
 -- What is remembered already.
 use denote.Ref.{Bor}
-use Rattle.std.proofs.Common.{◌≡◌, ℕ, List, [], ◌∷◌, refl, ap, sym, subst, ◌∙◌, Option, Some, None}
+use Rattle.std.proofs.Common.{◌≡◌, ℕ, Bool, List, [], ◌∷◌, cond, refl, ap, sym, subst, ◌∙◌, Option, Some, None}
 use Rattle.std.specs.Prelude.{IfSome, IfNone, IsSome}
 use Rattle.std.specs.Option.{ForSome, option_copied, option_map, option_or}
 use Rattle.std.specs.List.{AllByRecursion}
@@ -14,12 +14,13 @@ use Rattle.bc_memo.specs.declared.change.Change.TheVariants as changes
 use Rattle.bc_memo.specs.declared.memo.Remembered.{Remembered}
 use Rattle.bc_memo.specs.Places.{ShelfView, changed, mark, revision_at, revision_of}
 use Rattle.bc_memo.specs.Memos.{IsRemembered, Recorded, Stands}
-use Rattle.bc_memo.proofs.Places.{at_name-map, put_here}
+use Rattle.bc_memo.proofs.Places.{at_name-map, at_name-put, put_here}
 use Rattle.bc_calls.specs.declared.call.Entry.{Entry}
 use Rattle.bc_calls.specs.declared.call.Event.TheVariants.{Ask}
 use Rattle.bc_calls.specs.Calls.{after}
 use Rattle.bc_calls.specs.Changes.{change_of, writes_after, writes_of}
-use Rattle.bc_book.specs.Ledgers.{Appends, BookView, IsRow, Recalls, Remembers, kept_rows, remembering}
+use Rattle.bc_calls.proofs.Answering.{other_name}
+use Rattle.bc_book.specs.Ledgers.{Appends, BookView, IsRow, KeepsOthers, Recalls, Remembers, kept_rows, remembering}
 
 -- what is looked up is what is remembered
 pub looked_up : (s : ShelfView) (rows : List (NameParts × Remembered)) (n : NameParts) (r : Option (Bor Outcome))
@@ -80,3 +81,19 @@ recalled_by session k n o mine old new row step answers named same recalls is =
     (λ i. ((named i, sym same i), sym step.shelf i, sym answers i))
     (recalled old.shelf old.entries old.answers k o revision row recalls (λ r at. (is r at).1)
     (subst (λ (x : ShelfView × NameParts). IsSome (at_name x.0.places x.1)) (λ i. (step.shelf i, sym named i)) held))
+
+-- with a row of one name, what is remembered for another is as it was
+others_kept : (n other : NameParts) (rows : List (NameParts × Remembered)) (row : Option (NameParts × Remembered)) → ForSome row (λ r. r.0 ≡ n) → (other ≡ n → ⊥)
+    → at_name (remembering row rows) other ≡ at_name rows other
+others_kept n other rows None is apart = refl
+others_kept n other rows (Some r) is apart =
+    at_name-put r.0 r.1 other rows
+    ∙ ap (λ (b : Bool). cond b (Some r.1) (at_name rows other)) (other_name r.0 other (λ (same : r.0 ≡ other). apart (sym same ∙ is r refl)))
+
+-- an Ask that is entered leaves what is remembered for other names
+pub others_kept_by : (k n : NameParts) (o : Outcome) (old new : BookView) (row : Option (NameParts × Remembered))
+    → new.answers ≡ kept_rows (change_of (Ask k o)) (remembering row old.answers) → k ≡ n
+    → ForSome row (λ r. (r.0 ≡ k) × IsRow old.shelf old.entries r.0 r.1) → KeepsOthers n old new
+others_kept_by k n o old new row answers named is other apart =
+    ap (λ (rows : List (NameParts × Remembered)). at_name rows other) answers
+    ∙ others_kept n other old.answers row (λ r at. (is r at).0 ∙ named) apart

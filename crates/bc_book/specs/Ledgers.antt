@@ -126,6 +126,10 @@ Keeps event old new = new.answers ≡ kept_rows (change_of event) old.answers
 abbrev pub Remembers : NameParts → Outcome → BookView → Type 0
 Remembers name outcome book = IsSome (at_name book.shelf.places name) → IsRemembered book.shelf book.answers name (Some outcome)
 
+-- what is remembered for every other name is as it was
+abbrev pub KeepsOthers : NameParts → BookView → BookView → Type 0
+KeepsOthers name old new = (other : NameParts) → (other ≡ name → ⊥) → at_name new.answers other ≡ at_name old.answers other
+
 -- a call is refused as full exactly where there are as many entries as there may be
 abbrev pub IsFull : BookView → Refusal → Type 0
 IsFull book refusal = refusal ≡ HistoryFull ↔ length book.entries ≡ book.capacity

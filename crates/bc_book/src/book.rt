@@ -6,7 +6,7 @@ ghost use Rattle.bc_prov.specs.Snapshots.{IsPartOf};
 ghost use Rattle.bc_memo.specs.Memos.{IsRemembered};
 ghost use Rattle.bc_calls.specs.Calls.{IsLegal, IsReply, after};
 ghost use Rattle.bc_calls.specs.Changes.{change_of};
-ghost use Rattle.bc_book.specs.Ledgers.{Appends, HasPlace, IsFull, IsRow, Keeps, Remembers, empty_book, kept_rows, remembering};
+ghost use Rattle.bc_book.specs.Ledgers.{Appends, HasPlace, IsFull, IsRow, Keeps, KeepsOthers, Remembers, empty_book, kept_rows, remembering};
 
 use crate::ledger::{Ledger, MOST_SESSIONS, Refusal};
 use bc_calls::{Begun, Entry, Event, PutReply, RemoveReply, Work, no_declarations};
@@ -217,6 +217,7 @@ impl<E: Ending> Book<E> {
         requires session { session < MOST_SESSIONS }
         ensures step { IfOk result (λ told. Appends session (Event.Ask work.snapshot.root told.0) self.old self.new) }
         ensures answers { IfOk result (λ told. Remembers work.snapshot.root told.0 self.new) }
+        ensures others { OnOk result (KeepsOthers work.snapshot.root self.old self.new) }
         ensures same { IfOk result (λ told. told.1 ≡ told.0) }
         ensures refused { OnErr result (self.new ≡ self.old) }
         ensures full { IfErr result (IsFull self.old) }

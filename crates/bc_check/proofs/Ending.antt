@@ -1,8 +1,8 @@
 -- How the command ends.
 use Rattle.std.proofs.Common.{◌≡◌, ℕ, Bool, ◌≤◌, ◌+◌, max, List, [], ◌∷◌, ◌++◌, Option, Some, None, inl, inr, get_or, length, map, refl, sym, ap, ◌∙◌, subst, append_assoc, append-nil, arith}
-use Rattle.std.specs.Prelude.{Result, Ok, Err, IfOk, IfSome}
+use Rattle.std.specs.Prelude.{◌⊎◌, true, Result, Ok, Err, IfOk, IfErr, IfSome, IsErrOf}
 use Rattle.std.specs.List.{flat_map}
-use Rattle.std.specs.Io.KnownBytes.{Appends}
+use Rattle.std.specs.Io.KnownBytes.{Appends, Keeps}
 use Rattle.std.proofs.lemmas.List.{map-append}
 use Rattle.std.proofs.lemmas.Grind.{flat_map-append}
 use Rattle.bc_text.specs.Names.{NameParts}
@@ -16,14 +16,16 @@ use Rattle.bc_share.specs.Sessions.{SessionView, new_session}
 use Rattle.bc_share.specs.Closings.{IsOneHistory}
 use Rattle.bc_share.specs.declared.db.TheConstants.{MOST_ENTRIES}
 use Rattle.bc_check.specs.declared.stop.Stop.{Stop}
+use Rattle.bc_check.specs.declared.stop.Stop.TheVariants.{CannotWrite, CannotTell, NoMemory, HistoryFull}
 use Rattle.bc_check.specs.declared.file.Change.{Change}
 use Rattle.bc_check.specs.declared.file.Change.TheVariants as changes
 use Rattle.bc_check.specs.Changes.{seen}
-use Rattle.bc_check.specs.Run.{calls_of, told, shown, greatest, AreLegal}
-use Rattle.bc_check.specs.Served.{Adds, Served, ServedPart, ServedAll, ServedFirst, Runs, Begins, IsAtMostOneMore}
+use Rattle.bc_check.specs.Stops.{is_refused}
+use Rattle.bc_check.specs.Run.{calls_of, told, shown, greatest, AreLegal, AreReplied}
+use Rattle.bc_check.specs.Served.{Adds, Served, ServedPart, ServedAll, ServedFirst, ServedThen, Runs, Begins, Prints, PrintsPart, HasSeenItsOwn, IsAtMostOneMore}
 use Rattle.bc_check.proofs.Members.{Contains-one}
 use Rattle.bc_check.proofs.Shorter.{the_last, legal_shorter}
-use Rattle.bc_check.proofs.Serving.{nothing_added, adds_then}
+use Rattle.bc_check.proofs.Serving.{nothing_added, kept_adds, adds_one, adds_then}
 
 -- nothing is told of an Ask
 told_ask : (e : Event) (name : NameParts) → call_of e ≡ calls_made.Ask name → told e ≡ []
@@ -70,21 +72,31 @@ legal_of s h events one zero_is own =
       own = ap (λ (n : ℕ). calls n h) (sym zero_is) ∙ sym (agrees.own 0 s (omega arith)) ∙ own;
     }
 
-legal_added : (events : List Event) (s t : SessionView) (h : List Entry) → s ≡ new_session 0 0 → Adds events s t → IsOneHistory (t ∷ []) h → AreLegal events
-legal_added events s t h is adds one =
-    legal_of t h events one (adds.number ∙ ap (λ (x : SessionView). x.number) is) (adds.own ∙ ap (λ (x : SessionView). x.own ++ events) is)
+legal_added : (events : List Event) (s t : SessionView) (h : List Entry) → s ≡ new_session 0 0 → t.number ≡ s.number → t.own ≡ s.own ++ events → IsOneHistory (t ∷ []) h → AreLegal events
+legal_added events s t h is number own one =
+    legal_of t h events one (number ∙ ap (λ (x : SessionView). x.number) is) (own ∙ ap (λ (x : SessionView). x.own ++ events) is)
 
 -- the calls that were answered and printed, of a session that answered at most one more
 legal_begun : (events : List Event) (s between t : SessionView) (h : List Entry) → s ≡ new_session 0 0 → Adds events s between → IsAtMostOneMore between t → IsOneHistory (t ∷ []) h → AreLegal events
 legal_begun events s between t h is adds last one = elim last [
-  | inl same ↦ legal_added events s t h is (record { tag = same.tag ∙ adds.tag; number = same.number ∙ adds.number; own = same.own ∙ adds.own }) one
-  | inr more ↦ (let event : Event = more.0 in let answered = more.1 in legal_shorter events event (legal_added (events ++ event ∷ []) s t h is (adds_then events (event ∷ []) s between t adds (record { tag = answered.tag; number = answered.number; own = answered.own })) one))
+  | inl same ↦ legal_added events s t h is (same.number ∙ adds.number) (same.own ∙ adds.own) one
+  | inr more ↦ (let event : Event = more.0 in let all = adds_then events (event ∷ []) s between t adds (adds_one event between t more.1) in legal_shorter events event (legal_added (events ++ event ∷ []) s t h is all.number all.own one))
 ]
 
 -- nothing stands anywhere in an empty history
 legal_none : IsLegal []
 legal_none [] e rest is = absurd cc
 legal_none (b ∷ bs) e rest is = absurd cc
+
+-- the calls that a new session answered
+replied_of : (events : List Event) (s t : SessionView) → s ≡ new_session 0 0 → Adds events s t → AreReplied events
+replied_of events s t is adds =
+    let seen : HasSeenItsOwn t = adds.seen (subst HasSeenItsOwn (sym is) (legal_none, refl)) in
+    record {
+      history = t.seen;
+      legal = seen.0;
+      own = ap (λ (n : ℕ). calls n t.seen) (sym (adds.number ∙ ap (λ (x : SessionView). x.number) is)) ∙ seen.1 ∙ adds.own ∙ ap (λ (x : SessionView). x.own ++ events) is;
+    }
 
 -- all changes and all Asks
 pub served_all : (json : Bool) (list : List Change) (names : List NameParts) (m n : ℕ) (s0 s1 s2 : SessionView) (o0 o1 e0 e1 : Option (List ℕ)) → Served (map seen list) told m s0 s1 e0 e1 → Served (map calls_made.Ask names) (shown json) n s1 s2 o0 o1 → ServedAll json (map seen list) names (max m n) s0 s2 o0 o1 e0 e1
@@ -151,7 +163,7 @@ runs_of json first names s t o o' e e' h (Ok exit) is few one all = record {
   events = all.events;
   made = all.made;
   few = few;
-  legal = legal_added all.events s t h is all.adds one;
+  legal = legal_added all.events s t h is all.adds.number all.adds.own one;
   output = all.output;
   errors = all.errors;
   status = all.status;
@@ -167,6 +179,56 @@ begins_of json first names s t o o' e e' h is one some = record {
   output = some.output;
   errors = some.errors;
 }
+
+-- what was printed of calls that a new session answered
+pub prints_of : (list : List Call) (text : Event → List ℕ) (s : SessionView) (u v : Option (List ℕ)) → s ≡ new_session 0 0 → ServedThen list text s u v → Prints list text u v
+prints_of list text s u v is h = record {
+  events = h.served.events;
+  made = h.served.made;
+  replied = replied_of h.served.events s h.between is h.served.adds;
+  printed = h.served.printed;
+}
+
+prints_none : (list : List Call) (text : Event → List ℕ) (u v : Option (List ℕ)) → Keeps u v → PrintsPart list text u v
+prints_none list text u v kept = record {
+  front = [];
+  ahead = list;
+  cut = refl;
+  prints = record { events = []; made = refl; replied = record { history = []; legal = legal_none; own = refl }; printed = kept_adds u v kept };
+}
+
+prints_first : (json : Bool) (first : List Call) (names : List NameParts) (s t : SessionView) (o o' e e' : Option (List ℕ)) → s ≡ new_session 0 0 → ServedFirst json first names s t o o' e e' → PrintsPart (calls_of first names) (shown json) o o'
+prints_first json first names s t o o' e e' is some = record {
+  front = map call_of some.events;
+  ahead = some.ahead;
+  cut = some.made;
+  prints = record { events = some.events; made = refl; replied = replied_of some.events s some.between is some.adds; printed = some.output };
+}
+
+-- where standard output has not failed, it has what belongs to a beginning of the calls
+pub prints_part : (json : Bool) (first : List Call) (names : List NameParts) (s t : SessionView) (o o' e e' : Option (List ℕ)) (r : Result ℕ Stop) → s ≡ new_session 0 0
+    → IfOk r (λ exit. ServedAll json first names exit s t o o' e e')
+    → IfErr r (λ stop. is_refused stop ≡ true → ServedFirst json first names s t o o' e e')
+    → (IsErrOf r CannotTell → Keeps o o')
+    → IfErr r (λ stop. (stop ≡ CannotTell) ⊎ (stop ≡ CannotWrite) ⊎ (stop ≡ NoMemory) ⊎ (stop ≡ HistoryFull))
+    → (IsErrOf r CannotWrite → ⊥)
+    → PrintsPart (calls_of first names) (shown json) o o'
+prints_part json first names s t o o' e e' (Ok n) is all some untold stop well = record {
+  front = calls_of first names;
+  ahead = [];
+  cut = append-nil _;
+  prints = record { events = all.events; made = all.made; replied = replied_of all.events s t is all.adds; printed = all.output };
+}
+prints_part json first names s t o o' e e' (Err x) is all some untold stop well = elim stop [
+  | inl tell ↦ prints_none (calls_of first names) (shown json) o o' (untold (ap Err tell))
+  | inr more ↦ elim more [
+    | inl write ↦ absurd (well (ap Err write))
+    | inr refused ↦ prints_first json first names s t o o' e e' is (some (elim refused [
+      | inl memory ↦ ap is_refused memory
+      | inr full ↦ ap is_refused full
+    ]))
+  ]
+]
 
 -- no call was made
 pub begins_none : (json : Bool) (first : List Call) (names : List NameParts) (o e : Option (List ℕ)) → Begins json first names o o e e

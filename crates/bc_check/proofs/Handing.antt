@@ -1,14 +1,15 @@
 -- Reports that are handed on.
 use Rattle.std.proofs.Common.{◌≡◌, ℕ, List, Option, sym, subst, inl, inr}
-use Rattle.std.specs.Prelude.{◌⊎◌, Result, Ok, Err, IfOk, IsErrOf}
+use Rattle.std.specs.Prelude.{◌⊎◌, true, Result, Ok, Err, IfOk, IfErr}
 use Rattle.std.specs.Io.KnownBytes.{Keeps}
 use Rattle.bc_calls.specs.declared.call.Call.{Call}
 use Rattle.bc_calls.specs.declared.call.Event.{Event}
 use Rattle.bc_share.specs.Sessions.{SessionView}
 use Rattle.bc_check.specs.declared.stop.Stop.{Stop}
-use Rattle.bc_check.specs.declared.stop.Stop.TheVariants.{CannotWrite, NoMemory}
+use Rattle.bc_check.specs.declared.stop.Stop.TheVariants.{CannotWrite}
+use Rattle.bc_check.specs.Stops.{is_refused}
 use Rattle.bc_check.specs.Served.{Served, ServedPart}
-use Rattle.bc_check.proofs.Serving.{served_kept}
+use Rattle.bc_check.proofs.Serving.{refused_map, served_kept}
 
 -- what the Asks came to, or a writer that failed
 abbrev pub Handed : Result ℕ Stop → Result ℕ Stop → Type 0
@@ -27,8 +28,8 @@ handed_served list text old new u v w asked result either h k = elim either [
 part_kept : (list : List Call) (text : Event → List ℕ) (old new : SessionView) (u v w : Option (List ℕ)) → ServedPart list text old new u v → Keeps v w → ServedPart list text old new u w
 part_kept list text old new u v w h k = record { front = h.front; ahead = h.ahead; cut = h.cut; exit = h.exit; between = h.between; served = served_kept h.front text h.exit old h.between u v w h.served k; last = h.last }
 
-pub handed_part : (list : List Call) (text : Event → List ℕ) (old new : SessionView) (u v w : Option (List ℕ)) (asked result : Result ℕ Stop) → Handed asked result → (IsErrOf asked NoMemory → ServedPart list text old new u v) → Keeps v w → IsErrOf result NoMemory → ServedPart list text old new u w
-handed_part list text old new u v w asked result either h k e = elim either [
-  | inl same ↦ part_kept list text old new u v w (h (cc)) k
-  | inr failed ↦ absurd cc
+pub handed_part : (list : List Call) (text : Event → List ℕ) (old new : SessionView) (u v w : Option (List ℕ)) (asked result : Result ℕ Stop) → Handed asked result → IfErr asked (λ stop. is_refused stop ≡ true → ServedPart list text old new u v) → Keeps v w → IfErr result (λ stop. is_refused stop ≡ true → ServedPart list text old new u w)
+handed_part list text old new u v w asked result either h k = elim either [
+  | inl same ↦ subst (λ (r : Result ℕ Stop). IfErr r (λ stop. is_refused stop ≡ true → ServedPart list text old new u w)) (sym same) (refused_map asked (λ (p : ServedPart list text old new u v). part_kept list text old new u v w p k) h)
+  | inr failed ↦ subst (λ (r : Result ℕ Stop). IfErr r (λ stop. is_refused stop ≡ true → ServedPart list text old new u w)) (sym failed) (λ e. absurd cc)
 ]

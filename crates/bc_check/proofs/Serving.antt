@@ -1,6 +1,6 @@
 -- Calls that are made one after another.
 use Rattle.std.proofs.Common.{◌≡◌, ℕ, max, List, [], ◌∷◌, ◌++◌, Option, Some, None, map, refl, sym, ap, ◌∙◌, subst, append_assoc, append-nil, arith}
-use Rattle.std.specs.Prelude.{Result, Ok, Err, IsErrAnd, IsErrOf}
+use Rattle.std.specs.Prelude.{true, Result, Ok, Err, IfErr, IsErrAnd, IsErrOf}
 use Rattle.std.specs.List.{flat_map}
 use Rattle.std.specs.Io.KnownBytes.{Appends, Keeps}
 use Rattle.std.proofs.lemmas.List.{map-append}
@@ -8,9 +8,10 @@ use Rattle.std.proofs.lemmas.Grind.{flat_map-append}
 use Rattle.bc_calls.specs.declared.call.Call.{Call}
 use Rattle.bc_calls.specs.declared.call.Event.{Event}
 use Rattle.bc_calls.specs.Calls.{call_of}
-use Rattle.bc_share.specs.Sessions.{SessionView}
+use Rattle.bc_share.specs.Sessions.{SessionView, IsAnswered}
 use Rattle.bc_check.specs.declared.stop.Stop.{Stop}
 use Rattle.bc_check.specs.Run.{event_status, greatest}
+use Rattle.bc_check.specs.Stops.{is_refused}
 use Rattle.bc_check.specs.Served.{Adds, Serves, Served, ServedPart, IsAtMostOneMore}
 
 pub nothing_added : (u : Option (List ℕ)) → Appends u u []
@@ -36,13 +37,17 @@ one_text : (text : Event → List ℕ) (event : Event) → flat_map text (event 
 one_text text event = append-nil (text event)
 
 adds_none : (s : SessionView) → Adds [] s s
-adds_none s = record { tag = refl; number = refl; own = sym (append-nil s.own) }
+adds_none s = record { tag = refl; number = refl; own = sym (append-nil s.own); seen = λ own. own }
+
+pub adds_one : (event : Event) (old new : SessionView) → IsAnswered event old new → Adds (event ∷ []) old new
+adds_one event old new h = record { tag = h.tag; number = h.number; own = h.own; seen = λ own. (h.legal, h.mine) }
 
 pub adds_then : (a b : List Event) (old mid new : SessionView) → Adds a old mid → Adds b mid new → Adds (a ++ b) old new
 adds_then a b old mid new h k = record {
   tag = k.tag ∙ h.tag;
   number = k.number ∙ h.number;
   own = k.own ∙ ap (λ (es : List Event). es ++ b) h.own ∙ append_assoc old.own a b;
+  seen = λ own. k.seen (h.seen own);
 }
 
 pub served_none : (text : Event → List ℕ) (s : SessionView) (u : Option (List ℕ)) → Served [] text 0 s s u u
@@ -58,7 +63,7 @@ served_none text s u = record {
 pub served_more : (list : List Call) (call : Call) (text : Event → List ℕ) (m n : ℕ) (old mid new : SessionView) (u v w : Option (List ℕ)) → Served list text m old mid u v → Serves call text n mid new v w → Served (list ++ call ∷ []) text (max m n) old new u w
 served_more list call text m n old mid new u v w h k =
     let event : Event = k.event in
-    let one : Adds (event ∷ []) mid new = record { tag = k.answered.tag; number = k.answered.number; own = k.answered.own } in
+    let one : Adds (event ∷ []) mid new = adds_one event mid new k.answered in
     let printed : flat_map text h.events ++ text event ≡ flat_map text (h.events ++ event ∷ []) = ap (λ (t : List ℕ). flat_map text h.events ++ t) (sym (one_text text event)) ∙ sym (flat_map-append text h.events (event ∷ [])) in
     record {
       events = h.events ++ event ∷ [];
@@ -109,3 +114,20 @@ making_part {X} call_at all left text exit old mid new u v w h last k = record {
 pub same_stop : {A B : Type 0} (r : Result A Stop) (x n : Stop) → IsErrAnd r (λ y. y ≡ x) → r ≡ Err n → IsErrOf {T = B} (Err x) n
 same_stop (Ok a) x n h e = absurd h
 same_stop (Err y) x n h e = cc
+
+-- and what holds where that was refused holds of it
+pub same_refused : {A P : Type 0} (r : Result A Stop) (x : Stop) → IsErrAnd r (λ y. y ≡ x) → (is_refused x ≡ true → P) → IfErr r (λ stop. is_refused stop ≡ true → P)
+same_refused (Ok a) x h p = tt
+same_refused (Err y) x h p = λ e. p (sym (ap is_refused h) ∙ e)
+
+pub refused_map : {A P Q : Type 0} (r : Result A Stop) → (P → Q) → IfErr r (λ stop. is_refused stop ≡ true → P) → IfErr r (λ stop. is_refused stop ≡ true → Q)
+refused_map (Ok a) f h = tt
+refused_map (Err y) f h = λ e. f (h e)
+
+pub always_refused : {A P : Type 0} (r : Result A Stop) → P → IfErr r (λ stop. is_refused stop ≡ true → P)
+always_refused (Ok a) p = tt
+always_refused (Err y) p = λ e. p
+
+pub is_stop : {A : Type 0} (r : Result A Stop) (x n : Stop) → IsErrAnd r (λ y. y ≡ x) → x ≡ n → r ≡ Err n
+is_stop (Ok a) x n h e = absurd h
+is_stop (Err y) x n h e = ap Err (h ∙ e)

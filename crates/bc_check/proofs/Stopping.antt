@@ -5,46 +5,55 @@ use Rattle.std.specs.Io.KnownBytes.{Appends, Keeps}
 use Rattle.bc_text.specs.Names.{NameParts}
 use Rattle.bc_calls.specs.declared.call.Call.{Call}
 use Rattle.bc_share.specs.declared.db.TheConstants.{MOST_ENTRIES}
-use Rattle.bc_check.specs.declared.input.TheConstants.{LIMIT}
+use Rattle.bc_check.specs.Files.{most_bytes}
 use Rattle.bc_check.specs.declared.stop.Stop.{Stop}
 use Rattle.bc_check.specs.declared.stop.Stop.TheVariants.{WrongUse, CannotRead, CannotWrite, CannotTell, NoMemory, File, TooManyCalls, HistoryFull, Foreign, Audit}
 use Rattle.bc_check.specs.Parts.{sections_of}
 use Rattle.bc_check.specs.Changes.{MakeAll}
 use Rattle.bc_check.specs.Asked.{AreAsked}
-use Rattle.bc_check.specs.Stops.{is_of_calls, last_line, stop_status}
-use Rattle.bc_check.specs.Served.{Begins}
-use Rattle.bc_check.specs.Ends.{HasBegun, HasTooManyCalls, IsEnd, IsSilent, IsWell, Leaves, OfFile, StopsWith}
+use Rattle.bc_check.specs.Stops.{is_of_calls, is_refused, last_line, stop_status}
+use Rattle.bc_check.specs.Run.{calls_of, shown, told}
+use Rattle.bc_check.specs.Served.{Begins, Prints, PrintsPart}
+use Rattle.bc_check.specs.Ends.{HasBegun, HasShown, HasTold, HasTooManyCalls, IsEnd, IsSilent, IsWell, Leaves, OfFile, StopsWith}
 use Rattle.bc_check.proofs.Ending.{known_is}
 
 -- the calls of a file, that is one without a fault, were not all made
 pub record Broken (json : Bool) (r : Result ℕ Stop) (file : List ℕ) (made : List Call) (names : List NameParts) (o o' e e' : Option (List ℕ)) : Type 0 where
-  pub short : length file ≤ LIMIT
+  pub short : length file ≤ most_bytes
   pub good : MakeAll (sections_of file) made
   pub asked : AreAsked made names
   pub other : IfErr r (λ stop. is_of_calls stop ≡ true)
   pub many : IsErrOf r TooManyCalls → MOST_ENTRIES < length made + length names
   pub quiet : IsErrOf r TooManyCalls → IsSilent o o' e e'
-  pub no_memory : IsErrOf r NoMemory → Begins json made names o o' e e'
+  pub refused : IfErr r (λ stop. is_refused stop ≡ true → Begins json made names o o' e e')
   pub untold : IsErrOf r CannotTell → Keeps o o'
+  pub unwritten : IsErrOf r CannotWrite → Prints made told e e'
+  pub audited : IsErrOf r Audit → PrintsPart (calls_of made names) (shown json) o o'
 
 well : (json : Bool) (r : Result ℕ Stop) (known o o' e e' : Option (List ℕ)) (file : List ℕ) (made : List Call) (names : List NameParts) → IfSome known (λ bytes. file ≡ bytes) → Broken json r file made names o o' e e' → OfFile known IsWell
 well json r known o o' e e' file made names whole h =
-    known_is known file (λ (f : List ℕ). (length f ≤ LIMIT) × IsWell f) whole (h.short, record { made = made; names = names; good = h.good; asked = h.asked })
+    known_is known file (λ (f : List ℕ). (length f ≤ most_bytes) × IsWell f) whole (h.short, record { made = made; names = names; good = h.good; asked = h.asked })
+
+begun : (json : Bool) (r : Result ℕ Stop) (known o o' e e' : Option (List ℕ)) (file : List ℕ) (made : List Call) (names : List NameParts) → IfSome known (λ bytes. file ≡ bytes) → Broken json r file made names o o' e e' → Begins json made names o o' e e' → OfFile known (λ f. HasBegun json f o o' e e')
+begun json r known o o' e e' file made names whole h begins =
+    known_is known file (λ (f : List ℕ). (length f ≤ most_bytes) × HasBegun json f o o' e e') whole (h.short, record { made = made; names = names; good = h.good; asked = h.asked; begins = begins })
 
 pub broken : (json : Bool) (r : Result ℕ Stop) (known o o' e e' : Option (List ℕ)) (file : List ℕ) (made : List Call) (names : List NameParts) → IfSome known (λ bytes. file ≡ bytes) → Broken json r file made names o o' e e' → IfErr r (λ stop. Leaves json stop known o o' e e')
 broken json (Ok n) known o o' e e' file made names whole h = tt
 broken json (Err WrongUse) known o o' e e' file made names whole h = (let never = h.other in absurd cc)
 broken json (Err CannotRead) known o o' e e' file made names whole h = (let never = h.other in absurd cc)
-broken json (Err CannotWrite) known o o' e e' file made names whole h = well json _ known o o' e e' file made names whole h
+broken json (Err CannotWrite) known o o' e e' file made names whole h =
+    known_is known file (λ (f : List ℕ). (length f ≤ most_bytes) × HasTold f e e') whole (h.short, record { made = made; names = names; good = h.good; asked = h.asked; prints = h.unwritten refl })
 broken json (Err CannotTell) known o o' e e' file made names whole h = (well json _ known o o' e e' file made names whole h, h.untold refl)
 broken json (Err NoMemory) known o o' e e' file made names whole h =
-    inr (known_is known file (λ (f : List ℕ). (length f ≤ LIMIT) × HasBegun json f o o' e e') whole (h.short, record { made = made; names = names; good = h.good; asked = h.asked; begins = h.no_memory refl }))
+    inr (begun json _ known o o' e e' file made names whole h (h.refused refl))
 broken json (Err (File fault)) known o o' e e' file made names whole h = (let never = h.other in absurd cc)
 broken json (Err TooManyCalls) known o o' e e' file made names whole h =
-    (known_is known file (λ (f : List ℕ). (length f ≤ LIMIT) × HasTooManyCalls f) whole (h.short, record { made = made; names = names; good = h.good; asked = h.asked; many = h.many refl }), h.quiet refl)
-broken json (Err HistoryFull) known o o' e e' file made names whole h = well json _ known o o' e e' file made names whole h
-broken json (Err Foreign) known o o' e e' file made names whole h = well json _ known o o' e e' file made names whole h
-broken json (Err Audit) known o o' e e' file made names whole h = well json _ known o o' e e' file made names whole h
+    (known_is known file (λ (f : List ℕ). (length f ≤ most_bytes) × HasTooManyCalls f) whole (h.short, record { made = made; names = names; good = h.good; asked = h.asked; many = h.many refl }), h.quiet refl)
+broken json (Err HistoryFull) known o o' e e' file made names whole h = begun json _ known o o' e e' file made names whole h (h.refused refl)
+broken json (Err Foreign) known o o' e e' file made names whole h = (let never = h.other in absurd cc)
+broken json (Err Audit) known o o' e e' file made names whole h =
+    known_is known file (λ (f : List ℕ). (length f ≤ most_bytes) × HasShown json f o o') whole (h.short, record { made = made; names = names; good = h.good; asked = h.asked; prints = h.audited refl })
 
 pub IfOk-map : {T E : Type 0} {P Q : T → Type 0} (r : Result T E) → ((x : T) → P x → Q x) → IfOk r P → IfOk r Q
 IfOk-map (Ok x) f p = f x p

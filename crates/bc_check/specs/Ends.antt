@@ -6,14 +6,15 @@ use Rattle.bc_calls.specs.declared.call.Call.{Call}
 use Rattle.bc_share.specs.declared.db.TheConstants.{MOST_ENTRIES}
 use Rattle.bc_line.specs.declared.line.Line.{Line}
 use Rattle.bc_line.specs.declared.line.Line.TheVariants.{Check, Run}
-use Rattle.bc_check.specs.declared.input.TheConstants.{LIMIT}
 use Rattle.bc_check.specs.declared.stop.Stop.{Stop}
 use Rattle.bc_check.specs.declared.stop.Stop.TheVariants.{WrongUse, CannotRead, CannotWrite, CannotTell, NoMemory, File, TooManyCalls, HistoryFull, Foreign, Audit}
+use Rattle.bc_check.specs.Files.{most_bytes}
 use Rattle.bc_check.specs.Parts.{sections_of}
 use Rattle.bc_check.specs.Changes.{MakeAll, IsFirstFault}
 use Rattle.bc_check.specs.Asked.{AreAsked}
 use Rattle.bc_check.specs.Stops.{last_line, stop_status}
-use Rattle.bc_check.specs.Served.{Runs, Begins}
+use Rattle.bc_check.specs.Run.{calls_of, shown, told}
+use Rattle.bc_check.specs.Served.{Runs, Begins, Prints, PrintsPart}
 
 -- each section made its call, each root name under which one put a body was asked, and what belongs to these calls was
 -- printed
@@ -40,6 +41,22 @@ pub record HasBegun (json : Bool) (file : List ℕ) (out out' err err' : Option 
   pub asked : AreAsked made names
   pub begins : Begins json made names out out' err err'
 
+-- a file without a fault, of whose sections standard error has what belongs to their calls
+pub record HasTold (file : List ℕ) (err err' : Option (List ℕ)) : Type 0 where
+  pub made : List Call
+  pub names : List NameParts
+  pub good : MakeAll (sections_of file) made
+  pub asked : AreAsked made names
+  pub prints : Prints made told err err'
+
+-- a file without a fault, of a beginning of whose calls standard output has what belongs to them
+pub record HasShown (json : Bool) (file : List ℕ) (out out' : Option (List ℕ)) : Type 0 where
+  pub made : List Call
+  pub names : List NameParts
+  pub good : MakeAll (sections_of file) made
+  pub asked : AreAsked made names
+  pub prints : PrintsPart (calls_of made names) (shown json) out out'
+
 -- a file without a fault
 pub record IsWell (file : List ℕ) : Type 0 where
   pub made : List Call
@@ -49,7 +66,7 @@ pub record IsWell (file : List ℕ) : Type 0 where
 
 -- the file was read whole, where it is known, and this holds of it
 abbrev pub OfFile : Option (List ℕ) → (List ℕ → Type 0) → Type 0
-OfFile known P = IfSome known (λ file. (length file ≤ LIMIT) × P file)
+OfFile known P = IfSome known (λ file. (length file ≤ most_bytes) × P file)
 
 -- nothing is printed
 abbrev pub IsSilent : Option (List ℕ) → Option (List ℕ) → Option (List ℕ) → Option (List ℕ) → Type 0
@@ -60,14 +77,14 @@ IsSilent out out' err err' = Keeps out out' × Keeps err err'
 abbrev pub Leaves : Bool → Stop → Option (List ℕ) → Option (List ℕ) → Option (List ℕ) → Option (List ℕ) → Option (List ℕ) → Type 0
 Leaves json WrongUse known out out' err err' = ⊥
 Leaves json CannotRead known out out' err err' = IsSilent out out' err err'
-Leaves json CannotWrite known out out' err err' = OfFile known IsWell
+Leaves json CannotWrite known out out' err err' = OfFile known (λ file. HasTold file err err')
 Leaves json CannotTell known out out' err err' = OfFile known IsWell × Keeps out out'
 Leaves json NoMemory known out out' err err' = IsSilent out out' err err' ⊎ OfFile known (λ file. HasBegun json file out out' err err')
 Leaves json (File fault) known out out' err err' = OfFile known (λ file. IsFirstFault (sections_of file) fault) × IsSilent out out' err err'
 Leaves json TooManyCalls known out out' err err' = OfFile known HasTooManyCalls × IsSilent out out' err err'
-Leaves json HistoryFull known out out' err err' = OfFile known IsWell
-Leaves json Foreign known out out' err err' = OfFile known IsWell
-Leaves json Audit known out out' err err' = OfFile known IsWell
+Leaves json HistoryFull known out out' err err' = OfFile known (λ file. HasBegun json file out out' err err')
+Leaves json Foreign known out out' err err' = ⊥
+Leaves json Audit known out out' err err' = OfFile known (λ file. HasShown json file out out')
 
 -- the command stopped with this status: its line is written behind all else, of which this holds
 pub record StopsWith (Left : Stop → Option (List ℕ) → Type 0) (name : List ℕ) (exit : ℕ) (err : Option (List ℕ)) : Type 0 where

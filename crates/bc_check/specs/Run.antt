@@ -78,6 +78,12 @@ abbrev pub greatest : List Event → ℕ
 greatest [] = 0
 greatest (event ∷ events) = max (event_status event) (greatest events)
 
+-- the calls of a session, with the replies that some legal history has of them
+pub record AreReplied (events : List Event) : Type 0 where
+  pub history : List Entry
+  pub legal : IsLegal history
+  pub own : calls 0 history ≡ events
+
 -- the calls of one session alone, with replies as they must be after those before them
 pub record AreLegal (events : List Event) : Type 0 where
   pub history : List Entry

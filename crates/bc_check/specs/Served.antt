@@ -4,10 +4,10 @@ use Rattle.std.specs.Io.KnownBytes.{Appends}
 use Rattle.bc_text.specs.Names.{NameParts}
 use Rattle.bc_calls.specs.declared.call.Call.{Call}
 use Rattle.bc_calls.specs.declared.call.Event.{Event}
-use Rattle.bc_calls.specs.Calls.{call_of}
+use Rattle.bc_calls.specs.Calls.{IsLegal, call_of, calls}
 use Rattle.bc_share.specs.Sessions.{SessionView, IsAnswered, IsSame}
 use Rattle.bc_share.specs.declared.db.TheConstants.{MOST_ENTRIES}
-use Rattle.bc_check.specs.Run.{event_status, greatest, calls_of, shown, told, AreLegal}
+use Rattle.bc_check.specs.Run.{event_status, greatest, calls_of, shown, told, AreLegal, AreReplied}
 
 -- one call was answered and printed; its status
 pub record Serves (call : Call) (text : Event → List ℕ) (exit : ℕ) (old new : SessionView) (before after : Option (List ℕ)) : Type 0 where
@@ -17,11 +17,20 @@ pub record Serves (call : Call) (text : Event → List ℕ) (exit : ℕ) (old ne
   pub printed : Appends before after (text event)
   pub status : exit ≡ event_status event
 
--- the session's own list is longer by these calls, and it is the same session
+-- it is the same session, whatever calls it made
+abbrev pub IsStill : SessionView → SessionView → Type 0
+IsStill old new = (new.tag ≡ old.tag) × (new.number ≡ old.number)
+
+-- what a session has seen is legal, and its calls there are its own list
+abbrev pub HasSeenItsOwn : SessionView → Type 0
+HasSeenItsOwn session = IsLegal session.seen × (calls session.number session.seen ≡ session.own)
+
+-- the session's own list is longer by these calls, and it is the same session; it has still seen its own
 pub record Adds (events : List Event) (old new : SessionView) : Type 0 where
   pub tag : new.tag ≡ old.tag
   pub number : new.number ≡ old.number
   pub own : new.own ≡ old.own ++ events
+  pub seen : HasSeenItsOwn old → HasSeenItsOwn new
 
 -- no call more was answered, or one
 abbrev pub IsAtMostOneMore : SessionView → SessionView → Type 0
@@ -44,6 +53,26 @@ pub record ServedPart (list : List Call) (text : Event → List ℕ) (old new : 
   pub between : SessionView
   pub served : Served front text exit old between before after
   pub last : IsAtMostOneMore between new
+
+-- some calls were answered as a legal history has them, and of each was printed what belongs to it
+pub record Prints (list : List Call) (text : Event → List ℕ) (before after : Option (List ℕ)) : Type 0 where
+  pub events : List Event
+  pub made : map call_of events ≡ list
+  pub replied : AreReplied events
+  pub printed : Appends before after (flat_map text events)
+
+-- the same of a beginning of some calls
+pub record PrintsPart (list : List Call) (text : Event → List ℕ) (before after : Option (List ℕ)) : Type 0 where
+  pub front : List Call
+  pub ahead : List Call
+  pub cut : front ++ ahead ≡ list
+  pub prints : Prints front text before after
+
+-- some calls were answered and printed, whatever the session did then
+pub record ServedThen (list : List Call) (text : Event → List ℕ) (old : SessionView) (before after : Option (List ℕ)) : Type 0 where
+  pub exit : ℕ
+  pub between : SessionView
+  pub served : Served list text exit old between before after
 
 -- the calls of the sections were answered and the names asked; of each call was printed what belongs to it, and the status is the
 -- greatest of theirs

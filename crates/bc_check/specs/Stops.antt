@@ -50,7 +50,20 @@ abbrev pub close_stop : CloseFault → Stop
 close_stop close_faults.Foreign = Foreign
 close_stop (close_faults.Audit history) = Audit
 
--- the command stopped at a call, or at the opening or closing of the database
+-- memory was refused, or a call by a full history
+abbrev pub is_refused : Stop → Bool
+is_refused WrongUse = false
+is_refused CannotRead = false
+is_refused CannotWrite = false
+is_refused CannotTell = false
+is_refused NoMemory = true
+is_refused (File fault) = false
+is_refused TooManyCalls = false
+is_refused HistoryFull = true
+is_refused Foreign = false
+is_refused Audit = false
+
+-- the command stopped at a call, or at the opening or closing of the database, which is closed with its own session
 abbrev pub is_of_calls : Stop → Bool
 is_of_calls WrongUse = false
 is_of_calls CannotRead = false
@@ -60,5 +73,5 @@ is_of_calls NoMemory = true
 is_of_calls (File fault) = false
 is_of_calls TooManyCalls = true
 is_of_calls HistoryFull = true
-is_of_calls Foreign = true
+is_of_calls Foreign = false
 is_of_calls Audit = true

@@ -1,14 +1,14 @@
 //! The calls of a file, and what is printed of them.
-ghost use Rattle.std.specs.Prelude.{◌≡◌, ◌≤◌, ◌<◌, ◌+◌, ◌⊎◌, [], true, false, Err, OnOk, IfOk, IfErr, IsErrOf, length, map, max};
+ghost use Rattle.std.specs.Prelude.{◌≡◌, ◌↔◌, ◌≤◌, ◌<◌, ◌+◌, ◌⊎◌, [], true, false, Err, OnOk, IfOk, IfErr, IsErrOf, IsTrue, length, map, max};
 ghost use Rattle.std.specs.Io.Buffered.{writer_buffer, writer_contents};
 ghost use Rattle.std.specs.Io.KnownBytes.{Appends, Keeps};
 ghost use Rattle.bc_calls.specs.declared.call.Call.TheVariants as calls;
 ghost use Rattle.bc_share.specs.Sessions.{Makes};
 ghost use Rattle.bc_check.specs.Changes.{seen};
-ghost use Rattle.bc_check.specs.Stops.{is_of_calls};
+ghost use Rattle.bc_check.specs.Stops.{is_of_calls, is_refused};
 ghost use Rattle.bc_check.specs.Ends.{Checked, IsEnd, IsEndOf, Leaves, OfFile};
-ghost use Rattle.bc_check.specs.Run.{refused_line, answer_lines, told, shown};
-ghost use Rattle.bc_check.specs.Served.{Serves, Served, ServedPart, ServedAll, ServedFirst, Runs, Begins, IsAtMostOneMore};
+ghost use Rattle.bc_check.specs.Run.{refused_line, answer_lines, calls_of, told, shown};
+ghost use Rattle.bc_check.specs.Served.{Serves, Served, ServedPart, ServedAll, ServedFirst, ServedThen, Runs, Begins, Prints, PrintsPart, IsAtMostOneMore, IsStill};
 ghost use Rattle.bc_line.specs.Lines.{is_check};
 
 use crate::asked::find_asked;
@@ -97,7 +97,8 @@ fn make_change<R: Wait, N: Ending, E: Write>(
     change: Change,
     err: &mut E,
 ) -> Result<u8, Stop>
-    ensures no_memory { IsErrOf result Stop.NoMemory → IsAtMostOneMore session.old session.new × Keeps (E.contents err.old) (E.contents err.new) }
+    ensures still { IsStill session.old session.new }
+    ensures refused { IfErr result (λ stop. is_refused stop ≡ true → IsAtMostOneMore session.old session.new × Keeps (E.contents err.old) (E.contents err.new)) }
     ensures untold { IsErrOf result Stop.CannotTell → Makes session.old session.new (seen change) }
     ensures served { IfOk result (λ status. Serves (seen change) told status session.old session.new (E.contents err.old) (E.contents err.new)) }
     ensures range { IfOk result (λ status. status ≤ 2) }
@@ -128,7 +129,8 @@ fn make_ask<R: Wait, N: Ending, O: Write>(
     name: &Name,
     out: &mut O,
 ) -> Result<u8, Stop>
-    ensures no_memory { IsErrOf result Stop.NoMemory → IsAtMostOneMore session.old session.new × Keeps (O.contents out.old) (O.contents out.new) }
+    ensures still { IsStill session.old session.new }
+    ensures refused { IfErr result (λ stop. is_refused stop ≡ true → IsAtMostOneMore session.old session.new × Keeps (O.contents out.old) (O.contents out.new)) }
     ensures unwritten { IsErrOf result Stop.CannotWrite → Makes session.old session.new (calls.Ask name.now) }
     ensures served { IfOk result (λ status. Serves (calls.Ask name.now) (shown json) status session.old session.new (O.contents out.old) (O.contents out.new)) }
     ensures range { IfOk result (λ status. status ≤ 2) }
@@ -147,7 +149,8 @@ fn make_changes<R: Wait, N: Ending, E: Write>(
     err: &mut E,
 ) -> Result<u8, Stop>
     ensures served { IfOk result (λ status. Served (map seen changes.items) told status session.old session.new (E.contents err.old) (E.contents err.new)) }
-    ensures no_memory { IsErrOf result Stop.NoMemory → ServedPart (map seen changes.items) told session.old session.new (E.contents err.old) (E.contents err.new) }
+    ensures still { IsStill session.old session.new }
+    ensures refused { IfErr result (λ stop. is_refused stop ≡ true → ServedPart (map seen changes.items) told session.old session.new (E.contents err.old) (E.contents err.new)) }
     ensures range { IfOk result (λ status. status ≤ 2) }
     ensures stop { IfErr result (λ stop. (stop ≡ Stop.CannotTell) ⊎ (stop ≡ Stop.NoMemory) ⊎ (stop ≡ Stop.HistoryFull)) }
 {
@@ -169,7 +172,8 @@ fn make_asks<R: Wait, N: Ending, O: Write>(
     out: &mut O,
 ) -> Result<u8, Stop>
     ensures served { IfOk result (λ status. Served (map calls.Ask names.now.keys) (shown json) status session.old session.new (O.contents out.old) (O.contents out.new)) }
-    ensures no_memory { IsErrOf result Stop.NoMemory → ServedPart (map calls.Ask names.now.keys) (shown json) session.old session.new (O.contents out.old) (O.contents out.new) }
+    ensures still { IsStill session.old session.new }
+    ensures refused { IfErr result (λ stop. is_refused stop ≡ true → ServedPart (map calls.Ask names.now.keys) (shown json) session.old session.new (O.contents out.old) (O.contents out.new)) }
     ensures range { IfOk result (λ status. status ≤ 2) }
     ensures stop { IfErr result (λ stop. (stop ≡ Stop.CannotWrite) ⊎ (stop ≡ Stop.NoMemory) ⊎ (stop ≡ Stop.HistoryFull)) }
 {
@@ -180,15 +184,12 @@ fn make_asks<R: Wait, N: Ending, O: Write>(
     Ok(status)
 }
 
-/// Hands on what the buffer holds of the reports, but where the writer behind it failed already. What the Asks came to,
-/// and `CannotWrite` where the writer fails here.
-fn hand_on<O: Write + Drop>(asked: Result<u8, Stop>, out: &mut BufWriter<O>) -> Result<u8, Stop>
-    ensures asked { (result ≡ asked) ⊎ (result ≡ Err Stop.CannotWrite) }
-    ensures kept { Keeps (writer_contents O.contents out.old) (writer_contents O.contents out.new) }
-    ensures handed_on { (result ≡ Err Stop.CannotWrite) ⊎ (writer_buffer out.new ≡ []) }
+/// Whether standard output failed.
+fn is_unwritten(made: &Result<u8, Stop>) -> bool
+    ensures { IsTrue result ↔ (made.now ≡ Err Stop.CannotWrite) }
 {
-    match asked {
-        Err(Stop::CannotWrite) => asked,
+    match made {
+        Err(Stop::CannotWrite) => true,
         Ok(_)
         | Err(
             Stop::WrongUse
@@ -200,10 +201,23 @@ fn hand_on<O: Write + Drop>(asked: Result<u8, Stop>, out: &mut BufWriter<O>) -> 
             | Stop::HistoryFull
             | Stop::Foreign
             | Stop::Audit,
-        ) => match out.flush() {
-            Ok(()) => asked,
-            Err(_) => Err(Stop::CannotWrite),
-        },
+        ) => false,
+    }
+}
+
+/// Hands on what the buffer holds of the reports, but where the writer behind it failed already. What the Asks came to,
+/// and `CannotWrite` where the writer fails here.
+fn hand_on<O: Write + Drop>(asked: Result<u8, Stop>, out: &mut BufWriter<O>) -> Result<u8, Stop>
+    ensures asked { (result ≡ asked) ⊎ (result ≡ Err Stop.CannotWrite) }
+    ensures kept { Keeps (writer_contents O.contents out.old) (writer_contents O.contents out.new) }
+    ensures handed_on { (result ≡ Err Stop.CannotWrite) ⊎ (writer_buffer out.new ≡ []) }
+{
+    if is_unwritten(&asked) {
+        return asked;
+    }
+    match out.flush() {
+        Ok(()) => asked,
+        Err(_) => Err(Stop::CannotWrite),
     }
 }
 
@@ -219,7 +233,8 @@ fn answer_all<R: Wait, N: Ending, O: Write + Drop>(
     out: &mut BufWriter<O>,
 ) -> Result<u8, Stop>
     ensures served { IfOk result (λ status. Served (map calls.Ask names.now.keys) (shown json) status session.old session.new (writer_contents O.contents out.old) (writer_contents O.contents out.new)) }
-    ensures no_memory { IsErrOf result Stop.NoMemory → ServedPart (map calls.Ask names.now.keys) (shown json) session.old session.new (writer_contents O.contents out.old) (writer_contents O.contents out.new) }
+    ensures still { IsStill session.old session.new }
+    ensures refused { IfErr result (λ stop. is_refused stop ≡ true → ServedPart (map calls.Ask names.now.keys) (shown json) session.old session.new (writer_contents O.contents out.old) (writer_contents O.contents out.new)) }
     ensures range { IfOk result (λ status. status ≤ 2) }
     ensures stop { IfErr result (λ stop. (stop ≡ Stop.CannotWrite) ⊎ (stop ≡ Stop.NoMemory) ⊎ (stop ≡ Stop.HistoryFull)) }
     ensures handed_on { (result ≡ Err Stop.CannotWrite) ⊎ (writer_buffer out.new ≡ []) }
@@ -242,8 +257,10 @@ fn make_all<R: Wait, N: Ending, O: Write + Drop, E: Write>(
     err: &mut E,
 ) -> Result<u8, Stop>
     ensures served { IfOk result (λ status. ServedAll json (map seen changes.items) names.now.keys status session.old session.new (writer_contents O.contents out.old) (writer_contents O.contents out.new) (E.contents err.old) (E.contents err.new)) }
-    ensures no_memory { IsErrOf result Stop.NoMemory → ServedFirst json (map seen changes.items) names.now.keys session.old session.new (writer_contents O.contents out.old) (writer_contents O.contents out.new) (E.contents err.old) (E.contents err.new) }
+    ensures still { IsStill session.old session.new }
+    ensures refused { IfErr result (λ stop. is_refused stop ≡ true → ServedFirst json (map seen changes.items) names.now.keys session.old session.new (writer_contents O.contents out.old) (writer_contents O.contents out.new) (E.contents err.old) (E.contents err.new)) }
     ensures untold { IsErrOf result Stop.CannotTell → Keeps (writer_contents O.contents out.old) (writer_contents O.contents out.new) }
+    ensures unwritten { IsErrOf result Stop.CannotWrite → ServedThen (map seen changes.items) told session.old (E.contents err.old) (E.contents err.new) }
     ensures range { IfOk result (λ status. status ≤ 2) }
     ensures stop { IfErr result (λ stop. (stop ≡ Stop.CannotTell) ⊎ (stop ≡ Stop.CannotWrite) ⊎ (stop ≡ Stop.NoMemory) ⊎ (stop ≡ Stop.HistoryFull)) }
     ensures handed_on { writer_buffer out.old ≡ [] → (result ≡ Err Stop.CannotWrite) ⊎ (writer_buffer out.new ≡ []) }
@@ -284,15 +301,17 @@ fn serve<R: Wait, O: Write + Drop, E: Write>(
     ensures done { IfOk result (λ status. Runs json (map seen changes.items) names.now.keys status (writer_contents O.contents out.old) (writer_contents O.contents out.new) (E.contents err.old) (E.contents err.new)) }
     ensures range { IfOk result (λ status. status ≤ 2) }
     ensures too_many { IsErrOf result Stop.TooManyCalls → (MOST_ENTRIES < length changes.items + length names.now.keys) × Keeps (writer_contents O.contents out.old) (writer_contents O.contents out.new) × Keeps (E.contents err.old) (E.contents err.new) }
-    ensures no_memory { IsErrOf result Stop.NoMemory → Begins json (map seen changes.items) names.now.keys (writer_contents O.contents out.old) (writer_contents O.contents out.new) (E.contents err.old) (E.contents err.new) }
+    ensures refused { IfErr result (λ stop. is_refused stop ≡ true → Begins json (map seen changes.items) names.now.keys (writer_contents O.contents out.old) (writer_contents O.contents out.new) (E.contents err.old) (E.contents err.new)) }
     ensures untold { IsErrOf result Stop.CannotTell → Keeps (writer_contents O.contents out.old) (writer_contents O.contents out.new) }
+    ensures unwritten { IsErrOf result Stop.CannotWrite → Prints (map seen changes.items) told (E.contents err.old) (E.contents err.new) }
+    ensures audited { IsErrOf result Stop.Audit → PrintsPart (calls_of (map seen changes.items) names.now.keys) (shown json) (writer_contents O.contents out.old) (writer_contents O.contents out.new) }
     ensures other { IfErr result (λ stop. is_of_calls stop ≡ true) }
     ensures handed_on { writer_buffer out.old ≡ [] → (result ≡ Err Stop.CannotWrite) ⊎ (writer_buffer out.new ≡ []) }
 {
     let capacity = find_capacity(changes.len(), names.len())?;
     let (db, mut sessions) = Db::open(alloc, Waiting::new(rt), 0, capacity, 1)?;
     let Some(mut session) = sessions.pop() else {
-        return Err(Stop::Foreign);
+        unreachable!()
     };
     let made = make_all(
         rt,
@@ -307,7 +326,7 @@ fn serve<R: Wait, O: Write + Drop, E: Write>(
     );
     sessions.push_reserved(session);
     let closed = db.close(rt, sessions);
-    if matches!(made, Err(Stop::CannotWrite)) {
+    if is_unwritten(&made) {
         return made;
     }
     closed?;
@@ -320,7 +339,8 @@ fn serve<R: Wait, O: Write + Drop, E: Write>(
 ///
 /// Stops with `CannotRead` where the input cannot be read or is over 16 MiB; with `File` at its first fault; with
 /// `TooManyCalls` where it makes more than 1,000,000 calls; with `CannotWrite` or `CannotTell` where a writer
-/// fails; with `NoMemory` where there is no room.
+/// fails; with `NoMemory` where there is no room; with `HistoryFull` where a call finds a full history, and with `Audit` where the
+/// history does not agree with the session at the close.
 pub fn check<R: Wait, I: Read, O: Write + Drop, E: Write>(
     rt: &R,
     alloc: Global,

@@ -1,5 +1,6 @@
 //! The file, read whole.
 ghost use Rattle.std.specs.Prelude.{◌≡◌, ◌≤◌, ◌⊎◌, IfSome, IfOk, IfErr, length};
+ghost use Rattle.bc_check.specs.Files.{most_bytes};
 
 use crate::stop::Stop;
 use std::alloc::Global;
@@ -12,7 +13,7 @@ pub const LIMIT: usize = 16_777_216;
 /// no room for it. (Own.)
 pub fn read_whole<I: Read>(alloc: Global, input: &mut I) -> Result<Vec<u8>, Stop>
     ensures whole { IfOk result (λ file. IfSome (I.remaining input.old) (λ bytes. file.items ≡ bytes)) }
-    ensures short { IfOk result (λ file. length file.items ≤ LIMIT) }
+    ensures short { IfOk result (λ file. length file.items ≤ most_bytes) }
     ensures stop { IfErr result (λ stop. (stop ≡ Stop.CannotRead) ⊎ (stop ≡ Stop.NoMemory)) }
 {
     let mut file = Vec::new(alloc);

@@ -29,7 +29,7 @@ pub enum Stop {
     TooManyCalls,
     /// The history is full.
     HistoryFull,
-    /// The database was closed with sessions that are not its own.
+    /// The database was closed with sessions that are not its own, which no command does.
     Foreign,
     /// The history is not what the session did.
     Audit,

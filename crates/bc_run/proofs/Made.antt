@@ -11,8 +11,10 @@ use Rattle.bc_scripts.specs.declared.run.End.{End}
 use Rattle.bc_scripts.specs.declared.run.End.TheVariants.{Done, Stopped}
 use Rattle.bc_share.specs.Sessions.{SessionView, new_session, new_sessions}
 use Rattle.bc_scripts.specs.Runs.{AreRuns, IsRun, HasMade}
-use Rattle.bc_share.specs.Closings.{IsOneHistory, numbers}
+use Rattle.bc_share.specs.Closings.{AreSessionsOf, IsOneHistory, numbers}
 use Rattle.bc_share.proofs.Closings.{length-new_sessions}
+use Rattle.bc_check.specs.Served.{IsStill}
+use Rattle.bc_check.proofs.Closing.{are_sessions}
 use Rattle.bc_run.specs.declared.file.SessionCall.{SessionCall}
 use Rattle.bc_run.specs.Calls.{calls_for, scripts}
 use Rattle.bc_run.specs.Runs.{AreMade, HasRun, sessions_of, ends_of}
@@ -39,9 +41,33 @@ nth_script (suc n) given k d h = last_or_before (scripts n given) n k d (λ (j :
 pub scripts_sized : (n : ℕ) (given : List SessionCall) (opened : List SessionView) (lists : List (List Call)) → opened ≡ new_sessions 0 n → lists ≡ scripts n given → length lists ≡ length opened
 scripts_sized n given opened lists is are = ap length are ∙ length-scripts n given ∙ sym (length-new_sessions 0 n) ∙ ap length (sym is)
 
-number_of : (old new : SessionView) (list : List Call) (end : End) → IsRun old new list end → new.number ≡ old.number
-number_of old new list Done run = run.number
-number_of old new list (Stopped number refusal) run = run.1.number
+still_of : (old new : SessionView) (list : List Call) (end : End) → IsRun old new list end → IsStill old new
+still_of old new list Done run = (run.tag, run.number)
+still_of old new list (Stopped number refusal) run = (run.1.tag, run.1.number)
+
+-- the sessions of a new database stand in the order of their numbers, also where they ran
+pub new_are_sessions : (sessions : ℕ) (opened back : List SessionView) → opened ≡ new_sessions 0 sessions → back ≡ opened → AreSessionsOf 0 sessions back
+new_are_sessions sessions opened back is same =
+    subst (AreSessionsOf 0 sessions) (sym (same ∙ is)) (are_sessions 0 sessions (new_sessions 0 sessions) (length-new_sessions 0 sessions) (λ k d below.
+    (let at = nth_session sessions k d below in (ap (λ (s : SessionView). s.tag) at, ap (λ (s : SessionView). s.number) at))))
+
+pub ran_are_sessions : (sessions : ℕ) (opened : List SessionView) (lists : List (List Call)) (ran : List (SessionView × End)) (closed : List SessionView)
+    → opened ≡ new_sessions 0 sessions → AreRuns opened lists ran → closed ≡ sessions_of ran → AreSessionsOf 0 sessions closed
+ran_are_sessions sessions opened lists ran closed is runs back =
+    subst (AreSessionsOf 0 sessions) (sym back) (are_sessions 0 sessions (sessions_of ran) (length-map ran (λ (r : SessionView × End). r.0) ∙ long) (λ k d below.
+    (let at : get_or (sessions_of ran) k d ≡ (get_or ran k (d, Done)).0 = get_or-map (λ (r : SessionView × End). r.0) ran k (d, Done) d (omega (arith, below, long)) in
+    let still = still_at k d below in
+    let new : get_or opened k (new_session 0 0) ≡ new_session 0 k = ap (λ (l : List SessionView). get_or l k (new_session 0 0)) is ∙ nth_session sessions k (new_session 0 0) below in
+    (ap (λ (s : SessionView). s.tag) at ∙ still.0 ∙ ap (λ (s : SessionView). s.tag) new, ap (λ (s : SessionView). s.number) at ∙ still.1 ∙ ap (λ (s : SessionView). s.number) new))))
+  where
+    opened_long : length opened ≡ sessions
+    opened_long = ap length is ∙ length-new_sessions 0 sessions
+
+    long : length ran ≡ sessions
+    long = runs.sized ∙ opened_long
+
+    still_at : (k : ℕ) (d : SessionView) → k < sessions → IsStill (get_or opened k (new_session 0 0)) (get_or ran k (d, Done)).0
+    still_at k d below = still_of (get_or opened k (new_session 0 0)) (get_or ran k (d, Done)).0 (get_or lists k []) (get_or ran k (d, Done)).1 (runs.each k (new_session 0 0) [] (d, Done) (omega (arith, below, opened_long)))
 
 made_calls : (k : ℕ) (s : SessionView) (list : List Call) (h : List Entry) → HasMade (new_session 0 k) s list → s.own ≡ calls s.number h → map call_of (calls k h) ≡ list
 made_calls k s list h made own = ap (λ (n : ℕ). map call_of (calls n h)) (sym made.number) ∙ ap (map call_of) (sym own ∙ made.own) ∙ made.made
@@ -90,6 +116,6 @@ made_of sessions given opened lists ran closed ends h is are runs back over one 
         let i = has.0 in
         let below : i < sessions = (let within = has.1 in omega (arith, within, length-map closed (λ (s : SessionView). s.number), closed_long)) in
         let at : get_or (numbers closed) i e.session ≡ (get_or closed i (new_session 0 0)).number = get_or-map (λ (s : SessionView). s.number) closed i (new_session 0 0) e.session (omega (arith, below, closed_long)) in
-        let number : (get_or closed i (new_session 0 0)).number ≡ i = ap (λ (s : SessionView). s.number) (closed_at i Done below) ∙ number_of (new_session 0 i) (get_or ran i (new_session 0 0, Done)).0 (calls_for i given) (get_or ran i (new_session 0 0, Done)).1 (run_at i Done below) in
+        let number : (get_or closed i (new_session 0 0)).number ≡ i = ap (λ (s : SessionView). s.number) (closed_at i Done below) ∙ (still_of (new_session 0 i) (get_or ran i (new_session 0 0, Done)).0 (calls_for i given) (get_or ran i (new_session 0 0, Done)).1 (run_at i Done below)).1 in
         let same : e.session ≡ i = sym has.2 ∙ at ∙ number in
         omega (arith, same, below)

@@ -1,11 +1,16 @@
 -- What is found and left where the command stops.
-use Rattle.std.proofs.Common.{◌≡◌, ◌≤◌, ◌<◌, ℕ, List, length, Option, inr}
-use Rattle.std.specs.Prelude.{◌⊎◌, Result, Ok, Err, IfOk, OnOk, IfSome}
+use Rattle.std.proofs.Common.{◌≡◌, ◌≤◌, ◌<◌, ℕ, List, length, Option, inr, refl, sym, subst}
+use Rattle.std.specs.Prelude.{◌⊎◌, Result, Ok, Err, IfOk, OnOk, IfErr, IfSome}
 use Rattle.std.specs.Io.KnownBytes.{Appends}
 use Rattle.bc_check.specs.declared.stop.Stop.{Stop}
+use Rattle.bc_check.specs.declared.stop.Stop.TheVariants.{Audit, NoMemory, TooManyCalls}
 use Rattle.bc_check.specs.Stops.{last_line, stop_status}
 use Rattle.bc_check.proofs.Stopping.{stops, IfOk-map}
 use Rattle.bc_run.specs.Ends.{IsEnd, Leaves}
 
 pub stopped_end : {E : Type 0} (sessions : ℕ) (name : List ℕ) (known o o' e told e' : Option (List ℕ)) (stop : Stop) (r : Result ℕ E) → Leaves sessions stop known o o' e told → IfOk r (λ n. n ≡ stop_status stop) → OnOk r (Appends told e' (last_line name stop)) → IfOk r (λ n. IsEnd sessions name known n o o' e e')
 stopped_end sessions name known o o' e told e' stop r left status said = IfOk-map r (λ n h. inr h) (stops (λ s t. Leaves sessions s known o o' e t) name told e' stop r left status said)
+
+-- a close that is refused is one of the ways to stop
+pub audited_stop : {A : Type 0} (r : Result A Stop) → r ≡ Err Audit → IfErr r (λ stop. (stop ≡ NoMemory) ⊎ (stop ≡ TooManyCalls) ⊎ (stop ≡ Audit))
+audited_stop {A} r is = subst (λ (q : Result A Stop). IfErr q (λ stop. (stop ≡ NoMemory) ⊎ (stop ≡ TooManyCalls) ⊎ (stop ≡ Audit))) (sym is) (inr (inr refl))

@@ -61,7 +61,7 @@ Leaves sessions NoMemory known out out' err err' = IsSilent out out' err err'
 Leaves sessions (File fault) known out out' err err' = OfFile known (λ file. IsFirstFault sessions (sections_of file) fault) × IsSilent out out' err err'
 Leaves sessions TooManyCalls known out out' err err' = OfFile known (HasTooManyCalls sessions) × IsSilent out out' err err'
 Leaves sessions HistoryFull known out out' err err' = ⊥
-Leaves sessions Foreign known out out' err err' = OfFile known (IsWell sessions) × IsSilent out out' err err'
+Leaves sessions Foreign known out out' err err' = ⊥
 Leaves sessions Audit known out out' err err' = OfFile known (IsWell sessions) × IsSilent out out' err err'
 
 -- the command on the file of this name, with so many sessions, ended with this status: at its end, or where it stopped

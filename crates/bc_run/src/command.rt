@@ -94,7 +94,8 @@ fn ends_status(ends: &[End]) -> u8
 ///
 /// Stops with `CannotRead` where the input cannot be read or is over 16 MiB; with `File` at its first fault; with
 /// `TooManyCalls` where it has more than 1,000,000 calls; with `CannotWrite` or `CannotTell` where a writer
-/// fails; with `NoMemory` where there is no room, before anything is printed.
+/// fails; with `NoMemory` where there is no room, and with `Audit` where the history does not agree with the sessions at the close, both
+/// before anything is printed.
 pub fn run<R: Threads + Wait + Sync, I: Read, O: Write + Drop, E: Write>(
     rt: &R,
     alloc: Global,

@@ -284,8 +284,8 @@ fn are_done(ends: &[End]) -> bool {
     ends.iter().all(|end| *end == End::Done)
 }
 
-/// Catches the wrong bodies `put_logs_an_ask`, `call_entered_twice`, `repeated_call_not_entered` and `logs_for_a_stranger`, at each
-/// of which the close is refused.
+/// Catches the wrong bodies `put_logs_an_ask`, `call_entered_twice` and `logs_for_a_stranger`, at which a call waits for an entry that never
+/// comes and is not answered.
 #[test]
 fn two_sessions_have_forty_entries(rt: HostRuntime) -> Result<(), Fail> {
     let steps = [Step::Put(b"f", WRITES_LAST), Step::Ask(b"f")];

@@ -1,7 +1,7 @@
 //! Answers that are told where no piece of a body is kept: work that carries the answer of one database is settled in another.
 use crate::turns::{Turn, all_go, go_by_the_program, work_on};
 use bc_calls::{PutReply, Work};
-use bc_fixtures::{CLOSURE, Found, WRITES_WHILE_BORROWED, found_by, refusing};
+use bc_fixtures::{CLOSURE, Found, MARKED_INVARIANT, WRITES_WHILE_BORROWED, found_by, refusing};
 use bc_prov::Providers;
 use bc_share::{Db, Session};
 use bc_versions::{Ending, Waiting};
@@ -46,20 +46,21 @@ fn finds_own<R: Wait, E: Ending>(
     finds_one(rt, session, own, providers)
 }
 
-/// Settles, by providers that always want memory, the work of another database's session, which has asked for the same body, and then
-/// asks; and settles its own work where a closure that the body does not create is put below meanwhile.
+/// Settles, by providers that always want memory, the work of another database's session, which has asked for the same body under the
+/// same declarations, and then asks; and settles its own work where a closure that the body does not create is put below meanwhile.
 fn all_told<R: Abort + Wait, E: Ending>(
     rt: &R,
     alloc: Global,
     session: &mut Session<E>,
     other: &mut Session<E>,
 ) -> Result<(), Fail> {
+    let types = Turn::Types(MARKED_INVARIANT, Ok(()));
     let put = Turn::Put(b"f", WRITES_WHILE_BORROWED, Ok(PutReply::Added));
     let beside = Turn::Put(b"f/3", CLOSURE, Ok(PutReply::Added));
     let ask = Turn::Ask(b"f", Ok(Found::Errors(1)));
-    go_by_the_program(rt, alloc, other, &[put, ask])?;
+    go_by_the_program(rt, alloc, other, &[types, put, ask])?;
     let refusing = refusing!(alloc);
-    all_go(rt, alloc, session, &refusing, &[put])?;
+    all_go(rt, alloc, session, &refusing, &[types, put])?;
     assert!(rt;
         finds_theirs(rt, alloc, session, other, &refusing)?,
         "the work stands"
@@ -87,7 +88,8 @@ fn all_told_beside<R: Abort + Wait, E: Ending>(
 }
 
 /// Catches the wrong bodies `memo_never_used`, `begin_hands_out_nothing` and `settle_always_works_again`, and revisions that are not
-/// the book's in what is published: where a database has an answer and no piece, only the answer spares the providers.
+/// the book's in what is published or begun, those of declarations too: where a database has an answer and no piece, only the answer
+/// spares the providers.
 #[test]
 fn an_answer_is_told_where_no_piece_is_kept(rt: HostRuntime) -> Result<(), Fail> {
     let (_db, mut sessions) = Db::open(rt.alloc(), Waiting::new(&rt), 2, 9, 1)?;

@@ -1,5 +1,5 @@
 //! Databases: their ranges, their sessions, their histories.
-use crate::turns::{Turn, history_by, late_sessions};
+use crate::turns::{Turn, go_by_the_program, history_by, late_sessions};
 use bc_analyses::providers;
 use bc_book::Refusal;
 use bc_calls::{Entry, Event, PutReply, RemoveReply};
@@ -273,6 +273,26 @@ fn a_late_session_finds_a_full_history(rt: HostRuntime) -> Result<(), Fail> {
     for session in late.iter_mut() {
         assert!(rt; puts_late(&rt, rt.alloc(), session)?, "a full history");
         assert!(rt; asks_late(&rt, rt.alloc(), session)?, "no memory");
+    }
+    Ok(())
+}
+
+/// A database that was given other sessions than its own is gone, but not its book: a session that was left out still makes its calls.
+#[test]
+fn a_session_that_was_left_out_makes_its_calls(rt: HostRuntime) -> Result<(), Fail> {
+    let (db, mut sessions) = Db::open(rt.alloc(), Waiting::new(&rt), 0, 3, 1)?;
+    assert!(rt;
+        is_foreign(&rt, db, Vec::new(rt.alloc())),
+        "closed without its session"
+    );
+    let turns = [
+        Turn::Put(b"f", WRITES_WHILE_BORROWED, Ok(PutReply::Added)),
+        Turn::Ask(b"f", Ok(Found::Errors(1))),
+        Turn::Remove(b"f", Ok(RemoveReply::Removed)),
+        Turn::Ask(b"f", Err(FULL)),
+    ];
+    for session in sessions.iter_mut() {
+        go_by_the_program(&rt, rt.alloc(), session, &turns)?;
     }
     Ok(())
 }

@@ -1,13 +1,13 @@
 //! Outcomes of each kind with their lines of JSON and the pieces of their bodies, each found once more where that is refused.
 use crate::shelves::{declare, declared, put_text};
 use crate::wide;
-use bc_fixtures::{CLOSURE, INVARIANT_BUT_MARKED_COVARIANT, again, name};
+use bc_fixtures::{CLOSURE, INVARIANT_BUT_MARKED_COVARIANT, again, name, refusing};
 use bc_json::json_report;
 use bc_memo::{Part, Shelf};
 use bc_outcomes::{report, report_pieces};
 use bc_prov::{Outcome, Pieces, Providers, Snapshot};
 use bc_text::Name;
-use std::alloc::Global;
+use std::alloc::{AllocError, Global};
 use std::io::Write;
 
 /// A shelf that holds declarations and no unit.
@@ -79,6 +79,20 @@ fn show_outcome<W: Write>(
     show_pieces(alloc, providers, &part.snapshot, out)
 }
 
+/// Whether a report wants memory where its providers always do, and so asks these.
+fn wants_memory(alloc: Global, snapshot: &Snapshot) -> Result<bool, AllocError> {
+    let providers = refusing!(alloc);
+    Ok(report(alloc, &providers, snapshot).is_err())
+}
+
+/// Shows whether the report of `f` asks the providers that it is handed.
+fn show_asked<W: Write>(alloc: Global, shelf: &Shelf, out: &mut W) -> anyhow::Result<()> {
+    let part = again(|| part_of_f(alloc, shelf))?;
+    let asks = again(|| Ok(wants_memory(alloc, &part.snapshot)?))?;
+    writeln!(out, "a report asks the providers that it is handed: {asks}")?;
+    Ok(())
+}
+
 /// Shows the outcome of `f` where nothing is held, where its closure is missing, and where that is held.
 fn show_found<W: Write>(
     alloc: Global,
@@ -90,7 +104,8 @@ fn show_found<W: Write>(
     put_text(alloc, shelf, b"f", wide::CREATOR, 1)?;
     show_outcome(alloc, providers, shelf, out)?;
     put_text(alloc, shelf, b"f/0", wide::CLOSURE, 2)?;
-    show_outcome(alloc, providers, shelf, out)
+    show_outcome(alloc, providers, shelf, out)?;
+    show_asked(alloc, shelf, out)
 }
 
 /// Shows the outcome of `f` where another closure is put, so that it breaks a typing rule, and where a declaration is bad.

@@ -15,6 +15,8 @@ returns-clause-stopped g c =
       other = c.serve.ensures.other;
       many = λ e. (let h = c.serve.ensures.too_many e in omega (arith, length-map c.in_ok-changes.changes.items seen, h.0));
       quiet = λ e. (let h = c.serve.ensures.too_many e in (h.1, h.2));
-      no_memory = c.serve.ensures.no_memory;
+      refused = c.serve.ensures.refused;
       untold = c.serve.ensures.untold;
+      unwritten = c.serve.ensures.unwritten;
+      audited = c.serve.ensures.audited;
     })

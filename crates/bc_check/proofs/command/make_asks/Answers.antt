@@ -1,8 +1,7 @@
-use Rattle.std.proofs.Common.{arith, ◌≡◌}
+use Rattle.std.proofs.Common.{arith, ◌≡◌, ◌∙◌}
 use Rattle.bc_calls.specs.declared.call.Call.TheVariants.{Ask}
-use Rattle.bc_check.specs.declared.stop.Stop.TheVariants.{NoMemory}
 use Rattle.bc_check.specs.Run.{shown}
-use Rattle.bc_check.proofs.Serving.{making_none, making_more, making_part, same_stop}
+use Rattle.bc_check.proofs.Serving.{making_none, making_more, making_part, same_refused}
 use Rattle.bc_check.proofs.command.make_asks.Goals as goal
 
 pub loop-name-init : goal.loop-name-init
@@ -16,7 +15,11 @@ loop-name-preserved g c = record {
   range = omega (arith, c.max-status.ensures, c.in_ok-make_ask.ensures.range, c.loop-name.invariant.range);
 }
 
-pub returns-in_err-make_ask-clause-no_memory : goal.returns-in_err-make_ask-clause-no_memory
-returns-in_err-make_ask-clause-no_memory g c e =
-    let kept = c.in_err-make_ask.ensures.no_memory (same_stop c.from_residual.result c.in_err-make_ask.field-0.0 NoMemory c.from_residual.ensures.1 e) in
+pub returns-in_err-make_ask-clause-refused : goal.returns-in_err-make_ask-clause-refused
+returns-in_err-make_ask-clause-refused g c = same_refused c.from_residual.result c.in_err-make_ask.field-0.0 c.from_residual.ensures.1 (λ e. (
+    let kept = c.in_err-make_ask.ensures.refused e in
     making_part Ask _ _ (shown c.args.json) _ _ _ _ _ _ _ c.loop-name.invariant.made kept.0 kept.1
+    ))
+
+pub returns-in_err-make_ask-clause-still : goal.returns-in_err-make_ask-clause-still
+returns-in_err-make_ask-clause-still g c = (c.in_err-make_ask.ensures.still.0 ∙ c.loop-name.invariant.made.served.adds.tag, c.in_err-make_ask.ensures.still.1 ∙ c.loop-name.invariant.made.served.adds.number)
