@@ -3,7 +3,7 @@ use crate::model::{CLOSURES, Deed, Kind, Log, Reading, Seen, agree};
 use bc_book::Refusal;
 use bc_fixtures::{Sight, shared_types, shared_unit};
 use bc_prov::{Providers, Shared};
-use bc_share::{Db, Session};
+use bc_share::{Db, MOST_ENTRIES, Session};
 use bc_syntax::{Types, Unit};
 use bc_text::Name;
 use bc_versions::{Ending, Waiting};
@@ -19,13 +19,19 @@ use std::{io, thread};
 /// How many sessions there are: as many as may be.
 const SESSIONS: u8 = 16;
 
-/// A round that is measured: its functions and their closures have more names than are held at a time.
+/// A round that is measured: of the names of its functions and of their closures more are put than may be held.
 const LONG: Shape = Shape {
-    functions: 66,
+    functions: 110,
     turns: 10_000,
 };
 
-/// A round over as many names that is only compared.
+/// A round whose history is nearly as long as one may be: five of eight turns are calls.
+const FULL: Shape = Shape {
+    functions: 110,
+    turns: 99_000,
+};
+
+/// A round over more names than may be held that is only compared.
 const WIDE: Shape = Shape {
     functions: 66,
     turns: 250,
@@ -379,7 +385,8 @@ fn make_round<R: Threads + Wait + Clock + Sync>(
     all: Tally,
 ) -> io::Result<Tally> {
     let names = names(alloc, shape.functions)?;
-    let capacity = shape.turns.saturating_mul(u32::from(SESSIONS));
+    let turns = shape.turns.saturating_mul(u32::from(SESSIONS));
+    let capacity = turns.min(MOST_ENTRIES);
     let Ok((db, sessions)) = Db::open(alloc, Waiting::new(rt), 0, capacity, SESSIONS) else {
         return Err(ErrorKind::OutOfMemory.into());
     };
@@ -397,8 +404,18 @@ fn make_round<R: Threads + Wait + Clock + Sync>(
     Ok(all.with(&logs, nanos))
 }
 
-/// Shows how many calls a second sixteen sessions make in rounds of a new database each, until they have taken so many seconds. Fails
-/// where a history, or what was read, is not what a map says. (Own.)
+/// Shows how many calls and readings there were, and how many calls a second.
+fn show_tally<W: Write>(all: Tally, out: &mut W) -> io::Result<()> {
+    let rate = u128::from(all.calls).saturating_mul(1_000_000_000) / all.nanos.max(1);
+    writeln!(
+        out,
+        "{} calls, {rate} a second, and {} readings agree with a map",
+        all.calls, all.readings
+    )
+}
+
+/// Shows how many calls a second sixteen sessions make in rounds of a new database each, until they have taken so many seconds, and then in
+/// one of a history that is nearly full. Fails where a history, or what was read, is not what a map says. (Own.)
 pub fn show_load<R: AllocGlobal + Threads + Wait + Clock + Sync, W: Write>(
     rt: &R,
     providers: &Providers,
@@ -414,12 +431,9 @@ pub fn show_load<R: AllocGlobal + Threads + Wait + Clock + Sync, W: Write>(
         }
         all = make_round(rt, alloc, &stock, providers, LONG, seed, all)?;
     }
-    let rate = u128::from(all.calls).saturating_mul(1_000_000_000) / all.nanos.max(1);
-    writeln!(
-        out,
-        "{} calls, {rate} a second, and {} readings agree with a map",
-        all.calls, all.readings
-    )
+    show_tally(all, out)?;
+    let full = make_round(rt, alloc, &stock, providers, FULL, 0, NOTHING)?;
+    show_tally(full, out)
 }
 
 /// Shows that the histories of sixteen sessions, and all that they read, are what a map says: over many names, and over four that all

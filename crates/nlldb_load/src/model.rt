@@ -232,17 +232,28 @@ impl Map {
     }
 }
 
-/// The call of an entry, by its session's log.
-fn deed_of(logs: &[Log], entry: &Entry) -> Option<Deed> {
-    let log = logs.get(usize::from(entry.session))?;
-    Some(*log.calls.get(entry.number as usize)?)
-}
-
-/// What a session read that fits no beginning of the history yet, and how many calls that beginning has of it.
+/// A session's calls and those of its readings that fit no beginning of the history yet, and how many of the calls that beginning has.
 #[derive(Clone, Copy)]
 struct Reader<'a> {
+    calls: &'a [Deed],
     rest: &'a [Reading],
     behind: usize,
+}
+
+impl Reader<'_> {
+    /// Whether the history has all its calls and shows all its readings.
+    fn is_done(&self) -> bool {
+        self.rest.is_empty() && self.behind == self.calls.len()
+    }
+}
+
+/// The call of an entry, where it is the next one of its session.
+fn deed_of(readers: &[Reader<'_>], entry: &Entry) -> Option<Deed> {
+    let reader = readers.get(usize::from(entry.session))?;
+    if entry.number as usize != reader.behind {
+        return None;
+    }
+    Some(*reader.calls.get(reader.behind)?)
 }
 
 /// A reader for each session.
@@ -250,6 +261,7 @@ fn readers(alloc: Global, logs: &[Log]) -> Result<Vec<Reader<'_>>, AllocError> {
     let mut readers = Vec::with_capacity(alloc, logs.len())?;
     for log in logs {
         readers.push(Reader {
+            calls: &log.calls,
             rest: &log.readings,
             behind: 0,
         })?;
@@ -271,9 +283,9 @@ fn count(readers: &mut [Reader<'_>], session: u8) {
     }
 }
 
-/// Whether the history is what a map of these names says of the calls of the sessions, and shows all that they saw: each reading of a
-/// session saw what a beginning of the history leaves, which is no shorter than that of the reading before, has the calls that the session
-/// had made and none that it made later.
+/// Whether the history is what a map of these names says of the calls of the sessions, of which it has each once, those of a session in
+/// their order, and shows all that they saw: each reading of a session saw what a beginning of the history leaves, which is no shorter than
+/// that of the reading before, has the calls that the session had made and none that it made later.
 pub(crate) fn agree(
     alloc: Global,
     names: &[Name],
@@ -284,7 +296,7 @@ pub(crate) fn agree(
     let mut readers = readers(alloc, logs)?;
     for entry in entries {
         read_on(&map, names, &mut readers);
-        let Some(deed) = deed_of(logs, entry) else {
+        let Some(deed) = deed_of(&readers, entry) else {
             return Ok(false);
         };
         if !map.take(names, deed, &entry.event) {
@@ -293,5 +305,5 @@ pub(crate) fn agree(
         count(&mut readers, entry.session);
     }
     read_on(&map, names, &mut readers);
-    Ok(readers.iter().all(|reader| reader.rest.is_empty()))
+    Ok(readers.iter().all(|reader| reader.is_done()))
 }
