@@ -1,6 +1,7 @@
-//! What is looked up in a typed body: types of places and of fields, and what makes one type a subtype of another.
+//! What is looked up in a typed body: types of places and of fields, what makes one type a subtype of another, and accesses of points.
 use bc_fixtures::again;
 use bc_mir::{GoodTypes, Instruction, Step, Typed};
+use bc_points::accesses;
 use bc_syntax::{Base, Statement, Ty};
 use std::alloc::Global;
 use std::io::Write;
@@ -58,14 +59,25 @@ fn count_second_fields(alloc: Global, typed: &Typed) -> anyhow::Result<usize> {
     Ok(count)
 }
 
+/// How many accesses the points of a body make.
+fn count_accesses(alloc: Global, typed: &Typed) -> anyhow::Result<usize> {
+    let mut count: usize = 0;
+    for step in typed.steps() {
+        let made = accesses(alloc, typed, &step.instruction)?.len();
+        count = count.saturating_add(made);
+    }
+    Ok(count)
+}
+
 /// Shows how much is looked up in a typed body, once more where that is refused. (Own.)
 pub fn show<W: Write>(alloc: Global, typed: &Typed, out: &mut W) -> anyhow::Result<()> {
     let demands = again(|| count_demands(alloc, typed))?;
     let targets = again(|| count_targets(alloc, typed))?;
     let fields = again(|| count_second_fields(alloc, typed))?;
+    let accesses = again(|| count_accesses(alloc, typed))?;
     writeln!(
         out,
-        "{demands} demands, {targets} targets, {fields} with a second field"
+        "{demands} demands, {targets} targets, {fields} with a second field, {accesses} accesses"
     )?;
     Ok(())
 }

@@ -1,14 +1,16 @@
 //! The piece of a body, and pieces that a memo keeps, each call made once more where it is refused.
-ghost use Rattle.std.specs.Prelude.{◌≡◌, []};
+ghost use Rattle.std.specs.Prelude.{◌≡◌, [], IfOk};
 
 use crate::shelves::names;
 use anyhow::bail;
 use bc_calls::no_declarations;
-use bc_fixtures::{WRITES_WHILE_BORROWED, again, name, shared_unit};
+use bc_cons::Requirements;
+use bc_fixtures::{CLOSURE, INVOKES, WRITES_WHILE_BORROWED, again, name, shared_unit};
 use bc_memo::PieceMemo;
+use bc_mir::KidHeader;
 use bc_outcomes::piece;
 use bc_prov::{Declared, Piece, Providers, Shared, share};
-use bc_syntax::Unit;
+use bc_syntax::{Sequence, Unit, UnitKind};
 use bc_text::Name;
 use std::alloc::{AllocError, Global};
 use std::io::Write;
@@ -43,6 +45,54 @@ fn piece_alone(
 ) -> anyhow::Result<Shared<Piece>> {
     let types = no_declarations(alloc)?;
     piece_over(alloc, providers, &types, unit)
+}
+
+/// A closure that requires nothing, as closure 0 of its creator.
+fn child(alloc: Global, closure: &Unit) -> anyhow::Result<(KidHeader<'_>, Requirements)>
+    ensures { IfOk result (λ kid. (kid.0.number ≡ 0) × (kid.1.pairs ≡ [])) }
+{
+    match closure.body().header.kind {
+        UnitKind::Closure => {
+            let nothing = Requirements {
+                pairs: Sequence::new(alloc),
+            };
+            Ok((KidHeader::of(0, closure), nothing))
+        }
+        UnitKind::Function => bail!("the child is a function"),
+    }
+}
+
+/// The piece of a unit that creates closure 0 alone, which requires nothing, over declarations that there are none of.
+fn piece_above(
+    alloc: Global,
+    providers: &Providers,
+    types: &Shared<Declared>,
+    unit: &Shared<Unit>,
+    closure: &Shared<Unit>,
+) -> anyhow::Result<Shared<Piece>>
+    requires { types.now ≡ [] }
+{
+    let children = unit.get().body().children(alloc)?;
+    match children.as_slice() {
+        [0] => {
+            let mut kids = Vec::new(alloc);
+            kids.push(child(alloc, closure.get())?)?;
+            let made = piece(alloc, providers, types, unit, kids)?;
+            Ok(share(alloc, made)?)
+        }
+        _ => bail!("the body creates other closures"),
+    }
+}
+
+/// The piece of a creator over no declarations.
+fn piece_of_creator(
+    alloc: Global,
+    providers: &Providers,
+    unit: &Shared<Unit>,
+    closure: &Shared<Unit>,
+) -> anyhow::Result<Shared<Piece>> {
+    let types = no_declarations(alloc)?;
+    piece_above(alloc, providers, &types, unit, closure)
 }
 
 /// Whether a piece is kept for exactly the first of these names, so many.
@@ -118,8 +168,19 @@ fn show_of<W: Write>(
     show_kept(alloc, &piece, out)
 }
 
-/// Shows the errors of the piece of a body, and how many pieces are kept of a part. (Own.)
+/// Shows how much the piece of a creator rests on.
+fn show_creator<W: Write>(alloc: Global, providers: &Providers, out: &mut W) -> anyhow::Result<()> {
+    let unit = Shared::new(again(|| shared_unit(alloc, INVOKES))?);
+    let closure = Shared::new(again(|| shared_unit(alloc, CLOSURE))?);
+    let piece = again(|| piece_of_creator(alloc, providers, &unit, &closure))?;
+    let errors = piece.get().errors().len();
+    writeln!(out, "the piece of a creator: {errors} errors")?;
+    Ok(())
+}
+
+/// Shows the errors of the piece of a body, how many pieces are kept of a part, and the piece of a creator. (Own.)
 pub fn show<W: Write>(alloc: Global, providers: &Providers, out: &mut W) -> anyhow::Result<()> {
     let unit = Shared::new(again(|| shared_unit(alloc, WRITES_WHILE_BORROWED))?);
-    show_of(alloc, providers, &unit, out)
+    show_of(alloc, providers, &unit, out)?;
+    show_creator(alloc, providers, out)
 }

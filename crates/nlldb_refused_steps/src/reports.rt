@@ -5,7 +5,7 @@ use bc_fixtures::{CLOSURE, INVARIANT_BUT_MARKED_COVARIANT, again, name, refusing
 use bc_json::json_report;
 use bc_memo::{Part, Shelf};
 use bc_outcomes::{report, report_pieces};
-use bc_prov::{Outcome, Pieces, Providers, Snapshot};
+use bc_prov::{Outcome, Pieces, Providers, Snapshot, share};
 use bc_text::Name;
 use std::alloc::{AllocError, Global};
 use std::io::Write;
@@ -93,7 +93,26 @@ fn show_asked<W: Write>(alloc: Global, shelf: &Shelf, out: &mut W) -> anyhow::Re
     Ok(())
 }
 
-/// Shows the outcome of `f` where nothing is held, where its closure is missing, and where that is held.
+/// The part of what is held that the outcome of `f` rests on, with that outcome, which it carries.
+fn carrying(alloc: Global, providers: &Providers, shelf: &Shelf) -> anyhow::Result<Snapshot> {
+    let part = part_of_f(alloc, shelf)?;
+    let outcome = report(alloc, providers, &part.snapshot)?;
+    Ok(part.snapshot.carry(share(alloc, outcome)?))
+}
+
+/// Shows the outcome of `f` that a snapshot carries, which has no pieces then.
+fn show_carried<W: Write>(
+    alloc: Global,
+    providers: &Providers,
+    shelf: &Shelf,
+    out: &mut W,
+) -> anyhow::Result<()> {
+    let snapshot = again(|| carrying(alloc, providers, shelf))?;
+    show_snapshot(alloc, providers, &snapshot, out)?;
+    show_pieces(alloc, providers, &snapshot, out)
+}
+
+/// Shows the outcome of `f` where nothing is held, where its closure is missing, and where that is held, and then as it is carried.
 fn show_found<W: Write>(
     alloc: Global,
     providers: &Providers,
@@ -105,6 +124,7 @@ fn show_found<W: Write>(
     show_outcome(alloc, providers, shelf, out)?;
     put_text(alloc, shelf, b"f/0", wide::CLOSURE, 2)?;
     show_outcome(alloc, providers, shelf, out)?;
+    show_carried(alloc, providers, shelf, out)?;
     show_asked(alloc, shelf, out)
 }
 
