@@ -10,6 +10,7 @@ mod input;
 mod section;
 mod status;
 mod stop;
+mod words;
 
 pub use command::{check, check_and_tell, check_over, find_capacity};
 pub use fault::{FaultKind, FileFault};
@@ -19,3 +20,4 @@ pub use input::read_whole;
 pub use section::{Section, Sections};
 pub use status::event_status;
 pub use stop::{Stop, stop_with};
+pub use words::answer_words;

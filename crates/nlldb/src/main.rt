@@ -2,8 +2,8 @@
 #![tactic(auto)]
 
 use bc_analyses::{find_plain_values, providers};
-use bc_check::{Stop, check_over, stop_with};
-use bc_line::{Line, LineFault, Solver, read_line, write_usage};
+use bc_check::{Stop, answer_words, check_over, stop_with};
+use bc_line::{Line, LineFault, Solver, read_line};
 use bc_prov::Providers;
 use bc_run::run_over;
 use std::alloc::AllocError;
@@ -86,14 +86,6 @@ fn obey_plainly<R: Files + AllocGlobal + Print + Threads + Wait + Sync>(
     obey(rt, line, &providers, err)
 }
 
-/// Prints the help.
-fn help(rt: &HostRuntime, err: &mut Stderr) -> io::Result<u8> {
-    match write_usage(&mut rt.stdout()) {
-        Ok(()) => Ok(0),
-        Err(_) => stop_with("", &Stop::CannotWrite, err),
-    }
-}
-
 /// Does what the line says, by the solver that it names.
 fn obey_line<R: Files + AllocGlobal + Print + Threads + Wait + Sync>(
     rt: &R,
@@ -117,9 +109,7 @@ fn main(rt: HostRuntime) -> ExitCode {
     let mut err = rt.stderr();
     let ended = match read_own_line(&rt) {
         Ok(line) => obey_line(&rt, &line, &mut err),
-        Err(LineFault::Help) => help(&rt, &mut err),
-        Err(LineFault::WrongUse) => stop_with("", &Stop::WrongUse, &mut err),
-        Err(LineFault::NoMemory) => stop_with("", &Stop::NoMemory, &mut err),
+        Err(fault) => answer_words(fault, &mut rt.stdout(), &mut err),
     };
     // Where standard error fails, nothing more can be said.
     let status = match ended {

@@ -1,8 +1,8 @@
 //! Does what each line of `examples/commands.txt` says, and prints the line, what the command leaves and its status: the examples by their
 //! own bytes.
 use crate::Solvers;
-use bc_check::check_over;
-use bc_line::{Line, Solver, read_line};
+use bc_check::{answer_words, check_over};
+use bc_line::{Line, LineFault, Solver, read_line};
 use bc_prov::Providers;
 use bc_run::run_over;
 use std::alloc::Global;
@@ -45,6 +45,18 @@ fn obey<R: AllocGlobal + Files + Threads + Wait + Sync, O: Write + Drop>(
     show(rt, providers, line, &mut input, out)
 }
 
+/// Prints what is answered to words that are no line.
+fn show_fault<O: Write + Drop>(
+    alloc: Global,
+    fault: LineFault,
+    out: &mut BufWriter<O>,
+) -> io::Result<()> {
+    let mut told = Vec::new(alloc);
+    let status = answer_words(fault, out, &mut told)?;
+    out.write_all(&told)?;
+    writeln!(out, "status {status}")
+}
+
 /// The words of a line.
 fn words_of(alloc: Global, text: &str) -> io::Result<Vec<&str>> {
     let mut words = Vec::new(alloc);
@@ -65,7 +77,7 @@ fn obey_words<R: AllocGlobal + Files + Threads + Wait + Sync, O: Write + Drop>(
     let words = words_of(rt.alloc(), text)?;
     match read_line(rt.alloc(), &words) {
         Ok(line) => obey(rt, solvers, &line, out),
-        Err(fault) => writeln!(out, "{fault}"),
+        Err(fault) => show_fault(rt.alloc(), fault, out),
     }
 }
 
