@@ -12,7 +12,7 @@ ghost use Rattle.bc_outcomes.specs.Visits.{AreKids, ChildKid, IsLooked, child_of
 use crate::held::Held;
 use crate::visit::Visit;
 use bc_mir::{Child, IllFault, KidHeader, type_unit};
-use bc_prov::{Outcome, Piece, Shared, Snapshot, share};
+use bc_prov::{Outcome, Piece, Shared, share};
 use bc_syntax::Unit;
 use bc_text::Name;
 use std::alloc::{AllocError, Global};
@@ -93,23 +93,6 @@ fn has_header(child: &Child, kid: &Kid<'_>) -> bool
     child.number == kid.number && child.header == kid.unit.get().body().header
 }
 
-/// The numbers of a body's closures: those that a piece of it has, if one is kept, else those that are found in it.
-fn numbers_at(
-    alloc: Global,
-    snapshot: &Snapshot,
-    name: &Name,
-    unit: &Shared<Unit>,
-) -> Result<Vec<u8>, AllocError>
-    requires held { at_name snapshot.now.units name.now ≡ Some unit.now }
-    ensures value { IfOk result (λ numbers. numbers.items ≡ children_of unit.now) }
-    ensures low { IfOk result (λ numbers. list_all (λ number. nat_le number 63) numbers.items ≡ true) }
-{
-    match snapshot.piece(name) {
-        Some(piece) => piece.get().children(alloc),
-        None => unit.get().body().children(alloc),
-    }
-}
-
 /// The piece that is kept of a body with these closures, if it was found from closures with their headers.
 fn piece_with<'a>(held: &Held<'a>, name: &Name, kids: &[Kid<'_>]) -> Option<&'a Shared<Piece>>
     ensures over { IfSome result (λ piece. IsPieceFor held.now.snapshot.now.types (at_name held.now.snapshot.now.units name.now) piece.now) }
@@ -163,7 +146,7 @@ fn look<'a>(
     requires held { at_name held.now.snapshot.now.units name ≡ Some unit.now }
     ensures { IfOk result (IsLooked (state_in held.now) name unit.now) }
 {
-    let numbers = numbers_at(alloc, held.snapshot, &name, unit)?;
+    let numbers = held.snapshot.children_of(alloc, &name, unit)?;
     match find_kids(alloc, held, name, &numbers)? {
         Kids::Absent(child) => Ok(Looked::Faulty(Outcome::Missing(child))),
         Kids::Held(kids) => match visited(alloc, held, name, unit, &kids) {

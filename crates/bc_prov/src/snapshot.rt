@@ -254,15 +254,22 @@ impl Snapshot {
         }
     }
 
-    /// The numbers of a unit's children: those that a piece of it has, if one is kept, else those that are found in it.
-    fn children_of(&self, alloc: Global, unit: &(Name, Shared<Unit>)) -> Result<Vec<u8>, AllocError>
-        requires { at_name self.now.units unit.now.0 ≡ Some unit.now.1 }
-        ensures value { IfOk result (λ numbers. numbers.items ≡ children_of unit.now.1) }
+    /// The numbers of the children of a unit, each once, ascending: those that a piece of it has, if one is carried or kept, else
+    /// those that are found in it. It asks that this unit is held under this name. Answers `AllocError` only where memory was
+    /// refused. (Own.)
+    pub fn children_of(
+        &self,
+        alloc: Global,
+        name: &Name,
+        unit: &Shared<Unit>,
+    ) -> Result<Vec<u8>, AllocError>
+        requires { at_name self.now.units name.now ≡ Some unit.now }
+        ensures value { IfOk result (λ numbers. numbers.items ≡ children_of unit.now) }
         ensures low { IfOk result (λ numbers. list_all (λ number. nat_le number 63) numbers.items ≡ true) }
     {
-        match self.piece(&unit.0) {
+        match self.piece(name) {
             Some(piece) => piece.get().children(alloc),
-            None => unit.1.get().body().children(alloc),
+            None => unit.get().body().children(alloc),
         }
     }
 
@@ -274,7 +281,7 @@ impl Snapshot {
         let mut names = Vec::new(alloc);
         names.push(self.root)?;
         for unit in &self.units {
-            let numbers = self.children_of(alloc, unit)?;
+            let numbers = self.children_of(alloc, &unit.0, &unit.1)?;
             push_children(&mut names, unit.0, &numbers)?;
         }
         Ok(names)
