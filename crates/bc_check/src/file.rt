@@ -64,6 +64,14 @@ pub fn text_stop(line: usize, fault: ReadFault) -> Stop
     Stop::File(FileFault { line, kind })
 }
 
+/// Why a section makes no call, where it has this fault: the fault of the file at the section's line. (Own.)
+pub fn stop_at(section: &Section<'_>, kind: FaultKind) -> Stop
+    ensures { result ≡ Stop.File (record { line = section.now.line; kind = kind }) }
+{
+    let line = section.line;
+    Stop::File(FileFault { line, kind })
+}
+
 /// What a header line asks for that names no session, or `None` exactly where it asks for nothing.
 fn read_header(header: &[u8]) -> Option<Heading>
     ensures found { IfSome result (λ heading. IsHeader None heading header.now) }
@@ -102,18 +110,9 @@ fn read_asked(alloc: Global, section: &Section<'_>, heading: Heading) -> Result<
     match heading {
         Heading::Types => read_stored(alloc, section),
         Heading::Put(name) => read_put(alloc, section, name),
-        Heading::Remove(_) => Err(bad_header(section)),
-        Heading::Ask(_) => Err(bad_header(section)),
+        Heading::Remove(_) => Err(stop_at(section, FaultKind::BadHeader)),
+        Heading::Ask(_) => Err(stop_at(section, FaultKind::BadHeader)),
     }
-}
-
-/// Why a section whose header line is none makes no change.
-fn bad_header(section: &Section<'_>) -> Stop
-    ensures { result ≡ Stop.File (record { line = section.now.line; kind = FaultKind.BadHeader }) }
-{
-    let line = section.line;
-    let kind = FaultKind::BadHeader;
-    Stop::File(FileFault { line, kind })
 }
 
 /// The change that a section makes.
@@ -122,7 +121,7 @@ fn read_change(alloc: Global, section: &Section<'_>) -> Result<Change, Stop>
 {
     match read_header(section.header) {
         Some(heading) => read_asked(alloc, section, heading),
-        None => Err(bad_header(section)),
+        None => Err(stop_at(section, FaultKind::BadHeader)),
     }
 }
 

@@ -8,7 +8,7 @@ ghost use Rattle.bc_run.specs.Calls.{GivesText, GivesOne, GivesAll};
 use crate::header::read_header;
 use bc_calls::Call;
 use bc_check::{
-    FaultKind, FileFault, Heading, Section, Sections, Stop, read_body, read_declarations, text_stop,
+    FaultKind, Heading, Section, Sections, Stop, read_body, read_declarations, stop_at, text_stop,
 };
 use bc_text::Name;
 use std::alloc::Global;
@@ -32,14 +32,6 @@ fn is_blank(text: &[u8]) -> bool
     ensures { result ≡ list_all (λ b. b == 32 || b == 10) text.now }
 {
     text.iter().all(|byte| is_blank_byte(*byte))
-}
-
-/// Why a section gives no call.
-fn stop_at(section: &Section<'_>, kind: FaultKind) -> Stop
-    ensures { result ≡ Stop.File (record { line = section.now.line; kind = kind }) }
-{
-    let line = section.line;
-    Stop::File(FileFault { line, kind })
 }
 
 /// The call that stores the declarations of a section.
