@@ -20,7 +20,7 @@ use Rattle.bc_memo.specs.declared.change.Change.TheVariants as changes
 use Rattle.bc_memo.specs.declared.memo.Remembered.{Remembered}
 use Rattle.bc_memo.specs.Places.{Places, ShelfView, AreOrdered, unit_of, written, placed, mark, changed, units_in}
 use Rattle.bc_memo.specs.Memos.{IsRowOf, Stands}
-use Rattle.bc_memo.proofs.Places.{same_name, no_order, ordered-put, ordered-take, at_name-map, at_name-put, at_name-take, length-put_le, length-put_held, length-take_le}
+use Rattle.bc_memo.proofs.Places.{by_bool, same_name, no_order, ordered-put, ordered-take, at_name-map, at_name-put, at_name-take, length-put_le, length-put_held, length-take_le}
 use Rattle.bc_calls.specs.declared.call.PutReply.TheVariants.{Added, Replaced, Full, WrongKind}
 use Rattle.bc_calls.specs.declared.call.RemoveReply.TheVariants.{Removed, Absent}
 use Rattle.bc_calls.specs.declared.call.Event.{Event}
@@ -35,7 +35,6 @@ use Rattle.bc_book.specs.Memory.{IsRight, ArePast}
 use Rattle.bc_book.specs.Ledgers.{HasPlace, IsKept, IsRow, bodies_of, kept_rows}
 use Rattle.bc_calls.proofs.Histories.{legal_none, legal_snoc}
 use Rattle.bc_book.proofs.Counting.{counts_more}
-use Rattle.bc_calls.proofs.Answering.{by_bool}
 use Rattle.bc_calls.proofs.Changing.{shelf_none, shelf_snoc}
 use Rattle.bc_calls.proofs.Parts.{copied_part}
 use Rattle.bc_book.proofs.Remembering.{past_none, past_more, right_more, right_new, right_now, stands_new}

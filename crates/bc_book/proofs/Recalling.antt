@@ -14,12 +14,12 @@ use Rattle.bc_memo.specs.declared.change.Change.TheVariants as changes
 use Rattle.bc_memo.specs.declared.memo.Remembered.{Remembered}
 use Rattle.bc_memo.specs.Places.{ShelfView, changed, mark, revision_at, revision_of}
 use Rattle.bc_memo.specs.Memos.{IsRemembered, Recorded, Stands}
+use Rattle.bc_memo.proofs.Marking.{other_name}
 use Rattle.bc_memo.proofs.Places.{at_name-map, at_name-put, put_here}
 use Rattle.bc_calls.specs.declared.call.Entry.{Entry}
 use Rattle.bc_calls.specs.declared.call.Event.TheVariants.{Ask}
 use Rattle.bc_calls.specs.Calls.{after}
 use Rattle.bc_calls.specs.Changes.{change_of, writes_after, writes_of}
-use Rattle.bc_calls.proofs.Answering.{other_name}
 use Rattle.bc_book.specs.Ledgers.{Appends, BookView, IsRow, KeepsOthers, Recalls, Remembers, kept_rows, remembering}
 
 -- what is looked up is what is remembered

@@ -16,7 +16,7 @@ use Rattle.bc_memo.specs.declared.change.Change.TheVariants as changes
 use Rattle.bc_memo.specs.declared.memo.Remembered.{Remembered}
 use Rattle.bc_memo.specs.Places.{Places, ShelfView, AreOrdered, unit_of, revision_of, revision_at, placed, mark, changed, voids}
 use Rattle.bc_memo.specs.Memos.{IsRowOf, Recorded, recorded, Stands}
-use Rattle.bc_memo.proofs.Places.{same_name, at_name-map, placing}
+use Rattle.bc_memo.proofs.Places.{by_bool, same_name, at_name-map, placing}
 use Rattle.bc_calls.specs.declared.call.Event.{Event}
 use Rattle.bc_calls.specs.declared.call.Event.TheVariants.{Types, Put, Remove, Ask}
 use Rattle.bc_calls.specs.declared.call.Entry.{Entry}
@@ -25,7 +25,6 @@ use Rattle.bc_calls.specs.Changes.{change_of, writes, writes_of}
 use Rattle.bc_calls.specs.Answers.{IsShelfOf}
 use Rattle.bc_book.specs.Memory.{IsRight, ArePast}
 use Rattle.bc_calls.proofs.Histories.{writes_more, writes_no_fewer}
-use Rattle.bc_calls.proofs.Answering.{by_bool}
 use Rattle.bc_calls.proofs.Changing.{shelf_snoc, unit-marked, same_voids, clears_writes}
 
 -- ---- what stands

@@ -13,19 +13,14 @@ use Rattle.bc_prov.specs.State.{State, Bodies}
 use Rattle.bc_prov.specs.Outcome.{IsOutcomeIn}
 use Rattle.bc_outcomes.specs.Laws.{HaveSamePart}
 use Rattle.bc_outcomes.proofs.Local.{outcome_same}
+use Rattle.bc_memo.proofs.Places.{by_bool}
+use Rattle.bc_memo.proofs.Marking.{other_name}
 use Rattle.bc_calls.specs.declared.call.Event.{Event}
 use Rattle.bc_calls.specs.declared.call.Event.TheVariants.{Types, Put, Remove, Ask}
 use Rattle.bc_calls.specs.declared.call.Entry.{Entry}
 use Rattle.bc_calls.specs.Calls.{next, after, stores, takes, with_body, IsReply, MayComeNext}
 use Rattle.bc_calls.specs.Answers.{clears, found, asks, IsAnswered, IsAnswer}
 use Rattle.bc_calls.proofs.Histories.{snoc_split, after-snoc}
-
-pub by_bool : {P : Type 0} (b : Bool) → (b ≡ true → P) → (b ≡ false → P) → P
-by_bool true f g = f refl
-by_bool false f g = g refl
-
-pub other_name : (m n : NameParts) → (m ≡ n → ⊥) → is_same_name m n ≡ false
-other_name m n apart = by_bool (is_same_name m n) (λ e. absurd (apart ((name m n).0 e))) (λ e. e)
 
 -- a write of a name that does not lie within n leaves the body of each that does
 spared : (s : Bool) (bodies : Bodies) (n m : NameParts) (v : Option Body) → (s && is_within n m) ≡ false → (k : NameParts) → is_within n k ≡ true → bodies k ≡ (cond s (with_body bodies m v) bodies) k

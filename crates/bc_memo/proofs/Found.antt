@@ -17,6 +17,7 @@ use Rattle.bc_prov.specs.Pieces.{PieceView, IsPieceFor}
 use Rattle.bc_prov.specs.Pieces.{ArePieces as AreOfSnapshot}
 use Rattle.bc_memo.specs.declared.place.Place.{Place}
 use Rattle.bc_memo.specs.Places.{Places, PieceRows, AreKeptInOrder, AreOrdered, ArePieces, answered, cleared, part_in, pieces_with, unit_of, units_in, with_answer}
+use Rattle.bc_memo.proofs.Marking.{same_unit}
 use Rattle.bc_memo.proofs.Places.{at_head, at_name-map, at_name-put, at_name-take, at_tail, by_bool, less_apart, ordered-filter, same_name, units_at}
 use Rattle.bc_prov.specs.declared.outcome.Outcome.{Outcome}
 
@@ -38,10 +39,6 @@ unit-map f ps n same = ap unit_of (at_name-map f n ps) ∙ over (at_name ps n)
     over : (o : Option Place) → unit_of (option_map (f n) o) ≡ unit_of o
     over None = refl
     over (Some p) = ap Some (same n p)
-
-same_unit : (b : Bool) (p : Place) (a : Option Outcome) → (cond b (with_answer p a) p).unit ≡ p.unit
-same_unit true p a = refl
-same_unit false p a = refl
 
 unit-cleared : (m : NameParts) (ps : Places) (n : NameParts) → unit_of (at_name (cleared m ps) n) ≡ unit_of (at_name ps n)
 unit-cleared m ps n = unit-map (λ (k : NameParts) (p : Place). cond (is_within k m) (with_answer p None) p) ps n (λ k p. same_unit (is_within k m) p None)

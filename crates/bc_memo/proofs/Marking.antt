@@ -56,7 +56,7 @@ kept-take test ps kept = record { ordered = ordered-take test ps kept.ordered; s
 pub kept-map : (f : NameParts → Place → Place) (ps : Places) → ((n : NameParts) (p : Place) → (f n p).unit ≡ p.unit) → AreKept ps → AreKept (map (λ (p : NameParts × Place). (p.0, f p.0 p.1)) ps)
 kept-map f ps same kept = record { ordered = ordered-map f ps kept.ordered; suited = suited-map f ps same kept.suited }
 
-same_unit : (b : Bool) (p : Place) (a : Option Outcome) → (cond b (with_answer p a) p).unit ≡ p.unit
+pub same_unit : (b : Bool) (p : Place) (a : Option Outcome) → (cond b (with_answer p a) p).unit ≡ p.unit
 same_unit true p a = refl
 same_unit false p a = refl
 
@@ -71,7 +71,7 @@ kept-unanswered ps kept = kept-map (λ (m : NameParts) (p : Place). with_answer 
 
 -- ---- the answer at one name
 
-other_name : (n m : NameParts) → (n ≡ m → ⊥) → is_same_name n m ≡ false
+pub other_name : (n m : NameParts) → (n ≡ m → ⊥) → is_same_name n m ≡ false
 other_name n m apart = by_bool (is_same_name n m) (λ is. absurd (apart ((name n m).0 is))) (λ is. is)
 
 abbrev answer_row : NameParts → Option Outcome → NameParts × Place → NameParts × Place
