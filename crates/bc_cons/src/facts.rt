@@ -1,6 +1,6 @@
 //! What the values of regions are made from: the elements that each region starts with, and the constraints between regions.
-ghost use Rattle.std.specs.Prelude.{◌≡◌, ℕ, ◌<◌, length};
-ghost use Rattle.bc_flow.specs.Flow.{row, holds, HaveSize};
+ghost use Rattle.std.specs.Prelude.{◌≡◌, length};
+ghost use Rattle.bc_flow.specs.Flow.{HaveSize};
 ghost use Rattle.bc_cons.specs.Facts.{ArePairsWithin};
 
 use bc_flow::BitTable;
@@ -82,15 +82,5 @@ impl Facts {
         ensures within { ArePairsWithin (length self.now.starts) self.now.pairs }
     {
         &self.pairs
-    }
-
-    /// Whether a region starts with an element. Both are numbers below their counts. It takes no memory.
-    /// (Own.)
-    pub fn starts_with(&self, region: usize, element: usize) -> bool
-        requires region { region < length self.now.starts }
-        requires element { element < self.now.elements }
-        ensures { result ≡ holds self.now.starts region element }
-    {
-        self.starts.holds(region, element)
     }
 }
