@@ -4,11 +4,11 @@ use borrow.Rule.Slice.PartMut.{put_mid}
 use Rattle.std.proofs.lemmas.Bool.{cases_lt, lt-ltb, le-ltb}
 use Rattle.std.proofs.lemmas.List.{get_or_past, length-append, length-take-le, length-drop, get_or_append_left, get_or-append_right, get_or-take, get_or-drop}
 use Rattle.std.proofs.lemmas.List.Edits.{get_or-between}
-use Rattle.std.proofs.lemmas.Nat.Bits.{bit_at-zero}
 use Rattle.bc_flow.specs.BitSet.{has}
 use Rattle.bc_flow.specs.Packed.{bit, bits_of, IsPacked}
 use Rattle.bc_flow.specs.Flow.{row, holds, AreAdded}
 use Rattle.bc_flow.specs.Tabled.{row_of, table_of, IsTable}
+use Rattle.bc_flow.proofs.Filled.{bit-past}
 use Rattle.bc_flow.proofs.Members.{length-bits_of, has-bits_of, same_by_has}
 use Rattle.bc_flow.proofs.Rows.{others_kept}
 use Rattle.bc_flow.proofs.Tabled.{rows_is, size_is, row_in, has-row_of, get_or-table_of, OthersKept, IsRowJoined, row_joined, no_fact}
@@ -33,10 +33,6 @@ bit-part at width words i h =
     let q : (64 * at + i) / 64 ≡ at + i / 64 = omega arith in
     let m : (64 * at + i) % 64 ≡ i % 64 = omega arith in
     rw (q, m, word_of_part at width words (i / 64) (omega (arith, h))) refl
-
-pub bit-past : (words : List ℕ) (i : ℕ) → length words ≤ i / 64 → bit words i ≡ false
-unfolding bit
-bit-past words i h = rw (get_or_past words (i / 64) 0 h, bit_at-zero (i % 64)) refl
 
 -- ---- back in the block
 

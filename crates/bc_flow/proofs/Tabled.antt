@@ -14,7 +14,7 @@ use Rattle.bc_flow.specs.Packed.{bit, is_set}
 use Rattle.bc_flow.specs.Flow.{row, holds, HaveSize}
 use Rattle.bc_flow.specs.Tabled.{row_of, table_of, IsTable}
 use Rattle.bc_flow.proofs.Members.{same_from_absent, word_from_bits, refilled, or_bits, min_below, without_bits, word_with, bit-set_same, bit-set_other, same_by_has, not_one}
-use Rattle.bc_flow.proofs.Filled.{bit_is}
+use Rattle.bc_flow.proofs.Filled.{bit_is, same_word}
 use Rattle.bc_flow.proofs.Words.{Differs, Differs-more}
 
 -- ---- places
@@ -145,12 +145,8 @@ holds-zeros rows width size words zeros n f = elim (cases_lt n rows) [
 abbrev pub OthersKept : ℕ → ℕ → List ℕ → List ℕ → Type 0
 OthersKept at width new old = (j : ℕ) → (at ≤ j → at + width ≤ j) → get_or new j 0 ≡ get_or old j 0
 
-pub same_bits : (new old : List ℕ) (i : ℕ) → get_or new (i / 64) 0 ≡ get_or old (i / 64) 0 → bit new i ≡ bit old i
-unfolding bit
-same_bits new old i h = rw h refl
-
 kept_bits : (new old : List ℕ) (to n width i : ℕ) → OthersKept (to * width) width new old → (n ≡ to → ⊥) → i < 64 * width → bit new (64 * (n * width) + i) ≡ bit old (64 * (n * width) + i)
-kept_bits new old to n width i others apart h = same_bits new old (64 * (n * width) + i) (others ((64 * (n * width) + i) / 64) (λ after. elim (cases_lt n to) [
+kept_bits new old to n width i others apart h = same_word new old (64 * (n * width) + i) (others ((64 * (n * width) + i) / 64) (λ after. elim (cases_lt n to) [
   | inl lower ↦ absurd (omega (arith, rows_apart n to width lower, after, h))
   | inr not_lower ↦ omega (arith, rows_apart to n width (omega (arith, not_lower, apart)), h)
 ]))
@@ -226,12 +222,12 @@ row_joined_words {rows} {width} {size} {old} {table} new to added t view h same 
               | inr q ↦ written.packed.clean to i here q p ∙ sym (t.clean to i here q p)
             ] in
             let all : (i : ℕ) → bit new i ≡ bit old i = λ i. elim (cases_lt i (64 * (to * width))) [
-              | inl before ↦ same_bits new old i (others (i / 64) (λ after. absurd (omega (arith, after, before))))
+              | inl before ↦ same_word new old i (others (i / 64) (λ after. absurd (omega (arith, after, before))))
               | inr from ↦ elim (cases_lt i (64 * (to * width) + 64 * width)) [
                 | inl within ↦
                     let e : 64 * (to * width) + (i - 64 * (to * width)) ≡ i = omega (arith, from) in
                     rw e at (inside (i - 64 * (to * width)) (omega (arith, from, within)))
-                | inr past ↦ same_bits new old i (others (i / 64) (λ _. omega (arith, past)))
+                | inr past ↦ same_word new old i (others (i / 64) (λ _. omega (arith, past)))
               ]
             ] in
             absurd (differs (word_from_bits new old k small_new small_old all))
