@@ -237,7 +237,23 @@ fn runs_as_keyword(bytes: &[u8], keyword: Symbol) -> bool
         Symbol::Stop => runs_as(bytes, b"stop"),
         Symbol::Struct => runs_as(bytes, b"struct"),
         Symbol::Extern => runs_as(bytes, b"extern"),
-        _ => runs_as(bytes, keyword.text()),
+        Symbol::OpenParen
+        | Symbol::CloseParen
+        | Symbol::OpenBrace
+        | Symbol::CloseBrace
+        | Symbol::OpenBracket
+        | Symbol::CloseBracket
+        | Symbol::Less
+        | Symbol::Greater
+        | Symbol::Comma
+        | Symbol::Semicolon
+        | Symbol::Colon
+        | Symbol::Equals
+        | Symbol::Plus
+        | Symbol::Ampersand
+        | Symbol::Dot
+        | Symbol::Star
+        | Symbol::Arrow => runs_as(bytes, keyword.text()),
     }
 }
 
