@@ -30,7 +30,8 @@ pub fn find_values(alloc: Global, facts: &Facts) -> Result<Values, AllocError>
     Ok(values)
 }
 
-/// The same values, by `bc_solve::solve_plain`. Answers `AllocError` only where memory was refused. (RFC 2094, "Solving constraints".)
+/// The values of regions: `bc_solve::solve_plain`, with the fact that a provider owes. Answers `AllocError` only where memory was
+/// refused. (RFC 2094, "Solving constraints".)
 pub fn find_plain_values(alloc: Global, facts: &Facts) -> Result<Values, AllocError>
     ensures { IfOk result (AreValues facts.now) }
 {

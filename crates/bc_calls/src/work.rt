@@ -75,8 +75,8 @@ impl Begun {
         }
     }
 
-    /// The same with pieces of its bodies, which are taken where all that they were found from is there. It takes no memory, and asks
-    /// nothing of its caller. (Own.)
+    /// What was begun, with pieces of its bodies, which are taken where all that they were found from is there. It takes no memory,
+    /// and asks nothing of its caller. (Own.)
     pub fn carrying_pieces(self, pieces: Pieces) -> Begun
         ensures { result ≡ self }
     {

@@ -88,9 +88,9 @@ fn by_number(
 /// require, one entry for each child, ascending: the outlives constraints of its points, pairs of a region with itself left
 /// out, and the elements that each region starts with. What a child requires is demanded at each of its creations, with its
 /// external regions replaced by those of the creation. It asks that a child requires nothing of its local regions. Answers
-/// `AllocError` only where memory was refused. (RFC 2094, "Liveness constraints", "Subtyping constraints" and "Reborrow
-/// constraints"; rustc-dev-guide, "Propagating closure constraints"; that constraints hold at every point, and that `'static`
-/// starts with all ends, is own.)
+/// `AllocError` only where memory was refused. (RFC 2094, "Liveness", "Subtyping" and "Reborrow constraints";
+/// rustc-dev-guide, "Propagating closure constraints"; that constraints hold at every point, and that `'static` starts with all
+/// ends, is own.)
 pub fn constraints(
     alloc: Global,
     typed: &Typed,

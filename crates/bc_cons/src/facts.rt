@@ -15,7 +15,7 @@ pub struct Constraint {
 }
 
 /// For each region the elements that it starts with, and the constraints between regions.
-/// (RFC 2094, "Liveness constraints" and "Subtyping".)
+/// (RFC 2094, "Liveness" and "Subtyping".)
 #[derive(Drop)]
 pub struct Facts {
     starts: BitTable,

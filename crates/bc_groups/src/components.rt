@@ -22,7 +22,7 @@ pub struct Grouping {
 ///
 /// The groups are the strong components, by a search in postorder and one back along the edges (Kosaraju's), and a third
 /// search shows it: a node that it does not find again is in a group of its own. Groups are numbered along the edges between
-/// them, which only the time of a caller depends on. The only error is want of memory. (The field's.)
+/// them, which only the time of a caller depends on. The only error is want of memory. (The search is Kosaraju's; that a third shows it is own.)
 pub fn strong_components(
     alloc: Global,
     nodes: usize,

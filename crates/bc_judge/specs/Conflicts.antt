@@ -59,9 +59,10 @@ abbrev pub conflicts_at : Mir → (ℕ → Bool) → Step → List BorrowError
 conflicts_at mir in_scope here =
     flat_map (conflicts_of_access mir in_scope here.point) (enumerate_from 0 (accesses_of mir here.instruction))
 
--- the conflicts of a body, by the point
+-- the conflicts of a numbered point
 abbrev pub conflicts_of_step : Mir → ScopeTest → ℕ × Step → List BorrowError
 conflicts_of_step mir in_scope here = conflicts_at mir (in_scope here.0) here.1
 
+-- the conflicts of a body, by the point
 abbrev pub conflicts_of : Mir → ScopeTest → List BorrowError
 conflicts_of mir in_scope = flat_map (conflicts_of_step mir in_scope) (enumerate_from 0 mir.steps)

@@ -424,7 +424,7 @@ header = do
 
 -- ---- units
 
--- the next local, its type
+-- the type that a local is declared with
 unfoldable pub declared_ty : List RegionName → Parser Ty
 declared_ty regions = do
   expect s.Colon
@@ -432,6 +432,7 @@ declared_ty regions = do
   expect s.Semicolon
   pure t
 
+-- the next local, which is to have this number: its type
 unfoldable pub let_ty : List RegionName → ℕ → Parser Ty
 let_ty regions number = do
   at ← here

@@ -27,7 +27,10 @@ pub fn refused_units_have_a_bad_token()
     ensures local { FaultsAreLocal read }
 {}
 
-/// The same of declarations. Own.
+/// The fault of a refused text of declarations that is not too long tells one of its tokens: some declarations' tokens begin with
+/// those before it, limits and side conditions aside, and no declarations' tokens with those up to it, with it. And the fault is that
+/// of each text that is not too long and has the same bytes up to the one behind that token, with it, since a name ends where the
+/// next byte says. Own.
 pub fn refused_types_have_a_bad_token()
     ensures bad { RefusedHaveABadToken read_types SomeTypesBegin NoTypesBegin }
     ensures local { FaultsAreLocal read_types }

@@ -10,19 +10,21 @@ use Rattle.bc_syntax.specs.declared.syntax.Declaration.TheVariants.{Struct, Exte
 use Rattle.bc_types.specs.declared.table.KnownStruct.{KnownStruct}
 use Rattle.bc_types.specs.Drops.{holds_drop_among}
 
--- the struct at a place in declarations
+-- a declaration as a struct, if it is one
 abbrev pub as_struct : Declaration → Option StructDeclaration
 as_struct (Struct d) = Some d
 as_struct (Extern d) = None
 
+-- the struct at a place in declarations
 abbrev pub struct_at : List Declaration → ℕ → Option StructDeclaration
 struct_at declarations position = option_and_then as_struct (slice_get declarations position)
 
--- the extern function at a place in declarations
+-- a declaration as an extern function, if it is one
 abbrev pub as_extern : Declaration → Option ExternDeclaration
 as_extern (Struct d) = None
 as_extern (Extern d) = Some d
 
+-- the extern function at a place in declarations
 abbrev pub extern_at : List Declaration → ℕ → Option ExternDeclaration
 extern_at declarations position = option_and_then as_extern (slice_get declarations position)
 
