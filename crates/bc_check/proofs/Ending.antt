@@ -22,7 +22,7 @@ use Rattle.bc_check.specs.declared.file.Change.TheVariants as changes
 use Rattle.bc_check.specs.Changes.{seen}
 use Rattle.bc_check.specs.Stops.{is_refused}
 use Rattle.bc_check.specs.Run.{calls_of, told, shown, greatest, AreLegal, AreReplied}
-use Rattle.bc_check.specs.Served.{Adds, Served, ServedPart, ServedAll, ServedFirst, ServedThen, Runs, Begins, Prints, PrintsPart, HasSeenItsOwn, IsAtMostOneMore}
+use Rattle.bc_check.specs.Served.{Adds, OwesLast, Served, ServedPart, ServedAll, ServedFirst, ServedThen, Runs, Begins, Prints, HasSeenItsOwn, IsAtMostOneMore}
 use Rattle.bc_check.proofs.Members.{Contains-one}
 use Rattle.bc_check.proofs.Shorter.{the_last, legal_shorter}
 use Rattle.bc_check.proofs.Serving.{nothing_added, kept_adds, adds_one, adds_then}
@@ -170,12 +170,12 @@ runs_of json first names s t o o' e e' h (Ok exit) is few one all = record {
 }
 runs_of json first names s t o o' e e' h (Err stop) is few one all = tt
 
-pub begins_of : (json : Bool) (first : List Call) (names : List NameParts) (s t : SessionView) (o o' e e' : Option (List ℕ)) (h : List Entry) → s ≡ new_session 0 0 → IsOneHistory (t ∷ []) h → ServedFirst json first names s t o o' e e' → Begins json first names o o' e e'
+pub begins_of : (json : Bool) (first : List Call) (names : List NameParts) (s t : SessionView) (o o' e e' : Option (List ℕ)) (h : List Entry) → s ≡ new_session 0 0 → IsOneHistory (t ∷ []) h → ServedFirst json first names s t o o' e e' → Begins AreLegal json first names o o' e e'
 begins_of json first names s t o o' e e' h is one some = record {
   events = some.events;
   ahead = some.ahead;
   made = some.made;
-  legal = legal_begun some.events s some.between t h is some.adds some.last one;
+  holds = legal_begun some.events s some.between t h is some.adds some.last one;
   output = some.output;
   errors = some.errors;
 }
@@ -189,54 +189,62 @@ prints_of list text s u v is h = record {
   printed = h.served.printed;
 }
 
-prints_none : (list : List Call) (text : Event → List ℕ) (u v : Option (List ℕ)) → Keeps u v → PrintsPart list text u v
-prints_none list text u v kept = record {
-  front = [];
-  ahead = list;
-  cut = refl;
-  prints = record { events = []; made = refl; replied = record { history = []; legal = legal_none; own = refl }; printed = kept_adds u v kept };
+-- the calls up to one of which a line was not told
+pub owed_of : (P Q : List Event → Type 0) (list : List Call) → ((events : List Event) → P events → Q events) → OwesLast P list → OwesLast Q list
+owed_of P Q list f h = record { events = h.events; last = h.last; ahead = h.ahead; made = h.made; holds = f (h.events ++ h.last ∷ []) h.holds; owed = h.owed }
+
+-- a session with which the database closed
+pub legal_adds : (s t : SessionView) (h : List Entry) → s ≡ new_session 0 0 → IsOneHistory (t ∷ []) h → (events : List Event) → Adds events s t → AreLegal events
+legal_adds s t h is one events adds = legal_added events s t h is adds.number adds.own one
+
+shown_all : (json : Bool) (first : List Call) (names : List NameParts) (exit : ℕ) (s t : SessionView) (o o' e e' : Option (List ℕ)) → s ≡ new_session 0 0 → ServedAll json first names exit s t o o' e e' → Begins AreReplied json first names o o' e e'
+shown_all json first names exit s t o o' e e' is all = record {
+  events = all.events;
+  ahead = [];
+  made = append-nil _ ∙ all.made;
+  holds = replied_of all.events s t is all.adds;
+  output = all.output;
+  errors = all.errors;
 }
 
-prints_first : (json : Bool) (first : List Call) (names : List NameParts) (s t : SessionView) (o o' e e' : Option (List ℕ)) → s ≡ new_session 0 0 → ServedFirst json first names s t o o' e e' → PrintsPart (calls_of first names) (shown json) o o'
-prints_first json first names s t o o' e e' is some = record {
-  front = map call_of some.events;
+shown_first : (json : Bool) (first : List Call) (names : List NameParts) (s t : SessionView) (o o' e e' : Option (List ℕ)) → s ≡ new_session 0 0 → ServedFirst json first names s t o o' e e' → Begins AreReplied json first names o o' e e'
+shown_first json first names s t o o' e e' is some = record {
+  events = some.events;
   ahead = some.ahead;
-  cut = some.made;
-  prints = record { events = some.events; made = refl; replied = replied_of some.events s some.between is some.adds; printed = some.output };
+  made = some.made;
+  holds = replied_of some.events s some.between is some.adds;
+  output = some.output;
+  errors = some.errors;
 }
 
--- where standard output has not failed, it has what belongs to a beginning of the calls
-pub prints_part : (json : Bool) (first : List Call) (names : List NameParts) (s t : SessionView) (o o' e e' : Option (List ℕ)) (r : Result ℕ Stop) → s ≡ new_session 0 0
+-- where standard output has not failed: what was printed, or that a line was not told
+pub shown_of : (json : Bool) (first : List Call) (names : List NameParts) (s t : SessionView) (o o' e e' : Option (List ℕ)) (r : Result ℕ Stop) → s ≡ new_session 0 0
     → IfOk r (λ exit. ServedAll json first names exit s t o o' e e')
     → IfErr r (λ stop. is_refused stop ≡ true → ServedFirst json first names s t o o' e e')
+    → (IsErrOf r CannotTell → OwesLast (λ events. Adds events s t) first)
     → (IsErrOf r CannotTell → Keeps o o')
     → IfErr r (λ stop. (stop ≡ CannotTell) ⊎ (stop ≡ CannotWrite) ⊎ (stop ≡ NoMemory) ⊎ (stop ≡ HistoryFull))
     → (IsErrOf r CannotWrite → ⊥)
-    → PrintsPart (calls_of first names) (shown json) o o'
-prints_part json first names s t o o' e e' (Ok n) is all some untold stop well = record {
-  front = calls_of first names;
-  ahead = [];
-  cut = append-nil _;
-  prints = record { events = all.events; made = all.made; replied = replied_of all.events s t is all.adds; printed = all.output };
-}
-prints_part json first names s t o o' e e' (Err x) is all some untold stop well = elim stop [
-  | inl tell ↦ prints_none (calls_of first names) (shown json) o o' (untold (ap Err tell))
+    → Begins AreReplied json first names o o' e e' ⊎ (OwesLast AreReplied first × Keeps o o')
+shown_of json first names s t o o' e e' (Ok n) is all some untold silent stop well = inl (shown_all json first names n s t o o' e e' is all)
+shown_of json first names s t o o' e e' (Err x) is all some untold silent stop well = elim stop [
+  | inl tell ↦ inr (owed_of (λ events. Adds events s t) AreReplied first (λ events adds. replied_of events s t is adds) (untold (ap Err tell)), silent (ap Err tell))
   | inr more ↦ elim more [
     | inl write ↦ absurd (well (ap Err write))
-    | inr refused ↦ prints_first json first names s t o o' e e' is (some (elim refused [
+    | inr refused ↦ inl (shown_first json first names s t o o' e e' is (some (elim refused [
       | inl memory ↦ ap is_refused memory
       | inr full ↦ ap is_refused full
-    ]))
+    ])))
   ]
 ]
 
 -- no call was made
-pub begins_none : (json : Bool) (first : List Call) (names : List NameParts) (o e : Option (List ℕ)) → Begins json first names o o e e
+pub begins_none : (json : Bool) (first : List Call) (names : List NameParts) (o e : Option (List ℕ)) → Begins AreLegal json first names o o e e
 begins_none json first names o e = record {
   events = [];
   ahead = calls_of first names;
   made = refl;
-  legal = record { history = []; legal = legal_none; one_session = λ k d below. absurd (omega (arith, below)); own = refl };
+  holds = record { history = []; legal = legal_none; one_session = λ k d below. absurd (omega (arith, below)); own = refl };
   output = nothing_added o;
   errors = nothing_added e;
 }

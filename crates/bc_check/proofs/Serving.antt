@@ -12,7 +12,7 @@ use Rattle.bc_share.specs.Sessions.{SessionView, IsAnswered}
 use Rattle.bc_check.specs.declared.stop.Stop.{Stop}
 use Rattle.bc_check.specs.Run.{event_status, greatest}
 use Rattle.bc_check.specs.Stops.{is_refused}
-use Rattle.bc_check.specs.Served.{Adds, Serves, Served, ServedPart, IsAtMostOneMore}
+use Rattle.bc_check.specs.Served.{Adds, Owes, OwesLast, Serves, Served, ServedPart, IsAtMostOneMore}
 
 pub nothing_added : (u : Option (List ℕ)) → Appends u u []
 nothing_added None = tt
@@ -109,6 +109,24 @@ making_part {X} call_at all left text exit old mid new u v w h last k = record {
   served = served_kept (map call_at h.front) text exit old mid u v w h.served k;
   last = last;
 }
+
+-- the calls that were made, up to one of which a line was not told
+pub owes_last : {X : Type 0} (call_at : X → Call) (all left rest : List X) (x : X) (text : Event → List ℕ) (exit : ℕ) (old mid new : SessionView) (u v : Option (List ℕ)) → Making call_at all left text exit old mid u v → left ≡ x ∷ rest → Owes (call_at x) mid new → OwesLast (λ events. Adds events old new) (map call_at all)
+owes_last {X} call_at all left rest x text exit old mid new u v h next owes =
+    let event : Event = owes.0 in
+    let events : List Event = h.served.events in
+    let last : call_of event ≡ call_at x = owes.1 in
+    record {
+      events = events;
+      last = event;
+      ahead = map call_at rest;
+      made = ap (λ (cs : List Call). cs ++ map call_at rest) (map-append call_of events (event ∷ []) ∙ ap (λ (cs : List Call). cs ++ call_of event ∷ []) h.served.made ∙ ap (λ (c : Call). map call_at h.front ++ c ∷ []) last)
+          ∙ append_assoc (map call_at h.front) (call_at x ∷ []) (map call_at rest)
+          ∙ sym (map-append call_at h.front (x ∷ rest))
+          ∙ ap (map call_at) (sym (h.cut ∙ ap (λ (xs : List X). h.front ++ xs) next));
+      holds = adds_then events (event ∷ []) old mid new h.served.adds (adds_one event mid new owes.3);
+      owed = owes.2;
+    }
 
 -- a stop that is passed on is the one that came
 pub same_stop : {A B : Type 0} (r : Result A Stop) (x n : Stop) → IsErrAnd r (λ y. y ≡ x) → r ≡ Err n → IsErrOf {T = B} (Err x) n

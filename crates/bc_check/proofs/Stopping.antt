@@ -12,9 +12,10 @@ use Rattle.bc_check.specs.Parts.{sections_of}
 use Rattle.bc_check.specs.Changes.{MakeAll}
 use Rattle.bc_check.specs.Asked.{AreAsked}
 use Rattle.bc_check.specs.Stops.{is_of_calls, is_refused, last_line, stop_status}
-use Rattle.bc_check.specs.Run.{calls_of, shown, told}
-use Rattle.bc_check.specs.Served.{Begins, Prints, PrintsPart}
-use Rattle.bc_check.specs.Ends.{HasBegun, HasShown, HasTold, HasTooManyCalls, IsEnd, IsSilent, IsWell, Leaves, OfFile, StopsWith}
+use Rattle.bc_calls.specs.declared.call.Event.{Event}
+use Rattle.bc_check.specs.Run.{told, AreLegal, AreReplied}
+use Rattle.bc_check.specs.Served.{Begins, OwesLast, Prints}
+use Rattle.bc_check.specs.Ends.{HasBegun, HasTold, HasTooManyCalls, HasUntold, IsEnd, IsSilent, Leaves, OfFile, StopsWith}
 use Rattle.bc_check.proofs.Ending.{known_is}
 
 -- the calls of a file, that is one without a fault, were not all made
@@ -25,35 +26,54 @@ pub record Broken (json : Bool) (r : Result ℕ Stop) (file : List ℕ) (made : 
   pub other : IfErr r (λ stop. is_of_calls stop ≡ true)
   pub many : IsErrOf r TooManyCalls → MOST_ENTRIES < length made + length names
   pub quiet : IsErrOf r TooManyCalls → IsSilent o o' e e'
-  pub refused : IfErr r (λ stop. is_refused stop ≡ true → Begins json made names o o' e e')
-  pub untold : IsErrOf r CannotTell → Keeps o o'
+  pub few : (r ≡ Err TooManyCalls) ⊎ (length made + length names ≤ MOST_ENTRIES)
+  pub refused : IfErr r (λ stop. is_refused stop ≡ true → Begins AreLegal json made names o o' e e')
+  pub untold : IsErrOf r CannotTell → OwesLast AreLegal made
+  pub silent : IsErrOf r CannotTell → Keeps o o'
   pub unwritten : IsErrOf r CannotWrite → Prints made told e e'
-  pub audited : IsErrOf r Audit → PrintsPart (calls_of made names) (shown json) o o'
+  pub audited : IsErrOf r Audit → Begins AreReplied json made names o o' e e' ⊎ (OwesLast AreReplied made × Keeps o o')
 
-well : (json : Bool) (r : Result ℕ Stop) (known o o' e e' : Option (List ℕ)) (file : List ℕ) (made : List Call) (names : List NameParts) → IfSome known (λ bytes. file ≡ bytes) → Broken json r file made names o o' e e' → OfFile known IsWell
-well json r known o o' e e' file made names whole h =
-    known_is known file (λ (f : List ℕ). (length f ≤ most_bytes) × IsWell f) whole (h.short, record { made = made; names = names; good = h.good; asked = h.asked })
+pub few_of : {P Q : Type 0} (r : Result ℕ Stop) (x : Stop) → (P → Q) → (r ≡ Err x) ⊎ P → (r ≡ Err x) ⊎ Q
+few_of r x f either = elim either [
+  | inl many ↦ inl many
+  | inr few ↦ inr (f few)
+]
 
-begun : (json : Bool) (r : Result ℕ Stop) (known o o' e e' : Option (List ℕ)) (file : List ℕ) (made : List Call) (names : List NameParts) → IfSome known (λ bytes. file ≡ bytes) → Broken json r file made names o o' e e' → Begins json made names o o' e e' → OfFile known (λ f. HasBegun json f o o' e e')
-begun json r known o o' e e' file made names whole h begins =
-    known_is known file (λ (f : List ℕ). (length f ≤ most_bytes) × HasBegun json f o o' e e') whole (h.short, record { made = made; names = names; good = h.good; asked = h.asked; begins = begins })
+-- but for too many calls there are not too many
+few_where : {P Q : Type 0} → (Q → ⊥) → Q ⊎ P → P
+few_where other either = elim either [
+  | inl many ↦ absurd (other many)
+  | inr few ↦ few
+]
+
+begun : (Holds : List Event → Type 0) (json : Bool) (r : Result ℕ Stop) (known o o' e e' : Option (List ℕ)) (file : List ℕ) (made : List Call) (names : List NameParts) → IfSome known (λ bytes. file ≡ bytes) → Broken json r file made names o o' e e' → length made + length names ≤ MOST_ENTRIES → Begins Holds json made names o o' e e' → OfFile known (λ f. HasBegun Holds json f o o' e e')
+begun Holds json r known o o' e e' file made names whole h few begins =
+    known_is known file (λ (f : List ℕ). (length f ≤ most_bytes) × HasBegun Holds json f o o' e e') whole (h.short, record { made = made; names = names; good = h.good; asked = h.asked; few = few; begins = begins })
+
+untold : (Holds : List Event → Type 0) (json : Bool) (r : Result ℕ Stop) (known o o' e e' : Option (List ℕ)) (file : List ℕ) (made : List Call) (names : List NameParts) → IfSome known (λ bytes. file ≡ bytes) → Broken json r file made names o o' e e' → length made + length names ≤ MOST_ENTRIES → OwesLast Holds made → OfFile known (HasUntold Holds)
+untold Holds json r known o o' e e' file made names whole h few owes =
+    known_is known file (λ (f : List ℕ). (length f ≤ most_bytes) × HasUntold Holds f) whole (h.short, record { made = made; names = names; good = h.good; asked = h.asked; few = few; untold = owes })
 
 pub broken : (json : Bool) (r : Result ℕ Stop) (known o o' e e' : Option (List ℕ)) (file : List ℕ) (made : List Call) (names : List NameParts) → IfSome known (λ bytes. file ≡ bytes) → Broken json r file made names o o' e e' → IfErr r (λ stop. Leaves json stop known o o' e e')
 broken json (Ok n) known o o' e e' file made names whole h = tt
 broken json (Err WrongUse) known o o' e e' file made names whole h = (let never = h.other in absurd cc)
 broken json (Err CannotRead) known o o' e e' file made names whole h = (let never = h.other in absurd cc)
 broken json (Err CannotWrite) known o o' e e' file made names whole h =
-    known_is known file (λ (f : List ℕ). (length f ≤ most_bytes) × HasTold f e e') whole (h.short, record { made = made; names = names; good = h.good; asked = h.asked; prints = h.unwritten refl })
-broken json (Err CannotTell) known o o' e e' file made names whole h = (well json _ known o o' e e' file made names whole h, h.untold refl)
+    known_is known file (λ (f : List ℕ). (length f ≤ most_bytes) × HasTold f e e') whole (h.short, record { made = made; names = names; good = h.good; asked = h.asked; few = few_where (λ never. absurd cc) h.few; prints = h.unwritten refl })
+broken json (Err CannotTell) known o o' e e' file made names whole h =
+    (untold AreLegal json _ known o o' e e' file made names whole h (few_where (λ never. absurd cc) h.few) (h.untold refl), h.silent refl)
 broken json (Err NoMemory) known o o' e e' file made names whole h =
-    inr (begun json _ known o o' e e' file made names whole h (h.refused refl))
+    inr (begun AreLegal json _ known o o' e e' file made names whole h (few_where (λ never. absurd cc) h.few) (h.refused refl))
 broken json (Err (File fault)) known o o' e e' file made names whole h = (let never = h.other in absurd cc)
 broken json (Err TooManyCalls) known o o' e e' file made names whole h =
     (known_is known file (λ (f : List ℕ). (length f ≤ most_bytes) × HasTooManyCalls f) whole (h.short, record { made = made; names = names; good = h.good; asked = h.asked; many = h.many refl }), h.quiet refl)
-broken json (Err HistoryFull) known o o' e e' file made names whole h = begun json _ known o o' e e' file made names whole h (h.refused refl)
+broken json (Err HistoryFull) known o o' e e' file made names whole h =
+    begun AreLegal json _ known o o' e e' file made names whole h (few_where (λ never. absurd cc) h.few) (h.refused refl)
 broken json (Err Foreign) known o o' e e' file made names whole h = (let never = h.other in absurd cc)
-broken json (Err Audit) known o o' e e' file made names whole h =
-    known_is known file (λ (f : List ℕ). (length f ≤ most_bytes) × HasShown json f o o') whole (h.short, record { made = made; names = names; good = h.good; asked = h.asked; prints = h.audited refl })
+broken json (Err Audit) known o o' e e' file made names whole h = elim (h.audited refl) [
+  | inl begins ↦ inl (begun AreReplied json _ known o o' e e' file made names whole h (few_where (λ never. absurd cc) h.few) begins)
+  | inr owes ↦ inr (untold AreReplied json _ known o o' e e' file made names whole h (few_where (λ never. absurd cc) h.few) owes.0, owes.1)
+]
 
 pub IfOk-map : {T E : Type 0} {P Q : T → Type 0} (r : Result T E) → ((x : T) → P x → Q x) → IfOk r P → IfOk r Q
 IfOk-map (Ok x) f p = f x p

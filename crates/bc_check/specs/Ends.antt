@@ -3,6 +3,7 @@ use Rattle.std.specs.Prelude.{◌≡◌, ◌⊎◌, ℕ, Bool, ◌+◌, ◌<◌,
 use Rattle.std.specs.Io.KnownBytes.{Appends, Keeps}
 use Rattle.bc_text.specs.Names.{NameParts}
 use Rattle.bc_calls.specs.declared.call.Call.{Call}
+use Rattle.bc_calls.specs.declared.call.Event.{Event}
 use Rattle.bc_share.specs.declared.db.TheConstants.{MOST_ENTRIES}
 use Rattle.bc_line.specs.declared.line.Line.{Line}
 use Rattle.bc_line.specs.declared.line.Line.TheVariants.{Check, Run}
@@ -13,8 +14,8 @@ use Rattle.bc_check.specs.Parts.{sections_of}
 use Rattle.bc_check.specs.Changes.{MakeAll, IsFirstFault}
 use Rattle.bc_check.specs.Asked.{AreAsked}
 use Rattle.bc_check.specs.Stops.{last_line, stop_status}
-use Rattle.bc_check.specs.Run.{calls_of, shown, told}
-use Rattle.bc_check.specs.Served.{Runs, Begins, Prints, PrintsPart}
+use Rattle.bc_check.specs.Run.{told, AreLegal, AreReplied}
+use Rattle.bc_check.specs.Served.{Runs, Begins, OwesLast, Prints}
 
 -- each section made its call, each root name under which one put a body was asked, and what belongs to these calls was
 -- printed
@@ -33,13 +34,14 @@ pub record HasTooManyCalls (file : List ℕ) : Type 0 where
   pub asked : AreAsked made names
   pub many : MOST_ENTRIES < length made + length names
 
--- a file without a fault, of a beginning of whose calls was printed what belongs to them
-pub record HasBegun (json : Bool) (file : List ℕ) (out out' err err' : Option (List ℕ)) : Type 0 where
+-- a file without a fault, of a beginning of whose calls was printed what belongs to them, and this holds of their replies
+pub record HasBegun (Holds : List Event → Type 0) (json : Bool) (file : List ℕ) (out out' err err' : Option (List ℕ)) : Type 0 where
   pub made : List Call
   pub names : List NameParts
   pub good : MakeAll (sections_of file) made
   pub asked : AreAsked made names
-  pub begins : Begins json made names out out' err err'
+  pub few : length made + length names ≤ MOST_ENTRIES
+  pub begins : Begins Holds json made names out out' err err'
 
 -- a file without a fault, of whose sections standard error has what belongs to their calls
 pub record HasTold (file : List ℕ) (err err' : Option (List ℕ)) : Type 0 where
@@ -47,22 +49,17 @@ pub record HasTold (file : List ℕ) (err err' : Option (List ℕ)) : Type 0 whe
   pub names : List NameParts
   pub good : MakeAll (sections_of file) made
   pub asked : AreAsked made names
+  pub few : length made + length names ≤ MOST_ENTRIES
   pub prints : Prints made told err err'
 
--- a file without a fault, of a beginning of whose calls standard output has what belongs to them
-pub record HasShown (json : Bool) (file : List ℕ) (out out' : Option (List ℕ)) : Type 0 where
+-- a file without a fault, of a beginning of whose sections this holds of the replies, the last of which owes standard error a line
+pub record HasUntold (Holds : List Event → Type 0) (file : List ℕ) : Type 0 where
   pub made : List Call
   pub names : List NameParts
   pub good : MakeAll (sections_of file) made
   pub asked : AreAsked made names
-  pub prints : PrintsPart (calls_of made names) (shown json) out out'
-
--- a file without a fault
-pub record IsWell (file : List ℕ) : Type 0 where
-  pub made : List Call
-  pub names : List NameParts
-  pub good : MakeAll (sections_of file) made
-  pub asked : AreAsked made names
+  pub few : length made + length names ≤ MOST_ENTRIES
+  pub untold : OwesLast Holds made
 
 -- the file was read whole, where it is known, and this holds of it
 abbrev pub OfFile : Option (List ℕ) → (List ℕ → Type 0) → Type 0
@@ -78,13 +75,13 @@ abbrev pub Leaves : Bool → Stop → Option (List ℕ) → Option (List ℕ) �
 Leaves json WrongUse known out out' err err' = ⊥
 Leaves json CannotRead known out out' err err' = IsSilent out out' err err'
 Leaves json CannotWrite known out out' err err' = OfFile known (λ file. HasTold file err err')
-Leaves json CannotTell known out out' err err' = OfFile known IsWell × Keeps out out'
-Leaves json NoMemory known out out' err err' = IsSilent out out' err err' ⊎ OfFile known (λ file. HasBegun json file out out' err err')
+Leaves json CannotTell known out out' err err' = OfFile known (HasUntold AreLegal) × Keeps out out'
+Leaves json NoMemory known out out' err err' = IsSilent out out' err err' ⊎ OfFile known (λ file. HasBegun AreLegal json file out out' err err')
 Leaves json (File fault) known out out' err err' = OfFile known (λ file. IsFirstFault (sections_of file) fault) × IsSilent out out' err err'
 Leaves json TooManyCalls known out out' err err' = OfFile known HasTooManyCalls × IsSilent out out' err err'
-Leaves json HistoryFull known out out' err err' = OfFile known (λ file. HasBegun json file out out' err err')
+Leaves json HistoryFull known out out' err err' = OfFile known (λ file. HasBegun AreLegal json file out out' err err')
 Leaves json Foreign known out out' err err' = ⊥
-Leaves json Audit known out out' err err' = OfFile known (λ file. HasShown json file out out')
+Leaves json Audit known out out' err err' = OfFile known (λ file. HasBegun AreReplied json file out out' err err') ⊎ (OfFile known (HasUntold AreReplied) × Keeps out out')
 
 -- the command stopped with this status: its line is written behind all else, of which this holds
 pub record StopsWith (Left : Stop → Option (List ℕ) → Type 0) (name : List ℕ) (exit : ℕ) (err : Option (List ℕ)) : Type 0 where

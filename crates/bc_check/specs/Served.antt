@@ -1,5 +1,5 @@
 -- Calls that a session answered, and what was printed of them.
-use Rattle.std.specs.Prelude.{◌≡◌, ◌⊎◌, ℕ, Bool, ◌+◌, ◌≤◌, Option, List, ◌++◌, map, flat_map, length}
+use Rattle.std.specs.Prelude.{◌≡◌, ◌≢◌, ◌⊎◌, ℕ, Bool, ◌+◌, ◌≤◌, Option, List, [], ◌∷◌, ◌++◌, map, flat_map, length}
 use Rattle.std.specs.Io.KnownBytes.{Appends}
 use Rattle.bc_text.specs.Names.{NameParts}
 use Rattle.bc_calls.specs.declared.call.Call.{Call}
@@ -16,6 +16,10 @@ pub record Serves (call : Call) (text : Event → List ℕ) (exit : ℕ) (old ne
   pub answered : IsAnswered event old new
   pub printed : Appends before after (text event)
   pub status : exit ≡ event_status event
+
+-- one call was answered, and standard error is owed a line about it
+abbrev pub Owes : Call → SessionView → SessionView → Type 0
+Owes call old new = (event : Event) × (call_of event ≡ call) × (told event ≢ []) × IsAnswered event old new
 
 -- it is the same session, whatever calls it made
 abbrev pub IsStill : SessionView → SessionView → Type 0
@@ -61,12 +65,14 @@ pub record Prints (list : List Call) (text : Event → List ℕ) (before after :
   pub replied : AreReplied events
   pub printed : Appends before after (flat_map text events)
 
--- the same of a beginning of some calls
-pub record PrintsPart (list : List Call) (text : Event → List ℕ) (before after : Option (List ℕ)) : Type 0 where
-  pub front : List Call
+-- some calls begin with these, of whose replies this holds, and standard error is owed a line about the last of these
+pub record OwesLast (Holds : List Event → Type 0) (list : List Call) : Type 0 where
+  pub events : List Event
+  pub last : Event
   pub ahead : List Call
-  pub cut : front ++ ahead ≡ list
-  pub prints : Prints front text before after
+  pub made : map call_of (events ++ last ∷ []) ++ ahead ≡ list
+  pub holds : Holds (events ++ last ∷ [])
+  pub owed : told last ≢ []
 
 -- some calls were answered and printed, whatever the session did then
 pub record ServedThen (list : List Call) (text : Event → List ℕ) (old : SessionView) (before after : Option (List ℕ)) : Type 0 where
@@ -106,11 +112,11 @@ pub record Runs (json : Bool) (first : List Call) (names : List NameParts) (exit
   pub errors : Appends err err' (flat_map told events)
   pub status : exit ≡ greatest events
 
--- The same, where only of a beginning of the calls was printed what belongs to it.
-pub record Begins (json : Bool) (first : List Call) (names : List NameParts) (out out' err err' : Option (List ℕ)) : Type 0 where
+-- The same, where only of a beginning of the calls was printed what belongs to it, and this holds of their replies.
+pub record Begins (Holds : List Event → Type 0) (json : Bool) (first : List Call) (names : List NameParts) (out out' err err' : Option (List ℕ)) : Type 0 where
   pub events : List Event
   pub ahead : List Call
   pub made : map call_of events ++ ahead ≡ calls_of first names
-  pub legal : AreLegal events
+  pub holds : Holds events
   pub output : Appends out out' (flat_map (shown json) events)
   pub errors : Appends err err' (flat_map told events)

@@ -1,5 +1,5 @@
 //! The calls of a file, and what is printed of them.
-ghost use Rattle.std.specs.Prelude.{◌≡◌, ◌↔◌, ◌≤◌, ◌<◌, ◌+◌, ◌⊎◌, [], true, false, Err, OnOk, IfOk, IfErr, IsErrOf, IsTrue, length, map, max};
+ghost use Rattle.std.specs.Prelude.{◌≡◌, ◌≢◌, ◌↔◌, ◌≤◌, ◌<◌, ◌+◌, ◌⊎◌, [], true, false, Err, OnOk, OnErr, IfOk, IfErr, IsErrOf, IsTrue, length, map, max};
 ghost use Rattle.std.specs.Io.Buffered.{writer_buffer, writer_contents};
 ghost use Rattle.std.specs.Io.KnownBytes.{Appends, Keeps};
 ghost use Rattle.bc_calls.specs.declared.call.Call.TheVariants as calls;
@@ -7,8 +7,8 @@ ghost use Rattle.bc_share.specs.Sessions.{Makes};
 ghost use Rattle.bc_check.specs.Changes.{seen};
 ghost use Rattle.bc_check.specs.Stops.{is_of_calls, is_refused};
 ghost use Rattle.bc_check.specs.Ends.{Checked, IsEnd, IsEndOf, Leaves, OfFile};
-ghost use Rattle.bc_check.specs.Run.{refused_line, answer_lines, calls_of, told, shown};
-ghost use Rattle.bc_check.specs.Served.{Serves, Served, ServedPart, ServedAll, ServedFirst, ServedThen, Runs, Begins, Prints, PrintsPart, IsAtMostOneMore, IsStill};
+ghost use Rattle.bc_check.specs.Run.{refused_line, answer_lines, told, shown, AreLegal, AreReplied};
+ghost use Rattle.bc_check.specs.Served.{Serves, Served, ServedPart, ServedAll, ServedFirst, ServedThen, Adds, Owes, OwesLast, Runs, Begins, Prints, IsAtMostOneMore, IsStill};
 ghost use Rattle.bc_line.specs.Lines.{is_check};
 
 use crate::asked::find_asked;
@@ -30,9 +30,10 @@ use std::io;
 use std::io::{BufWriter, Read, Write};
 use std::sync::Wait;
 
-/// Writes the line of a put that stored nothing.
+/// Writes the line of a put that stored nothing. It fails only where there is such a line.
 fn write_refusal<E: Write>(name: &Name, reply: PutReply, err: &mut E) -> io::Result<()>
-    ensures { OnOk result (Appends (E.contents err.old) (E.contents err.new) (refused_line name.now reply)) }
+    ensures written { OnOk result (Appends (E.contents err.old) (E.contents err.new) (refused_line name.now reply)) }
+    ensures owed { OnErr result (refused_line name.now reply ≢ []) }
 {
     match reply {
         PutReply::Added | PutReply::Replaced => Ok(()),
@@ -99,7 +100,7 @@ fn make_change<R: Wait, N: Ending, E: Write>(
 ) -> Result<u8, Stop>
     ensures still { IsStill session.old session.new }
     ensures refused { IfErr result (λ stop. is_refused stop ≡ true → IsAtMostOneMore session.old session.new × Keeps (E.contents err.old) (E.contents err.new)) }
-    ensures untold { IsErrOf result Stop.CannotTell → Makes session.old session.new (seen change) }
+    ensures untold { IsErrOf result Stop.CannotTell → Owes (seen change) session.old session.new }
     ensures served { IfOk result (λ status. Serves (seen change) told status session.old session.new (E.contents err.old) (E.contents err.new)) }
     ensures range { IfOk result (λ status. status ≤ 2) }
     ensures stop { IfErr result (λ stop. (stop ≡ Stop.CannotTell) ⊎ (stop ≡ Stop.NoMemory) ⊎ (stop ≡ Stop.HistoryFull)) }
@@ -151,6 +152,7 @@ fn make_changes<R: Wait, N: Ending, E: Write>(
     ensures served { IfOk result (λ status. Served (map seen changes.items) told status session.old session.new (E.contents err.old) (E.contents err.new)) }
     ensures still { IsStill session.old session.new }
     ensures refused { IfErr result (λ stop. is_refused stop ≡ true → ServedPart (map seen changes.items) told session.old session.new (E.contents err.old) (E.contents err.new)) }
+    ensures untold { IsErrOf result Stop.CannotTell → OwesLast (λ events. Adds events session.old session.new) (map seen changes.items) }
     ensures range { IfOk result (λ status. status ≤ 2) }
     ensures stop { IfErr result (λ stop. (stop ≡ Stop.CannotTell) ⊎ (stop ≡ Stop.NoMemory) ⊎ (stop ≡ Stop.HistoryFull)) }
 {
@@ -259,7 +261,8 @@ fn make_all<R: Wait, N: Ending, O: Write + Drop, E: Write>(
     ensures served { IfOk result (λ status. ServedAll json (map seen changes.items) names.now.keys status session.old session.new (writer_contents O.contents out.old) (writer_contents O.contents out.new) (E.contents err.old) (E.contents err.new)) }
     ensures still { IsStill session.old session.new }
     ensures refused { IfErr result (λ stop. is_refused stop ≡ true → ServedFirst json (map seen changes.items) names.now.keys session.old session.new (writer_contents O.contents out.old) (writer_contents O.contents out.new) (E.contents err.old) (E.contents err.new)) }
-    ensures untold { IsErrOf result Stop.CannotTell → Keeps (writer_contents O.contents out.old) (writer_contents O.contents out.new) }
+    ensures untold { IsErrOf result Stop.CannotTell → OwesLast (λ events. Adds events session.old session.new) (map seen changes.items) }
+    ensures silent { IsErrOf result Stop.CannotTell → Keeps (writer_contents O.contents out.old) (writer_contents O.contents out.new) }
     ensures unwritten { IsErrOf result Stop.CannotWrite → ServedThen (map seen changes.items) told session.old (E.contents err.old) (E.contents err.new) }
     ensures range { IfOk result (λ status. status ≤ 2) }
     ensures stop { IfErr result (λ stop. (stop ≡ Stop.CannotTell) ⊎ (stop ≡ Stop.CannotWrite) ⊎ (stop ≡ Stop.NoMemory) ⊎ (stop ≡ Stop.HistoryFull)) }
@@ -301,10 +304,12 @@ fn serve<R: Wait, O: Write + Drop, E: Write>(
     ensures done { IfOk result (λ status. Runs json (map seen changes.items) names.now.keys status (writer_contents O.contents out.old) (writer_contents O.contents out.new) (E.contents err.old) (E.contents err.new)) }
     ensures range { IfOk result (λ status. status ≤ 2) }
     ensures too_many { IsErrOf result Stop.TooManyCalls → (MOST_ENTRIES < length changes.items + length names.now.keys) × Keeps (writer_contents O.contents out.old) (writer_contents O.contents out.new) × Keeps (E.contents err.old) (E.contents err.new) }
-    ensures refused { IfErr result (λ stop. is_refused stop ≡ true → Begins json (map seen changes.items) names.now.keys (writer_contents O.contents out.old) (writer_contents O.contents out.new) (E.contents err.old) (E.contents err.new)) }
-    ensures untold { IsErrOf result Stop.CannotTell → Keeps (writer_contents O.contents out.old) (writer_contents O.contents out.new) }
+    ensures few { (result ≡ Err Stop.TooManyCalls) ⊎ (length changes.items + length names.now.keys ≤ MOST_ENTRIES) }
+    ensures refused { IfErr result (λ stop. is_refused stop ≡ true → Begins AreLegal json (map seen changes.items) names.now.keys (writer_contents O.contents out.old) (writer_contents O.contents out.new) (E.contents err.old) (E.contents err.new)) }
+    ensures untold { IsErrOf result Stop.CannotTell → OwesLast AreLegal (map seen changes.items) }
+    ensures silent { IsErrOf result Stop.CannotTell → Keeps (writer_contents O.contents out.old) (writer_contents O.contents out.new) }
     ensures unwritten { IsErrOf result Stop.CannotWrite → Prints (map seen changes.items) told (E.contents err.old) (E.contents err.new) }
-    ensures audited { IsErrOf result Stop.Audit → PrintsPart (calls_of (map seen changes.items) names.now.keys) (shown json) (writer_contents O.contents out.old) (writer_contents O.contents out.new) }
+    ensures audited { IsErrOf result Stop.Audit → Begins AreReplied json (map seen changes.items) names.now.keys (writer_contents O.contents out.old) (writer_contents O.contents out.new) (E.contents err.old) (E.contents err.new) ⊎ (OwesLast AreReplied (map seen changes.items) × Keeps (writer_contents O.contents out.old) (writer_contents O.contents out.new)) }
     ensures other { IfErr result (λ stop. is_of_calls stop ≡ true) }
     ensures handed_on { writer_buffer out.old ≡ [] → (result ≡ Err Stop.CannotWrite) ⊎ (writer_buffer out.new ≡ []) }
 {

@@ -1,8 +1,9 @@
 -- The greatest status, call by call and session by session.
-use Rattle.std.proofs.Common.{◌≡◌, ◌<◌, ℕ, suc, max, List, [], ◌∷◌, ◌++◌, ◌+◌, length, take, get_or, ap, sym, ◌∙◌, append_assoc, append-nil, arith}
+use Rattle.std.proofs.Common.{◌≡◌, ◌<◌, ◌≤◌, ℕ, zero, suc, max, List, [], ◌∷◌, ◌++◌, ◌+◌, length, take, get_or, ap, sym, ◌∙◌, append_assoc, append-nil, arith}
 use Rattle.std.proofs.lemmas.List.{take_more}
 use Rattle.bc_calls.specs.declared.call.Entry.{Entry}
 use Rattle.bc_scripts.specs.declared.run.End.{End}
+use Rattle.bc_scripts.specs.declared.run.End.TheVariants.{Done, Stopped}
 use Rattle.bc_check.specs.Run.{event_status, greatest}
 use Rattle.bc_run.specs.Print.{stopped_line, stopped_lines}
 use Rattle.bc_run.specs.Runs.{events_of, end_status, greatest_end}
@@ -14,6 +15,20 @@ greatest-snoc (e ∷ entries) entry = let more = greatest-snoc entries entry in 
 pub greatest_end-snoc : (ends : List End) (end : End) → greatest_end (ends ++ end ∷ []) ≡ max (greatest_end ends) (end_status end)
 greatest_end-snoc [] end = omega arith
 greatest_end-snoc (e ∷ ends) end = let more = greatest_end-snoc ends end in omega (arith, more)
+
+end_at_most : (end : End) → end_status end ≤ 3
+end_at_most Done = omega arith
+end_at_most (Stopped number refusal) = omega arith
+
+ends_at_most : (ends : List End) → greatest_end ends ≤ 3
+ends_at_most [] = omega arith
+ends_at_most (end ∷ ends) = let one = end_at_most end in let rest = ends_at_most ends in omega (arith, one, rest)
+
+-- a session that did not end decides
+pub one_stopped : (ends : List End) (i : ℕ) (d : End) → i < length ends → end_status (get_or ends i d) ≡ 3 → greatest_end ends ≡ 3
+one_stopped [] i d below h = absurd (omega (arith, below))
+one_stopped (end ∷ ends) zero d below h = let rest = ends_at_most ends in omega (arith, h, rest)
+one_stopped (end ∷ ends) (suc i) d below h = let one = end_at_most end in let rest = one_stopped ends i d (omega (arith, below)) h in omega (arith, one, rest)
 
 pub stopped-snoc : (session : ℕ) (ends : List End) (end : End) → stopped_lines session (ends ++ end ∷ []) ≡ stopped_lines session ends ++ stopped_line (session + length ends) end
 stopped-snoc session [] end = append-nil (stopped_line session end) ∙ ap (λ (n : ℕ). stopped_line n end) (let same : session ≡ session + 0 = omega arith in same)

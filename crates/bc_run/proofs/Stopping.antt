@@ -1,6 +1,6 @@
 -- What is found and left where the command stops.
 use Rattle.std.proofs.Common.{◌≡◌, ◌≤◌, ◌<◌, ℕ, List, length, Option, inr, refl, sym, subst}
-use Rattle.std.specs.Prelude.{◌⊎◌, Result, Ok, Err, IfOk, OnOk, IfErr, IfSome}
+use Rattle.std.specs.Prelude.{◌⊎◌, Result, Ok, Err, IfOk, OnOk, OnErr, IfErr, IfSome}
 use Rattle.std.specs.Io.KnownBytes.{Appends}
 use Rattle.bc_check.specs.declared.stop.Stop.{Stop}
 use Rattle.bc_check.specs.declared.stop.Stop.TheVariants.{Audit, NoMemory, TooManyCalls}
@@ -10,6 +10,10 @@ use Rattle.bc_run.specs.Ends.{IsEnd, Leaves}
 
 pub stopped_end : {E : Type 0} (sessions : ℕ) (name : List ℕ) (known o o' e told e' : Option (List ℕ)) (stop : Stop) (r : Result ℕ E) → Leaves sessions stop known o o' e told → IfOk r (λ n. n ≡ stop_status stop) → OnOk r (Appends told e' (last_line name stop)) → IfOk r (λ n. IsEnd sessions name known n o o' e e')
 stopped_end sessions name known o o' e told e' stop r left status said = IfOk-map r (λ n h. inr h) (stops (λ s t. Leaves sessions s known o o' e t) name told e' stop r left status said)
+
+pub at_each_error : {A E P : Type 0} (r : Result A E) → P → OnErr r P
+at_each_error (Ok a) p = tt
+at_each_error (Err e) p = p
 
 -- a close that is refused is one of the ways to stop
 pub audited_stop : {A : Type 0} (r : Result A Stop) → r ≡ Err Audit → IfErr r (λ stop. (stop ≡ NoMemory) ⊎ (stop ≡ TooManyCalls) ⊎ (stop ≡ Audit))

@@ -30,25 +30,28 @@ pub record Ran (sessions : ℕ) (file : List ℕ) (exit : ℕ) (out out' err err
   pub errors : Appends err err' (stopped_lines 0 ends)
   pub status : exit ≡ max (greatest (events_of history)) (greatest_end ends)
 
--- a file without a fault
+-- a file without a fault that gives at most as many calls as a history may have
 pub record IsWell (sessions : ℕ) (file : List ℕ) : Type 0 where
   pub given : List SessionCall
   pub good : GiveAll sessions (sections_of file) given
+  pub few : length given ≤ MOST_ENTRIES
+
+-- the same, of whose calls standard output has the history, and some session did not end
+pub record HasShown (sessions : ℕ) (file : List ℕ) (out out' : Option (List ℕ)) : Type 0 where
+  pub given : List SessionCall
+  pub history : List Entry
+  pub ends : List End
+  pub good : GiveAll sessions (sections_of file) given
+  pub few : length given ≤ MOST_ENTRIES
+  pub made : AreMade sessions given history ends
+  pub output : Appends out out' (flat_map entry_lines history)
+  pub stopped : greatest_end ends ≡ 3
 
 -- a file without a fault that gives more calls than a history may have
 pub record HasTooManyCalls (sessions : ℕ) (file : List ℕ) : Type 0 where
   pub given : List SessionCall
   pub good : GiveAll sessions (sections_of file) given
   pub many : MOST_ENTRIES < length given
-
--- a file without a fault, of whose calls standard output has the history
-pub record HasShown (sessions : ℕ) (file : List ℕ) (out out' : Option (List ℕ)) : Type 0 where
-  pub given : List SessionCall
-  pub history : List Entry
-  pub ends : List End
-  pub good : GiveAll sessions (sections_of file) given
-  pub made : AreMade sessions given history ends
-  pub output : Appends out out' (flat_map entry_lines history)
 
 -- What the command finds and leaves where it stops, but for the line that says so. What a writer that failed took is
 -- not known.

@@ -1,5 +1,5 @@
 //! The command `run`.
-ghost use Rattle.std.specs.Prelude.{◌≡◌, ◌≤◌, ◌<◌, ◌⊎◌, [], true, Err, OnOk, IfOk, IfErr, length, max};
+ghost use Rattle.std.specs.Prelude.{◌≡◌, ◌≤◌, ◌<◌, ◌⊎◌, [], true, Err, OnOk, OnErr, IfOk, IfErr, length, max};
 ghost use Rattle.std.specs.List.{flat_map};
 ghost use Rattle.std.specs.Io.Buffered.{writer_buffer, writer_contents};
 ghost use Rattle.std.specs.Io.KnownBytes.{Appends, Keeps};
@@ -41,6 +41,7 @@ fn show<O: Write + Drop>(history: &History, out: &mut BufWriter<O>) -> Result<()
 fn tell<E: Write>(ends: &[End], err: &mut E) -> Result<(), Stop>
     requires { length ends.now ≤ 16 }
     ensures told { OnOk result (Appends (E.contents err.old) (E.contents err.new) (stopped_lines 0 ends.now)) }
+    ensures owed { OnErr result (greatest_end ends.now ≡ 3) }
     ensures stop { IfErr result (λ stop. stop ≡ Stop.CannotTell) }
 {
     if write_all_stopped(ends, err).is_err() {

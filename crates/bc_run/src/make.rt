@@ -56,6 +56,7 @@ pub fn make_calls<R: Threads + Wait + Sync>(
     requires most { sessions ≤ 16 }
     ensures made { IfOk result (λ made. AreMade sessions calls.now made.history made.ends.items) }
     ensures few { IfOk result (λ made. length calls.now ≤ MOST_ENTRIES) }
+    ensures audited { IsErrOf result Stop.Audit → length calls.now ≤ MOST_ENTRIES }
     ensures stop { IfErr result (λ stop. (stop ≡ Stop.NoMemory) ⊎ (stop ≡ Stop.TooManyCalls) ⊎ (stop ≡ Stop.Audit)) }
     ensures too_many { IsErrOf result Stop.TooManyCalls → MOST_ENTRIES < length calls.now }
 {

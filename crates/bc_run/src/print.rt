@@ -1,8 +1,9 @@
 //! What is printed of a history, and of sessions that did not end.
-ghost use Rattle.std.specs.Prelude.{◌≡◌, ◌≤◌, OnOk, length};
+ghost use Rattle.std.specs.Prelude.{◌≡◌, ◌≤◌, OnOk, OnErr, length};
 ghost use Rattle.std.specs.List.{flat_map};
 ghost use Rattle.std.specs.Io.KnownBytes.{Appends};
 ghost use Rattle.bc_report.specs.Text.{line};
+ghost use Rattle.bc_run.specs.Runs.{end_status, greatest_end};
 ghost use Rattle.bc_run.specs.Print.{put_word, remove_word, event_text, entry_line, outcome_lines, refusal_text, entry_lines, stopped_line, stopped_lines};
 
 use bc_book::Refusal;
@@ -100,9 +101,10 @@ fn refusal_word(refusal: Refusal) -> &'static str
     }
 }
 
-/// Writes that a session did not end, where it did not.
+/// Writes that a session did not end, where it did not. It fails only there.
 fn write_stopped<E: Write>(session: u8, end: &End, err: &mut E) -> io::Result<()>
-    ensures { OnOk result (Appends (E.contents err.old) (E.contents err.new) (stopped_line session end.now)) }
+    ensures written { OnOk result (Appends (E.contents err.old) (E.contents err.new) (stopped_line session end.now)) }
+    ensures owed { OnErr result (end_status end.now ≡ 3) }
 {
     match end {
         End::Done => Ok(()),
@@ -113,10 +115,12 @@ fn write_stopped<E: Write>(session: u8, end: &End, err: &mut E) -> io::Result<()
     }
 }
 
-/// Writes which sessions did not end, in the order of the sessions, which are at most 16; or answers the writer's fault.
+/// Writes which sessions did not end, in the order of the sessions, which are at most 16; or answers the writer's fault, and
+/// only where a session did not.
 pub fn write_all_stopped<E: Write>(ends: &[End], err: &mut E) -> io::Result<()>
     requires { length ends.now ≤ 16 }
-    ensures { OnOk result (Appends (E.contents err.old) (E.contents err.new) (stopped_lines 0 ends.now)) }
+    ensures written { OnOk result (Appends (E.contents err.old) (E.contents err.new) (stopped_lines 0 ends.now)) }
+    ensures owed { OnErr result (greatest_end ends.now ≡ 3) }
 {
     let mut session: u8 = 0;
     for end in ends {

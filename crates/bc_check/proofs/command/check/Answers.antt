@@ -1,7 +1,7 @@
 use Rattle.std.proofs.Common.{arith, map}
 use Rattle.std.proofs.lemmas.List.{length-map}
 use Rattle.bc_check.specs.Changes.{seen}
-use Rattle.bc_check.proofs.Stopping.{broken}
+use Rattle.bc_check.proofs.Stopping.{broken, few_of}
 use Rattle.bc_check.proofs.command.check.Goals as goal
 
 pub returns-clause-stopped : goal.returns-clause-stopped
@@ -14,9 +14,11 @@ returns-clause-stopped g c =
       asked = asked;
       other = c.serve.ensures.other;
       many = λ e. (let h = c.serve.ensures.too_many e in omega (arith, length-map c.in_ok-changes.changes.items seen, h.0));
+      few = few_of c.serve.result _ (λ h. omega (arith, length-map c.in_ok-changes.changes.items seen, h)) c.serve.ensures.few;
       quiet = λ e. (let h = c.serve.ensures.too_many e in (h.1, h.2));
       refused = c.serve.ensures.refused;
       untold = c.serve.ensures.untold;
+      silent = c.serve.ensures.silent;
       unwritten = c.serve.ensures.unwritten;
       audited = c.serve.ensures.audited;
     })

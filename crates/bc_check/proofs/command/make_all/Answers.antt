@@ -1,5 +1,5 @@
 use Rattle.std.proofs.Common.{◌∙◌}
-use Rattle.bc_check.proofs.Serving.{same_refused}
+use Rattle.bc_check.proofs.Serving.{same_refused, same_stop}
 use Rattle.bc_check.proofs.Ending.{served_all, first_changes, first_asks}
 use Rattle.bc_check.proofs.command.make_all.Goals as goal
 
@@ -12,6 +12,9 @@ returns-clause-still g c = (c.in_ok-asked.ensures.still.0 ∙ c.in_ok-changed.en
 pub returns-in_err-changed-clause-refused : goal.returns-in_err-changed-clause-refused
 returns-in_err-changed-clause-refused g c =
     same_refused c.from_residual.result c.in_err-changed.field-0.0 c.from_residual.ensures.1 (λ e. first_changes c.args.json c.args.changes.items c.args.names.now.keys _ _ _ _ _ (c.in_err-changed.ensures.refused e))
+
+pub returns-in_err-changed-clause-untold : goal.returns-in_err-changed-clause-untold
+returns-in_err-changed-clause-untold g c e = c.in_err-changed.ensures.untold (same_stop _ _ _ c.from_residual.ensures.1 e)
 
 pub returns-in_err-asked-clause-refused : goal.returns-in_err-asked-clause-refused
 returns-in_err-asked-clause-refused g c =

@@ -1,7 +1,7 @@
 use Rattle.std.proofs.Common.{arith, rules, ◌≡◌, ◌∙◌}
 use Rattle.bc_check.specs.Changes.{seen}
 use Rattle.bc_check.specs.Run.{told}
-use Rattle.bc_check.proofs.Serving.{making_none, making_more, making_part, same_refused}
+use Rattle.bc_check.proofs.Serving.{making_none, making_more, making_part, owes_last, same_refused, same_stop}
 use Rattle.bc_check.proofs.command.make_changes.Goals as goal
 
 pub loop-change-preserved : goal.loop-change-preserved
@@ -20,6 +20,10 @@ returns-in_err-make_change-clause-refused g c = same_refused c.from_residual.res
     let kept = c.in_err-make_change.ensures.refused e in
     making_part seen _ _ told _ _ _ _ _ _ _ c.loop-change.invariant.made kept.0 kept.1
     ))
+
+pub returns-in_err-make_change-clause-untold : goal.returns-in_err-make_change-clause-untold
+returns-in_err-make_change-clause-untold g c e =
+    owes_last seen _ _ _ _ told _ _ _ _ _ _ c.loop-change.invariant.made c.in-Some.ensures.steps.0 (c.in_err-make_change.ensures.untold (same_stop _ _ _ c.from_residual.ensures.1 e))
 
 pub returns-in_err-make_change-clause-still : goal.returns-in_err-make_change-clause-still
 returns-in_err-make_change-clause-still g c = (c.in_err-make_change.ensures.still.0 ∙ c.loop-change.invariant.made.served.adds.tag, c.in_err-make_change.ensures.still.1 ∙ c.loop-change.invariant.made.served.adds.number)

@@ -1,14 +1,17 @@
-use Rattle.std.proofs.Common.{arith, ◌≡◌, ◌+◌, ◌≤◌, ℕ, length, map, true≢false, refl, ap, sym, ◌∙◌, subst}
+use Rattle.std.proofs.Common.{arith, ◌≡◌, ◌+◌, ◌≤◌, ℕ, List, length, map, true≢false, refl, ap, sym, ◌∙◌, subst}
 use Rattle.std.specs.Prelude.{true, Result, IfErr}
 use Rattle.std.proofs.lemmas.List.{length-map}
 use Rattle.bc_share.specs.declared.db.TheConstants.{MOST_ENTRIES}
 use Rattle.bc_check.specs.declared.stop.Stop.{Stop}
 use Rattle.bc_check.specs.declared.stop.Stop.TheVariants.{Audit}
 use Rattle.bc_check.specs.Stops.{is_of_calls}
+use Rattle.bc_calls.specs.declared.call.Event.{Event}
 use Rattle.bc_check.specs.Changes.{seen}
+use Rattle.bc_check.specs.Run.{AreLegal}
+use Rattle.bc_check.specs.Served.{Adds}
 use Rattle.bc_check.proofs.Serving.{always_refused, is_stop, refused_map}
 use Rattle.bc_check.proofs.Shorter.{the_last}
-use Rattle.bc_check.proofs.Ending.{runs_of, begins_of, begins_none, closed_with, prints_of, prints_part}
+use Rattle.bc_check.proofs.Ending.{runs_of, begins_of, begins_none, closed_with, legal_adds, owed_of, shown_of}
 use Rattle.bc_check.proofs.Closing.{one_session, only_audited}
 use Rattle.bc_check.proofs.command.serve.Goals as goal
 
@@ -31,13 +34,18 @@ pub returns-in_err-closed-clause-audited : goal.returns-in_err-closed-clause-aud
 returns-in_err-closed-clause-audited g c e =
     let new = (the_last _ _ _ (sym c.in_ok-db.ensures.opened.1 ∙ c.in-Some.ensures.items)).1 in
     let made = c.make_all-made.ensures in
-    prints_part c.args.json (map seen c.args.changes.items) c.args.names.now.keys c.in-Some.session c.make_all-made.new.session _ _ _ _ c.make_all-made.result new made.served made.refused made.untold made.stop (λ failed. absurd (true≢false (sym (c.is_unwritten.ensures.1 failed) ∙ c.if-is_unwritten.false)))
+    shown_of c.args.json (map seen c.args.changes.items) c.args.names.now.keys c.in-Some.session c.make_all-made.new.session _ _ _ _ c.make_all-made.result new made.served made.refused made.untold made.silent made.stop (λ failed. absurd (true≢false (sym (c.is_unwritten.ensures.1 failed) ∙ c.if-is_unwritten.false)))
 
 pub returns-clause-done : goal.returns-clause-done
 returns-clause-done g c =
     let closed = closed_with _ _ _ c.in-Some.session c.make_all-made.new.session c.in_ok-closed.field-0 c.in_ok-db.ensures.opened.1 c.in-Some.ensures.items c.push_reserved.ensures.items c.in_ok-closed.ensures.one_history in
     let few : length (map seen c.args.changes.items) + length c.args.names.now.keys ≤ MOST_ENTRIES = omega (arith, length-map c.args.changes.items seen, c.in_ok-capacity.ensures.fits, c.len.ensures, c.len-2.ensures.len, c.args.changes.ok.0) in
     runs_of c.args.json (map seen c.args.changes.items) c.args.names.now.keys c.in-Some.session c.make_all-made.new.session _ _ _ _ c.in_ok-closed.field-0 c.make_all-made.result closed.0 few closed.1 c.make_all-made.ensures.served
+
+pub returns-clause-untold : goal.returns-clause-untold
+returns-clause-untold g c e =
+    let closed = closed_with _ _ _ c.in-Some.session c.make_all-made.new.session c.in_ok-closed.field-0 c.in_ok-db.ensures.opened.1 c.in-Some.ensures.items c.push_reserved.ensures.items c.in_ok-closed.ensures.one_history in
+    owed_of (λ (events : List Event). Adds events c.in-Some.session c.make_all-made.new.session) AreLegal (map seen c.args.changes.items) (legal_adds c.in-Some.session c.make_all-made.new.session c.in_ok-closed.field-0 closed.0 closed.1) (c.make_all-made.ensures.untold e)
 
 pub returns-clause-refused : goal.returns-clause-refused
 returns-clause-refused g c =

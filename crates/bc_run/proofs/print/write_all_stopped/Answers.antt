@@ -4,7 +4,8 @@ use Rattle.std.proofs.lemmas.List.{take_more, length-take-le}
 use Rattle.bc_scripts.specs.declared.run.End.TheVariants.{Done}
 use Rattle.bc_check.proofs.Serving.{added_then}
 use Rattle.bc_run.specs.Print.{stopped_line, stopped_lines}
-use Rattle.bc_run.proofs.Statuses.{stopped-snoc}
+use Rattle.bc_run.proofs.Statuses.{one_stopped, stopped-snoc}
+use Rattle.bc_run.proofs.Stopping.{at_each_error}
 use Rattle.bc_run.proofs.print.write_all_stopped.Goals as goal
 
 pub loop-end-preserved : goal.loop-end-preserved
@@ -21,5 +22,8 @@ loop-end-preserved g c =
     ∙ ap (stopped_lines 0) (sym (take_more ends i Done below)) in (
       omega (arith, c.loop-end.invariant.0),
       subst (λ (t : List ℕ). Appends (g.E.Write.contents c.args.err.now) (g.E.Write.contents c.write_stopped.new.err) t) text
-          (added_then _ _ _ _ _ c.loop-end.invariant.1 c.in_ok-write_stopped.ensures),
+          (added_then _ _ _ _ _ c.loop-end.invariant.1 c.in_ok-write_stopped.ensures.written),
     )
+
+pub returns-in_err-write_stopped-clause-owed : goal.returns-in_err-write_stopped-clause-owed
+returns-in_err-write_stopped-clause-owed g c = at_each_error _ (one_stopped c.args.ends.now c.loop-end.end-index Done c.loop-end-test.true c.in_err-write_stopped.ensures.owed)
