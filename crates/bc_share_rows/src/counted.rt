@@ -1,5 +1,5 @@
 //! Asks by providers of a test: such as count their calls, and such as always want memory.
-use crate::turns::{Turn, all_go, go_by_the_program, history_by};
+use crate::turns::{Turn, all_go, go_by_the_program, history_by, work_on};
 use bc_analyses::{find_live, find_scopes, find_values};
 use bc_book::Refusal;
 use bc_calls::PutReply;
@@ -166,6 +166,38 @@ fn entries_of<R: Wait>(
     }
     let history = db.close(rt, sessions)?;
     Ok(history.entries().len())
+}
+
+/// Whether a session is refused memory where it settles its work on a name at which it puts a body while the work is done, by providers that
+/// always want memory.
+fn is_refused_late<R: Wait, E: Ending>(
+    rt: &R,
+    alloc: Global,
+    session: &mut Session<E>,
+) -> Result<bool, Fail> {
+    let refusing = refusing!(alloc);
+    let work = work_on(alloc, session, b"f", &refusing)?;
+    let put = Turn::Put(b"f", WRITES_LAST, Ok(PutReply::Added));
+    all_go(rt, alloc, session, &refusing, &[put])?;
+    let settled = session.settle(rt, work, &refusing);
+    Ok(matches!(settled, Err(Refusal::NoMemory)))
+}
+
+/// Catches want of memory under the lock that is told as a full history, and a book that is gone behind a refused call.
+#[test]
+fn a_call_that_is_refused_under_the_lock_leaves_the_book(rt: HostRuntime) -> Result<(), Fail> {
+    let (db, mut sessions) = Db::open(rt.alloc(), Waiting::new(&rt), 0, 9, 1)?;
+    for session in sessions.iter_mut() {
+        assert!(rt;
+            is_refused_late(&rt, rt.alloc(), session)?,
+            "memory is wanted"
+        );
+        let ask = Turn::Ask(b"f", Ok(Found::Errors(0)));
+        go_by_the_program(&rt, rt.alloc(), session, &[ask])?;
+    }
+    let history = db.close(&rt, sessions)?;
+    assert!(rt; history.entries().len() == 2, "the refused Ask is no entry");
+    Ok(())
 }
 
 /// What was found is told again where each provider wants memory, by its answer or by its pieces, and no longer once a closure that it

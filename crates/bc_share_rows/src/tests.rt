@@ -1,15 +1,16 @@
 //! Databases: their ranges, their sessions, their histories.
-use crate::turns::{Turn, go_by_the_program, history_by, late_sessions};
+use crate::turns::{Turn, go_by_the_program, history_by, late_sessions, work_on};
 use bc_analyses::providers;
 use bc_book::Refusal;
 use bc_calls::{Entry, Event, PutReply, RemoveReply};
 use bc_fixtures::{
     CLOSURE, CLOSURE_WRITES, Found, INVARIANT_BUT_MARKED_COVARIANT, INVOKES, MARKED_INVARIANT,
-    NESTED, WRITES_LAST, WRITES_WHILE_BORROWED, found_by, name, shared_unit,
+    NESTED, WRITES_LAST, WRITES_WHILE_BORROWED, found_by, name,
 };
 use bc_share::{CloseFault, Db, History, OpenFault, Session};
 use bc_versions::{Ending, Waiting};
 use std::alloc::Global;
+use std::process::Abort;
 use std::sync::Wait;
 use std::test::Fail;
 
@@ -77,17 +78,6 @@ fn a_history_has_a_capacity_and_a_database_its_sessions(rt: HostRuntime) -> Resu
     assert!(rt;
         is_foreign(&rt, db, Vec::new(rt.alloc())),
         "closed without its sessions"
-    );
-    Ok(())
-}
-
-#[test]
-fn the_session_of_another_database_is_foreign(rt: HostRuntime) -> Result<(), Fail> {
-    let (_first, strangers) = Db::open(rt.alloc(), Waiting::new(&rt), 1, 1, 1)?;
-    let (second, _own) = Db::open(rt.alloc(), Waiting::new(&rt), 2, 1, 1)?;
-    assert!(rt;
-        is_foreign(&rt, second, strangers),
-        "closed with a stranger"
     );
     Ok(())
 }
@@ -245,34 +235,95 @@ fn closures_count_among_the_256_bodies(rt: HostRuntime) -> Result<(), Fail> {
     Ok(())
 }
 
-/// Whether a session finds a full history where it puts a body.
-fn puts_late<R: Wait, E: Ending>(
+/// Whether a session finds a full history where it removes an absent name once more than so often.
+fn is_full_behind<R: Wait, E: Ending>(
     rt: &R,
-    alloc: Global,
     session: &mut Session<E>,
+    times: u32,
 ) -> Result<bool, Fail> {
-    let put = session.put(rt, name(b"f")?, shared_unit(alloc, WRITES_LAST)?);
-    Ok(put == Err(Refusal::HistoryFull))
+    let absent = name(b"f")?;
+    for _time in 0..times {
+        if session.remove(rt, absent) != Ok(RemoveReply::Absent) {
+            return Ok(false);
+        }
+    }
+    Ok(session.remove(rt, absent) == Err(FULL))
 }
 
-/// Whether a session cannot begin an Ask.
-fn asks_late<R: Wait, E: Ending>(
+/// Catches a book that is opened with another capacity than the database's.
+#[test]
+fn a_history_of_70000_entries_is_full_behind_them(rt: HostRuntime) -> Result<(), Fail> {
+    let (_db, mut sessions) = Db::open(rt.alloc(), Waiting::new(&rt), 0, 70_000, 1)?;
+    for session in sessions.iter_mut() {
+        assert!(rt; is_full_behind(&rt, session, 70_000)?, "70,000 entries");
+    }
+    Ok(())
+}
+
+/// Whether a session finds a full history where it settles the work of another one.
+fn settles_late<R: Wait, E: Ending, F: Ending>(
+    rt: &R,
+    alloc: Global,
+    session: &mut Session<E>,
+    other: &mut Session<F>,
+) -> Result<bool, Fail> {
+    let providers = providers!(alloc);
+    let work = work_on(alloc, other, b"f", &providers)?;
+    let settled = session.settle(rt, work, &providers);
+    Ok(matches!(settled, Err(Refusal::HistoryFull)))
+}
+
+/// The same, where the other one is a new database's.
+fn settles_anothers_late<R: Wait, E: Ending>(
     rt: &R,
     alloc: Global,
     session: &mut Session<E>,
 ) -> Result<bool, Fail> {
-    let providers = providers!(alloc);
-    let asked = session.ask(rt, &name(b"f")?, &providers);
-    Ok(matches!(asked, Err(Refusal::NoMemory)))
+    let (_db, mut others) = Db::open(alloc, Waiting::new(rt), 0, 1, 1)?;
+    let mut all = true;
+    for other in others.iter_mut() {
+        all = all && settles_late(rt, alloc, session, other)?;
+    }
+    Ok(all)
 }
 
 /// Two databases may have one tag: the one closed with the other's session leaves its own, which comes too late.
 #[test]
 fn a_late_session_finds_a_full_history(rt: HostRuntime) -> Result<(), Fail> {
+    let turns = [
+        Turn::Put(b"f", WRITES_LAST, Err(FULL)),
+        Turn::Types(MARKED_INVARIANT, Err(FULL)),
+        Turn::Remove(b"f", Err(FULL)),
+        Turn::Ask(b"f", Err(Refusal::NoMemory)),
+    ];
     let mut late = late_sessions(&rt, rt.alloc())?;
     for session in late.iter_mut() {
-        assert!(rt; puts_late(&rt, rt.alloc(), session)?, "a full history");
-        assert!(rt; asks_late(&rt, rt.alloc(), session)?, "no memory");
+        go_by_the_program(&rt, rt.alloc(), session, &turns)?;
+        assert!(rt;
+            settles_anothers_late(&rt, rt.alloc(), session)?,
+            "a full history"
+        );
+    }
+    Ok(())
+}
+
+/// Closes a database with others than its session, which is refused; then its session, which was left out, makes its calls.
+fn go_behind_a_close<R: Abort + Wait, E: Ending>(
+    rt: &R,
+    alloc: Global,
+    db: Db<E>,
+    others: Vec<Session<E>>,
+    left_out: &mut [Session<E>],
+) -> Result<(), Fail> {
+    assert!(rt; is_foreign(rt, db, others), "closed with others");
+    let turns = [
+        Turn::Put(b"f", WRITES_WHILE_BORROWED, Ok(PutReply::Added)),
+        Turn::Ask(b"f", Ok(Found::Errors(1))),
+        Turn::Remove(b"f", Ok(RemoveReply::Removed)),
+        Turn::Ask(b"f", Err(FULL)),
+    ];
+    for session in left_out {
+        go_by_the_program(rt, alloc, session, &turns)?;
     }
     Ok(())
 }
@@ -280,19 +331,14 @@ fn a_late_session_finds_a_full_history(rt: HostRuntime) -> Result<(), Fail> {
 /// A database that was given other sessions than its own is gone, but not its book: a session that was left out still makes its calls.
 #[test]
 fn a_session_that_was_left_out_makes_its_calls(rt: HostRuntime) -> Result<(), Fail> {
-    let (db, mut sessions) = Db::open(rt.alloc(), Waiting::new(&rt), 0, 3, 1)?;
-    assert!(rt;
-        is_foreign(&rt, db, Vec::new(rt.alloc())),
-        "closed without its session"
-    );
-    let turns = [
-        Turn::Put(b"f", WRITES_WHILE_BORROWED, Ok(PutReply::Added)),
-        Turn::Ask(b"f", Ok(Found::Errors(1))),
-        Turn::Remove(b"f", Ok(RemoveReply::Removed)),
-        Turn::Ask(b"f", Err(FULL)),
-    ];
-    for session in sessions.iter_mut() {
-        go_by_the_program(&rt, rt.alloc(), session, &turns)?;
-    }
-    Ok(())
+    let (db, mut left_out) = Db::open(rt.alloc(), Waiting::new(&rt), 0, 3, 1)?;
+    go_behind_a_close(&rt, rt.alloc(), db, Vec::new(rt.alloc()), &mut left_out)
+}
+
+/// The same, where the others are as many as its own, and those of another database.
+#[test]
+fn a_session_makes_its_calls_behind_a_close_with_strangers(rt: HostRuntime) -> Result<(), Fail> {
+    let (_other, strangers) = Db::open(rt.alloc(), Waiting::new(&rt), 1, 3, 1)?;
+    let (db, mut left_out) = Db::open(rt.alloc(), Waiting::new(&rt), 0, 3, 1)?;
+    go_behind_a_close(&rt, rt.alloc(), db, strangers, &mut left_out)
 }
