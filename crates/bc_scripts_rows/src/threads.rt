@@ -1,24 +1,27 @@
 //! Sessions that make the calls of scripts on threads.
+ghost use Rattle.std.specs.Prelude.{IfOk};
+ghost use Rattle.bc_prov.specs.Facts.{AreValues};
+
+use crate::waits::Patience;
 use bc_analyses::{find_values, providers};
 use bc_book::Refusal;
 use bc_calls::{Call, Entry, Event, PutReply};
 use bc_cons::Facts;
-use bc_fixtures::{Found, WRITES_LAST, WRITES_WHILE_BORROWED, found_by, name, shared_unit};
+use bc_fixtures::{
+    Found, WRITES_LAST, WRITES_WHILE_BORROWED, found_by, name, shared_unit, want_memory,
+};
 use bc_prov::{Providers, Shared};
 use bc_scripts::{End, Gate, Script, Stage, run_sessions};
 use bc_share::{Db, History, Session};
+use bc_solve::Values;
 use bc_versions::{Ending, Waiting};
-use std::alloc::Global;
+use std::alloc::{AllocError, Global};
 use std::sync::atomic::AtomicU32;
 use std::sync::atomic::Ordering::SeqCst;
 use std::sync::{Arc, Wait};
 use std::test::Fail;
-use std::thread;
 use std::thread::Threads;
-use std::time::{Clock, Duration};
-
-/// How many turns of a millisecond a gate holds a session up before the test fails.
-const MOST_TURNS: u32 = 10_000;
+use std::time::Clock;
 
 /// A call of a script: a put of a unit under a name, or an Ask of a name.
 #[derive(Clone, Copy)]
@@ -26,6 +29,16 @@ enum Step {
     Put(&'static [u8], &'static [u8]),
     Ask(&'static [u8]),
 }
+
+/// Puts a body, and asks for it.
+const ASKS: [Step; 2] = [Step::Put(b"f", WRITES_LAST), Step::Ask(b"f")];
+
+/// Puts another one there, between two Asks of an absent name.
+const REPLACES: [Step; 3] = [
+    Step::Ask(b"g"),
+    Step::Put(b"f", WRITES_WHILE_BORROWED),
+    Step::Ask(b"g"),
+];
 
 /// A gate that nobody is held up at.
 #[derive(Clone, Copy)]
@@ -35,46 +48,69 @@ impl Gate for Open {
     fn pause(&self, _session: u8, _stage: Stage) {}
 }
 
-/// A gate that holds session 1 up at its first Ask until session 0 has worked, and session 0 there until session 1 has begun its
-/// second Ask. It counts the waits that took too long.
+/// A gate that holds session 1 up at its first Ask until session 0 has come to a stage of its Ask, and session 0 there until session 1 has
+/// begun its second Ask.
 #[derive(Drop)]
 struct Turnstile<'a, C: Clock> {
     clock: &'a C,
-    worked: AtomicU32,
+    patience: Patience,
+    stage: Stage,
+    came: AtomicU32,
     begun: AtomicU32,
-    late: AtomicU32,
 }
 
 impl<'a, C: Clock> Turnstile<'a, C> {
-    fn new(clock: &'a C) -> Turnstile<'a, C> {
+    /// One that holds session 0 up at this stage.
+    fn new(clock: &'a C, stage: Stage) -> Turnstile<'a, C> {
         Turnstile {
             clock,
-            worked: AtomicU32::new(0),
+            patience: Patience::new(),
+            stage,
+            came: AtomicU32::new(0),
             begun: AtomicU32::new(0),
-            late: AtomicU32::new(0),
         }
-    }
-
-    /// Waits until something was done so often.
-    fn hold(&self, done: &AtomicU32, times: u32) {
-        for _turn in 0..MOST_TURNS {
-            if done.load(SeqCst) >= times {
-                return;
-            }
-            thread::sleep(self.clock, Duration::from_millis(1));
-        }
-        self.late.fetch_add(1, SeqCst);
     }
 }
 
 impl<'a, C: Clock> Gate for Turnstile<'a, C> {
     fn pause(&self, session: u8, stage: Stage) {
-        if session == 0 && stage == Stage::Worked {
-            self.worked.fetch_add(1, SeqCst);
-            self.hold(&self.begun, 2);
+        if session == 0 && stage == self.stage {
+            self.came.fetch_add(1, SeqCst);
+            self.patience.hold(self.clock, &self.begun, 2);
         }
         if session == 1 && stage == Stage::Begun && self.begun.fetch_add(1, SeqCst) == 0 {
-            self.hold(&self.worked, 1);
+            self.patience.hold(self.clock, &self.came, 1);
+        }
+    }
+}
+
+/// How many sessions a database may have.
+const MOST_SESSIONS: u8 = 16;
+
+/// A gate that holds each session up where it has begun an Ask, until as many have begun one as a database may have sessions.
+#[derive(Drop)]
+struct Assembly<'a, C: Clock> {
+    clock: &'a C,
+    patience: Patience,
+    begun: AtomicU32,
+}
+
+impl<'a, C: Clock> Assembly<'a, C> {
+    fn new(clock: &'a C) -> Assembly<'a, C> {
+        Assembly {
+            clock,
+            patience: Patience::new(),
+            begun: AtomicU32::new(0),
+        }
+    }
+}
+
+impl<'a, C: Clock> Gate for Assembly<'a, C> {
+    fn pause(&self, _session: u8, stage: Stage) {
+        if stage == Stage::Begun {
+            self.begun.fetch_add(1, SeqCst);
+            self.patience
+                .hold(self.clock, &self.begun, u32::from(MOST_SESSIONS));
         }
     }
 }
@@ -129,6 +165,15 @@ fn script_of(alloc: Global, steps: &[Step], times: u32) -> Result<Script, Fail> 
     Ok(Script::new(calls))
 }
 
+/// So many scripts of one Ask of an absent name.
+fn asking_all(alloc: Global, count: u8) -> Result<Vec<Script>, Fail> {
+    let mut scripts = Vec::new(alloc);
+    for _script in 0..count {
+        scripts.push(script_of(alloc, &[Step::Ask(b"g")], 1)?)?;
+    }
+    Ok(scripts)
+}
+
 /// Two scripts.
 fn both(alloc: Global, first: Script, second: Script) -> Result<Vec<Script>, Fail> {
     let mut scripts = Vec::new(alloc);
@@ -173,7 +218,34 @@ fn close_behind<R: Threads + Wait + Sync, E: Ending + Send, G: Gate + Sync>(
     }
 }
 
-/// The same, of a new database of two sessions, whose history may have so many entries.
+/// The same, of a new database of so many sessions, whose history may have so many entries.
+fn run_scripts<R: Threads + Wait + Sync, G: Gate + Sync>(
+    rt: &R,
+    alloc: Global,
+    capacity: u32,
+    count: u8,
+    scripts: Vec<Script>,
+    providers: &Providers,
+    gate: &G,
+) -> Result<(Vec<End>, History), Fail> {
+    let (db, sessions) = Db::open(alloc, Waiting::new(rt), 0, capacity, count)?;
+    close_behind(rt, alloc, db, sessions, scripts, providers, gate)
+}
+
+/// How the scripts end that so many sessions make, each of them one, by the program's providers.
+fn run_all<R: Threads + Wait + Sync, G: Gate + Sync>(
+    rt: &R,
+    alloc: Global,
+    count: u8,
+    scripts: Vec<Script>,
+    gate: &G,
+) -> Result<Vec<End>, Fail> {
+    let providers = providers!(alloc);
+    let (ends, _history) = run_scripts(rt, alloc, 99, count, scripts, &providers, gate)?;
+    Ok(ends)
+}
+
+/// How the scripts of two sessions end by these providers, and the history, which may have so many entries.
 fn run_by<R: Threads + Wait + Sync, G: Gate + Sync>(
     rt: &R,
     alloc: Global,
@@ -184,8 +256,7 @@ fn run_by<R: Threads + Wait + Sync, G: Gate + Sync>(
     gate: &G,
 ) -> Result<(Vec<End>, History), Fail> {
     let scripts = both(alloc, first, second)?;
-    let (db, sessions) = Db::open(alloc, Waiting::new(rt), 0, capacity, 2)?;
-    close_behind(rt, alloc, db, sessions, scripts, providers, gate)
+    run_scripts(rt, alloc, capacity, 2, scripts, providers, gate)
 }
 
 /// The same, by the program's providers.
@@ -201,39 +272,42 @@ fn run_both<R: Threads + Wait + Sync, G: Gate + Sync>(
     run_by(rt, alloc, capacity, first, second, &providers, gate)
 }
 
-/// How many bodies were solved when the last Ask of a script of two calls had begun, and how many when its work was done, by providers
-/// that count them.
-fn solved_by<R: Threads + Wait + Sync>(
-    rt: &R,
-    alloc: Global,
-    script: Script,
-    providers: &Providers,
-    solved: &AtomicU32,
-) -> Result<(u32, u32), Fail> {
-    let watch = Watch::new(solved);
-    let none = Script::new(Vec::new(alloc));
-    let (ends, _history) = run_by(rt, alloc, 2, script, none, providers, &watch)?;
-    if !are_done(&ends) {
-        return Err("a call was refused")?;
+/// Nothing is solved yet.
+fn none_solved(alloc: Global) -> Result<Arc<AtomicU32, Global>, Fail> {
+    match Arc::new(alloc, AtomicU32::new(0)) {
+        Ok(solved) => Ok(solved),
+        Err(_) => Err("memory")?,
     }
-    Ok((watch.at_begun.load(SeqCst), watch.at_worked.load(SeqCst)))
 }
 
-/// The same, by new providers.
-fn solved_at_stages<R: Threads + Wait + Sync>(
+/// The values over facts, where no memory is wanted for them.
+fn find_unless(is_refused: bool, alloc: Global, facts: &Facts) -> Result<Values, AllocError>
+    ensures { IfOk result (AreValues facts.now) }
+{
+    if is_refused {
+        want_memory(alloc, facts)
+    } else {
+        find_values(alloc, facts)
+    }
+}
+
+/// How the scripts of two sessions end, by providers that count the bodies that are solved, and that want memory for the first so many.
+fn run_counting<R: Threads + Wait + Sync, G: Gate + Sync>(
     rt: &R,
     alloc: Global,
-    script: Script,
-) -> Result<(u32, u32), Fail> {
-    let Ok(solved) = Arc::new(alloc, AtomicU32::new(0)) else {
-        return Err("memory")?;
-    };
-    let to_solve = Arc::try_clone(&solved)?;
+    first: Script,
+    second: Script,
+    gate: &G,
+    solved: &Arc<AtomicU32, Global>,
+    refused: u32,
+) -> Result<Vec<End>, Fail> {
+    let to_solve = Arc::try_clone(solved)?;
     let providers = providers!(alloc, move |alloc: Global, facts: &Facts| {
-        to_solve.fetch_add(1, SeqCst);
-        find_values(alloc, facts)
+        let is_refused = to_solve.fetch_add(1, SeqCst) < refused;
+        find_unless(is_refused, alloc, facts)
     });
-    solved_by(rt, alloc, script, &providers, &solved)
+    let (ends, _history) = run_by(rt, alloc, 9, first, second, &providers, gate)?;
+    Ok(ends)
 }
 
 /// Whether the entries of a session are so many, and numbered in their order.
@@ -269,7 +343,7 @@ fn is_replaced(entries: &[Entry], place: usize) -> bool {
 }
 
 /// What the entry at a place found, where it is an Ask.
-fn found_at(entries: &[Entry], place: usize) -> Found {
+pub(crate) fn found_at(entries: &[Entry], place: usize) -> Found {
     match entries.get(place) {
         Some(entry) => match &entry.event {
             Event::Ask(_, outcome) => found_by(outcome.get()),
@@ -288,9 +362,8 @@ fn are_done(ends: &[End]) -> bool {
 /// comes and is not answered.
 #[test]
 fn two_sessions_have_forty_entries(rt: HostRuntime) -> Result<(), Fail> {
-    let steps = [Step::Put(b"f", WRITES_LAST), Step::Ask(b"f")];
-    let first = script_of(rt.alloc(), &steps, 10)?;
-    let second = script_of(rt.alloc(), &steps, 10)?;
+    let first = script_of(rt.alloc(), &ASKS, 10)?;
+    let second = script_of(rt.alloc(), &ASKS, 10)?;
     let (ends, history) = run_both(&rt, rt.alloc(), 40, first, second, &Open)?;
     assert!(rt; are_done(&ends), "all calls are made");
     assert!(rt; are_numbered(history.entries(), 0, 20), "session 0");
@@ -302,18 +375,12 @@ fn two_sessions_have_forty_entries(rt: HostRuntime) -> Result<(), Fail> {
 /// that session 1 has replaced meanwhile.
 #[test]
 fn a_body_is_replaced_while_another_session_works_on_it(rt: HostRuntime) -> Result<(), Fail> {
-    let first = [Step::Put(b"f", WRITES_LAST), Step::Ask(b"f")];
-    let second = [
-        Step::Ask(b"g"),
-        Step::Put(b"f", WRITES_WHILE_BORROWED),
-        Step::Ask(b"g"),
-    ];
-    let first = script_of(rt.alloc(), &first, 1)?;
-    let second = script_of(rt.alloc(), &second, 1)?;
-    let gate = Turnstile::new(&rt);
+    let first = script_of(rt.alloc(), &ASKS, 1)?;
+    let second = script_of(rt.alloc(), &REPLACES, 1)?;
+    let gate = Turnstile::new(&rt, Stage::Worked);
     let (ends, history) = run_both(&rt, rt.alloc(), 5, first, second, &gate)?;
     assert!(rt; are_done(&ends), "all calls are made");
-    assert!(rt; gate.late.load(SeqCst) == 0, "nobody waits too long");
+    assert!(rt; gate.patience.is_kept(), "nobody waits too long");
     let entries = history.entries();
     let put = place_of(entries, 1, 1);
     let ask = place_of(entries, 0, 1);
@@ -329,19 +396,53 @@ fn a_body_is_replaced_while_another_session_works_on_it(rt: HostRuntime) -> Resu
 /// Catches the two stages swapped, and a stage that an Ask does not come to or comes to on the other side of its work.
 #[test]
 fn an_ask_has_begun_before_its_work_is_done(rt: HostRuntime) -> Result<(), Fail> {
-    let steps = [Step::Put(b"f", WRITES_LAST), Step::Ask(b"f")];
-    let script = script_of(rt.alloc(), &steps, 1)?;
-    let (begun, worked) = solved_at_stages(&rt, rt.alloc(), script)?;
-    assert!(rt; begun == 0, "nothing is solved where the Ask has begun");
-    assert!(rt; worked == 1, "the body is solved where its work is done");
+    let solved = none_solved(rt.alloc())?;
+    let watch = Watch::new(&solved);
+    let script = script_of(rt.alloc(), &ASKS, 1)?;
+    let none = Script::new(Vec::new(rt.alloc()));
+    let ends = run_counting(&rt, rt.alloc(), script, none, &watch, &solved, 0)?;
+    assert!(rt; are_done(&ends), "all calls are made");
+    assert!(rt;
+        watch.at_begun.load(SeqCst) == 0,
+        "nothing is solved where the Ask has begun"
+    );
+    assert!(rt;
+        watch.at_worked.load(SeqCst) == 1,
+        "the body is solved where its work is done"
+    );
+    Ok(())
+}
+
+/// Catches a first stage that comes before what is published is read: session 1 replaces the body while session 0 is held up there, so that
+/// session 0 works on the body that it has begun and, as it settles that, on the one that is there then.
+#[test]
+fn an_ask_has_read_before_its_first_stage(rt: HostRuntime) -> Result<(), Fail> {
+    let solved = none_solved(rt.alloc())?;
+    let gate = Turnstile::new(&rt, Stage::Begun);
+    let first = script_of(rt.alloc(), &ASKS, 1)?;
+    let second = script_of(rt.alloc(), &REPLACES, 1)?;
+    let ends = run_counting(&rt, rt.alloc(), first, second, &gate, &solved, 0)?;
+    assert!(rt; are_done(&ends), "all calls are made");
+    assert!(rt; gate.patience.is_kept(), "nobody waits too long");
+    assert!(rt; solved.load(SeqCst) == 2, "both bodies are solved");
+    Ok(())
+}
+
+/// Catches fewer threads than sessions: each session waits in its Ask for all others to come there.
+#[test]
+fn sixteen_sessions_are_in_an_ask_at_once(rt: HostRuntime) -> Result<(), Fail> {
+    let gate = Assembly::new(&rt);
+    let scripts = asking_all(rt.alloc(), MOST_SESSIONS)?;
+    let ends = run_all(&rt, rt.alloc(), MOST_SESSIONS, scripts, &gate)?;
+    assert!(rt; are_done(&ends), "all calls are made");
+    assert!(rt; gate.patience.is_kept(), "nobody waits too long");
     Ok(())
 }
 
 /// A script ends at the call that is refused; what was made before stands, and the close is audited.
 #[test]
 fn a_refused_call_ends_its_script(rt: HostRuntime) -> Result<(), Fail> {
-    let steps = [Step::Put(b"f", WRITES_LAST), Step::Ask(b"f")];
-    let first = script_of(rt.alloc(), &steps, 2)?;
+    let first = script_of(rt.alloc(), &ASKS, 2)?;
     let (ends, history) = run_both(
         &rt,
         rt.alloc(),
@@ -359,5 +460,23 @@ fn a_refused_call_ends_its_script(rt: HostRuntime) -> Result<(), Fail> {
         "the fourth call is refused"
     );
     assert!(rt; are_numbered(history.entries(), 0, 3), "three entries");
+    Ok(())
+}
+
+/// Catches a refused call that is made once more: the solver wants memory for the first body alone.
+#[test]
+fn a_refused_call_is_not_made_again(rt: HostRuntime) -> Result<(), Fail> {
+    let solved = none_solved(rt.alloc())?;
+    let first = script_of(rt.alloc(), &ASKS, 2)?;
+    let none = Script::new(Vec::new(rt.alloc()));
+    let ends = run_counting(&rt, rt.alloc(), first, none, &Open, &solved, 1)?;
+    let stopped = End::Stopped {
+        number: 1,
+        refusal: Refusal::NoMemory,
+    };
+    assert!(rt;
+        ends.as_slice() == [stopped, End::Done].as_slice(),
+        "the second call is refused, and no other is made"
+    );
     Ok(())
 }
