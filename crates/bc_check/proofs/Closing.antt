@@ -2,7 +2,7 @@
 use Rattle.std.proofs.Common.{◌≡◌, ℕ, ◌<◌, List, [], ◌∷◌, ◌++◌, length, get_or, refl, sym, ap, ◌∙◌, subst, arith}
 use Rattle.std.proofs.lemmas.List.{get_or-map, length-map}
 use Rattle.bc_share.specs.Sessions.{SessionView, new_session}
-use Rattle.bc_share.specs.Closings.{AreSessionsOf, DbView, IsCloseFault, numbers}
+use Rattle.bc_share.specs.Closings.{AreSessionsOf, DbView, IsCloseFault}
 use Rattle.bc_share.specs.declared.db.CloseFault.{CloseFault}
 use Rattle.bc_share.specs.declared.db.CloseFault.TheVariants.{Foreign, Audit}
 use Rattle.bc_check.specs.declared.stop.Stop.TheVariants as stops

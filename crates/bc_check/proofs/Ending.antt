@@ -25,7 +25,7 @@ use Rattle.bc_check.specs.Run.{calls_of, told, shown, greatest, AreLegal, AreRep
 use Rattle.bc_check.specs.Served.{Adds, OwesLast, Served, ServedPart, ServedAll, ServedFirst, ServedThen, Runs, Begins, Prints, HasSeenItsOwn, IsAtMostOneMore}
 use Rattle.bc_check.proofs.Members.{Contains-one}
 use Rattle.bc_check.proofs.Shorter.{the_last, legal_shorter}
-use Rattle.bc_check.proofs.Serving.{nothing_added, kept_adds, adds_one, adds_then}
+use Rattle.bc_check.proofs.Serving.{nothing_added, adds_one, adds_then}
 
 -- nothing is told of an Ask
 told_ask : (e : Event) (name : NameParts) → call_of e ≡ calls_made.Ask name → told e ≡ []

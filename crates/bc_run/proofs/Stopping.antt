@@ -1,6 +1,6 @@
 -- What is found and left where the command stops.
-use Rattle.std.proofs.Common.{◌≡◌, ◌≤◌, ◌<◌, ℕ, List, length, Option, inr, refl, sym, subst}
-use Rattle.std.specs.Prelude.{◌⊎◌, Result, Ok, Err, IfOk, OnOk, OnErr, IfErr, IfSome}
+use Rattle.std.proofs.Common.{◌≡◌, ℕ, List, Option, inr, refl, sym, subst}
+use Rattle.std.specs.Prelude.{◌⊎◌, Result, Ok, Err, IfOk, OnOk, OnErr, IfErr}
 use Rattle.std.specs.Io.KnownBytes.{Appends}
 use Rattle.bc_check.specs.declared.stop.Stop.{Stop}
 use Rattle.bc_check.specs.declared.stop.Stop.TheVariants.{Audit, NoMemory, TooManyCalls}

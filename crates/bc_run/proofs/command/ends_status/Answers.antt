@@ -1,4 +1,4 @@
-use Rattle.std.proofs.Common.{arith, ◌≡◌, ◌≤◌, take, get_or}
+use Rattle.std.proofs.Common.{arith, take, get_or}
 use Rattle.std.proofs.lemmas.List.{take_more}
 use Rattle.bc_scripts.specs.declared.run.End.TheVariants.{Done}
 use Rattle.bc_run.proofs.Statuses.{greatest_end-snoc}

@@ -1,4 +1,4 @@
-use Rattle.std.proofs.Common.{arith, ◌≡◌, ◌≤◌, take}
+use Rattle.std.proofs.Common.{arith, take}
 use Rattle.bc_run.proofs.Statuses.{greatest-snoc, taken_more}
 use Rattle.bc_run.proofs.command.history_status.Goals as goal
 

@@ -1,4 +1,4 @@
-use Rattle.std.proofs.Common.{arith, ◌<◌, ◌≤◌}
+use Rattle.std.proofs.Common.{arith}
 use Rattle.bc_run.proofs.Numbers.{one_digit, two_digits}
 use Rattle.bc_run.proofs.header.behind_number.Goals as goal
 

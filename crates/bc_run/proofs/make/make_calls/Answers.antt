@@ -1,4 +1,4 @@
-use Rattle.std.proofs.Common.{◌≡◌, ◌≤◌, length, ap, arith}
+use Rattle.std.proofs.Common.{length, ap, arith}
 use Rattle.bc_share.proofs.Closings.{length-new_sessions}
 use Rattle.bc_check.specs.declared.stop.Stop.TheVariants.{Audit}
 use Rattle.bc_check.proofs.Serving.{is_stop}
