@@ -1,12 +1,12 @@
-//! The piece of a body, and pieces that a memo keeps, each call made once more where it is refused.
+//! The piece of a body, and pieces that a memo and a shelf keep, each call made once more where it is refused.
 ghost use Rattle.std.specs.Prelude.{◌≡◌, [], IfOk};
 
-use crate::shelves::names;
+use crate::shelves::{names, put};
 use anyhow::bail;
 use bc_calls::no_declarations;
 use bc_cons::Requirements;
 use bc_fixtures::{CLOSURE, INVOKES, WRITES_WHILE_BORROWED, again, name, shared_unit};
-use bc_memo::PieceMemo;
+use bc_memo::{PieceMemo, Shelf};
 use bc_mir::KidHeader;
 use bc_outcomes::piece;
 use bc_prov::{Declared, Piece, Providers, Shared, share};
@@ -154,7 +154,30 @@ fn show_kept<W: Write>(alloc: Global, piece: &Shared<Piece>, out: &mut W) -> any
     show_part(alloc, &memo, out)
 }
 
-/// Shows the errors of a piece, and how many pieces are kept of a part.
+/// Has a shelf keep a piece for a name, once more where that is refused. Whether it keeps it: it holds what the piece is of.
+fn keep_held(shelf: &mut Shelf, at: Name, piece: &Shared<Piece>) -> Result<bool, AllocError> {
+    match shelf.keep(at, piece.clone()?) {
+        Ok(kept) => Ok(kept),
+        Err(_) => shelf.keep(at, piece.clone()?),
+    }
+}
+
+/// Shows that a shelf, which has memory for no piece at first, keeps the piece of a unit that it holds.
+fn show_held<W: Write>(
+    alloc: Global,
+    unit: &Shared<Unit>,
+    piece: &Shared<Piece>,
+    out: &mut W,
+) -> anyhow::Result<()> {
+    let f = name(b"f")?;
+    let mut shelf = again(|| Ok(Shelf::new(alloc, no_declarations(alloc)?, 0)?))?;
+    put(alloc, &mut shelf, f, unit, 1)?;
+    let kept = keep_held(&mut shelf, f, piece)?;
+    writeln!(out, "a shelf keeps the piece of what it holds: {kept}")?;
+    Ok(())
+}
+
+/// Shows the errors of a piece, how many pieces are kept of a part, and whether a shelf keeps this one.
 fn show_of<W: Write>(
     alloc: Global,
     providers: &Providers,
@@ -165,7 +188,8 @@ fn show_of<W: Write>(
     for error in piece.get().errors().as_slice() {
         writeln!(out, "{error}")?;
     }
-    show_kept(alloc, &piece, out)
+    show_kept(alloc, &piece, out)?;
+    show_held(alloc, unit, &piece, out)
 }
 
 /// Shows how much the piece of a creator rests on.
