@@ -7,6 +7,7 @@ mod closures;
 mod declarations;
 mod fits;
 mod locals;
+mod numbering;
 mod sequence;
 mod symbol;
 mod syntax;
@@ -16,6 +17,7 @@ mod words;
 pub use bytes::{behind, byte_at, from, is_run_byte, region_len, run, run_len};
 pub use declarations::{Types, is_struct};
 pub use fits::is_new;
+pub use numbering::Numbering;
 pub use sequence::{Sequence, ShortSequence};
 pub use symbol::{Symbol, same};
 pub use syntax::{

@@ -10,11 +10,11 @@ use Rattle.std.proofs.lemmas.Str.Parse.{IsNumeralModel, numerals_by_fold}
 use Rattle.std.proofs.lemmas.Fmt.{digits_decimal, digits_value-decimal, decimal_digit, decimal_nonempty, first_decimal}
 use Rattle.bc_syntax.specs.declared.symbol.Symbol.{Symbol}
 use Rattle.bc_syntax.specs.declared.symbol.Symbol.TheVariants as s
-use Rattle.bc_print.specs.declared.numbering.Numbering.TheVariants as n
+use Rattle.bc_syntax.specs.declared.numbering.Numbering.TheVariants as n
 use Rattle.bc_syntax.specs.Bytes.{is_run_byte, run}
 use Rattle.bc_syntax.specs.Symbol.{text, keyword_of, sign_of}
 use Rattle.bc_syntax.specs.Words.{is_region_byte, is_number, is_region_name, is_label, is_keyword, is_word}
-use Rattle.bc_print.specs.Token.{Token, Fixed, Numbered, Word, Region, NotAscii, Stray, End}
+use Rattle.bc_syntax.specs.Token.{Token, Fixed, Numbered, Word, Region, NotAscii, Stray, End}
 use Rattle.bc_tokens.specs.Token.{is_blank, value, run_token, region_token, variable_token, lexeme}
 use Rattle.bc_print.specs.Printing.{token_text}
 use Rattle.bc_tokens.proofs.Runs.{more, digit_in_run, region_in_run}

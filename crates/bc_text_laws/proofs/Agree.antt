@@ -6,9 +6,9 @@ use Rattle.std.proofs.lemmas.List.Sums.{take_while-cons}
 use Rattle.bc_syntax.specs.declared.symbol.Symbol.TheVariants.{Arrow}
 use Rattle.bc_syntax.specs.Bytes.{is_run_byte, run}
 use Rattle.bc_syntax.specs.Symbol.{sign_of}
-use Rattle.bc_print.specs.Token.{Token, Fixed, NotAscii, End}
+use Rattle.bc_syntax.specs.Token.{Token, Fixed, NotAscii, End}
 use Rattle.bc_tokens.specs.Token.{Placed, placed, Tokens, is_blank, run_token, region_token, variable_token, sign_token, lexeme, tokens}
-use Rattle.bc_text.specs.Laws.{reach}
+use Rattle.bc_text_laws.specs.Laws.{reach}
 use Rattle.bc_tokens.proofs.Cuts.{blank_goes, token_begins}
 
 -- ---- agreement

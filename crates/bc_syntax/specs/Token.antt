@@ -1,7 +1,7 @@
 -- Tokens.
 use Rattle.std.specs.Prelude.{ℕ, List}
 use Rattle.bc_syntax.specs.declared.symbol.Symbol.{Symbol}
-use Rattle.bc_print.specs.declared.numbering.Numbering.{Numbering}
+use Rattle.bc_syntax.specs.declared.numbering.Numbering.{Numbering}
 
 -- a token, as the grammar sees it
 pub data Token : Type 0 where

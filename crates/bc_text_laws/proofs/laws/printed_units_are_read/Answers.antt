@@ -1,9 +1,9 @@
 use Rattle.bc_print.specs.Printing.{printed}
-use Rattle.bc_print.specs.Spelling as spell
-use Rattle.bc_tokens.proofs.Printed.{printed_tokens}
-use Rattle.bc_text.proofs.Whole.{unit_is_whole}
+use Rattle.bc_syntax.specs.Spelling as spell
+use Rattle.bc_text_laws.proofs.Printed.{printed_tokens}
+use Rattle.bc_text_laws.proofs.Whole.{unit_is_whole}
 use Rattle.bc_text.proofs.UnitLaws.{read_only}
-use Rattle.bc_text.proofs.laws.printed_units_are_read.Goals as goal
+use Rattle.bc_text_laws.proofs.laws.printed_units_are_read.Goals as goal
 
 pub returns : goal.returns
 returns c = record {

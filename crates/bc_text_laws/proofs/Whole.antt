@@ -54,10 +54,10 @@ use Rattle.bc_syntax.specs.Fits.{Fits, TypesFit}
 use Rattle.bc_syntax.specs.Locals.{declared_locals, first_let, locals_of}
 use Rattle.bc_syntax.proofs.Signatures.{signature_parts, header_parts}
 use Rattle.bc_syntax.specs.Words.{is_region_name, is_word}
-use Rattle.bc_print.specs.Token.{Token}
-use Rattle.bc_print.specs.Universals.{universal_names}
-use Rattle.bc_print.specs.Spelling as spell
-use Rattle.bc_tokens.proofs.Printed.{AllWhole}
+use Rattle.bc_syntax.specs.Token.{Token}
+use Rattle.bc_syntax.specs.Universals.{universal_names}
+use Rattle.bc_syntax.specs.Spelling as spell
+use Rattle.bc_text_laws.proofs.Printed.{AllWhole}
 
 -- ---- lists of tokens
 

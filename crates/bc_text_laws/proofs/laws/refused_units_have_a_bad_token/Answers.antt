@@ -1,13 +1,13 @@
 use Rattle.std.proofs.Common.{◌∙◌, [], ◌∷◌, ◌++◌, sym, subst, List}
-use Rattle.bc_print.specs.Token.{Token, End}
-use Rattle.bc_print.specs.Spelling as spell
+use Rattle.bc_syntax.specs.Token.{Token, End}
+use Rattle.bc_syntax.specs.Spelling as spell
 use Rattle.bc_text.specs.Reading as read
 use Rattle.bc_text.proofs.Begins.{Begins}
 use Rattle.bc_text.proofs.Ends.{begins_whole}
 use Rattle.bc_text.proofs.UnitLaws.{unit_again, closed}
-use Rattle.bc_text.proofs.LocalUnits.{unit}
-use Rattle.bc_text.proofs.Faults.{stopped, tells_bad, going_on, go_on, still_refused, faults_are_local}
-use Rattle.bc_text.proofs.laws.refused_units_have_a_bad_token.Goals as goal
+use Rattle.bc_text_laws.proofs.LocalUnits.{unit}
+use Rattle.bc_text_laws.proofs.Faults.{stopped, tells_bad, going_on, go_on, still_refused, faults_are_local}
+use Rattle.bc_text_laws.proofs.laws.refused_units_have_a_bad_token.Goals as goal
 
 pub returns-clause-bad : goal.returns-clause-bad
 unfolding read.read

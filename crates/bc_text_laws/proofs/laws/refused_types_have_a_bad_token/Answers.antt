@@ -1,12 +1,12 @@
 use Rattle.std.proofs.Common.{◌∙◌, [], ◌∷◌, ◌++◌, sym}
-use Rattle.bc_print.specs.Token.{End}
-use Rattle.bc_print.specs.Spelling as spell
+use Rattle.bc_syntax.specs.Token.{End}
+use Rattle.bc_syntax.specs.Spelling as spell
 use Rattle.bc_text.specs.Reading as read
 use Rattle.bc_text.proofs.Ends.{begins_whole}
 use Rattle.bc_text.proofs.DeclarationLaws.{types_again}
-use Rattle.bc_text.proofs.LocalDeclarations.{types}
-use Rattle.bc_text.proofs.Faults.{stopped, tells_bad, going_on, go_on, still_refused, faults_are_local}
-use Rattle.bc_text.proofs.laws.refused_types_have_a_bad_token.Goals as goal
+use Rattle.bc_text_laws.proofs.LocalDeclarations.{types}
+use Rattle.bc_text_laws.proofs.Faults.{stopped, tells_bad, going_on, go_on, still_refused, faults_are_local}
+use Rattle.bc_text_laws.proofs.laws.refused_types_have_a_bad_token.Goals as goal
 
 pub returns-clause-bad : goal.returns-clause-bad
 unfolding read.read_types

@@ -3,7 +3,7 @@ use Rattle.std.specs.Prelude.{ℕ, ◌+◌, Bool, true, false, List, [], ◌∷�
 use Rattle.std.specs.List.{flat_map, zip}
 use Rattle.bc_syntax.specs.declared.symbol.Symbol.{Symbol}
 use Rattle.bc_syntax.specs.declared.symbol.Symbol.TheVariants as s
-use Rattle.bc_print.specs.declared.numbering.Numbering.TheVariants as n
+use Rattle.bc_syntax.specs.declared.numbering.Numbering.TheVariants as n
 use Rattle.bc_syntax.specs.declared.syntax.Region.{Region}
 use Rattle.bc_syntax.specs.declared.syntax.Region.TheVariants.{Universal, Variable}
 use Rattle.bc_syntax.specs.declared.syntax.RegionName.{RegionName}
@@ -48,9 +48,9 @@ use Rattle.bc_syntax.specs.declared.syntax.ExternDeclaration.{ExternDeclaration}
 use Rattle.bc_syntax.specs.declared.syntax.Declaration.{Declaration}
 use Rattle.bc_syntax.specs.declared.syntax.Declaration.TheVariants as declarations
 use Rattle.bc_syntax.specs.Locals.{first_let}
-use Rattle.bc_print.specs.Token.{Token, Fixed, Numbered, Word}
-use Rattle.bc_print.specs.Token.{Region as Named}
-use Rattle.bc_print.specs.Universals.{universal_names}
+use Rattle.bc_syntax.specs.Token.{Token, Fixed, Numbered, Word}
+use Rattle.bc_syntax.specs.Token.{Region as Named}
+use Rattle.bc_syntax.specs.Universals.{universal_names}
 
 abbrev pub symbol : Symbol → List Token
 symbol found = Fixed found ∷ []

@@ -5,11 +5,11 @@ use Rattle.std.specs.List.{AllByRecursion}
 use Rattle.std.proofs.lemmas.Bool.{cases_Bool}
 use Rattle.std.proofs.lemmas.List.{length-append}
 use Rattle.bc_syntax.specs.Symbol.{text, sign_of}
-use Rattle.bc_print.specs.Token.{Token, Stray, End}
+use Rattle.bc_syntax.specs.Token.{Token, Stray, End}
 use Rattle.bc_tokens.specs.Token.{Placed, placed, Tokens, tokens, is_blank, lexeme}
 use Rattle.bc_print.specs.Printing.{token_text, spaced, printed}
 use Rattle.bc_tokens.proofs.Cuts.{inside, blank_goes, token_begins}
-use Rattle.bc_tokens.proofs.Lexemes.{IsWhole, blank_is, token_lexeme}
+use Rattle.bc_text_laws.proofs.Lexemes.{IsWhole, blank_is, token_lexeme}
 
 abbrev pub AllWhole : List Token → Type 0
 AllWhole found = AllByRecursion IsWhole found

@@ -4,7 +4,7 @@ use Rattle.std.specs.Prelude.{nat_lt}
 use Rattle.std.specs.List.{All, flat_map}
 use Rattle.std.proofs.lemmas.List.{append-nil}
 use Rattle.std.proofs.lemmas.List.Elements.{All-nil}
-use Rattle.bc_print.specs.Token.{Token}
+use Rattle.bc_syntax.specs.Token.{Token}
 use Rattle.bc_syntax.specs.declared.symbol.Symbol.{Symbol}
 use Rattle.bc_syntax.specs.declared.symbol.Symbol.TheVariants as s
 use Rattle.bc_syntax.specs.declared.syntax.RegionName.{RegionName}
@@ -18,11 +18,11 @@ use Rattle.bc_syntax.specs.declared.syntax.Declaration.TheVariants as declaratio
 use Rattle.bc_tokens.specs.Token.{Tokens}
 use Rattle.bc_tokens.specs.Parser.{Parser, ◌>>◌, ◌<$>◌, expect, first}
 use Rattle.bc_text.specs.Reading as read
-use Rattle.bc_print.specs.Spelling as spell
-use Rattle.bc_text.proofs.Local.{Parses, Steps, Any, Looks, is_taken, then, then_steps, gives, refuses, moved, made_so, all_and, optional, filled, either_steps, seen, seen_steps, past, if_seen, if_past, symbol_looks, either_looks, expects, eats, eaten, ends, one_more, in_angles}
-use Rattle.bc_text.specs.Standing.{IsPlain, SignatureStands, NoClosures}
+use Rattle.bc_syntax.specs.Spelling as spell
+use Rattle.bc_text_laws.proofs.Local.{Parses, Steps, Any, Looks, is_taken, then, then_steps, gives, refuses, moved, made_so, all_and, optional, filled, either_steps, seen, seen_steps, past, if_seen, if_past, symbol_looks, either_looks, expects, eats, eaten, ends, one_more, in_angles}
+use Rattle.bc_text_laws.specs.Standing.{IsPlain, SignatureStands, NoClosures}
 use Rattle.bc_text.proofs.DeclarationLaws.{zipped}
-use Rattle.bc_text.proofs.LocalUnits.{new_region, item_name, begins_ty, ty, signature}
+use Rattle.bc_text_laws.proofs.LocalUnits.{new_region, item_name, begins_ty, ty, signature}
 
 variance : Parses Any read.variance [] spell.variance
 unfolding read.variance

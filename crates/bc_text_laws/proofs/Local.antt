@@ -6,14 +6,14 @@ use Rattle.std.specs.List.{All, flat_map}
 use Rattle.std.proofs.lemmas.List.{append-nil, map-append}
 use Rattle.std.proofs.lemmas.Grind.{flat_map-append}
 use Rattle.std.proofs.lemmas.List.Concat.{flat_map-cons}
-use Rattle.bc_print.specs.Spelling.{commas, behind_commas, angled}
+use Rattle.bc_syntax.specs.Spelling.{commas, behind_commas, angled}
 use Rattle.bc_text.proofs.Begins.{sees_takes, numbered_takes}
 use Rattle.std.proofs.lemmas.Bool.{cases_Bool, le-leb}
 use Rattle.std.proofs.lemmas.List.Elements.{All-nil, All-cons, All-append}
 use Rattle.bc_syntax.specs.declared.symbol.Symbol.{Symbol}
 use Rattle.bc_syntax.specs.declared.symbol.Symbol.TheVariants.{Comma, Less, Greater}
-use Rattle.bc_print.specs.declared.numbering.Numbering.{Numbering}
-use Rattle.bc_print.specs.Token.{Token, Fixed, Numbered, Word, Region, NotAscii, Stray, End}
+use Rattle.bc_syntax.specs.declared.numbering.Numbering.{Numbering}
+use Rattle.bc_syntax.specs.Token.{Token, Fixed, Numbered, Word, Region, NotAscii, Stray, End}
 use Rattle.bc_tokens.specs.declared.refusal.Refusal.{Refusal}
 use Rattle.bc_tokens.specs.declared.refusal.Refusal.TheVariants as faults
 use Rattle.bc_tokens.specs.Token.{Placed, placed, Tokens}

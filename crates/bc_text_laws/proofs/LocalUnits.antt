@@ -5,15 +5,15 @@ use Rattle.std.specs.List.{All, flat_map}
 use Rattle.std.proofs.lemmas.List.Elements.{All-nil}
 use Rattle.std.proofs.lemmas.Bool.{eqb-true}
 use Rattle.std.proofs.lemmas.List.{append-nil}
-use Rattle.bc_print.specs.Token.{Token, Fixed, Numbered}
-use Rattle.bc_print.specs.Token.{Region as Named}
+use Rattle.bc_syntax.specs.Token.{Token, Fixed, Numbered}
+use Rattle.bc_syntax.specs.Token.{Region as Named}
 use Rattle.bc_syntax.specs.declared.syntax.ItemName.{ItemName}
 use Rattle.bc_syntax.specs.declared.syntax.Call.{Call}
 use Rattle.bc_syntax.specs.declared.syntax.Invocation.{Invocation}
 use Rattle.bc_syntax.specs.declared.syntax.Outlives.{Outlives}
 use Rattle.bc_syntax.specs.declared.syntax.Signature.{Signature}
 use Rattle.bc_syntax.specs.declared.symbol.Symbol.TheVariants as s
-use Rattle.bc_print.specs.declared.numbering.Numbering.TheVariants as n
+use Rattle.bc_syntax.specs.declared.numbering.Numbering.TheVariants as n
 use Rattle.bc_syntax.specs.declared.syntax.RegionName.{RegionName}
 use Rattle.bc_syntax.specs.declared.syntax.Reference.{Reference}
 use Rattle.bc_syntax.specs.declared.syntax.Projection.{Projection}
@@ -35,12 +35,12 @@ use Rattle.bc_syntax.specs.Words.{is_word}
 use Rattle.bc_tokens.specs.Parser.{Parser, angled_list}
 use Rattle.bc_text.specs.declared.points.Point.{Point}
 use Rattle.bc_text.specs.declared.points.Point.TheVariants as point_kinds
-use Rattle.bc_text.specs.Standing.{IsNoClosure, IsPlain, StandsBehind, IsLet, SignatureStands, HeaderStands, ClosuresStand}
+use Rattle.bc_text_laws.specs.Standing.{IsNoClosure, IsPlain, StandsBehind, IsLet, SignatureStands, HeaderStands, ClosuresStand}
 use Rattle.bc_text.specs.Universals.{number_of}
 use Rattle.bc_text.specs.Reading as read
-use Rattle.bc_print.specs.Spelling as spell
+use Rattle.bc_syntax.specs.Spelling as spell
 use Rattle.bc_text.proofs.NumberLaws.{number_found}
-use Rattle.bc_text.proofs.Local.{Parses, Any, Filled, Looks, Checked, then, gives, refuses, moved, behind, made, made_so, behind_so, all_and, optional, if_seen, if_past, symbol_looks, numbered_looks, word_looks, region_looks, either_looks, where_looks, checked, tried, goes_on, fails, expects, ends, numbers, numbered_one, region_name_one, word_one, one_more, in_angles, alike_in_angles, alike_closed, alike_opened}
+use Rattle.bc_text_laws.proofs.Local.{Parses, Any, Filled, Looks, Checked, then, gives, refuses, moved, behind, made, made_so, behind_so, all_and, optional, if_seen, if_past, symbol_looks, numbered_looks, word_looks, region_looks, either_looks, where_looks, checked, tried, goes_on, fails, expects, ends, numbers, numbered_one, region_name_one, word_one, one_more, in_angles, alike_in_angles, alike_closed, alike_opened}
 
 -- ---- regions and names
 

@@ -2,7 +2,7 @@
 use Rattle.std.proofs.Common.{◌≡◌, ◌≢◌, ℕ, suc, ◌+◌, false, List, [], ◌∷◌, ◌++◌, length, map, Some, Result, Ok, Err, refl, sym, ap, ◌∙◌, subst, inl, inr, ltb, arith}
 use Rattle.std.specs.List.{All}
 use Rattle.std.proofs.lemmas.Bool.{le-ltb}
-use Rattle.bc_print.specs.Token.{Token, Fixed, Numbered, Word, Region, NotAscii, Stray, End}
+use Rattle.bc_syntax.specs.Token.{Token, Fixed, Numbered, Word, Region, NotAscii, Stray, End}
 use Rattle.bc_tokens.specs.declared.refusal.Refusal.{Refusal}
 use Rattle.bc_tokens.specs.declared.refusal.Refusal.TheVariants as refusals
 use Rattle.bc_tokens.specs.Token.{Placed, placed, Tokens, tokens}
@@ -11,11 +11,11 @@ use Rattle.bc_text.specs.declared.fault.ReadFault.{ReadFault}
 use Rattle.bc_text.specs.declared.fault.ReadFault.TheVariants as faults
 use Rattle.bc_text.specs.Fault.{read_fault}
 use Rattle.bc_text.specs.Reading.{answer_of, read_whole}
-use Rattle.bc_text.specs.Laws.{TellsToken, place_of, reach, FaultsAreLocal}
+use Rattle.bc_text_laws.specs.Laws.{TellsToken, place_of, reach, FaultsAreLocal}
 use Rattle.bc_text.proofs.Begins.{chosen}
 use Rattle.bc_text.proofs.Ends.{IsText, tokens_are_text}
-use Rattle.bc_text.proofs.Local.{Parses, Filled, Begun, Stands, is_taken, IsTaken, IsFaultOf, with_rest, kinds}
-use Rattle.bc_text.proofs.Agree.{agree_from_take, tokens_agree}
+use Rattle.bc_text_laws.proofs.Local.{Parses, Filled, Begun, Stands, is_taken, IsTaken, IsFaultOf, with_rest, kinds}
+use Rattle.bc_text_laws.proofs.Agree.{agree_from_take, tokens_agree}
 
 -- the token at which a text is refused, whatever comes behind it
 pub record Stopped {A : Type 0} (P : A → Type 0) (p : Parser A) (spell : A → List Token) (bytes : List ℕ) (fault : ReadFault) : Type 0 where
