@@ -8,7 +8,7 @@ use Rattle.bc_mir.specs.Mir.{Mir}
 use Rattle.bc_mir.specs.PlaceTypes.{type_of_place, references_of_place}
 use Rattle.bc_points.specs.Prefixes.{from_last_shared, is_prefix}
 use Rattle.bc_points.specs.Supports.{supports}
-use Rattle.bc_points.specs.Supporters.{last_taken, supporters}
+use Rattle.bc_points_laws.specs.Supporters.{last_taken, supporters}
 
 -- a prefix of a prefix is a prefix
 abbrev pub PrefixesChain : Type 0

@@ -16,8 +16,8 @@ use Rattle.bc_points.specs.Prefixes.{from_last_shared}
 use Rattle.bc_types.specs.Replaced.{field_type}
 use Rattle.bc_mir.specs.Mir.{Mir}
 use Rattle.bc_mir.specs.PlaceTypes.{type_behind, references_behind, references_of_place}
-use Rattle.bc_points.specs.Supporters.{place_of, is_shared, reference_taken, last_taken_of, last_taken, supporters_from}
-use Rattle.bc_points.proofs.Supported.{from_last_shared-more}
+use Rattle.bc_points_laws.specs.Supporters.{place_of, is_shared, reference_taken, last_taken_of, last_taken, supporters_from}
+use Rattle.bc_points_laws.proofs.Supported.{from_last_shared-more}
 
 abbrev pub along : List Declaration → List Projection → Ty → Option Ty
 along types projections ty = type_behind types projections ty.references ty.base

@@ -20,10 +20,10 @@ use Rattle.bc_types.specs.Replaced.{field_type}
 use Rattle.bc_mir.specs.Mir.{Mir}
 use Rattle.bc_mir.specs.PlaceTypes.{type_behind, type_of_place}
 use Rattle.bc_points.specs.Supports.{goes_on_mutable, supports}
-use Rattle.bc_points.specs.Supporters.{place_of, is_shared, reference_taken, last_taken_of, supporters_from, supporters}
+use Rattle.bc_points_laws.specs.Supporters.{place_of, is_shared, reference_taken, last_taken_of, supporters_from, supporters}
 use Rattle.bc_flow.proofs.Membership.{Contains-nil, Contains-head, Contains-cons, Contains-later}
-use Rattle.bc_points.proofs.Supporters.{along, leads, leads_more}
-use Rattle.bc_points.proofs.Finding.{allowed-some, rest_after-is, rest_after-append, are_mutable-option, goes-on, went-on, map_or-true, and_then-some, same-place}
+use Rattle.bc_points_laws.proofs.Supporters.{along, leads, leads_more}
+use Rattle.bc_points_laws.proofs.Finding.{allowed-some, rest_after-is, rest_after-append, are_mutable-option, goes-on, went-on, map_or-true, and_then-some, same-place}
 
 along_append : (types : List Declaration) (first second : List Projection) (references : List Reference) (base : Base) → type_behind types (first ++ second) references base ≡ option_and_then (along types second) (type_behind types first references base)
 along_append types [] second references base = refl

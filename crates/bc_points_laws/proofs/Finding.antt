@@ -10,7 +10,7 @@ use Rattle.bc_syntax.specs.declared.syntax.Projection.TheVariants.{Deref, Field}
 use Rattle.bc_types.specs.Mutabilities.{is_mutable}
 use Rattle.bc_mir.specs.Places.{are_mutable}
 use Rattle.bc_points.specs.Prefixes.{same_projection, rest_after}
-use Rattle.bc_points.specs.Supporters.{place_of, is_shared}
+use Rattle.bc_points_laws.specs.Supporters.{place_of, is_shared}
 use Rattle.bc_flow.proofs.Membership.{Contains-nil}
 
 same_projection-is : (a b : Projection) → same_projection a b ≡ true → a ≡ b

@@ -1,5 +1,5 @@
 //! Laws of the definitions, each the contract of a function that does nothing.
-ghost use Rattle.bc_points.specs.Laws.{PrefixesChain, SupportersAreFound, TakenReferences};
+ghost use Rattle.bc_points_laws.specs.Laws.{PrefixesChain, SupportersAreFound, TakenReferences};
 
 /// A prefix of a prefix of a place is a prefix of that place.
 /// (Own.)

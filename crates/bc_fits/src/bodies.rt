@@ -1,18 +1,16 @@
-//! Whether the numbers of a body are within their limits, its regions and locals declared, and its names words.
-ghost use Rattle.std.specs.Prelude.{◌≡◌, ◌+◌, ◌≤◌, ◌<◌, ◌&&◌, ◌↔◌, ◌++◌, [], IsTrue, nat_le, true, false, length, sum_by, take, drop, ℕ};
-ghost use Rattle.std.specs.List.{list_all, list_any};
-ghost use Rattle.std.specs.Str.{bytes_eq};
+//! Units of bodies: the numbers of a body are within their limits, its regions and locals declared, and its names words.
+ghost use Rattle.std.specs.Prelude.{◌≡◌, ◌+◌, ◌≤◌, ◌<◌, ◌&&◌, ◌↔◌, ◌++◌, [], IsTrue, IfSome, IsSome, nat_le, true, false, length, sum_by, take, drop, ℕ};
+ghost use Rattle.std.specs.List.{list_all};
 ghost use Rattle.bc_syntax.specs.Fits as spec;
 ghost use Rattle.bc_syntax.specs.Fits.{Fits, universal_count as universals_of, point_count};
 ghost use Rattle.bc_syntax.specs.Locals.{locals_of};
-ghost use Rattle.bc_syntax.specs.declared.syntax.RegionName.{RegionName};
 
-use crate::syntax::{
+use bc_syntax::{
     Aggregate, Assignment, Base, Block, Body, Borrow, Call, ClosureInstance, Condition, Creation,
     Header, Instance, Invocation, ItemName, Operand, Outlives, Place, Projection, Reference,
-    Region, RegionName, Rvalue, Signature, Statement, Terminator, Ty, UnitKind,
+    Region, RegionName, Rvalue, Signature, Statement, Terminator, Ty, Unit, UnitKind, is_new,
+    is_word,
 };
-use crate::words::{is_region_name, is_word};
 
 /// What may be named: region variables or not, so many universal regions, and so many locals. Own.
 #[derive(Clone, Copy)]
@@ -28,24 +26,6 @@ pub fn item_fits(name: &ItemName) -> bool
 {
     let bytes = name.bytes.as_slice();
     is_word(bytes) && bytes.len() <= 32
-}
-
-fn is_among(before: &[RegionName], name: &[u8]) -> bool
-    ensures { result ≡ list_any (λ (other : RegionName). bytes_eq other.bytes name.now) before.now }
-{
-    before.iter().any(|other| other.bytes.as_slice() == name)
-}
-
-/// Whether a region may be declared where those before it are: its name is well formed, has at most 16 bytes, is not
-/// `static` and not among them. Own.
-pub fn is_new(before: &[RegionName], name: &RegionName) -> bool
-    ensures { result ≡ spec.is_new before.now name.now }
-{
-    let bytes = name.bytes.as_slice();
-    is_region_name(bytes)
-        && bytes.len() <= 16
-        && bytes != b"static".as_slice()
-        && !is_among(before, bytes)
 }
 
 /// Whether these regions may be declared one behind the other: names of at most 16 bytes, none twice and not `'static` (own).
@@ -434,7 +414,7 @@ fn header_fits(header: &Header) -> bool
 
 /// Whether a body has a spelling: its numbers are within their limits, its regions and locals are declared, and its
 /// names are words. Own.
-pub fn fits(body: &Body) -> bool
+fn fits(body: &Body) -> bool
     ensures { IsTrue result ↔ Fits body.now }
 {
     let blocks = body.blocks.as_slice();
@@ -452,4 +432,19 @@ pub fn fits(body: &Body) -> bool
         && lets_fit(limits, body.lets.as_slice())
         && has_few_points(blocks)
         && blocks_fit(limits, blocks)
+}
+
+/// The unit of a body, or `None` exactly where no text spells it: a number or a count is past its limit, a region is declared
+/// twice, is declared as `'static` or is not declared, a local is not declared, a name is none, a variable stands in a header, a
+/// closure stands where none may, a function has captures, or there is no block. Own.
+pub fn unit_of(body: Body) -> Option<Unit>
+    ensures body { IfSome result (λ unit. unit ≡ body) }
+    ensures fits { IfSome result (λ _. Fits body) }
+    ensures some { Fits body → IsSome result }
+{
+    if fits(&body) {
+        Some(Unit::of_fitting(body))
+    } else {
+        None
+    }
 }
