@@ -100,6 +100,7 @@ pub fn constraints(
     requires children { AreOfChildren typed.now.children requirements.now }
     ensures elements { IfOk result (λ facts. facts.elements ≡ length typed.now.steps + typed.now.universals) }
     ensures universals { IfOk result (λ facts. typed.now.universals ≤ length facts.starts) }
+    ensures numbering { IfOk result (λ facts. facts.universals ≡ typed.now.universals) }
     ensures regions { IfOk result (λ facts. IsRegionCount typed.now requirements.now (length facts.starts)) }
     ensures starts { IfOk result (λ facts. (r e : ℕ) → holds facts.starts r e ≡ starts_with typed.now (holds live.now) r e) }
     ensures pairs { IfOk result (λ facts. facts.pairs ≡ constraints_of typed.now requirements.now) }
@@ -114,5 +115,5 @@ pub fn constraints(
     let starts = start_rows(alloc, typed, live, regions)?;
     let elements = typed.steps().len() + usize::from(universals);
     let numbered = by_number(alloc, universals, &pairs)?;
-    Ok(Facts::new(starts, numbered, elements))
+    Ok(Facts::new(universals, starts, numbered, elements))
 }

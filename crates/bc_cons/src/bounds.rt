@@ -1,5 +1,5 @@
 //! How many regions a body has, by the numbers that it uses.
-ghost use Rattle.std.specs.Prelude.{◌≡◌};
+ghost use Rattle.std.specs.Prelude.{◌≡◌, ◌+◌, ◌≤◌, max};
 ghost use Rattle.bc_mir.specs.Mentions.{regions_of_references, regions_of_base, regions_of};
 ghost use Rattle.bc_cons.specs.Bounds.{regions_bound as bound_of_regions, types_bound as bound_of_types, pairs_bound as bound_of_pairs};
 
@@ -9,7 +9,8 @@ use bc_syntax::{Base, Reference, Region, Ty};
 
 /// One more than the greatest number of the regions, or `least` where that is more.
 fn regions_bound(universals: u8, least: usize, regions: &[Region]) -> usize
-    ensures { result ≡ bound_of_regions universals least regions.now }
+    ensures bound { result ≡ bound_of_regions universals least regions.now }
+    ensures within { result ≤ max least (universals + 65536) }
 {
     let mut bound = least;
     for region in regions {
@@ -20,7 +21,8 @@ fn regions_bound(universals: u8, least: usize, regions: &[Region]) -> usize
 
 /// The same for the regions of references.
 fn references_bound(universals: u8, least: usize, references: &[Reference]) -> usize
-    ensures { result ≡ bound_of_regions universals least (regions_of_references references.now) }
+    ensures bound { result ≡ bound_of_regions universals least (regions_of_references references.now) }
+    ensures within { result ≤ max least (universals + 65536) }
 {
     let mut bound = least;
     for reference in references {
@@ -31,7 +33,8 @@ fn references_bound(universals: u8, least: usize, references: &[Reference]) -> u
 
 /// The same for the arguments of a struct or a closure.
 fn base_bound(universals: u8, least: usize, base: &Base) -> usize
-    ensures { result ≡ bound_of_regions universals least (regions_of_base base.now) }
+    ensures bound { result ≡ bound_of_regions universals least (regions_of_base base.now) }
+    ensures within { result ≤ max least (universals + 65536) }
 {
     match base {
         Base::Int => least,
@@ -42,7 +45,8 @@ fn base_bound(universals: u8, least: usize, base: &Base) -> usize
 
 /// The same for the regions that stand in a type.
 fn type_bound(universals: u8, least: usize, ty: &Ty) -> usize
-    ensures { result ≡ bound_of_regions universals least (regions_of ty.now) }
+    ensures bound { result ≡ bound_of_regions universals least (regions_of ty.now) }
+    ensures within { result ≤ max least (universals + 65536) }
 {
     let bound = references_bound(universals, least, ty.references.as_slice());
     base_bound(universals, bound, &ty.base)
@@ -50,7 +54,8 @@ fn type_bound(universals: u8, least: usize, ty: &Ty) -> usize
 
 /// The same for the regions that stand in the types of locals.
 pub(crate) fn types_bound(universals: u8, least: usize, locals: &[Ty]) -> usize
-    ensures { result ≡ bound_of_types universals least locals.now }
+    ensures bound { result ≡ bound_of_types universals least locals.now }
+    ensures within { result ≤ max least (universals + 65536) }
 {
     let mut bound = least;
     for ty in locals {
@@ -61,7 +66,8 @@ pub(crate) fn types_bound(universals: u8, least: usize, locals: &[Ty]) -> usize
 
 /// The same for the regions of pairs.
 pub(crate) fn pairs_bound(universals: u8, least: usize, pairs: &[RegionConstraint]) -> usize
-    ensures { result ≡ bound_of_pairs universals least pairs.now }
+    ensures bound { result ≡ bound_of_pairs universals least pairs.now }
+    ensures within { result ≤ max least (universals + 65536) }
 {
     let mut bound = least;
     for pair in pairs {

@@ -1,9 +1,12 @@
 //! What the values of regions are made from: the elements that each region starts with, and the constraints between regions.
-ghost use Rattle.std.specs.Prelude.{◌≡◌, length};
+ghost use Rattle.std.specs.Prelude.{◌≡◌, ◌+◌, ◌<◌, ◌≤◌, length};
 ghost use Rattle.bc_flow.specs.Flow.{HaveSize};
+ghost use Rattle.bc_points.specs.Regions.{region_of_number as region_of};
 ghost use Rattle.bc_cons.specs.Facts.{ArePairsWithin};
 
 use bc_flow::BitTable;
+use bc_points::region_of_number;
+use bc_syntax::Region;
 use std::marker::Model;
 
 /// `longer: shorter`: the longer region has each element that the shorter has. Regions are numbers. (RFC 2094, "Subtyping";
@@ -14,10 +17,12 @@ pub struct Constraint {
     pub shorter: usize,
 }
 
-/// For each region the elements that it starts with, and the constraints between regions.
+/// For each region the elements that it starts with, and the constraints between regions. The universal regions have the first
+/// numbers, and the variables those behind them.
 /// (RFC 2094, "Liveness" and "Subtyping".)
 #[derive(Drop)]
 pub struct Facts {
+    universals: u8,
     starts: BitTable,
     pairs: Vec<Constraint>,
     elements: usize,
@@ -28,22 +33,25 @@ impl Model for Facts {
 
     ghost Value = { RegionFacts };
 
-    ghost view = { λ f. record { elements = f.elements; starts = f.starts; pairs = f.pairs.items } };
+    ghost view = { λ f. record { universals = f.universals; elements = f.elements; starts = f.starts; pairs = f.pairs.items } };
 
-    ghost invariant = { λ f. IsRegionFacts f.elements f.starts f.pairs.items };
+    ghost invariant = { λ f. IsRegionFacts f.universals f.elements f.starts f.pairs.items };
 }
 
 impl Facts {
-    /// The facts with these start rows, one of so many elements for each region, and these constraints between them.
-    /// (Own.)
-    pub fn new(starts: BitTable, pairs: Vec<Constraint>, elements: usize) -> Self
+    /// The facts of regions of which so many are universal, with these start rows, one of so many elements for each region, and
+    /// these constraints between them. It asks for no more regions than have numbers.
+    pub fn new(universals: u8, starts: BitTable, pairs: Vec<Constraint>, elements: usize) -> Self
+        requires regions { length starts ≤ universals + 65536 }
         requires starts { HaveSize elements starts }
         requires pairs { ArePairsWithin (length starts) pairs.items }
+        ensures universals { result.universals ≡ universals }
         ensures elements { result.elements ≡ elements }
         ensures starts { result.starts ≡ starts }
         ensures pairs { result.pairs ≡ pairs.items }
     {
         Self {
+            universals,
             starts,
             pairs,
             elements,
@@ -56,6 +64,21 @@ impl Facts {
         ensures { result ≡ length self.now.starts }
     {
         self.starts.len()
+    }
+
+    /// How many of the regions are universal.
+    pub fn universals(&self) -> u8
+        ensures { result ≡ self.now.universals }
+    {
+        self.universals
+    }
+
+    /// The region of a number, one of those that there are.
+    pub fn region(&self, number: usize) -> Region
+        requires { number < length self.now.starts }
+        ensures { result ≡ region_of self.now.universals number }
+    {
+        region_of_number(self.universals, number)
     }
 
     /// How many elements there are.

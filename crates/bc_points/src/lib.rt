@@ -17,5 +17,5 @@ pub use loan::{Loan, loan_of};
 pub use pairs::{push_assignment_pairs, push_call_pairs, push_clauses, push_invocation_pairs};
 pub use place_ref::PlaceRef;
 pub use prefix::{from_last_shared, is_prefix, is_shallow_prefix};
-pub use region::region_number;
+pub use region::{region_number, region_of_number};
 pub use support::supports;

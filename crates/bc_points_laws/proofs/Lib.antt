@@ -3,3 +3,4 @@ pub mod Supported
 pub mod Supporters
 pub mod Finding
 pub mod FindingSupporters
+pub mod RegionNumbers

@@ -1,12 +1,15 @@
 -- What follows from the definitions, and later promises rest on.
-use Rattle.std.specs.Prelude.{◌≡◌, ◌↔◌, true, Some, reverse}
+use Rattle.std.specs.Prelude.{◌≡◌, ℕ, ◌↔◌, true, Some, reverse}
 use Rattle.std.specs.List.{Contains, flat_map}
 use Rattle.std.specs.Option.{option_to_list}
+use Rattle.bc_syntax.specs.declared.syntax.Region.{Region}
 use Rattle.bc_syntax.specs.declared.syntax.Ty.{Ty}
 use Rattle.bc_syntax.specs.declared.syntax.Place.{Place}
+use Rattle.bc_syntax.specs.Fits.{region_fits}
 use Rattle.bc_mir.specs.Mir.{Mir}
 use Rattle.bc_mir.specs.PlaceTypes.{type_of_place, references_of_place}
 use Rattle.bc_points.specs.Prefixes.{from_last_shared, is_prefix}
+use Rattle.bc_points.specs.Regions.{region_number, region_of_number}
 use Rattle.bc_points.specs.Supports.{supports}
 use Rattle.bc_points_laws.specs.Supporters.{last_taken, supporters}
 
@@ -29,3 +32,11 @@ abbrev pub SupportersAreFound : Type 0
 SupportersAreFound =
     (mir : Mir) (prefix place : Place) (ty : Ty) → type_of_place mir place ≡ Some ty →
     (supports mir prefix place ≡ true) ↔ Contains (supporters mir place) prefix
+
+-- a number is that of its region, and each region of a unit is that of its number
+abbrev pub NumbersHaveRegions : Type 0
+NumbersHaveRegions = (universals number : ℕ) → region_number universals (region_of_number universals number) ≡ number
+
+abbrev pub RegionsHaveNumbers : Type 0
+RegionsHaveNumbers =
+    (universals : ℕ) (region : Region) → region_fits true universals region ≡ true → region_of_number universals (region_number universals region) ≡ region

@@ -1,5 +1,5 @@
 //! Laws of the definitions, each the contract of a function that does nothing.
-ghost use Rattle.bc_points_laws.specs.Laws.{PrefixesChain, SupportersAreFound, TakenReferences};
+ghost use Rattle.bc_points_laws.specs.Laws.{NumbersHaveRegions, PrefixesChain, RegionsHaveNumbers, SupportersAreFound, TakenReferences};
 
 /// A prefix of a prefix of a place is a prefix of that place.
 /// (Own.)
@@ -18,4 +18,11 @@ pub fn supporters_are_found()
 /// (Own.)
 pub fn reborrows_list_taken_references()
     ensures { TakenReferences }
+{}
+
+/// `region_of_number` takes back what `region_number` does: a number is that of its region, and each region of a unit is that of
+/// its number.
+pub fn region_numbers_are_taken_back()
+    ensures numbers { NumbersHaveRegions }
+    ensures regions { RegionsHaveNumbers }
 {}

@@ -1,6 +1,9 @@
-//! What the definitions of prefixes and of supporting prefixes keep.
+//! What the definitions of prefixes, of supporting prefixes and of the numbers of regions keep.
 #![tactic(auto)]
 
 mod laws;
 
-pub use laws::{prefixes_chain, reborrows_list_taken_references, supporters_are_found};
+pub use laws::{
+    prefixes_chain, reborrows_list_taken_references, region_numbers_are_taken_back,
+    supporters_are_found,
+};

@@ -96,7 +96,7 @@ fn facts_of(alloc: Global, shape: Shape) -> Result<Facts, AllocError> {
     let pairs = pairs_of(alloc, shape)?;
     let entries = starts(alloc)?;
     let rows = table(alloc, 1040, 4112, &entries)?;
-    Ok(Facts::new(rows, pairs, 4112))
+    Ok(Facts::new(16, rows, pairs, 4112))
 }
 
 /// How many elements are in the values of all regions.

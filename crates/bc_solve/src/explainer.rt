@@ -1,0 +1,164 @@
+//! Why an element is in the value of a region.
+ghost use Rattle.std.specs.Prelude.{◌≡◌, ℕ, ◌↔◌, List, length, IfOk, IsSome, MatchOption};
+ghost use Rattle.bc_syntax.specs.declared.syntax.Region.{Region as ARegion};
+ghost use Rattle.bc_flow.specs.Flow.{holds};
+ghost use Rattle.bc_flow.specs.Chains.{AreChains};
+ghost use Rattle.bc_flow.specs.Graph.{AreWithin};
+ghost use Rattle.bc_solve.specs.Values.{IsInValue};
+ghost use Rattle.bc_solve.specs.Chains.{IsChain, Explains, TellsChains};
+ghost use Rattle.bc_solve.specs.Explainer.{KeepsWays};
+ghost use Rattle.bc_solve.specs.Ways.{AreEdgesOf, AreWays};
+
+use crate::values::edges_of;
+use crate::ways::{Ways, walk, ways_to};
+use bc_cons::Facts;
+use bc_flow::{Edge, EdgeChains, edge_chains};
+use bc_syntax::Region;
+use std::alloc::{AllocError, Global};
+use std::marker::Model;
+
+/// What is needed to explain many elements of many regions over the same facts: it keeps the way to the element that was asked
+/// for last. Contracts see the facts.
+#[derive(Drop)]
+pub struct Explainer<'a> {
+    facts: &'a Facts,
+    edges: Vec<Edge>,
+    chains: EdgeChains,
+    last: Option<Ways>,
+}
+
+impl<'a> Model for Explainer<'a> {
+    ghost use Rattle.bc_cons.specs.Facts.{RegionFacts};
+    ghost use Rattle.bc_solve.specs.Explainer.{IsPrepared};
+
+    ghost Value = { RegionFacts };
+
+    ghost view = { λ e. e.facts.now };
+
+    ghost invariant = { λ e. IsPrepared e.facts.now e.edges.items e.chains e.last };
+}
+
+impl<'a> Explainer<'a> {
+    /// An explainer over facts. The only error is want of memory.
+    pub fn new(alloc: Global, facts: &'a Facts) -> Result<Explainer<'a>, AllocError>
+        ensures { IfOk result (λ explainer. explainer ≡ facts.now) }
+    {
+        let edges = edges_of(alloc, facts.pairs())?;
+        let chains = edge_chains(alloc, facts.regions(), &edges)?;
+        Ok(Explainer {
+            facts,
+            edges,
+            chains,
+            last: None,
+        })
+    }
+
+    /// The chain from a region to an element, both by number: the first of the shortest, or none exactly where there is no chain,
+    /// as for numbers of no region or no element. The only error is want of memory.
+    ///
+    /// The first chain to an element takes time in proportion to the regions and constraints, each further one to the same
+    /// element only to its own length.
+    pub fn explain(
+        &mut self,
+        alloc: Global,
+        region: usize,
+        element: usize,
+    ) -> Result<Option<Vec<Region>>, AllocError>
+        ensures facts { self.new ≡ self.old }
+        ensures chain { IfOk result (λ found. MatchOption found
+            ((chain : List ℕ) → ¬ (IsChain (holds self.old.starts) self.old.pairs region element chain))
+            (λ chain. Explains self.old region element chain.items)) }
+        ensures value { IfOk result (λ found. IsSome found ↔ IsInValue (holds self.old.starts) self.old.pairs region element) }
+    {
+        let last = self.last.take();
+        let ways = ways_for(alloc, self.facts, &self.edges, &self.chains, last, element)?;
+        let chain = chain_of(alloc, self.facts, &ways, region)?;
+        self.last = Some(ways);
+        Ok(chain)
+    }
+
+    /// The chain from a region to an element of its value, both by number: the first of the shortest. The only error is want of
+    /// memory. It takes as long as `explain`.
+    pub fn chain(
+        &mut self,
+        alloc: Global,
+        region: usize,
+        element: usize,
+    ) -> Result<Vec<Region>, AllocError>
+        requires { IsInValue (holds self.old.starts) self.old.pairs region element }
+        ensures facts { self.new ≡ self.old }
+        ensures chain { IfOk result (λ found. Explains self.old region element found.items) }
+        ensures told { IfOk result (λ found. (chain : ℕ → ℕ → List ARegion) → TellsChains self.old chain → found.items ≡ chain region element) }
+    {
+        let found = self.explain(alloc, region, element)?;
+        Ok(found.unwrap())
+    }
+}
+
+/// The ways to an element: those at hand, if they are to it.
+fn ways_for(
+    alloc: Global,
+    facts: &Facts,
+    edges: &[Edge],
+    chains: &EdgeChains,
+    last: Option<Ways>,
+    element: usize,
+) -> Result<Ways, AllocError>
+    requires edges { AreEdgesOf facts.now.pairs edges.now }
+    requires within { AreWithin edges.now (length facts.now.starts) }
+    requires chains { AreChains 0 (length facts.now.starts) edges.now chains.now.first.items chains.now.next.items }
+    requires last { KeepsWays facts.now last }
+    ensures element { IfOk result (λ ways. ways.element ≡ element) }
+    ensures ways { IfOk result (λ ways. AreWays facts.now element ways.lengths.items ways.steps.items) }
+{
+    match last {
+        Some(ways) => {
+            if ways.element == element {
+                Ok(ways)
+            } else {
+                ways_to(alloc, facts, edges, chains, element)
+            }
+        }
+        None => ways_to(alloc, facts, edges, chains, element),
+    }
+}
+
+/// The chain from a region to the element of the ways.
+fn chain_of(
+    alloc: Global,
+    facts: &Facts,
+    ways: &Ways,
+    region: usize,
+) -> Result<Option<Vec<Region>>, AllocError>
+    requires { AreWays facts.now ways.now.element ways.now.lengths.items ways.now.steps.items }
+    ensures chain { IfOk result (λ found. MatchOption found
+        ((chain : List ℕ) → ¬ (IsChain (holds facts.now.starts) facts.now.pairs region ways.now.element chain))
+        (λ chain. Explains facts.now region ways.now.element chain.items)) }
+    ensures value { IfOk result (λ found. IsSome found ↔ IsInValue (holds facts.now.starts) facts.now.pairs region ways.now.element) }
+{
+    if region >= facts.regions() {
+        return Ok(None);
+    }
+    if ways.lengths[region] == 0 {
+        return Ok(None);
+    }
+    let chain = walk(alloc, facts, &ways.lengths, &ways.steps, region)?;
+    Ok(Some(chain))
+}
+
+/// The chain from a region to an element, both by number: the first of the shortest, or none exactly where there is no chain. The
+/// only error is want of memory.
+pub fn explain(
+    alloc: Global,
+    facts: &Facts,
+    region: usize,
+    element: usize,
+) -> Result<Option<Vec<Region>>, AllocError>
+    ensures chain { IfOk result (λ found. MatchOption found
+        ((chain : List ℕ) → ¬ (IsChain (holds facts.now.starts) facts.now.pairs region element chain))
+        (λ chain. Explains facts.now region element chain.items)) }
+    ensures value { IfOk result (λ found. IsSome found ↔ IsInValue (holds facts.now.starts) facts.now.pairs region element) }
+{
+    let mut explainer = Explainer::new(alloc, facts)?;
+    explainer.explain(alloc, region, element)
+}
