@@ -3,7 +3,6 @@
 #![tactic(auto)]
 
 mod access;
-mod laws;
 mod liveness;
 mod loan;
 mod pairs;
@@ -13,7 +12,6 @@ mod region;
 mod support;
 
 pub use access::{Access, AccessKind, Depth, accesses, push_accesses};
-pub use laws::{prefixes_chain, reborrows_list_taken_references, supporters_are_found};
 pub use liveness::{defines, push_uses};
 pub use loan::{Loan, loan_of};
 pub use pairs::{push_assignment_pairs, push_call_pairs, push_clauses, push_invocation_pairs};

@@ -7,14 +7,14 @@ use Rattle.std.proofs.lemmas.Bool.{eqb-true}
 use Rattle.std.specs.List.{flat_map, zip}
 use Rattle.bc_print.specs.PrintedTypes.{comma_before, first_word, behind_word}
 use Rattle.bc_syntax.specs.declared.symbol.Symbol.TheVariants as s
-use Rattle.bc_print.specs.Token.{Token}
+use Rattle.bc_syntax.specs.Token.{Token}
 use Rattle.bc_syntax.specs.declared.syntax.RegionName.{RegionName}
 use Rattle.bc_syntax.specs.declared.syntax.Ty.{Ty}
 use Rattle.bc_syntax.specs.declared.syntax.Block.{Block}
 use Rattle.bc_syntax.specs.declared.syntax.Declaration.{Declaration}
 use Rattle.bc_syntax.specs.declared.syntax.Declaration.TheVariants as declarations
 use Rattle.bc_syntax.specs.Symbol.{text}
-use Rattle.bc_print.specs.Spelling.{declaration, struct_rest, extern_rest, symbol, commas, behind_commas, angled, label, braced, block, blocks, declared, lets}
+use Rattle.bc_syntax.specs.Spelling.{declaration, struct_rest, extern_rest, symbol, commas, behind_commas, angled, label, braced, block, blocks, declared, lets}
 use Rattle.bc_print.specs.Printing.{token_text, spaced, texts, printed, Writes}
 
 pub spaced-append : (x y : List Token) → spaced (x ++ y) ≡ spaced x ++ spaced y

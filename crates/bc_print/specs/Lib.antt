@@ -1,5 +1,3 @@
-pub mod Token
-pub mod Universals
-pub mod Spelling
+pub use Rattle.bc_syntax.specs.Spelling
 pub mod Printing
 pub mod PrintedTypes

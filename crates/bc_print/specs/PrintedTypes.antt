@@ -4,8 +4,8 @@ use Rattle.bc_syntax.specs.declared.symbol.Symbol.{Symbol}
 use Rattle.bc_syntax.specs.declared.symbol.Symbol.TheVariants.{Comma, Struct, Extern}
 use Rattle.bc_syntax.specs.declared.syntax.Declaration.{Declaration}
 use Rattle.bc_syntax.specs.declared.syntax.Declaration.TheVariants as declarations
-use Rattle.bc_print.specs.Token.{Token}
-use Rattle.bc_print.specs.Spelling.{symbol, struct_rest, extern_rest}
+use Rattle.bc_syntax.specs.Token.{Token}
+use Rattle.bc_syntax.specs.Spelling.{symbol, struct_rest, extern_rest}
 
 -- a comma, but not before the first item
 abbrev pub comma_before : ℕ → List Token

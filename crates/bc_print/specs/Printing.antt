@@ -3,9 +3,9 @@ use Rattle.std.specs.Prelude.{ℕ, List, [], ◌∷◌, ◌++◌, decimal, codes
 use Rattle.std.specs.List.{flat_map}
 use Rattle.std.specs.Io.KnownBytes.{Appends}
 use Rattle.bc_syntax.specs.Symbol.{text}
-use Rattle.bc_print.specs.declared.numbering.Numbering.{Numbering}
-use Rattle.bc_print.specs.declared.numbering.Numbering.TheVariants as numberings
-use Rattle.bc_print.specs.Token.{Token, Fixed, Numbered, Word, Region, NotAscii, Stray, End}
+use Rattle.bc_syntax.specs.declared.numbering.Numbering.{Numbering}
+use Rattle.bc_syntax.specs.declared.numbering.Numbering.TheVariants as numberings
+use Rattle.bc_syntax.specs.Token.{Token, Fixed, Numbered, Word, Region, NotAscii, Stray, End}
 
 -- what stands before a number
 abbrev pub mark : Numbering → List ℕ

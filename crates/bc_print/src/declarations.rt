@@ -7,7 +7,7 @@ ghost use Rattle.std.specs.Io.KnownBytes.{Appends};
 ghost use Rattle.bc_syntax.specs.Fits.{declaration_fits};
 ghost use Rattle.bc_print.specs.Printing.{Writes, texts, printed};
 ghost use Rattle.bc_print.specs.PrintedTypes.{comma_before, first_word, behind_word};
-ghost use Rattle.bc_print.specs.Spelling as spell;
+ghost use Rattle.bc_syntax.specs.Spelling as spell;
 
 use crate::names::{write_item_name, write_ty};
 use crate::tokens::{write_named, write_symbol};

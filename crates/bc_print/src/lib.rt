@@ -1,13 +1,11 @@
-//! How units and declarations are spelled, token by token, and how they are printed.
+//! How units and declarations are printed: token by token, as they are spelled.
 #![tactic(auto)]
 
 mod declarations;
 mod names;
-mod numbering;
 mod points;
 mod tokens;
 mod units;
 
 pub use declarations::print_types;
-pub use numbering::Numbering;
 pub use units::print_unit;

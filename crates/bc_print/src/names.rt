@@ -4,14 +4,13 @@
 ghost use Rattle.std.specs.Prelude.{◌≡◌, OnOk, get_or, []};
 ghost use Rattle.std.specs.List.{flat_map};
 ghost use Rattle.bc_print.specs.Printing.{Writes};
-ghost use Rattle.bc_print.specs.Spelling as spell;
-ghost use Rattle.bc_print.specs.Universals.{universal_names};
+ghost use Rattle.bc_syntax.specs.Spelling as spell;
+ghost use Rattle.bc_syntax.specs.Universals.{universal_names};
 
-use crate::numbering::Numbering;
 use crate::tokens::{Spelled, write_angled, write_named, write_numbered, write_symbol, write_word};
 use bc_syntax::{
-    Base, ClosureInstance, Instance, ItemName, Mutability, Outlives, Reference, Region, RegionName,
-    Symbol, Ty,
+    Base, ClosureInstance, Instance, ItemName, Mutability, Numbering, Outlives, Reference, Region,
+    RegionName, Symbol, Ty,
 };
 use std::io;
 use std::io::Write;

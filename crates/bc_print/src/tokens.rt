@@ -1,11 +1,10 @@
 //! How tokens are written, and lists of what has a spelling.
 ghost use Rattle.std.specs.Prelude.{◌≡◌, ◌∷◌, [], OnOk};
 ghost use Rattle.bc_print.specs.Printing.{Writes};
-ghost use Rattle.bc_print.specs.Token.{Numbered, Word, Region};
-ghost use Rattle.bc_print.specs.Spelling as spell;
+ghost use Rattle.bc_syntax.specs.Token.{Numbered, Word, Region};
+ghost use Rattle.bc_syntax.specs.Spelling as spell;
 
-use crate::numbering::Numbering;
-use bc_syntax::{RegionName, Symbol};
+use bc_syntax::{Numbering, RegionName, Symbol};
 use std::io;
 use std::io::Write;
 
@@ -53,7 +52,7 @@ pub fn write_named<W: Write>(name: &[u8], out: &mut W) -> io::Result<()>
 pub trait Spelled {
     ghost use Rattle.std.specs.Prelude.{List};
     ghost use Rattle.bc_syntax.specs.declared.syntax.RegionName.{RegionName};
-    ghost use Rattle.bc_print.specs.Token.{Token};
+    ghost use Rattle.bc_syntax.specs.Token.{Token};
 
     ghost spelling: { List RegionName → Self → List Token };
 

@@ -5,13 +5,14 @@ ghost use Rattle.std.specs.Prelude.{◌≡◌, ◌+◌, ◌≤◌, OnOk, length,
 ghost use Rattle.std.specs.Io.KnownBytes.{Appends};
 ghost use Rattle.bc_syntax.specs.Locals.{locals_of};
 ghost use Rattle.bc_print.specs.Printing.{Writes, printed};
-ghost use Rattle.bc_print.specs.Spelling as spell;
+ghost use Rattle.bc_syntax.specs.Spelling as spell;
 
 use crate::names::write_ty;
-use crate::numbering::Numbering;
 use crate::points::write_blocks;
 use crate::tokens::{write_angled, write_commas, write_numbered, write_symbol};
-use bc_syntax::{Body, Header, Outlives, RegionName, Signature, Symbol, Ty, Unit, UnitKind};
+use bc_syntax::{
+    Body, Header, Numbering, Outlives, RegionName, Signature, Symbol, Ty, Unit, UnitKind,
+};
 use std::io;
 use std::io::Write;
 

@@ -5,3 +5,6 @@ pub mod Words
 pub mod Locals
 pub mod Children
 pub mod Fits
+pub mod Token
+pub mod Universals
+pub mod Spelling

@@ -1,48 +1,11 @@
 //! Lists of declarations that have a spelling.
-ghost use Rattle.std.specs.Prelude.{◌≡◌, ◌≤◌, ◌↔◌, [], IsTrue, IfSome, IsSome, length};
-ghost use Rattle.std.specs.List.{list_all, filter};
+ghost use Rattle.std.specs.Prelude.{◌≡◌};
 ghost use Rattle.bc_syntax.specs.Fits as spec;
 ghost use Rattle.bc_syntax.specs.Fits.{TypesFit};
 
-use crate::fits::{Limits, are_new, item_fits, signature_fits, tys_fit};
 use crate::sequence::Sequence;
-use crate::syntax::{Declaration, ExternDeclaration, StructDeclaration};
+use crate::syntax::Declaration;
 use std::marker::Model;
-
-fn struct_fits(declaration: &StructDeclaration) -> bool
-    ensures { result ≡ spec.struct_fits declaration.now }
-{
-    let regions = declaration.regions.as_slice();
-    if regions.len() > 8 {
-        return false;
-    }
-    let limits = Limits {
-        variables: false,
-        universals: regions.len() + 1,
-        locals: 0,
-    };
-    let fields = declaration.fields.as_slice();
-    item_fits(&declaration.name)
-        && are_new(regions)
-        && declaration.variances.len() == regions.len()
-        && tys_fit(limits, fields)
-        && fields.len() <= 16
-}
-
-fn extern_fits(declaration: &ExternDeclaration) -> bool
-    ensures { result ≡ spec.extern_fits declaration.now }
-{
-    item_fits(&declaration.name) && signature_fits(&declaration.signature, 8)
-}
-
-fn declaration_fits(declaration: &Declaration) -> bool
-    ensures { result ≡ spec.declaration_fits declaration.now }
-{
-    match declaration {
-        Declaration::Struct(declaration) => struct_fits(declaration),
-        Declaration::Extern(declaration) => extern_fits(declaration),
-    }
-}
 
 /// Whether the declaration is that of a struct. Own.
 pub fn is_struct(declaration: &Declaration) -> bool
@@ -52,35 +15,6 @@ pub fn is_struct(declaration: &Declaration) -> bool
         Declaration::Struct(_) => true,
         Declaration::Extern(_) => false,
     }
-}
-
-fn each_fits(declarations: &[Declaration]) -> bool
-    ensures { result ≡ list_all spec.declaration_fits declarations.now }
-{
-    declarations
-        .iter()
-        .all(|declaration| declaration_fits(declaration))
-}
-
-fn struct_count(declarations: &[Declaration]) -> usize
-    ensures count { result ≡ length (filter spec.is_struct declarations.now) }
-    ensures within { result ≤ length declarations.now }
-{
-    let mut count = 0;
-    for declaration in declarations {
-        if is_struct(declaration) {
-            count += 1;
-        }
-    }
-    count
-}
-
-/// Whether declarations have a spelling.
-fn fit(declarations: &[Declaration]) -> bool
-    ensures { IsTrue result ↔ TypesFit declarations.now }
-{
-    let structs = struct_count(declarations);
-    structs <= 64 && declarations.len() - structs <= 64 && each_fits(declarations)
 }
 
 /// Declarations that have a spelling: at most 64 structs and 64 extern functions, names that are words of at most 32
@@ -112,21 +46,6 @@ impl Model for Types {
 }
 
 impl Types {
-    /// The types of declarations, or `None` exactly where no text spells them: a number or a count is past its limit, a name is
-    /// none, a region is declared twice, is declared as `'static` or is not declared, a struct has not one variance for each region,
-    /// or a variable or a closure stands in a type. Own.
-    pub fn new(declarations: Sequence<Declaration>) -> Option<Types>
-        ensures declarations { IfSome result (λ types. types ≡ declarations) }
-        ensures fit { IfSome result (λ _. TypesFit declarations) }
-        ensures some { TypesFit declarations → IsSome result }
-    {
-        if fit(declarations.as_slice()) {
-            Some(Types { declarations })
-        } else {
-            None
-        }
-    }
-
     /// The types of declarations that are known to have a spelling. Own.
     pub fn of_fitting(declarations: Sequence<Declaration>) -> Types
         requires { TypesFit declarations }

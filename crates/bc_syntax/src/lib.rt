@@ -5,8 +5,9 @@
 mod bytes;
 mod closures;
 mod declarations;
-mod fits;
 mod locals;
+mod numbering;
+mod region_names;
 mod sequence;
 mod symbol;
 mod syntax;
@@ -15,7 +16,8 @@ mod words;
 
 pub use bytes::{behind, byte_at, from, is_run_byte, region_len, run, run_len};
 pub use declarations::{Types, is_struct};
-pub use fits::is_new;
+pub use numbering::Numbering;
+pub use region_names::is_new;
 pub use sequence::{Sequence, ShortSequence};
 pub use symbol::{Symbol, same};
 pub use syntax::{

@@ -1,8 +1,7 @@
 //! Units: bodies that have a spelling.
-ghost use Rattle.std.specs.Prelude.{◌≡◌, IfSome, IsSome};
+ghost use Rattle.std.specs.Prelude.{◌≡◌};
 ghost use Rattle.bc_syntax.specs.Fits.{Fits};
 
-use crate::fits::fits;
 use crate::syntax::Body;
 use std::marker::Model;
 
@@ -36,21 +35,6 @@ impl Model for Unit {
 }
 
 impl Unit {
-    /// The unit of a body, or `None` exactly where no text spells it: a number or a count is past its limit, a region is declared
-    /// twice, is declared as `'static` or is not declared, a local is not declared, a name is none, a variable stands in a header, a
-    /// closure stands where none may, a function has captures, or there is no block. Own.
-    pub fn new(body: Body) -> Option<Unit>
-        ensures body { IfSome result (λ unit. unit ≡ body) }
-        ensures fits { IfSome result (λ _. Fits body) }
-        ensures some { Fits body → IsSome result }
-    {
-        if fits(&body) {
-            Some(Unit { body })
-        } else {
-            None
-        }
-    }
-
     /// The unit of a body that is known to have a spelling. Own.
     pub fn of_fitting(body: Body) -> Unit
         requires { Fits body }

@@ -5,7 +5,7 @@ use Rattle.std.proofs.lemmas.Bool.{eqb-true, eq-eqb, and_from, and_parts}
 use Rattle.std.proofs.lemmas.List.{append-nil, length-append}
 use Rattle.std.proofs.lemmas.List.Sums.{sum_by-cons}
 use Rattle.bc_syntax.specs.declared.symbol.Symbol.TheVariants as s
-use Rattle.bc_print.specs.declared.numbering.Numbering.TheVariants as n
+use Rattle.bc_syntax.specs.declared.numbering.Numbering.TheVariants as n
 use Rattle.bc_text.specs.declared.points.Point.{Point}
 use Rattle.bc_text.specs.declared.points.Point.TheVariants as point_kinds
 use Rattle.bc_syntax.specs.declared.syntax.RegionName.{RegionName}
@@ -14,11 +14,11 @@ use Rattle.bc_syntax.specs.declared.syntax.Terminator.{Terminator}
 use Rattle.bc_syntax.specs.declared.syntax.Block.{Block}
 use Rattle.bc_syntax.specs.Symbol.{same}
 use Rattle.bc_syntax.specs.Fits.{statement_fits, terminator_fits, block_fits, point_count}
-use Rattle.bc_print.specs.Token.{Token, Fixed}
+use Rattle.bc_syntax.specs.Token.{Token, Fixed}
 use Rattle.bc_tokens.specs.Token.{Tokens}
 use Rattle.bc_tokens.specs.Parser.{and_then, sees_numbered, numbered, position, expect, pure, fail}
 use Rattle.bc_text.specs.Reading as read
-use Rattle.bc_print.specs.Spelling as spell
+use Rattle.bc_syntax.specs.Spelling as spell
 use Rattle.bc_text.proofs.Begins.{Begins, join, split, bind_ok, ok_is, chosen, chosen_parser, expect_takes, expect_again, numbered_takes, numbered_again, sees_none, sees_numbered_same, no_value}
 use Rattle.bc_text.proofs.NameLaws.{Declares}
 use Rattle.bc_text.proofs.PointLaws.{IsPoint, point_takes, statement_again, terminator_again}

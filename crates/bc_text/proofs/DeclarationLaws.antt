@@ -23,12 +23,12 @@ use Rattle.bc_syntax.specs.declared.syntax.Declaration.{Declaration}
 use Rattle.bc_syntax.specs.declared.syntax.Declaration.TheVariants as declarations
 use Rattle.bc_syntax.specs.Symbol.{same}
 use Rattle.bc_syntax.specs.Fits.{is_new, are_new, item_fits, reference_fits, base_fits, ty_fits, struct_fits, signature_fits, extern_fits, declaration_fits, is_struct, TypesFit}
-use Rattle.bc_print.specs.Token.{Token, Fixed, Word, End}
+use Rattle.bc_syntax.specs.Token.{Token, Fixed, Word, End}
 use Rattle.bc_tokens.specs.Token.{Tokens, tokens}
 use Rattle.bc_tokens.specs.Parser.{Parser, Reads, and_then, sees, after, at_end, expect, pure, declared_list}
 use Rattle.bc_text.specs.Reading as read
 use Rattle.bc_text.specs.Reading.{Marks, variances_of, regions_of, structs_in, answer_of}
-use Rattle.bc_print.specs.Spelling as spell
+use Rattle.bc_syntax.specs.Spelling as spell
 use Rattle.bc_text.specs.Spells as texts
 use Rattle.bc_text.proofs.Begins.{Begins, join, split, bind_ok, ok_is, chosen, eaten, eat_again, eat_other, expect_takes, expect_again, sees_takes, sees_again, sees_none, sees_word_same, sees_word_none}
 use Rattle.bc_text.proofs.NameLaws.{Declares, Anything, NoLess, new_region_takes, new_region_again, item_name_takes, item_name_again}

@@ -3,13 +3,13 @@ use Rattle.std.proofs.Common.{◌≡◌, ◌≢◌, ℕ, zero, suc, ◌+◌, ◌
 use Rattle.std.specs.Prelude.{slice_index, nat_le, ◌&&◌, ◌==◌}
 use Rattle.std.specs.Char.{is_ascii_alphabetic}
 use Rattle.bc_syntax.specs.declared.symbol.Symbol.TheVariants.{Arrow}
-use Rattle.bc_print.specs.declared.numbering.Numbering.TheVariants as n
+use Rattle.bc_syntax.specs.declared.numbering.Numbering.TheVariants as n
 use Rattle.std.proofs.lemmas.Bool.{cases_Bool}
 use Rattle.bc_syntax.specs.declared.symbol.Symbol.{Symbol}
-use Rattle.bc_print.specs.declared.numbering.Numbering.{Numbering}
+use Rattle.bc_syntax.specs.declared.numbering.Numbering.{Numbering}
 use Rattle.bc_syntax.specs.Symbol.{keyword_of, sign_of}
 use Rattle.bc_syntax.specs.Bytes.{is_run_byte, run}
-use Rattle.bc_print.specs.Token.{Token, Fixed, Numbered, Region, NotAscii, Stray, End}
+use Rattle.bc_syntax.specs.Token.{Token, Fixed, Numbered, Region, NotAscii, Stray, End}
 use Rattle.bc_tokens.specs.Token.{Placed, placed, Tokens, tokens, lexeme, is_blank, run_token, region_token, variable_token, sign_token, word, value}
 use Rattle.bc_syntax.specs.Words.{is_number, is_label}
 use Rattle.bc_text.proofs.Begins.{Begins}

@@ -15,9 +15,3 @@ pub mod BlockLaws
 pub mod Ends
 pub mod UnitLaws
 pub mod DeclarationLaws
-pub mod Whole
-pub mod Local
-pub mod LocalUnits
-pub mod LocalDeclarations
-pub mod Agree
-pub mod Faults

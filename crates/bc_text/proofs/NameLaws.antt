@@ -3,7 +3,7 @@ use Rattle.std.proofs.Common.{◌≡◌, ℕ, Bool, true, false, cond, ◌&&◌,
 use Rattle.std.specs.Prelude.{get_or}
 use Rattle.std.proofs.lemmas.Bool.{and_from, and_parts, and_right, leb-true, le-leb}
 use Rattle.bc_syntax.specs.declared.symbol.Symbol.TheVariants as s
-use Rattle.bc_print.specs.declared.numbering.Numbering.TheVariants as n
+use Rattle.bc_syntax.specs.declared.numbering.Numbering.TheVariants as n
 use Rattle.bc_syntax.specs.declared.syntax.Region.{Region}
 use Rattle.bc_syntax.specs.declared.syntax.Region.TheVariants.{Universal, Variable}
 use Rattle.bc_syntax.specs.declared.syntax.RegionName.{RegionName}
@@ -14,14 +14,14 @@ use Rattle.bc_syntax.specs.Symbol.{same}
 use Rattle.bc_syntax.specs.Words.{is_word}
 use Rattle.bc_syntax.specs.Fits.{is_new, are_new, region_fits, regions_fit, item_fits, instance_fits, closure_fits}
 use Rattle.std.specs.List.{list_all}
-use Rattle.bc_print.specs.Token.{Token, Numbered}
+use Rattle.bc_syntax.specs.Token.{Token, Numbered}
 use Rattle.bc_tokens.specs.Token.{Tokens}
-use Rattle.bc_print.specs.Token.{Region as Named}
-use Rattle.bc_print.specs.Universals.{universal_names}
+use Rattle.bc_syntax.specs.Token.{Region as Named}
+use Rattle.bc_syntax.specs.Universals.{universal_names}
 use Rattle.bc_text.specs.Universals.{number_of}
 use Rattle.bc_tokens.specs.Parser.{and_then, sees, sees_numbered, numbered, region_name, word, position, pure, fail, angled_list}
 use Rattle.bc_text.specs.Reading as read
-use Rattle.bc_print.specs.Spelling as spell
+use Rattle.bc_syntax.specs.Spelling as spell
 use Rattle.bc_text.proofs.Begins.{Begins, join, split, bind_ok, ok_is, chosen, chosen_parser, numbered_takes, numbered_again, region_name_takes, region_name_again, word_takes, word_again, sees_none, sees_numbered_same, sees_numbered_none}
 use Rattle.bc_text.proofs.NumberLaws.{number_found, number_again, new_is}
 use Rattle.bc_text.proofs.Lists.{Spells, Closes, angled_takes, angled_again}

@@ -9,7 +9,7 @@ use Rattle.std.proofs.lemmas.Slice.Eq.{bytes_eq-Decides}
 use Rattle.bc_syntax.specs.declared.syntax.RegionName.{RegionName}
 use Rattle.bc_syntax.specs.Fits.{is_new, are_new}
 use Rattle.bc_syntax.proofs.Keywords.{is_text}
-use Rattle.bc_print.specs.Universals.{universal_names}
+use Rattle.bc_syntax.specs.Universals.{universal_names}
 use Rattle.bc_text.specs.Universals.{number_of}
 
 same_text : (xs : List ℕ) → bytes_eq xs xs ≡ true

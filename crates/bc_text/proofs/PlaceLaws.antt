@@ -4,7 +4,7 @@ use Rattle.std.specs.List.{flat_map, list_all}
 use Rattle.std.proofs.lemmas.Bool.{ltb-true, leb-true, le-leb, and_from, and_parts}
 use Rattle.std.proofs.lemmas.List.{append-nil}
 use Rattle.bc_syntax.specs.declared.symbol.Symbol.TheVariants as s
-use Rattle.bc_print.specs.declared.numbering.Numbering.TheVariants as n
+use Rattle.bc_syntax.specs.declared.numbering.Numbering.TheVariants as n
 use Rattle.bc_syntax.specs.declared.syntax.Projection.{Projection}
 use Rattle.bc_syntax.specs.declared.syntax.Projection.TheVariants.{Deref, Field}
 use Rattle.bc_syntax.specs.declared.syntax.Place.{Place}
@@ -12,11 +12,11 @@ use Rattle.bc_syntax.specs.declared.syntax.Operand.{Operand}
 use Rattle.bc_syntax.specs.declared.syntax.Operand.TheVariants as o
 use Rattle.bc_syntax.specs.Symbol.{same}
 use Rattle.bc_syntax.specs.Fits.{projection_fits, place_fits, operand_fits, operands_fit}
-use Rattle.bc_print.specs.Token.{Token, Fixed, Numbered}
+use Rattle.bc_syntax.specs.Token.{Token, Fixed, Numbered}
 use Rattle.bc_tokens.specs.Token.{Tokens}
 use Rattle.bc_tokens.specs.Parser.{and_then, sees, after, numbered, position, expect, pure, fail, past_limit, closed_list}
 use Rattle.bc_text.specs.Reading as read
-use Rattle.bc_print.specs.Spelling as spell
+use Rattle.bc_syntax.specs.Spelling as spell
 use Rattle.bc_text.proofs.Begins.{Begins, join, split, bind_ok, ok_is, chosen_parser, cond_at, eaten, eat_again, eat_other, expect_takes, expect_again, numbered_takes, numbered_again, sees_none}
 use Rattle.bc_text.proofs.Lists.{Spells, Closes, list_takes, list_again}
 

@@ -6,7 +6,7 @@ use Rattle.std.proofs.lemmas.Bool.{leb-true, le-leb, and_from, and_parts}
 use Rattle.std.proofs.lemmas.List.{append-nil}
 use Rattle.bc_syntax.specs.declared.symbol.Symbol.{Symbol}
 use Rattle.bc_syntax.specs.declared.symbol.Symbol.TheVariants as s
-use Rattle.bc_print.specs.declared.numbering.Numbering.TheVariants as n
+use Rattle.bc_syntax.specs.declared.numbering.Numbering.TheVariants as n
 use Rattle.bc_text.specs.declared.points.Point.{Point}
 use Rattle.bc_text.specs.declared.points.Point.TheVariants as point_kinds
 use Rattle.bc_syntax.specs.declared.syntax.Region.{Region}
@@ -29,11 +29,11 @@ use Rattle.bc_syntax.specs.declared.syntax.Terminator.{Terminator}
 use Rattle.bc_syntax.specs.declared.syntax.Terminator.TheVariants as t
 use Rattle.bc_syntax.specs.Symbol.{same}
 use Rattle.bc_syntax.specs.Fits.{instance_fits, closure_fits, regions_fit, reference_fits, place_fits, operand_fits, operands_fit, borrow_fits, aggregate_fits, creation_fits, rvalue_fits, statement_fits, condition_fits, call_fits, invocation_fits, terminator_fits}
-use Rattle.bc_print.specs.Token.{Token, Fixed, Numbered, Word}
+use Rattle.bc_syntax.specs.Token.{Token, Fixed, Numbered, Word}
 use Rattle.bc_tokens.specs.Token.{Tokens}
 use Rattle.bc_tokens.specs.Parser.{Outcome, and_then, sees, sees_word, is_fixed, after, expect, pure, angled_list}
 use Rattle.bc_text.specs.Reading as read
-use Rattle.bc_print.specs.Spelling as spell
+use Rattle.bc_syntax.specs.Spelling as spell
 use Rattle.bc_text.proofs.Begins.{Begins, join, split, bind_ok, ok_is, chosen, eaten, eat_again, eat_other, expect_takes, expect_again, numbered_takes, numbered_again, sees_none, sees_word_same, sees_word_none}
 use Rattle.bc_text.proofs.NameLaws.{Declares, NoLess, arguments_take, arguments_again, instance_takes, instance_again, closure_takes, closure_again}
 use Rattle.bc_text.proofs.TypeLaws.{reference_takes, reference_again}

@@ -7,7 +7,7 @@ use Rattle.bc_syntax.specs.declared.syntax.Statement.{Statement}
 use Rattle.bc_syntax.specs.declared.syntax.Block.{Block}
 use Rattle.bc_syntax.specs.declared.syntax.Ty.{Ty}
 use Rattle.bc_syntax.specs.declared.symbol.Symbol.TheVariants as symbols
-use Rattle.bc_print.specs.declared.numbering.Numbering.TheVariants as numberings
+use Rattle.bc_syntax.specs.declared.numbering.Numbering.TheVariants as numberings
 use Rattle.bc_tokens.specs.Token.{Tokens}
 use Rattle.bc_tokens.specs.Parser.{Outcome, Parser, pure, past_limit, refuse, sees, sees_numbered, declared_from, declared_turn}
 use Rattle.bc_text.specs.Reading.{ty_from, ty_turn, projections_from, projections_turn, block_from, block_turn, blocks_from, blocks_turn, lets_from, lets_turn, begins_ty, begins_point, fields_from, fields_turn, declarations_from, declarations_turn, begins_declaration}

@@ -14,11 +14,11 @@ use Rattle.bc_syntax.specs.declared.syntax.Base.TheVariants as bases
 use Rattle.bc_syntax.specs.declared.syntax.Ty.{Ty}
 use Rattle.bc_syntax.specs.Symbol.{same}
 use Rattle.bc_syntax.specs.Fits.{reference_fits, base_fits, ty_fits, whole_closure_fits, let_fits, parameters_fit}
-use Rattle.bc_print.specs.Token.{Token, Fixed, Word}
+use Rattle.bc_syntax.specs.Token.{Token, Fixed, Word}
 use Rattle.bc_tokens.specs.Token.{Tokens}
 use Rattle.bc_tokens.specs.Parser.{and_then, sees, is_fixed, after, expect, pure, closed_list}
 use Rattle.bc_text.specs.Reading as read
-use Rattle.bc_print.specs.Spelling as spell
+use Rattle.bc_syntax.specs.Spelling as spell
 use Rattle.bc_text.proofs.Begins.{Begins, join, split, bind_ok, ok_is, eaten, eat_again, eat_other, expect_takes, expect_again, sees_none, no_value}
 use Rattle.bc_text.proofs.NameLaws.{Declares, NoLess, region_takes, region_again, instance_takes, instance_again, closure_takes, closure_again}
 use Rattle.bc_text.proofs.Lists.{Spells, Closes, list_takes, list_again}

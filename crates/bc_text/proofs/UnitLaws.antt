@@ -7,7 +7,7 @@ use Rattle.std.proofs.lemmas.Bool.{eqb-true, eq-eqb, ltb-false, le-ltb, le-leb, 
 use Rattle.bc_text.specs.declared.fault.ReadFault.TheVariants.{TooLong}
 use Rattle.bc_tokens.specs.declared.refusal.Refusal.{Refusal}
 use Rattle.bc_syntax.specs.declared.symbol.Symbol.TheVariants as s
-use Rattle.bc_print.specs.declared.numbering.Numbering.TheVariants as n
+use Rattle.bc_syntax.specs.declared.numbering.Numbering.TheVariants as n
 use Rattle.bc_syntax.specs.declared.syntax.RegionName.{RegionName}
 use Rattle.bc_syntax.specs.declared.syntax.Outlives.{Outlives}
 use Rattle.bc_syntax.specs.declared.syntax.Ty.{Ty}
@@ -21,12 +21,12 @@ use Rattle.bc_syntax.specs.Symbol.{same}
 use Rattle.bc_syntax.specs.Locals.{declared_locals, first_let}
 use Rattle.bc_syntax.specs.Fits.{signature_fits, kind_fits, header_fits, Fits, is_new, are_new, clause_fits, clauses_fit, parameters_fit, ty_fits, let_fits, block_fits, universal_count}
 use Rattle.bc_syntax.proofs.Signatures.{signature_parts, header_parts}
-use Rattle.bc_print.specs.Token.{Token, Fixed, Numbered, Word, Region, NotAscii, Stray, End}
+use Rattle.bc_syntax.specs.Token.{Token, Fixed, Numbered, Word, Region, NotAscii, Stray, End}
 use Rattle.bc_tokens.specs.Token.{Tokens, tokens}
 use Rattle.bc_tokens.specs.Parser.{Outcome, Reads, and_then, sees, sees_region, after, is_end, at_end, numbered, position, expect, pure, fail, fault, declared_list}
 use Rattle.bc_text.specs.Reading as read
 use Rattle.bc_text.specs.Reading.{answer_of}
-use Rattle.bc_print.specs.Spelling as spell
+use Rattle.bc_syntax.specs.Spelling as spell
 use Rattle.bc_text.specs.Spells as texts
 use Rattle.bc_text.proofs.Begins.{Begins, join, split, bind_ok, ok_is, chosen, chosen_parser, eaten, eat_again, eat_other, expect_takes, expect_again, numbered_takes, numbered_again, sees_none, sees_numbered_none}
 use Rattle.bc_text.proofs.NameLaws.{Declares, Anything, NoLess, universal_takes, universal_again, new_region_takes, new_region_again}

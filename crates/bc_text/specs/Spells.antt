@@ -2,8 +2,8 @@
 use Rattle.std.specs.Prelude.{◌≡◌, ℕ, ◌≤◌, List, [], ◌∷◌, ◌++◌, length, map}
 use Rattle.bc_syntax.specs.declared.syntax.Body.{Body}
 use Rattle.bc_syntax.specs.declared.syntax.Declaration.{Declaration}
-use Rattle.bc_print.specs.Token.{Token, End}
-use Rattle.bc_print.specs.Spelling.{unit, types}
+use Rattle.bc_syntax.specs.Token.{Token, End}
+use Rattle.bc_syntax.specs.Spelling.{unit, types}
 use Rattle.bc_tokens.specs.Token.{Placed, tokens}
 
 -- The bytes spell these tokens: they are theirs, and the bytes are not too many.

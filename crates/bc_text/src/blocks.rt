@@ -5,8 +5,7 @@ ghost use Rattle.bc_text.specs.Reading as spec;
 
 use crate::points::{Point, label, read_point};
 use crate::regions::refuse_past;
-use bc_print::Numbering;
-use bc_syntax::{Block, RegionName, Sequence, Symbol};
+use bc_syntax::{Block, Numbering, RegionName, Sequence, Symbol};
 use bc_tokens::{Cursor, Refusal};
 use std::alloc::Global;
 

@@ -13,12 +13,8 @@ mod regions;
 mod types;
 mod universals;
 
-pub use bc_print::{print_types, print_unit};
 pub use declarations::read_types;
 pub use fault::ReadFault;
-pub use laws::{
-    names_are_told_apart, printed_types_are_read, printed_units_are_read,
-    refused_types_have_a_bad_token, refused_units_have_a_bad_token,
-};
+pub use laws::names_are_told_apart;
 pub use name::Name;
 pub use reader::{MAX_TEXT, read_unit};

@@ -5,10 +5,9 @@ ghost use Rattle.bc_text.specs.Reading as spec;
 
 use crate::regions::{closure_instance, instance, refuse_past};
 use crate::types::reference;
-use bc_print::Numbering;
 use bc_syntax::{
-    Aggregate, Borrow, Creation, Operand, Place, Projection, RegionName, Rvalue, ShortSequence,
-    Symbol,
+    Aggregate, Borrow, Creation, Numbering, Operand, Place, Projection, RegionName, Rvalue,
+    ShortSequence, Symbol,
 };
 use bc_tokens::{Cursor, Refusal};
 use std::alloc::Global;

@@ -5,9 +5,9 @@ ghost use Rattle.bc_text.specs.Reading as spec;
 
 use crate::places::{local, operand, operands, place, rvalue};
 use crate::regions::{arguments, instance};
-use bc_print::Numbering;
 use bc_syntax::{
-    Assignment, Call, Condition, Invocation, Place, RegionName, Statement, Symbol, Terminator,
+    Assignment, Call, Condition, Invocation, Numbering, Place, RegionName, Statement, Symbol,
+    Terminator,
 };
 use bc_tokens::{Cursor, Refusal};
 use std::alloc::Global;

@@ -12,9 +12,8 @@ use crate::blocks::blocks;
 use crate::fault::ReadFault;
 use crate::regions::{new_regions, refuse_past, universal};
 use crate::types::{captures, let_type, parameters, ty};
-use bc_print::Numbering;
 use bc_syntax::{
-    Body, Header, Outlives, RegionName, Sequence, Signature, Symbol, Ty, Unit, UnitKind,
+    Body, Header, Numbering, Outlives, RegionName, Sequence, Signature, Symbol, Ty, Unit, UnitKind,
 };
 use bc_tokens::{Cursor, Refusal};
 use std::alloc::Global;

@@ -5,10 +5,9 @@ ghost use Rattle.bc_tokens.specs.declared.refusal.Refusal.TheVariants.{Limit};
 ghost use Rattle.bc_text.specs.Reading as spec;
 
 use crate::universals::number_of;
-use bc_print::Numbering;
 use bc_syntax::{
-    ClosureInstance, Instance, ItemName, Region, RegionName, Sequence, ShortSequence, Symbol,
-    is_new, is_word,
+    ClosureInstance, Instance, ItemName, Numbering, Region, RegionName, Sequence, ShortSequence,
+    Symbol, is_new, is_word,
 };
 use bc_tokens::{Cursor, Refusal};
 use std::alloc::Global;

@@ -3,7 +3,8 @@
 //! with `#`, and empty ones, are no rows.
 use crate::spelled::text_of;
 use anyhow::bail;
-use bc_text::{Name, ReadFault, print_types, print_unit, read_types, read_unit};
+use bc_print::{print_types, print_unit};
+use bc_text::{Name, ReadFault, read_types, read_unit};
 use std::alloc::Global;
 use std::io::{self, Write};
 

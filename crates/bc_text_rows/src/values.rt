@@ -1,8 +1,9 @@
 //! What texts are read as: each form of a unit and of declarations once, and its value told part by part.
+use bc_fits::unit_of;
 use bc_syntax::{
     Base, Block, Body, ClosureInstance, Condition, Declaration, Header, Instance, Mutability,
     Operand, Outlives, Place, Projection, Reference, Region, RegionName, Rvalue, Sequence,
-    Signature, Statement, StructDeclaration, Terminator, Ty, Unit, UnitKind, Variance,
+    Signature, Statement, StructDeclaration, Terminator, Ty, UnitKind, Variance,
 };
 use bc_text::{MAX_TEXT, ReadFault, read_types, read_unit};
 use std::alloc::Global;
@@ -408,7 +409,7 @@ fn without_blocks(alloc: Global, header: Header) -> Body {
 fn a_body_without_blocks_is_no_unit(rt: HostRuntime) -> Result<(), Fail> {
     let unit = read_unit(rt.alloc(), b"fn()->int{bb0{stop;}}")?;
     let body = without_blocks(rt.alloc(), unit.body().header.clone()?);
-    assert!(rt; Unit::new(body).is_none());
+    assert!(rt; unit_of(body).is_none());
     Ok(())
 }
 

@@ -6,7 +6,7 @@ use Rattle.std.proofs.lemmas.List.Sums.{prefix_len_stops}
 use Rattle.std.specs.List.{prefix_len}
 use Rattle.bc_tokens.specs.declared.token.Kind.{Kind}
 use Rattle.bc_tokens.specs.declared.token.Kind.TheVariants as kinds
-use Rattle.bc_print.specs.Token.{Token, End}
+use Rattle.bc_syntax.specs.Token.{Token, End}
 use Rattle.bc_tokens.specs.Token.{Tokens, placed, shown, is_blank, lexeme, tokens}
 use Rattle.bc_tokens.specs.Cursor.{following}
 use Rattle.bc_tokens.specs.Parser.{first, after}

@@ -3,9 +3,9 @@ use Rattle.std.proofs.Common.{◌≡◌, ℕ, ◌+◌, ◌-◌, ◌*◌, ◌^◌
 use Rattle.std.specs.Prelude.{Option, is_some, nat_le}
 use Rattle.std.proofs.lemmas.Bool.Decides.{nat_tests}
 use Rattle.std.proofs.lemmas.List.Sums.{fold_more}
-use Rattle.bc_print.specs.declared.numbering.Numbering.{Numbering as Numberings}
+use Rattle.bc_syntax.specs.declared.numbering.Numbering.{Numbering as Numberings}
 use Rattle.bc_tokens.specs.declared.refusal.Refusal.TheVariants.{Limit}
-use Rattle.bc_print.specs.Token.{Token, Fixed, Numbered, Word, Region, NotAscii, Stray, End}
+use Rattle.bc_syntax.specs.Token.{Token, Fixed, Numbered, Word, Region, NotAscii, Stray, End}
 use Rattle.bc_tokens.specs.Token.{Tokens, Counts, value}
 use Rattle.bc_tokens.specs.Parser.{first, after, position, fault, number_in, same_numbering, sees_numbered, numbered_to, numbered}
 

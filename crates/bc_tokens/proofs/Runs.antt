@@ -8,7 +8,7 @@ use Rattle.std.proofs.lemmas.Bool.{and_parts, cases_Bool}
 use Rattle.std.proofs.lemmas.Bool.Decides.{nat_tests}
 use Rattle.std.proofs.lemmas.List.Folds.{length-prefix_len}
 use Rattle.std.proofs.lemmas.List.Sums.{take_while-cons}
-use Rattle.bc_print.specs.declared.numbering.Numbering.TheVariants as numberings
+use Rattle.bc_syntax.specs.declared.numbering.Numbering.TheVariants as numberings
 use Rattle.bc_syntax.specs.declared.symbol.Symbol.TheVariants.{Arrow}
 use Rattle.bc_syntax.specs.Bytes.{is_run_byte, run}
 use Rattle.bc_syntax.specs.Symbol.{text, keyword_of, sign_of}
@@ -16,7 +16,7 @@ use Rattle.bc_syntax.specs.declared.symbol.Symbol.{Symbol}
 use Rattle.bc_syntax.specs.declared.symbol.TheConstants.{SIGNS}
 use Rattle.bc_syntax.proofs.Keywords.{is_text, found_in}
 use Rattle.bc_syntax.specs.Words.{is_region_byte, is_number, is_label}
-use Rattle.bc_print.specs.Token.{Token, Fixed, Word, Numbered, NotAscii, Stray}
+use Rattle.bc_syntax.specs.Token.{Token, Fixed, Word, Numbered, NotAscii, Stray}
 use Rattle.bc_tokens.specs.Token.{value, word, run_token, region_token, variable_token, sign_token, lexeme}
 
 -- ---- the front of a run, and the rest of it

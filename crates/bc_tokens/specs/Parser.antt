@@ -1,14 +1,14 @@
 -- Reading from left to right: a value and the tokens after it, or the first fault.
 use Rattle.std.specs.Prelude.{◌≡◌, ◌≢◌, ℕ, zero, suc, Bool, true, false, if◌then◌else◌, nat_le, List, [], ◌∷◌, ◌++◌, length, Option, Some, None, is_some, Result, Ok, Err}
 use denote.Enum.Bare.{sameb}
-use Rattle.bc_print.specs.contracts.numbering.Numbering.{the_type}
-use Rattle.bc_print.specs.declared.numbering.Numbering.{Numbering}
+use Rattle.bc_syntax.specs.contracts.numbering.Numbering.{the_type}
+use Rattle.bc_syntax.specs.declared.numbering.Numbering.{Numbering}
 use Rattle.bc_syntax.specs.declared.symbol.Symbol.{Symbol}
 use Rattle.bc_syntax.specs.declared.symbol.Symbol.TheVariants.{Comma, Less, Greater}
 use Rattle.bc_tokens.specs.declared.refusal.Refusal.{Refusal}
 use Rattle.bc_tokens.specs.declared.refusal.Refusal.TheVariants as faults
 use Rattle.bc_syntax.specs.Symbol.{same}
-use Rattle.bc_print.specs.Token.{Token, Fixed, Numbered, Word, Region, NotAscii, Stray, End}
+use Rattle.bc_syntax.specs.Token.{Token, Fixed, Numbered, Word, Region, NotAscii, Stray, End}
 use Rattle.bc_tokens.specs.Token.{Placed, placed, Tokens}
 
 -- ---- the next token

@@ -3,8 +3,8 @@ use Rattle.std.specs.Prelude.{◌≡◌, ◌≤◌, ◌^◌, ◌⊎◌, ⊤, ℕ
 use Rattle.std.specs.Char.{is_ascii_alphabetic}
 use Rattle.bc_syntax.specs.declared.symbol.Symbol.{Symbol}
 use Rattle.bc_syntax.specs.declared.symbol.Symbol.TheVariants.{Arrow}
-use Rattle.bc_print.specs.declared.numbering.Numbering.TheVariants as numberings
-use Rattle.bc_print.specs.Token.{Token, Fixed, Numbered, Word, Region, NotAscii, Stray, End}
+use Rattle.bc_syntax.specs.declared.numbering.Numbering.TheVariants as numberings
+use Rattle.bc_syntax.specs.Token.{Token, Fixed, Numbered, Word, Region, NotAscii, Stray, End}
 use Rattle.bc_tokens.specs.declared.token.Kind.{Kind}
 use Rattle.bc_tokens.specs.declared.token.Kind.TheVariants as kinds
 use Rattle.bc_syntax.specs.Bytes.{is_run_byte, run}

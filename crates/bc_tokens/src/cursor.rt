@@ -1,9 +1,9 @@
 //! A cursor over the tokens of a text, which cuts each as it is reached.
 ghost use Rattle.std.specs.Prelude.{◌≡◌, ◌≢◌, ◌≤◌, ◌<◌, ◌+◌, ◌^◌, ℕ, length, slice_index, Some, None, Err, nat_le, true, false, IsSome, if◌then◌else◌, IfOk, MatchOption, take_while};
 ghost use Rattle.std.specs.Char.{is_ascii_alphabetic, is_ascii_digit};
-ghost use Rattle.bc_print.specs.Token.{End, Numbered};
+ghost use Rattle.bc_syntax.specs.Token.{End, Numbered};
 ghost use Rattle.bc_tokens.specs.Token.{Keeps, tokens, shown, lexeme, value, is_blank};
-ghost use Rattle.bc_print.specs.declared.numbering.Numbering.{Numbering};
+ghost use Rattle.bc_syntax.specs.declared.numbering.Numbering.{Numbering};
 ghost use Rattle.bc_tokens.specs.Parser as spec;
 ghost use Rattle.bc_tokens.specs.Parser.{Reads, ReadsAs, first, after};
 ghost use Rattle.bc_tokens.specs.declared.refusal.Refusal.TheVariants.{NoMemory};
@@ -13,8 +13,7 @@ use crate::token::{
     Kind, Token, keyword_lexeme, letter_lexeme, local_lexeme, number_lexeme, quoted_lexeme,
     sign_lexeme,
 };
-use bc_print::Numbering;
-use bc_syntax::{Symbol, behind, byte_at, same};
+use bc_syntax::{Numbering, Symbol, behind, byte_at, same};
 use std::marker::Model;
 
 /// The tokens of a text from one of them on. Own.

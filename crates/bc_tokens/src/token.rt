@@ -4,13 +4,13 @@ ghost use Rattle.std.specs.Char.{is_ascii_alphabetic, is_ascii_digit};
 ghost use Rattle.std.specs.List.{list_all};
 ghost use Rattle.bc_syntax.specs.Bytes.{is_run_byte, run};
 ghost use Rattle.bc_syntax.specs.Words.{is_region_byte, is_number, is_region_name};
-ghost use Rattle.bc_print.specs.Token.{Numbered, Stray};
+ghost use Rattle.bc_syntax.specs.Token.{Numbered, Stray};
 ghost use Rattle.bc_tokens.specs.Token.{Counts, Keeps, shown, value, word, run_token, region_token, sign_token, lexeme};
 ghost use Rattle.bc_syntax.specs.Symbol.{keyword_of, sign_of};
 
-use bc_print::Numbering;
 use bc_syntax::{
-    Symbol, behind, byte_at, is_number_of, is_region_name_of, is_run_byte, region_len, run, run_len,
+    Numbering, Symbol, behind, byte_at, is_number_of, is_region_name_of, is_run_byte, region_len,
+    run, run_len,
 };
 
 /// What a token is. Own.

@@ -1,7 +1,8 @@
 //! What reading a text gives, and how long it takes.
 use bc_bench::checksum;
+use bc_print::print_unit;
 use bc_syntax::Unit;
-use bc_text::{print_unit, read_unit};
+use bc_text::read_unit;
 use std::fmt;
 use std::time::Instant;
 

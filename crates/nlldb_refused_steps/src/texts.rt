@@ -1,7 +1,8 @@
 //! Texts with each form of the grammar, which are read, and printed as they are read.
 use crate::wide;
 use bc_fixtures::again;
-use bc_text::{print_types, print_unit, read_types, read_unit};
+use bc_print::{print_types, print_unit};
+use bc_text::{read_types, read_unit};
 use std::alloc::Global;
 use std::io::Write;
 

@@ -16,8 +16,9 @@
 //! else is demanded of a declared region.
 use crate::{Solvers, show_check};
 use bc_check::{Section, Sections};
+use bc_print::{print_types, print_unit};
 use bc_syntax::{Types, Unit};
-use bc_text::{print_types, print_unit, read_types, read_unit};
+use bc_text::{read_types, read_unit};
 use std::alloc::Global;
 use std::fs::Files;
 use std::io::{BufWriter, Write};

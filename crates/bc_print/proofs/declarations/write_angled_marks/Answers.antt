@@ -2,7 +2,7 @@ use Rattle.std.proofs.Common.{sym, ap, ◌∙◌}
 use Rattle.std.specs.Prelude.{◌==◌}
 use Rattle.std.specs.List.{zip}
 use Rattle.std.proofs.lemmas.Result.{on_ok_weaker}
-use Rattle.bc_print.specs.Spelling as spell
+use Rattle.bc_syntax.specs.Spelling as spell
 use Rattle.bc_print.proofs.Printings.{writes_angled, writes_no_angled, zipped_length}
 use Rattle.bc_print.proofs.declarations.write_angled_marks.Goals as goal
 

@@ -1,4 +1,4 @@
-use Rattle.bc_print.specs.Spelling as spell
+use Rattle.bc_syntax.specs.Spelling as spell
 use Rattle.bc_print.proofs.Printings.{writes_declaration, writes_one_more}
 use Rattle.bc_print.proofs.declarations.write_declarations.Goals as goal
 

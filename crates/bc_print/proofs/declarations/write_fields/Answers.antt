@@ -1,5 +1,5 @@
 use Rattle.bc_syntax.specs.declared.symbol.Symbol.TheVariants as s
-use Rattle.bc_print.specs.Spelling as spell
+use Rattle.bc_syntax.specs.Spelling as spell
 use Rattle.bc_print.proofs.Printings.{writes_both, writes_one_more}
 use Rattle.bc_print.proofs.declarations.write_fields.Goals as goal
 

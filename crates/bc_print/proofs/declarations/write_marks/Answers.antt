@@ -4,7 +4,7 @@ use Rattle.bc_syntax.specs.declared.syntax.Variance.{Variance}
 use Rattle.bc_syntax.specs.declared.syntax.Variance.TheVariants.{Covariant}
 use Rattle.bc_syntax.specs.declared.syntax.RegionName.{RegionName}
 use Rattle.bc_print.specs.Printing.{Writes}
-use Rattle.bc_print.specs.Spelling as spell
+use Rattle.bc_syntax.specs.Spelling as spell
 use Rattle.bc_print.proofs.Printings.{writes_both, writes_listed, zipped_at, zipped_length, taken_whole}
 use Rattle.bc_print.proofs.declarations.write_marks.Goals as goal
 

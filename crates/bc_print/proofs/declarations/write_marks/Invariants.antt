@@ -1,7 +1,7 @@
 use Rattle.std.proofs.Common.{take}
 use Rattle.std.specs.List.{zip}
 use Rattle.bc_print.specs.Printing.{Writes}
-use Rattle.bc_print.specs.Spelling as spell
+use Rattle.bc_syntax.specs.Spelling as spell
 use Rattle.bc_print.proofs.declarations.write_marks.Given as goal
 
 abbrev pub invariant-loop-index : goal.invariant-loop-index

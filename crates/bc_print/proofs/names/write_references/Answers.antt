@@ -3,7 +3,7 @@ use Rattle.bc_syntax.specs.declared.symbol.Symbol.TheVariants as s
 use Rattle.bc_syntax.specs.declared.syntax.Reference.{Reference}
 use Rattle.bc_syntax.specs.declared.syntax.Region.TheVariants.{Universal}
 use Rattle.bc_syntax.specs.declared.syntax.Mutability.TheVariants.{Shared}
-use Rattle.bc_print.specs.Spelling as spell
+use Rattle.bc_syntax.specs.Spelling as spell
 use Rattle.bc_print.proofs.Printings.{writes_both, writes_one_more}
 use Rattle.bc_print.proofs.names.write_references.Goals as goal
 

@@ -1,7 +1,7 @@
 use Rattle.std.proofs.Common.{take}
 use Rattle.std.specs.List.{flat_map}
 use Rattle.bc_print.specs.Printing.{Writes}
-use Rattle.bc_print.specs.Spelling as spell
+use Rattle.bc_syntax.specs.Spelling as spell
 use Rattle.bc_print.proofs.names.write_references.Given as goal
 
 abbrev pub invariant-loop-reference : goal.invariant-loop-reference

@@ -1,7 +1,7 @@
 use Rattle.std.proofs.Common.{◌++◌}
 use Rattle.bc_syntax.specs.declared.symbol.Symbol.TheVariants as s
 use Rattle.std.proofs.lemmas.Result.{on_ok_weaker}
-use Rattle.bc_print.specs.Spelling as spell
+use Rattle.bc_syntax.specs.Spelling as spell
 use Rattle.bc_print.proofs.Printings.{writes_both}
 use Rattle.bc_print.proofs.points.write_assignment.Goals as goal
 

@@ -1,6 +1,6 @@
 use Rattle.std.proofs.Common.{take}
 use Rattle.bc_print.specs.Printing.{Writes}
-use Rattle.bc_print.specs.Spelling as spell
+use Rattle.bc_syntax.specs.Spelling as spell
 use Rattle.bc_print.proofs.points.write_blocks.Given as goal
 
 abbrev pub invariant-loop-number : goal.invariant-loop-number

@@ -1,7 +1,7 @@
 use Rattle.std.proofs.Common.{get_or, refl}
 use Rattle.bc_syntax.specs.declared.symbol.Symbol.TheVariants as s
 use Rattle.bc_syntax.specs.declared.syntax.Projection.TheVariants.{Deref}
-use Rattle.bc_print.specs.Spelling as spell
+use Rattle.bc_syntax.specs.Spelling as spell
 use Rattle.bc_print.proofs.Printings.{writes_both, writes_one_more}
 use Rattle.bc_print.proofs.points.write_projections.Goals as goal
 

@@ -1,6 +1,6 @@
 use Rattle.std.proofs.Common.{take}
 use Rattle.bc_print.specs.Printing.{Writes}
-use Rattle.bc_print.specs.Spelling.{behind_commas}
+use Rattle.bc_syntax.specs.Spelling.{behind_commas}
 use Rattle.bc_print.proofs.tokens.write_next.Given as goal
 
 abbrev pub invariant-loop-item : goal.invariant-loop-item

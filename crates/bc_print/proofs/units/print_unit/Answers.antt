@@ -2,9 +2,9 @@ use Rattle.std.proofs.Common.{subst}
 use Rattle.std.proofs.lemmas.Result.{on_ok_weaker}
 use Rattle.std.specs.Io.KnownBytes.{Appends}
 use Rattle.bc_syntax.specs.declared.syntax.Body.{Body}
-use Rattle.bc_print.specs.Token.{Fixed}
+use Rattle.bc_syntax.specs.Token.{Fixed}
 use Rattle.bc_print.specs.Printing.{printed}
-use Rattle.bc_print.specs.Spelling as spell
+use Rattle.bc_syntax.specs.Spelling as spell
 use Rattle.bc_print.proofs.Printings.{prints}
 use Rattle.bc_print.proofs.units.print_unit.Goals as goal
 

@@ -1,9 +1,9 @@
 use Rattle.std.proofs.Common.{◌++◌, ◌∷◌}
 use Rattle.std.proofs.lemmas.Result.{on_ok_weaker}
 use Rattle.bc_syntax.specs.declared.symbol.Symbol.TheVariants as s
-use Rattle.bc_print.specs.declared.numbering.Numbering.TheVariants as n
-use Rattle.bc_print.specs.Token.{Numbered}
-use Rattle.bc_print.specs.Spelling as spell
+use Rattle.bc_syntax.specs.declared.numbering.Numbering.TheVariants as n
+use Rattle.bc_syntax.specs.Token.{Numbered}
+use Rattle.bc_syntax.specs.Spelling as spell
 use Rattle.bc_print.proofs.Printings.{writes_both, writes_token}
 use Rattle.bc_print.proofs.units.write_let.Goals as goal
 

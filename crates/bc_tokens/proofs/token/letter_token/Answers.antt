@@ -1,6 +1,6 @@
 use Rattle.std.proofs.Common.{◌≡◌, ◌∙◌, ap, arith}
 use Rattle.std.specs.Prelude.{slice_index}
-use Rattle.bc_print.specs.Token.{Word}
+use Rattle.bc_syntax.specs.Token.{Word}
 use Rattle.bc_tokens.specs.Token.{shown}
 use Rattle.bc_tokens.specs.declared.token.Kind.{Kind}
 use Rattle.bc_tokens.proofs.Runs.{letter_keyword, letter_word}

@@ -1,0 +1,16 @@
+use Rattle.std.proofs.Common.{◌+◌, [], arith}
+use Rattle.bc_flow.specs.Levels.{GivesLevel, IsSuccessor}
+use Rattle.bc_flow.proofs.BreadthFirst.{AreLevelsUpTo-more, front_within}
+use Rattle.bc_flow.proofs.breadth_first.fill_levels.Goals as goal
+
+pub next_level-requires-clause-front : goal.next_level-requires-clause-front
+next_level-requires-clause-front c = rw c.deref.ensures.value (front_within _ _ _ _ _ c.levels.invariant.spread)
+
+pub levels-preserved : goal.levels-preserved
+levels-preserved c =
+    let marks : GivesLevel (IsSuccessor c.args.edges.now c.levels.front.items) (c.levels.level + 1) c.levels.levels c.next_level.new.levels [] c.in_ok-front-2.front.items = rw c.deref.ensures.value at c.in_ok-front-2.ensures in
+    record {
+      count = grind arith;
+      spread = AreLevelsUpTo-more c.args.edges.now c.args.sources.now c.levels.level c.levels.levels c.next_level.new.levels c.levels.front.items c.in_ok-front-2.front.items c.levels.invariant.spread marks;
+      few = grind (arith, marks.counted);
+    }

@@ -1,0 +1,133 @@
+//! The levels of a breadth-first search: how far each node of a graph is from the nearest of some sources.
+ghost use Rattle.std.specs.Prelude.{◌≡◌, ℕ, ◌<◌, [], length, slice_index, IfOk, OnOk};
+ghost use Rattle.std.specs.List.{All, Contains};
+ghost use Rattle.bc_flow.specs.Graph.{HasEdge, AreWithin};
+ghost use Rattle.bc_flow.specs.Chains.{AreChains};
+ghost use Rattle.bc_flow.specs.Levels.{GivesLevel, IsSuccessor, AreLevels};
+
+use crate::adjacency::EdgeChains;
+use crate::graph::Edge;
+use std::alloc::{AllocError, Global};
+
+/// The level of each node: 1 for the sources, one more for each edge on the shortest way from one of them, and 0 for a node to
+/// which no way leads. So the level is the number of nodes on the shortest way. It takes time in proportion to the nodes and
+/// the edges that leave those reached. Answers `AllocError` only where memory was refused.
+pub fn levels(
+    alloc: Global,
+    nodes: usize,
+    edges: &[Edge],
+    chains: &EdgeChains,
+    sources: &[usize],
+) -> Result<Vec<usize>, AllocError>
+    requires sources { All (λ n. n < nodes) sources.now }
+    requires edges { AreWithin edges.now nodes }
+    requires chains { AreChains 0 nodes edges.now chains.now.first.items chains.now.next.items }
+    ensures count { IfOk result (λ levels. length levels.items ≡ nodes) }
+    ensures levels { IfOk result (λ levels. AreLevels edges.now sources.now levels.items) }
+{
+    let mut levels = vec![in alloc; 0; nodes]?;
+    fill_levels(alloc, &mut levels, edges, chains, sources)?;
+    Ok(levels)
+}
+
+/// Finds the level of each node, where none was reached before.
+fn fill_levels(
+    alloc: Global,
+    levels: &mut [usize],
+    edges: &[Edge],
+    chains: &EdgeChains,
+    sources: &[usize],
+) -> Result<(), AllocError>
+    requires none { (n : ℕ) → slice_index levels.old n ≡ 0 }
+    requires sources { All (λ n. n < length levels.old) sources.now }
+    requires edges { AreWithin edges.now (length levels.old) }
+    requires chains { AreChains 0 (length levels.old) edges.now chains.now.first.items chains.now.next.items }
+    ensures { OnOk result (AreLevels edges.now sources.now levels.new) }
+{
+    let mut front = first_level(alloc, levels, sources)?;
+    let mut level = 1;
+    'levels: while !front.is_empty() {
+        level += 1;
+        front = next_level(alloc, levels, &front, level, edges, chains)?;
+    }
+    Ok(())
+}
+
+/// Gives the sources the first level, and lists them.
+fn first_level(
+    alloc: Global,
+    levels: &mut [usize],
+    sources: &[usize],
+) -> Result<Vec<usize>, AllocError>
+    requires { All (λ n. n < length levels.old) sources.now }
+    ensures { IfOk result (λ found. GivesLevel (Contains sources.now) 1 levels.old levels.new [] found.items) }
+{
+    let mut found = Vec::new(alloc);
+    for &node in sources {
+        reach(levels, &mut found, node, 1)?;
+    }
+    Ok(found)
+}
+
+/// Gives the nodes this level that edges lead to from the front and that were not reached before, and lists them.
+fn next_level(
+    alloc: Global,
+    levels: &mut [usize],
+    front: &[usize],
+    level: usize,
+    edges: &[Edge],
+    chains: &EdgeChains,
+) -> Result<Vec<usize>, AllocError>
+    requires front { All (λ n. n < length levels.old) front.now }
+    requires level { 0 < level }
+    requires edges { AreWithin edges.now (length levels.old) }
+    requires chains { AreChains 0 (length levels.old) edges.now chains.now.first.items chains.now.next.items }
+    ensures { IfOk result (λ found. GivesLevel (IsSuccessor edges.now front.now) level levels.old levels.new [] found.items) }
+{
+    let mut found = Vec::new(alloc);
+    for &node in front {
+        visit(levels, &mut found, node, level, edges, chains)?;
+    }
+    Ok(found)
+}
+
+/// Gives the nodes this level that edges lead to from one, unless they were reached before, and lists them.
+fn visit(
+    levels: &mut [usize],
+    found: &mut Vec<usize>,
+    node: usize,
+    level: usize,
+    edges: &[Edge],
+    chains: &EdgeChains,
+) -> Result<(), AllocError>
+    requires node { node < length levels.old }
+    requires level { 0 < level }
+    requires edges { AreWithin edges.now (length levels.old) }
+    requires chains { AreChains 0 (length levels.old) edges.now chains.now.first.items chains.now.next.items }
+    ensures { OnOk result (GivesLevel (HasEdge edges.now node) level levels.old levels.new found.old.items found.new.items) }
+{
+    let mut at = chains.first[node];
+    while at < edges.len() {
+        reach(levels, found, edges[at].to, level)?;
+        at = chains.next[at];
+    }
+    Ok(())
+}
+
+/// Gives a node its level, unless it was reached before, and lists it.
+fn reach(
+    levels: &mut [usize],
+    found: &mut Vec<usize>,
+    node: usize,
+    level: usize,
+) -> Result<(), AllocError>
+    requires node { node < length levels.old }
+    requires level { 0 < level }
+    ensures { OnOk result (GivesLevel (λ n. n ≡ node) level levels.old levels.new found.old.items found.new.items) }
+{
+    if levels[node] == 0 {
+        found.push(node)?;
+        levels[node] = level;
+    }
+    Ok(())
+}

@@ -1,5 +1,0 @@
-use Rattle.bc_points.proofs.Chains.{is_prefix-chain}
-use Rattle.bc_points.proofs.laws.prefixes_chain.Goals as goal
-
-pub returns : goal.returns
-returns c = is_prefix-chain

@@ -1,5 +1,0 @@
-use Rattle.bc_points.proofs.Supporters.{supporting-references}
-use Rattle.bc_points.proofs.laws.reborrows_list_taken_references.Goals as goal
-
-pub returns : goal.returns
-returns c = supporting-references

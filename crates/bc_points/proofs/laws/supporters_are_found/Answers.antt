@@ -1,5 +1,0 @@
-use Rattle.bc_points.proofs.FindingSupporters.{supporting-is-found}
-use Rattle.bc_points.proofs.laws.supporters_are_found.Goals as goal
-
-pub returns : goal.returns
-returns c = supporting-is-found

@@ -1,0 +1,5 @@
+pub mod Chains
+pub mod Supported
+pub mod Supporters
+pub mod Finding
+pub mod FindingSupporters

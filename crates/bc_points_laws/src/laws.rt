@@ -1,0 +1,21 @@
+//! Laws of the definitions, each the contract of a function that does nothing.
+ghost use Rattle.bc_points_laws.specs.Laws.{PrefixesChain, SupportersAreFound, TakenReferences};
+
+/// A prefix of a prefix of a place is a prefix of that place.
+/// (Own.)
+pub fn prefixes_chain()
+    ensures { PrefixesChain }
+{}
+
+/// The prefixes that `supports` tells are those that are found by taking away fields and dereferences, the last first.
+/// (Own.)
+pub fn supporters_are_found()
+    ensures { SupportersAreFound }
+{}
+
+/// The references that the supporting prefixes of a place dereference are those that a reborrow of it lists, also
+/// through the fields of structs.
+/// (Own.)
+pub fn reborrows_list_taken_references()
+    ensures { TakenReferences }
+{}

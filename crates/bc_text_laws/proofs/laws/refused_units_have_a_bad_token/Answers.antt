@@ -1,0 +1,30 @@
+use Rattle.std.proofs.Common.{◌∙◌, [], ◌∷◌, ◌++◌, sym, subst, List}
+use Rattle.bc_syntax.specs.Token.{Token, End}
+use Rattle.bc_syntax.specs.Spelling as spell
+use Rattle.bc_text.specs.Reading as read
+use Rattle.bc_text.proofs.Begins.{Begins}
+use Rattle.bc_text.proofs.Ends.{begins_whole}
+use Rattle.bc_text.proofs.UnitLaws.{unit_again, closed}
+use Rattle.bc_text_laws.proofs.LocalUnits.{unit}
+use Rattle.bc_text_laws.proofs.Faults.{stopped, tells_bad, going_on, go_on, still_refused, faults_are_local}
+use Rattle.bc_text_laws.proofs.laws.refused_units_have_a_bad_token.Goals as goal
+
+pub returns-clause-bad : goal.returns-clause-bad
+unfolding read.read
+returns-clause-bad c = λ bytes fault e short.
+    let s = stopped read.unit spell.unit unit bytes fault e short in (
+      s.before,
+      s.bad,
+      s.later,
+      s.is,
+      tells_bad s,
+      (s.begun.0, s.begun.1, s.begun.2, s.begun.3),
+      λ u fits later h.
+          let text = begins_whole (going_on s.before s.bad later) (spell.unit u ++ End ∷ []) (go_on s.before s.bad later ∙ sym h) in
+          let reads = unit_again (going_on s.before s.bad later) u [] (subst (λ (l : List Token). Begins (going_on s.before s.bad later) l []) (sym (closed u)) text) fits in
+          still_refused s later (u, reads.0) reads.1,
+    )
+
+pub returns-clause-local : goal.returns-clause-local
+unfolding read.read
+returns-clause-local c = faults_are_local read.unit spell.unit unit
