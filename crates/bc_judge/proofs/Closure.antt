@@ -90,13 +90,13 @@ from_between (Variable l) shorter e h = absurd (Contains-nil e h)
 known_from_edge : (mir : Mir) (m n : ℕ) → Contains (known_edges mir) (record { from = m; to = n }) → IsKnown mir n m
 known_from_edge mir m n h = elim (Contains-append_cases (map edge_of mir.clauses) (flat_map pair_edges (implied_pairs mir)) (record { from = m; to = n }) h) [
   | inl one ↦
-    let found = from_map edge_of mir.clauses (record { from = m; to = n }) one in
-    let longer : found.0.longer ≡ n = ap (λ (e : Edge). e.to) found.2 in
-    let shorter : found.0.shorter ≡ m = ap (λ (e : Edge). e.from) found.2 in
-    clause n m (subst (λ l. Contains mir.clauses (record { longer = l; shorter = m })) longer (subst (λ s. Contains mir.clauses (record { longer = found.0.longer; shorter = s })) shorter found.1))
+      let found = from_map edge_of mir.clauses (record { from = m; to = n }) one in
+      let longer : found.0.longer ≡ n = ap (λ (e : Edge). e.to) found.2 in
+      let shorter : found.0.shorter ≡ m = ap (λ (e : Edge). e.from) found.2 in
+      clause n m (subst (λ l. Contains mir.clauses (record { longer = l; shorter = m })) longer (subst (λ s. Contains mir.clauses (record { longer = found.0.longer; shorter = s })) shorter found.1))
   | inr other ↦
-    let found = from_flat_map pair_edges (implied_pairs mir) (record { from = m; to = n }) other in
-    implied n m (subst (Contains (implied_pairs mir)) (from_between found.0.longer found.0.shorter (record { from = m; to = n }) found.2) found.1)
+      let found = from_flat_map pair_edges (implied_pairs mir) (record { from = m; to = n }) other in
+      implied n m (subst (Contains (implied_pairs mir)) (from_between found.0.longer found.0.shorter (record { from = m; to = n }) found.2) found.1)
 ]
 
 -- what flows to a region is known of it

@@ -1,7 +1,9 @@
--- What is known of a struct tells what its declaration demands.
-use Rattle.std.proofs.Common.{◌≡◌, Bool, true, false, cond, Option, Some, List, [], ◌∷◌, refl, sym, ap, ◌∙◌}
+-- What types demand: behind a reference, and what is known of a struct.
+use Rattle.std.proofs.Common.{◌≡◌, Bool, true, false, cond, Option, Some, List, [], ◌∷◌, ◌++◌, map, refl, sym, ap, ◌∙◌}
 use Rattle.std.specs.Option.{option_map_or}
 use Rattle.std.specs.Str.{bytes_eq}
+use Rattle.bc_syntax.specs.declared.syntax.Region.{Region}
+use Rattle.bc_syntax.specs.declared.syntax.Reference.{Reference}
 use Rattle.bc_syntax.specs.declared.syntax.Instance.{Instance}
 use Rattle.bc_syntax.specs.declared.syntax.Declaration.{Declaration}
 use Rattle.bc_syntax.specs.declared.syntax.Declaration.TheVariants.{Struct, Extern}
@@ -9,7 +11,15 @@ use Rattle.bc_types.specs.declared.subtype.Constraint.{Constraint}
 use Rattle.bc_types.specs.declared.table.KnownStruct.{KnownStruct}
 use Rattle.bc_types.specs.Declarations.{struct_among, takes_regions}
 use Rattle.bc_types.specs.Known.{known_behind, known_struct}
-use Rattle.bc_types.specs.WellFormed.{field_pairs, struct_pairs}
+use Rattle.bc_types.specs.Mentions.{regions_of_references}
+use Rattle.bc_types.specs.Subtype.{outlives}
+use Rattle.bc_types.specs.WellFormed.{each_outlives, field_pairs, struct_pairs}
+
+-- what is written behind a reference is the references there, and what they lead to
+pub behind_pairs : (references : List Reference) (regions : List Region) (shorter : Region) →
+    each_outlives (regions_of_references references ++ regions) shorter ≡ map (λ (reference : Reference). outlives reference.region shorter) references ++ each_outlives regions shorter
+behind_pairs [] regions shorter = refl
+behind_pairs (reference ∷ references) regions shorter = ap (λ ps. outlives reference.region shorter ∷ ps) (behind_pairs references regions shorter)
 
 abbrev pairs_known : Option KnownStruct → List Constraint
 pairs_known known = option_map_or (λ (k : KnownStruct). k.pairs) known []

@@ -429,11 +429,7 @@ impl Table {
     }
 
     /// What the types of fields that mention structs of the table demand, each pair once.
-    fn field_pairs(
-        &self,
-        alloc: Global,
-        fields: &[Ty],
-    ) -> Result<Sequence<Constraint>, AllocError>
+    fn field_pairs(&self, alloc: Global, fields: &[Ty]) -> Result<Sequence<Constraint>, AllocError>
         ensures { IfOk result (λ pairs. pairs ≡ pairs_of_fields (pairs_of_struct (reverse self.now)) fields.now) }
     {
         let pairs = self.pairs_of_types(alloc, fields)?;
