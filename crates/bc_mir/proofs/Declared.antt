@@ -1,6 +1,6 @@
 -- The regions of what well-formed types demand are declared.
-use Rattle.std.proofs.Common.{◌≡◌, ℕ, zero, suc, ◌+◌, ◌-◌, ◌≤◌, inl, inr, Bool, true, false, cond, Option, Some, None, List, [], ◌∷◌, ◌++◌, map, take, drop, reverse, refl, sym, ◌∙◌, arith}
-use Rattle.std.specs.Prelude.{◌&&◌, nat_le, slice_get, slice_range, length, unwrap_or}
+use Rattle.std.proofs.Common.{◌≡◌, ℕ, zero, suc, ◌+◌, ◌≤◌, inl, inr, Bool, true, false, cond, Option, Some, None, List, [], ◌∷◌, ◌++◌, map, take, drop, reverse, refl, sym, ◌∙◌, arith}
+use Rattle.std.specs.Prelude.{◌&&◌, nat_le, slice_get, length, unwrap_or}
 use Rattle.std.specs.List.{list_all, flat_map}
 use Rattle.std.specs.Option.{option_map_or}
 use Rattle.std.proofs.lemmas.Bool.{and_from, and_parts, or_cases, lt-ltb}
@@ -59,11 +59,15 @@ module _ (u : ℕ) (some : 1 ≤ u) where
 
   arguments-fit : (captures : List Ty) (before : ℕ) (names : List RegionName) (given local : List Region) → fit given → fit local → fit (arguments_from captures before names given local)
   arguments-fit captures before [] given local one other = refl
-  arguments-fit captures before (name ∷ names) given local one other = by (is_external captures (before + 1))
+  arguments-fit captures before (name ∷ names) given local one other =
+      by (is_external captures (before + 1))
+      (arguments-fit captures (before + 1) names (behind_first given) local (behind-fits given one) other)
+      (arguments-fit captures (before + 1) names given (behind_first local) one (behind-fits local other))
     where
-      by : (external : Bool) → fit (cond external (first_of given ∷ arguments_from captures (before + 1) names (behind_first given) local) (first_of local ∷ arguments_from captures (before + 1) names given (behind_first local)))
-      by true = and_from (region_fits true u (first_of given)) _ (first-fits given one) (arguments-fit captures (before + 1) names (behind_first given) local (behind-fits given one) other)
-      by false = and_from (region_fits true u (first_of local)) _ (first-fits local other) (arguments-fit captures (before + 1) names given (behind_first local) one (behind-fits local other))
+      by : (external : Bool) → fit (arguments_from captures (before + 1) names (behind_first given) local) → fit (arguments_from captures (before + 1) names given (behind_first local))
+          → fit (cond external (first_of given ∷ arguments_from captures (before + 1) names (behind_first given) local) (first_of local ∷ arguments_from captures (before + 1) names given (behind_first local)))
+      by true outer inner = and_from (region_fits true u (first_of given)) _ (first-fits given one) outer
+      by false outer inner = and_from (region_fits true u (first_of local)) _ (first-fits local other) inner
 
   among-fits : (regions : List Region) (number : ℕ) → fit regions → region_fits true u (unwrap_or (slice_get regions number) (Universal 0)) ≡ true
   among-fits [] number all = static-fits
@@ -162,15 +166,12 @@ module _ (u : ℕ) (some : 1 ≤ u) where
 
 -- ---- some of a list
 
-front-passes : {X : Type 0} (p : X → Bool) (n : ℕ) (xs : List X) → list_all p xs ≡ true → list_all p (take n xs) ≡ true
+pub front-passes : {X : Type 0} (p : X → Bool) (n : ℕ) (xs : List X) → list_all p xs ≡ true → list_all p (take n xs) ≡ true
 front-passes p zero xs all = refl
 front-passes p (suc n) [] all = refl
 front-passes p (suc n) (x ∷ xs) all = let parts = and_parts (p x) (list_all p xs) all in and_from (p x) _ parts.0 (front-passes p n xs parts.1)
 
-rest-passes : {X : Type 0} (p : X → Bool) (n : ℕ) (xs : List X) → list_all p xs ≡ true → list_all p (drop n xs) ≡ true
+pub rest-passes : {X : Type 0} (p : X → Bool) (n : ℕ) (xs : List X) → list_all p xs ≡ true → list_all p (drop n xs) ≡ true
 rest-passes p zero xs all = all
 rest-passes p (suc n) [] all = refl
 rest-passes p (suc n) (x ∷ xs) all = rest-passes p n xs (and_parts (p x) (list_all p xs) all).1
-
-pub range-passes : {X : Type 0} (p : X → Bool) (xs : List X) (from to : ℕ) → list_all p xs ≡ true → list_all p (slice_range xs from to) ≡ true
-range-passes p xs from to all = front-passes p (to - from) (drop from xs) (rest-passes p from xs all)

@@ -169,8 +169,9 @@ impl Typed {
     pub fn inputs(&self) -> &[Ty]
         ensures value { result.now ≡ input_types self.now }
         ensures declared { list_all (let_fits self.now.universals) result.now ≡ true }
+        ensures typed { IsTyped self.now }
     {
-        &self.draft.locals.as_slice()[1..self.draft.first_let]
+        &self.locals()[1..self.draft.first_let]
     }
 
     /// The types of the `let` locals, in order.

@@ -1,7 +1,7 @@
 use Rattle.std.proofs.Common.{◌≡◌, ◌++◌, drop}
 use Rattle.std.specs.List.{flat_map}
 use Rattle.bc_mir.specs.WellFormed.{type_pairs}
-use Rattle.bc_mir.proofs.well_formed.Typed.push_pairs_of_types.Given as goal
+use Rattle.bc_mir.proofs.typed.Typed.push_pairs_of_types.Given as goal
 
 abbrev pub invariant-loop-ty : goal.invariant-loop-ty
 invariant-loop-ty l =
