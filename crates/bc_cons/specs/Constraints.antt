@@ -1,10 +1,8 @@
 -- The outlives constraints of a body: the value of the longer region contains that of the shorter.
-use Rattle.std.specs.Prelude.{ℕ, Bool, false, not, ◌==◌, List, [], ◌++◌, map, filter}
+use Rattle.std.specs.Prelude.{ℕ, Bool, not, List, [], ◌++◌, map, filter}
 use Rattle.std.specs.List.{flat_map}
 use Rattle.std.specs.Option.{option_map_or}
 use Rattle.bc_syntax.specs.declared.syntax.Outlives.{Outlives}
-use Rattle.bc_syntax.specs.declared.syntax.Region.{Region}
-use Rattle.bc_syntax.specs.declared.syntax.Region.TheVariants.{Universal, Variable}
 use Rattle.bc_syntax.specs.declared.syntax.Reference.{Reference}
 use Rattle.bc_syntax.specs.declared.syntax.Creation.{Creation}
 use Rattle.bc_syntax.specs.declared.syntax.Header.{Header}
@@ -21,8 +19,9 @@ use Rattle.bc_mir.specs.Children.{child_of, arguments_of}
 use Rattle.bc_points.specs.Pairs.{assignment_pairs, call_pairs, invocation_pairs, replaced_clause}
 use Rattle.bc_points.specs.Prefixes.{from_last_shared}
 use Rattle.bc_mir.specs.PlaceTypes.{references_of_place}
+use Rattle.bc_mir.specs.WellFormed.{let_pairs}
 use Rattle.bc_points.specs.Regions.{region_number}
-use Rattle.bc_types.specs.Subtype.{outlives}
+use Rattle.bc_types.specs.Subtype.{outlives, same_region}
 use Rattle.bc_cons.specs.declared.facts.Constraint.{Constraint}
 use Rattle.bc_cons.specs.declared.requirements.Requirements.{Requirements}
 use Rattle.bc_cons.specs.Requirements.{required_by}
@@ -64,19 +63,17 @@ pairs_at mir kids (Terminator (Invoke invocation)) = invocation_pairs mir invoca
 pairs_at mir kids (Terminator Return) = []
 pairs_at mir kids (Terminator Stop) = []
 
-abbrev pub same_region : Region → Region → Bool
-same_region (Universal u) (Universal v) = u == v
-same_region (Variable v) (Variable w) = v == w
-same_region (Universal u) (Variable v) = false
-same_region (Variable v) (Universal u) = false
-
 -- a region and itself make no constraint
 abbrev pub differ : RegionConstraint → Bool
 differ pair = not (same_region pair.longer pair.shorter)
 
 -- the pairs of all points
+abbrev pub point_pairs : Mir → List (ℕ × Requirements) → List RegionConstraint
+point_pairs mir kids = flat_map (λ (step : Step). pairs_at mir kids step.instruction) mir.steps
+
+-- those, and what the types of the `let` locals demand to be well-formed, once for the body
 abbrev pub all_pairs : Mir → List (ℕ × Requirements) → List RegionConstraint
-all_pairs mir kids = flat_map (λ (step : Step). pairs_at mir kids step.instruction) mir.steps
+all_pairs mir kids = point_pairs mir kids ++ let_pairs mir
 
 -- a pair by the numbers of its regions
 abbrev pub numbered : ℕ → RegionConstraint → Constraint

@@ -3,7 +3,7 @@ ghost use Rattle.std.specs.Prelude.{◌≡◌, ◌+◌, ◌≤◌, ℕ, map, fil
 ghost use Rattle.std.specs.List.{flat_map};
 ghost use Rattle.bc_flow.specs.Flow.{holds};
 ghost use Rattle.bc_points.specs.Regions.{region_number as number_of};
-ghost use Rattle.bc_cons.specs.Constraints.{same_region, differ, pairs_at, all_pairs, numbered, constraints_of};
+ghost use Rattle.bc_cons.specs.Constraints.{differ, pairs_at, all_pairs, numbered, constraints_of};
 ghost use Rattle.bc_cons.specs.Requirements.{AreOfChildren};
 ghost use Rattle.bc_cons.specs.Starts.{starts_with};
 ghost use Rattle.bc_cons.specs.Below.{IsRegionCount};
@@ -16,14 +16,8 @@ use crate::starts::start_rows;
 use bc_live::LiveSets;
 use bc_mir::{Constraint as RegionConstraint, Step, Typed};
 use bc_points::region_number;
-use bc_syntax::Region;
+use bc_types::is_same_region;
 use std::alloc::{AllocError, Global};
-
-fn is_same_region(first: Region, second: Region) -> bool
-    ensures { result ≡ same_region first second }
-{
-    first == second
-}
 
 /// The pairs of points, in order.
 fn pairs_of_steps(
@@ -46,6 +40,19 @@ fn pairs_of_steps(
             &step.instruction,
         )?;
     }
+    Ok(pairs)
+}
+
+/// The pairs of all points, in order, and then what the types of the `let` locals demand.
+fn pairs_of_body(
+    alloc: Global,
+    typed: &Typed,
+    kids: &[(u8, Requirements)],
+) -> Result<Vec<RegionConstraint>, AllocError>
+    ensures { IfOk result (λ pairs. pairs.items ≡ all_pairs typed.now kids.now) }
+{
+    let mut pairs = pairs_of_steps(alloc, typed, kids, typed.steps())?;
+    typed.push_let_pairs(alloc, &mut pairs)?;
     Ok(pairs)
 }
 
@@ -85,10 +92,10 @@ fn by_number(
 }
 
 /// What the values of a body's regions are made from, over the liveness that is handed in and what the body's children
-/// require, one entry for each child, ascending: the outlives constraints of its points, pairs of a region with itself left
-/// out, and the elements that each region starts with. What a child requires is demanded at each of its creations, with its
+/// require, one entry for each child, ascending: the outlives constraints of its points and those that the types of its `let`
+/// locals demand to be well-formed, pairs of a region with itself left out, and the elements that each region starts with. What a child requires is demanded at each of its creations, with its
 /// external regions replaced by those of the creation. It asks that a child requires nothing of its local regions. Answers
-/// `AllocError` only where memory was refused. (RFC 2094, "Liveness", "Subtyping" and "Reborrow constraints";
+/// `AllocError` only where memory was refused. (RFC 2094, "Liveness", "Subtyping" and "Reborrow constraints"; RFC 1214;
 /// rustc-dev-guide, "Propagating closure constraints"; that constraints hold at every point, and that `'static` starts with all
 /// ends, is own.)
 pub fn constraints(
@@ -106,10 +113,7 @@ pub fn constraints(
     ensures pairs { IfOk result (λ facts. facts.pairs ≡ constraints_of typed.now requirements.now) }
 {
     let universals = typed.universals();
-    let pairs = differing(
-        alloc,
-        &pairs_of_steps(alloc, typed, requirements, typed.steps())?,
-    )?;
+    let pairs = differing(alloc, &pairs_of_body(alloc, typed, requirements)?)?;
     let declared = types_bound(universals, usize::from(universals), typed.locals());
     let regions = pairs_bound(universals, declared, &pairs);
     let starts = start_rows(alloc, typed, live, regions)?;

@@ -58,7 +58,7 @@ pub record IsFailure (mir : Mir) (value : ValueTest) (longer shorter : ℕ) : Ty
   pub longer_declared : longer < mir.universals
   pub shorter_declared : shorter < mir.universals
   pub has_end : value longer (end_of mir shorter) ≡ true
-  pub unknown : ¬ (IsKnown mir.clauses longer shorter)
+  pub unknown : ¬ (IsKnown mir longer shorter)
 
 -- a requirement of a closure: a failure between its external regions and `'static` alone
 pub record IsRequirement (mir : Mir) (value : ValueTest) (failure : Outlives) : Type 0 where

@@ -2,25 +2,29 @@
 use Rattle.std.specs.Prelude.{◌≡◌, ℕ, ◌+◌, ◌<◌, ◌↔◌, Bool, true, false, ◌&&◌, not, if◌then◌else◌, List, [], ◌∷◌, length, map, filter}
 use Rattle.std.specs.List.{flat_map, Contains, range_with_len}
 use Rattle.bc_syntax.specs.declared.syntax.Outlives.{Outlives}
+use Rattle.bc_syntax.specs.declared.syntax.Region.TheVariants.{Universal}
 use Rattle.bc_syntax.specs.declared.syntax.UnitKind.{UnitKind}
 use Rattle.bc_syntax.specs.declared.syntax.UnitKind.TheVariants.{Function, Closure}
 use Rattle.bc_cons.specs.Requirements.{may_go_up}
 use Rattle.bc_mir.specs.Mir.{Mir}
+use Rattle.bc_mir.specs.WellFormed.{implied_pairs}
+use Rattle.bc_types.specs.Subtype.{outlives}
 use Rattle.bc_judge.specs.declared.error.BorrowError.{BorrowError}
 use Rattle.bc_judge.specs.declared.error.BorrowError.TheVariants.{Lifetime}
 
--- a is known to outlive b: the least reflexive and transitive relation with the `where` clauses, in which 'static
--- outlives all
-pub data IsKnown (clauses : List Outlives) : ℕ → ℕ → Type 0 where
-  same : (a : ℕ) → IsKnown clauses a a
-  static : (b : ℕ) → IsKnown clauses 0 b
-  clause : (a b : ℕ) → Contains clauses (record { longer = a; shorter = b }) → IsKnown clauses a b
-  join : (a b c : ℕ) → IsKnown clauses a b → IsKnown clauses b c → IsKnown clauses a c
+-- a is known to outlive b: the least reflexive and transitive relation with the `where` clauses, and with what the types of
+-- the captures and the parameters demand to be well-formed, in which 'static outlives all
+pub data IsKnown (mir : Mir) : ℕ → ℕ → Type 0 where
+  same : (a : ℕ) → IsKnown mir a a
+  static : (b : ℕ) → IsKnown mir 0 b
+  clause : (a b : ℕ) → Contains mir.clauses (record { longer = a; shorter = b }) → IsKnown mir a b
+  implied : (a b : ℕ) → Contains (implied_pairs mir) (outlives (Universal a) (Universal b)) → IsKnown mir a b
+  join : (a b c : ℕ) → IsKnown mir a b → IsKnown mir b c → IsKnown mir a c
 
 -- a test tells what is known of a body's universal regions
 abbrev pub TellsKnown : Mir → (ℕ → ℕ → Bool) → Type 0
 TellsKnown mir known =
-    (a b : ℕ) → a < mir.universals → b < mir.universals → (known a b ≡ true) ↔ IsKnown mir.clauses a b
+    (a b : ℕ) → a < mir.universals → b < mir.universals → (known a b ≡ true) ↔ IsKnown mir a b
 
 -- whether an element is in the value of a region: of the region's number and the element's
 abbrev pub ValueTest : Type 0

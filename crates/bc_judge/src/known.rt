@@ -2,12 +2,13 @@
 ghost use Rattle.std.specs.Prelude.{◌≡◌, ◌≤◌, ◌++◌, length, map, IfOk, OnOk};
 ghost use Rattle.std.specs.List.{flat_map, range_with_len};
 ghost use Rattle.bc_flow.specs.Flow.{holds, HaveSize};
+ghost use Rattle.bc_flow.specs.Graph.{AreWithin};
 ghost use Rattle.bc_judge.specs.Lifetimes.{TellsKnown};
-ghost use Rattle.bc_judge.specs.Known.{edge_of, entries_of};
+ghost use Rattle.bc_judge.specs.Known.{edge_of, edges_between, pair_edges, known_edges as edges_known, entries_of};
 
 use bc_flow::{BitTable, Edge, Entry, every_node, flow, table};
-use bc_mir::Typed;
-use bc_syntax::Outlives;
+use bc_mir::{Constraint, Typed};
+use bc_syntax::{Outlives, Region};
 use std::alloc::{AllocError, Global};
 use std::marker::Model;
 
@@ -49,6 +50,49 @@ fn clause_edges(alloc: Global, clauses: &[Outlives]) -> Result<Vec<Edge>, AllocE
         .collect(alloc)
 }
 
+/// Appends what a pair hands on: a variable hands nothing on.
+fn push_edges_between(
+    edges: &mut Vec<Edge>,
+    longer: Region,
+    shorter: Region,
+) -> Result<(), AllocError>
+    ensures { OnOk result (edges.new.items ≡ edges.old.items ++ edges_between longer shorter) }
+{
+    match longer {
+        Region::Universal(longer) => match shorter {
+            Region::Universal(shorter) => {
+                edges.push(Edge {
+                    from: usize::from(shorter),
+                    to: usize::from(longer),
+                })?;
+                Ok(())
+            }
+            Region::Variable(_) => Ok(()),
+        },
+        Region::Variable(_) => Ok(()),
+    }
+}
+
+fn push_pair_edges(edges: &mut Vec<Edge>, pairs: &[Constraint]) -> Result<(), AllocError>
+    ensures { OnOk result (edges.new.items ≡ edges.old.items ++ flat_map pair_edges pairs.now) }
+{
+    for pair in pairs {
+        push_edges_between(edges, pair.longer, pair.shorter)?;
+    }
+    Ok(())
+}
+
+/// What a region outlives is handed on by the clauses, and by what the types of the captures and the parameters demand.
+fn known_edges(alloc: Global, typed: &Typed) -> Result<Vec<Edge>, AllocError>
+    ensures value { IfOk result (λ edges. edges.items ≡ edges_known typed.now) }
+    ensures within { IfOk result (λ edges. AreWithin edges.items typed.now.universals) }
+{
+    let mut edges = clause_edges(alloc, typed.clauses())?;
+    let pairs = typed.implied_pairs(alloc)?;
+    push_pair_edges(&mut edges, &pairs)?;
+    Ok(edges)
+}
+
 /// Appends that a region outlives itself, and that `'static`, which is number 0, outlives it.
 fn push_entries(entries: &mut Vec<Entry>, region: usize) -> Result<(), AllocError>
     ensures { OnOk result (entries.new.items ≡ entries.old.items ++ entries_of region) }
@@ -76,15 +120,16 @@ fn first_entries(alloc: Global, universals: usize) -> Result<Vec<Entry>, AllocEr
 }
 
 /// The relations between universal regions that a body may count on: the reflexive and transitive closure of its
-/// `where` clauses and of `'static` outliving all (RFC 2094, "Named lifetimes": the universal regions and their
-/// declared relations). Answers `AllocError` only where memory was refused.
+/// `where` clauses, of what the types of its captures and parameters demand to be well-formed, and of `'static` outliving all
+/// (RFC 2094, "Named lifetimes": the universal regions and their declared relations; RFC 1214, "implied bounds"). Answers
+/// `AllocError` only where memory was refused.
 pub fn known_relations(alloc: Global, typed: &Typed) -> Result<KnownRelations, AllocError>
     ensures tells { IfOk result (λ known. TellsKnown typed.now (holds known)) }
     ensures regions { IfOk result (λ known. length known ≡ typed.now.universals) }
     ensures sizes { IfOk result (λ known. HaveSize typed.now.universals known) }
 {
     let universals = usize::from(typed.universals());
-    let edges = clause_edges(alloc, typed.clauses())?;
+    let edges = known_edges(alloc, typed)?;
     let entries = first_entries(alloc, universals)?;
     let seeds = table(alloc, universals, universals, &entries)?;
     let pending = every_node(alloc, universals)?;

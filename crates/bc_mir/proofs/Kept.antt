@@ -14,7 +14,7 @@ use Rattle.bc_syntax.proofs.Signatures.{signature_parts}
 use Rattle.bc_syntax.specs.declared.syntax.UnitKind.{UnitKind}
 use Rattle.bc_syntax.specs.declared.syntax.UnitKind.TheVariants.{Function, Closure}
 use Rattle.bc_syntax.specs.declared.syntax.Ty.{Ty}
-use Rattle.bc_syntax.specs.Locals.{locals_of}
+use Rattle.bc_syntax.specs.Locals.{declared_locals, locals_of}
 use Rattle.bc_syntax.specs.Fits.{Fits as Sized, universal_count, point_count, clause_fits, kind_fits, signature_fits, ty_fits, let_fits, statement_fits, terminator_fits, block_fits}
 use Rattle.bc_flow.specs.declared.graph.Edge.{Edge}
 use Rattle.bc_mir.specs.declared.children.Child.{Child}
@@ -168,6 +168,8 @@ typed types children body sized fits =
       some_local = omega arith;
       locals = sized.locals;
       types = types-fit body sized;
+      some_declared = omega arith;
+      lets = omega (arith, length-append (declared_locals body.header) body.lets);
       some_point = some-point body.blocks sized.some_block;
       points = omega (arith, count, sized.points);
       instructions = steps-fit (universal_count body.header.signature) (length (locals_of body)) 0 body.blocks sized.blocks;

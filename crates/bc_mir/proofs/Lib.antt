@@ -5,3 +5,4 @@ pub mod Kept
 pub mod Entries
 pub mod Replacing
 pub mod Blanking
+pub mod Declared

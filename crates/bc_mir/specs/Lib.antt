@@ -1,4 +1,4 @@
-pub mod Mentions
+pub use Rattle.bc_types.specs.Mentions
 pub mod Externals
 pub mod Children
 pub mod Mir
@@ -10,3 +10,4 @@ pub mod Lines
 pub mod PlaceTypes
 pub mod Rules
 pub mod Drops
+pub mod WellFormed

@@ -11,7 +11,7 @@ use Rattle.bc_syntax.specs.declared.syntax.Statement.{Statement as Simple}
 use Rattle.bc_syntax.specs.declared.syntax.Terminator.{Terminator as Ending}
 use Rattle.bc_syntax.specs.declared.syntax.Terminator.TheVariants.{Goto, If, Call, Invoke, Return, Stop}
 use Rattle.bc_syntax.specs.Fits.{universal_count}
-use Rattle.bc_syntax.specs.Locals.{locals_of}
+use Rattle.bc_syntax.specs.Locals.{first_let, locals_of}
 use Rattle.bc_flow.specs.declared.graph.Edge.{Edge}
 use Rattle.bc_mir.specs.declared.children.Child.{Child}
 use Rattle.bc_mir.specs.declared.mir.Step.{Step}
@@ -20,8 +20,8 @@ use Rattle.bc_mir.specs.declared.mir.Instruction.TheVariants.{Statement, Termina
 use Rattle.bc_mir.specs.Externals.{external_regions}
 
 -- the declarations, the headers of the children, what the unit is, how many universal regions there are, which of them are
--- external, the clauses between them, the types of the locals, the points with what happens at each, and for each block its
--- first point. A point is its number in the list of all points
+-- external, the clauses between them, the types of the locals, the number of the first `let` local, the points with what
+-- happens at each, and for each block its first point. A point is its number in the list of all points
 pub record Mir : Type 0 where
   pub types : List Declaration
   pub children : List Child
@@ -30,6 +30,7 @@ pub record Mir : Type 0 where
   pub externals : List ℕ
   pub clauses : List Outlives
   pub locals : List Ty
+  pub first_let : ℕ
   pub steps : List Step
   pub entries : List ℕ
 
@@ -62,6 +63,7 @@ mir_of types children body = record {
   externals = external_regions body.header;
   clauses = body.header.signature.clauses;
   locals = locals_of body;
+  first_let = first_let body.header;
   steps = steps_from 0 body.blocks;
   entries = entries_from 0 body.blocks;
 }

@@ -26,6 +26,8 @@ pub record IsTyped (mir : Mir) : Type 0 where
   pub some_local : 1 ≤ length mir.locals
   pub locals : length mir.locals ≤ 256
   pub types : list_all (let_fits mir.universals) mir.locals ≡ true
+  pub some_declared : 1 ≤ mir.first_let
+  pub lets : mir.first_let ≤ length mir.locals
   pub some_point : 1 ≤ length mir.steps
   pub points : length mir.steps ≤ 4096
   pub instructions : steps_fit mir.universals (length mir.locals) mir.steps ≡ true

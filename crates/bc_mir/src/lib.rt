@@ -17,6 +17,7 @@ mod subtype;
 mod typed;
 mod typing;
 mod value_types;
+mod well_formed;
 
 pub use bc_types::{CheckTypes, Constraint, DeclFault, GoodTypes, is_mutable};
 pub use children::{Child, KidHeader, arguments, is_outer_clause};

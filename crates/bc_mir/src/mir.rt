@@ -49,6 +49,7 @@ pub(crate) struct Draft {
     pub(crate) externals: Vec<usize>,
     pub(crate) clauses: Sequence<Outlives>,
     pub(crate) locals: Vec<Ty>,
+    pub(crate) first_let: usize,
     pub(crate) steps: Vec<Step>,
     pub(crate) entries: Vec<usize>,
 }
@@ -67,6 +68,7 @@ impl Model for Draft {
       externals = d.externals.items;
       clauses = d.clauses;
       locals = d.locals.items;
+      first_let = d.first_let;
       steps = d.steps.items;
       entries = d.entries.items;
     } };
@@ -157,6 +159,7 @@ impl Draft {
             externals: externals_of(alloc, &body.header)?,
             clauses: copy_clauses(&signature.clauses)?,
             locals: body.local_types(alloc)?,
+            first_let: body.header.first_let(),
             steps,
             entries,
         })

@@ -9,6 +9,7 @@ ghost use Rattle.bc_mir.specs.Children.{child_of};
 ghost use Rattle.bc_mir.specs.Mir.{mir_of};
 ghost use Rattle.bc_mir.specs.Typing.{first_unfit as first_misfit, misfit as misfit_of, Fits};
 ghost use Rattle.bc_mir.specs.Typed.{IsTyped, steps_fit};
+ghost use Rattle.bc_mir.specs.WellFormed.{input_types, let_types};
 ghost use Rattle.bc_mir.specs.declared.typed.Where.{Where};
 
 use crate::children::{Child, KidHeader};
@@ -162,6 +163,22 @@ impl Typed {
         ensures declared { list_all (let_fits self.now.universals) result.now ≡ true }
     {
         self.draft.locals.as_slice()
+    }
+
+    /// The types of the captures and the parameters, in order.
+    pub fn inputs(&self) -> &[Ty]
+        ensures value { result.now ≡ input_types self.now }
+        ensures declared { list_all (let_fits self.now.universals) result.now ≡ true }
+        ensures typed { IsTyped self.now }
+    {
+        &self.locals()[1..self.draft.first_let]
+    }
+
+    /// The types of the `let` locals, in order.
+    pub fn lets(&self) -> &[Ty]
+        ensures { result.now ≡ let_types self.now }
+    {
+        &self.draft.locals.as_slice()[self.draft.first_let..]
     }
 
     /// The points in order, 1 to 4,096, each with what happens there. No rule fails at any of them.

@@ -27,6 +27,7 @@ use Rattle.bc_types.specs.Replaced.{replaced_region, replaced_ty}
 use Rattle.bc_mir.specs.Rules.{type_of_operand, type_of_rvalue, closure_in}
 use Rattle.bc_types.specs.Subtype.{outlives}
 use Rattle.bc_types.specs.Subtyping.{sub}
+use Rattle.bc_types.specs.WellFormed.{replaced_well_formed}
 
 -- what makes a type that exists a subtype of another
 abbrev pub sub_found : List Declaration → Option Ty → Ty → List Constraint
@@ -81,13 +82,14 @@ assignment_pairs mir assignment =
     field_pairs mir assignment.value
     ++ sub_place mir (type_of_rvalue mir assignment.value) assignment.target
 
--- the operands are subtypes of the parameters, the clauses hold, and the result is a subtype of the destination, with the
--- function's regions replaced
+-- the operands are subtypes of the parameters, the parameters' types are well-formed, the clauses hold, and the result is a
+-- subtype of the destination, with the function's regions replaced
 abbrev pub called_pairs : Mir → Calling → ExternDeclaration → List Constraint
 called_pairs mir call d =
     operand_pairs mir call.function.regions call.operands d.signature.parameters
+    ++ (replaced_well_formed mir.types call.function.regions d.signature.parameters
     ++ (map (replaced_clause call.function.regions) d.signature.clauses
-    ++ sub_place mir (Some (replaced_ty call.function.regions d.signature.result)) call.destination)
+    ++ sub_place mir (Some (replaced_ty call.function.regions d.signature.result)) call.destination))
 
 abbrev pub call_pairs : Mir → Calling → List Constraint
 call_pairs mir call = option_map_or (called_pairs mir call) (extern_of mir.types call.function.name) []
@@ -96,13 +98,14 @@ call_pairs mir call = option_map_or (called_pairs mir call) (extern_of mir.types
 abbrev pub is_inner_clause : Header → Outlives → Bool
 is_inner_clause header clause = not (is_outer_clause header.captures clause)
 
--- the operands are subtypes of the parameters, the clauses hold that did not at the creation, and the result is a subtype
--- of the destination, with a child's regions replaced by arguments
+-- the operands are subtypes of the parameters, the parameters' types are well-formed, the clauses hold that did not at the
+-- creation, and the result is a subtype of the destination, with a child's regions replaced by arguments
 abbrev pub passed_pairs : Mir → List Region → Invocation → Header → List Constraint
 passed_pairs mir arguments invocation header =
     operand_pairs mir arguments invocation.operands header.signature.parameters
+    ++ (replaced_well_formed mir.types arguments header.signature.parameters
     ++ (clauses_where (is_inner_clause header) arguments header.signature.clauses
-    ++ sub_place mir (Some (replaced_ty arguments header.signature.result)) invocation.destination)
+    ++ sub_place mir (Some (replaced_ty arguments header.signature.result)) invocation.destination))
 
 -- the external regions are those of the closure, and the local ones those of the call
 abbrev pub invoked_pairs : Mir → Invocation → ClosureInstance → List Constraint

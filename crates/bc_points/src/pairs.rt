@@ -2,6 +2,7 @@
 ghost use Rattle.std.specs.Prelude.{◌≡◌, ◌++◌, ◌∷◌, [], Some, map, OnOk};
 ghost use Rattle.bc_mir.specs.Rules.{type_referenced, type_of_operand as operand_type, type_of_rvalue as rvalue_type};
 ghost use Rattle.bc_types.specs.Replaced.{replaced_ty};
+ghost use Rattle.bc_types.specs.WellFormed.{replaced_well_formed};
 ghost use Rattle.bc_mir.specs.Children.{is_outer_clause as outer_clause};
 ghost use Rattle.bc_points.specs.Pairs.{sub_found, sub_place, operand_pair, operand_pairs, replaced_clause, clauses_where, captured_pairs, field_pairs, assignment_pairs, called_pairs, call_pairs, is_inner_clause, passed_pairs, invoked_pairs, invocation_pairs};
 
@@ -361,6 +362,22 @@ fn push_returned_pairs(
     push_sub_place(alloc, constraints, typed, &TyRef::of(&returned), place)
 }
 
+/// Appends what the types of parameters demand to be well-formed, with the declared regions replaced by arguments.
+fn push_parameter_pairs(
+    alloc: Global,
+    constraints: &mut Vec<Constraint>,
+    typed: &Typed,
+    arguments: &[Region],
+    parameters: &[Ty],
+) -> Result<(), AllocError>
+    ensures { OnOk result (constraints.new.items
+        ≡ constraints.old.items ++ replaced_well_formed typed.now.types arguments.now parameters.now) }
+{
+    typed
+        .types()
+        .push_replaced_well_formed(alloc, constraints, arguments, parameters)
+}
+
 fn push_called_pairs(
     alloc: Global,
     constraints: &mut Vec<Constraint>,
@@ -375,6 +392,7 @@ fn push_called_pairs(
     let operands = call.operands.as_slice();
     let parameters = signature.parameters.as_slice();
     push_operand_pairs(alloc, constraints, typed, arguments, operands, parameters)?;
+    push_parameter_pairs(alloc, constraints, typed, arguments, parameters)?;
     push_clauses(constraints, arguments, signature.clauses.as_slice())?;
     push_returned_pairs(
         alloc,
@@ -386,9 +404,9 @@ fn push_called_pairs(
     )
 }
 
-/// Appends what a call demands: the operands are subtypes of the parameters, the function's clauses hold, and the result
-/// is a subtype of the destination. The error is want of memory alone.
-/// (RFC 2094, "Subtyping".)
+/// Appends what a call demands: the operands are subtypes of the parameters, the parameters' types are well-formed, the
+/// function's clauses hold, and the result is a subtype of the destination. The error is want of memory alone.
+/// (RFC 2094, "Subtyping"; RFC 1214.)
 pub fn push_call_pairs(
     alloc: Global,
     constraints: &mut Vec<Constraint>,
@@ -417,8 +435,9 @@ fn push_passed_pairs(
 {
     let signature = &header.signature;
     let operands = invocation.operands.as_slice();
-    let parameters = signature.parameters.as_slice();
-    push_operand_pairs(alloc, constraints, typed, arguments, operands, parameters)?;
+    let expected = signature.parameters.as_slice();
+    push_operand_pairs(alloc, constraints, typed, arguments, operands, expected)?;
+    push_parameter_pairs(alloc, constraints, typed, arguments, expected)?;
     push_inner_clauses(constraints, header, arguments, signature.clauses.as_slice())?;
     push_returned_pairs(
         alloc,
@@ -449,9 +468,10 @@ fn push_invoked_pairs(
     }
 }
 
-/// Appends what the call of a closure demands: the operands are subtypes of the parameters, the clauses of the closure hold that
-/// its creation does not demand, and the result is a subtype of the destination. The error is want of memory alone.
-/// (RFC 2094, "Subtyping"; rustc-dev-guide, "Propagating closure constraints".)
+/// Appends what the call of a closure demands: the operands are subtypes of the parameters, the parameters' types are
+/// well-formed, the clauses of the closure hold that its creation does not demand, and the result is a subtype of the
+/// destination. The error is want of memory alone. (RFC 2094, "Subtyping"; RFC 1214; rustc-dev-guide, "Propagating closure
+/// constraints".)
 pub fn push_invocation_pairs(
     alloc: Global,
     constraints: &mut Vec<Constraint>,

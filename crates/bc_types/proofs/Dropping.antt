@@ -1,5 +1,5 @@
 -- What is known of a struct tells whether it holds a drop.
-use Rattle.std.proofs.Common.{◌≡◌, Bool, true, false, cond, ◌&&◌, ◌||◌, Option, Some, List, [], ◌∷◌, length, refl, sym, ap, ◌∙◌}
+use Rattle.std.proofs.Common.{◌≡◌, Bool, true, false, cond, ◌&&◌, ◌||◌, Option, Some, List, [], ◌∷◌, refl, sym, ap, ◌∙◌}
 use Rattle.std.specs.List.{list_any}
 use Rattle.std.specs.Option.{option_map_or}
 use Rattle.std.specs.Str.{bytes_eq}
@@ -9,7 +9,7 @@ use Rattle.bc_syntax.specs.declared.syntax.Declaration.TheVariants.{Struct, Exte
 use Rattle.bc_types.specs.declared.table.KnownStruct.{KnownStruct}
 use Rattle.bc_types.specs.Declarations.{struct_among, takes_regions}
 use Rattle.bc_types.specs.Drops.{struct_holds_drop, holds_drop_among}
-use Rattle.bc_types.specs.Known.{known_struct}
+use Rattle.bc_types.specs.Known.{known_behind, known_struct}
 
 abbrev is_marked : Option KnownStruct → Bool
 is_marked known = option_map_or (λ (k : KnownStruct). k.holds_drop) known false
@@ -22,7 +22,7 @@ marked_drop (Struct d ∷ earlier) instance = by (bytes_eq instance.name.bytes d
   where
     by : (same : Bool) → option_map_or (takes_regions instance) (struct_among earlier instance.name) false && is_marked (known_struct earlier instance.name.bytes) ≡ struct_holds_drop earlier instance
         → option_map_or (takes_regions instance) (cond same (Some d) (struct_among earlier instance.name)) false
-        && is_marked (cond same (Some (record { position = length earlier; holds_drop = d.has_drop || list_any (holds_drop_among earlier) d.fields })) (known_struct earlier instance.name.bytes))
+        && is_marked (cond same (Some (known_behind earlier d)) (known_struct earlier instance.name.bytes))
         ≡ cond same (takes_regions instance d && (d.has_drop || list_any (holds_drop_among earlier) d.fields)) (struct_holds_drop earlier instance)
     by true rest = refl
     by false rest = rest

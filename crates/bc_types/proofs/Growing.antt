@@ -1,6 +1,5 @@
 -- A table with one declaration more.
-use Rattle.std.proofs.Common.{◌≡◌, ℕ, Bool, cond, ◌||◌, Some, List, [], ◌∷◌, ◌++◌, length, reverse, sym, ap, subst, ◌∙◌}
-use Rattle.std.specs.List.{list_any}
+use Rattle.std.proofs.Common.{◌≡◌, ℕ, cond, Some, List, [], ◌∷◌, ◌++◌, length, reverse, sym, ap, subst, ◌∙◌}
 use Rattle.std.specs.Str.{bytes_eq}
 use Rattle.std.specs.HashMap.{HashMap}
 use Rattle.std.proofs.lemmas.List.{reverse-append, length-reverse}
@@ -9,31 +8,23 @@ use Rattle.bc_syntax.specs.declared.syntax.ExternDeclaration.{ExternDeclaration}
 use Rattle.bc_syntax.specs.declared.syntax.Declaration.{Declaration}
 use Rattle.bc_syntax.specs.declared.syntax.Declaration.TheVariants.{Struct, Extern}
 use Rattle.bc_types.specs.declared.table.KnownStruct.{KnownStruct}
-use Rattle.bc_types.specs.Drops.{holds_drop}
-use Rattle.bc_types.specs.Known.{known_struct, known_extern, AreKnown, Adds}
+use Rattle.bc_types.specs.Known.{known_behind, known_struct, known_extern, AreKnown, Adds}
 
 -- the last of declarations comes first when they are turned round
 pub turned : (declarations more : List Declaration) (d : Declaration) → more ≡ declarations ++ d ∷ [] → reverse more ≡ d ∷ reverse declarations
 turned declarations more d is = ap reverse is ∙ reverse-append declarations (d ∷ [])
 
-abbrev pub found_at : ℕ → Bool → KnownStruct
-found_at position holds = record { position = position; holds_drop = holds }
-
-abbrev pub finds_drop : List Declaration → StructDeclaration → Bool
-finds_drop declarations d = d.has_drop || list_any (holds_drop declarations) d.fields
-
 module _ {K S : Type 0} (bytes : K → List ℕ) where
-  pub with-struct : (declarations more : List Declaration) (d : StructDeclaration) (old new : HashMap K KnownStruct S) (externs : HashMap K ℕ S) (name : List ℕ) (position : ℕ) (holds : Bool)
-      → position ≡ length declarations → holds ≡ finds_drop declarations d → name ≡ d.name.bytes → Adds bytes old new name (found_at position holds) → more ≡ declarations ++ Struct d ∷ []
+  pub with-struct : (declarations more : List Declaration) (d : StructDeclaration) (old new : HashMap K KnownStruct S) (externs : HashMap K ℕ S) (name : List ℕ) (known : KnownStruct)
+      → known ≡ known_behind (reverse declarations) d → name ≡ d.name.bytes → Adds bytes old new name known → more ≡ declarations ++ Struct d ∷ []
       → AreKnown bytes declarations old externs → AreKnown bytes more new externs
-  with-struct declarations more d old new externs own position holds at is named adds grown known = record {
+  with-struct declarations more d old new externs own known is named adds grown before = record {
     known_structs = λ name.
-        subst (λ n. Adds bytes old new n (found_at position holds)) named adds name
-        ∙ ap (cond (bytes_eq name d.name.bytes) (Some (found_at position holds))) (known.known_structs name)
-        ∙ ap (λ n. cond (bytes_eq name d.name.bytes) (Some (found_at n holds)) (known_struct (reverse declarations) name)) (at ∙ sym (length-reverse declarations))
-        ∙ ap (λ h. cond (bytes_eq name d.name.bytes) (Some (found_at (length (reverse declarations)) h)) (known_struct (reverse declarations) name)) is
+        subst (λ n. Adds bytes old new n known) named adds name
+        ∙ ap (cond (bytes_eq name d.name.bytes) (Some known)) (before.known_structs name)
+        ∙ ap (λ k. cond (bytes_eq name d.name.bytes) (Some k) (known_struct (reverse declarations) name)) is
         ∙ ap (λ e. known_struct e name) (sym (turned declarations more (Struct d) grown));
-    known_externs = λ name. known.known_externs name ∙ ap (λ e. known_extern e name) (sym (turned declarations more (Struct d) grown));
+    known_externs = λ name. before.known_externs name ∙ ap (λ e. known_extern e name) (sym (turned declarations more (Struct d) grown));
   }
 
   pub with-extern : (declarations more : List Declaration) (d : ExternDeclaration) (structs : HashMap K KnownStruct S) (old new : HashMap K ℕ S) (name : List ℕ) (position : ℕ)

@@ -8,7 +8,7 @@ use Rattle.bc_syntax.specs.declared.syntax.Declaration.TheVariants.{Struct, Exte
 use Rattle.bc_syntax.specs.declared.syntax.StructDeclaration.{StructDeclaration}
 use Rattle.bc_types.specs.declared.table.KnownStruct.{KnownStruct}
 use Rattle.bc_types.specs.Declarations.{struct_among, extern_among, struct_of, extern_of}
-use Rattle.bc_types.specs.Known.{known_struct, known_extern, as_struct, as_extern, struct_at, extern_at}
+use Rattle.bc_types.specs.Known.{known_behind, known_struct, known_extern, as_struct, as_extern, struct_at, extern_at}
 
 get-front : {A : Type 0} (xs : List A) (x : A) (i : ℕ) → i < length xs → slice_get (xs ++ x ∷ []) i ≡ slice_get xs i
 get-front [] x i below = absurd (omega arith)
@@ -33,7 +33,7 @@ at-last earlier d = rw (reverse-cons d earlier, sym (length-reverse earlier)) (g
 known_struct-within : (earlier : List Declaration) (name : List ℕ) (k : KnownStruct) → known_struct earlier name ≡ Some k → k.position < length earlier
 known_struct-within [] name k is = cc
 known_struct-within (Extern d ∷ earlier) name k is = let rest = known_struct-within earlier name k is in omega arith
-known_struct-within (Struct d ∷ earlier) name k is = by (bytes_eq name d.name.bytes) _ refl (known_struct-within earlier name k) is
+known_struct-within (Struct d ∷ earlier) name k is = by (bytes_eq name d.name.bytes) (known_behind earlier d) refl (known_struct-within earlier name k) is
   where
     by : (same : Bool) (first : KnownStruct) → first.position ≡ length earlier → (known_struct earlier name ≡ Some k → k.position < length earlier) → cond same (Some first) (known_struct earlier name) ≡ Some k → k.position < length (Struct d ∷ earlier)
     by true first at rest is = let position : first.position ≡ k.position = ap (λ o. (unwrap_or o first).position) is in omega arith
@@ -64,11 +64,11 @@ struct-there : (earlier : List Declaration) (name : ItemName) → struct_found (
 struct-there [] name = refl
 struct-there (Extern d ∷ earlier) name =
     struct-wider earlier (Extern d) (known_struct earlier name.bytes) (known_struct-within earlier name.bytes) ∙ struct-there earlier name
-struct-there (Struct d ∷ earlier) name = by (bytes_eq name.bytes d.name.bytes) _ (struct-there earlier name)
+struct-there (Struct d ∷ earlier) name = by (bytes_eq name.bytes d.name.bytes) (struct-there earlier name)
   where
-    by : (same holds : Bool) → struct_found (reverse earlier) (known_struct earlier name.bytes) ≡ struct_among earlier name → struct_found (reverse (Struct d ∷ earlier)) (cond same (Some (record { position = length earlier; holds_drop = holds })) (known_struct earlier name.bytes)) ≡ cond same (Some d) (struct_among earlier name)
-    by true holds rest = ap (option_and_then as_struct) (at-last earlier (Struct d))
-    by false holds rest = struct-wider earlier (Struct d) (known_struct earlier name.bytes) (known_struct-within earlier name.bytes) ∙ rest
+    by : (same : Bool) → struct_found (reverse earlier) (known_struct earlier name.bytes) ≡ struct_among earlier name → struct_found (reverse (Struct d ∷ earlier)) (cond same (Some (known_behind earlier d)) (known_struct earlier name.bytes)) ≡ cond same (Some d) (struct_among earlier name)
+    by true rest = ap (option_and_then as_struct) (at-last earlier (Struct d))
+    by false rest = struct-wider earlier (Struct d) (known_struct earlier name.bytes) (known_struct-within earlier name.bytes) ∙ rest
 
 extern-there : (earlier : List Declaration) (name : ItemName) → option_and_then (extern_at (reverse earlier)) (known_extern earlier name.bytes) ≡ extern_among earlier name
 extern-there [] name = refl

@@ -9,6 +9,7 @@ use Rattle.bc_syntax.specs.declared.syntax.Declaration.{Declaration}
 use Rattle.bc_syntax.specs.declared.syntax.Declaration.TheVariants.{Struct, Extern}
 use Rattle.bc_types.specs.declared.table.KnownStruct.{KnownStruct}
 use Rattle.bc_types.specs.Drops.{holds_drop_among}
+use Rattle.bc_types.specs.WellFormed.{field_pairs, struct_pairs}
 
 -- a declaration as a struct, if it is one
 abbrev pub as_struct : Declaration → Option StructDeclaration
@@ -28,12 +29,21 @@ as_extern (Extern d) = Some d
 abbrev pub extern_at : List Declaration → ℕ → Option ExternDeclaration
 extern_at declarations position = option_and_then as_extern (slice_get declarations position)
 
--- where the struct of a name stands among declarations, of which the last comes first, and whether it holds a drop
+-- what is kept of a struct behind other declarations: where it stands, whether it holds a drop, and what the types of its
+-- fields demand of its own regions
+abbrev pub known_behind : List Declaration → StructDeclaration → KnownStruct
+known_behind earlier d = record {
+  position = length earlier;
+  holds_drop = d.has_drop || list_any (holds_drop_among earlier) d.fields;
+  pairs = field_pairs (struct_pairs earlier) d.fields;
+}
+
+-- what is kept of the struct of a name among declarations, of which the last comes first
 abbrev pub known_struct : List Declaration → List ℕ → Option KnownStruct
 known_struct [] name = None
 known_struct (Struct d ∷ earlier) name =
     if bytes_eq name d.name.bytes
-    then Some (record { position = length earlier; holds_drop = d.has_drop || list_any (holds_drop_among earlier) d.fields })
+    then Some (known_behind earlier d)
     else known_struct earlier name
 known_struct (Extern d ∷ earlier) name = known_struct earlier name
 

@@ -1,4 +1,5 @@
 pub mod Mutabilities
+pub mod Mentions
 pub mod Declarations
 pub mod Drops
 pub mod Replaced
@@ -6,3 +7,4 @@ pub mod Known
 pub mod Shapes
 pub mod Subtype
 pub mod Subtyping
+pub mod WellFormed

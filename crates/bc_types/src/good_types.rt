@@ -1,15 +1,20 @@
 //! Declarations of which none is bad.
-ghost use Rattle.std.specs.Prelude.{◌≡◌, ℕ, reverse, IfOk, OnOk};
+ghost use Rattle.std.specs.Prelude.{◌≡◌, ◌++◌, ℕ, reverse, IfOk, OnOk};
 ghost use Rattle.std.specs.List.{list_all};
 ghost use Rattle.std.specs.Option.{option_copied};
 ghost use Rattle.bc_types.specs.Declarations.{has_declared_base as declared_base, first_bad, struct_of, extern_of};
 ghost use Rattle.bc_types.specs.Drops.{holds_drop as holding};
 ghost use Rattle.bc_types.specs.Replaced.{declared_field as field_there, field_type};
+ghost use Rattle.bc_types.specs.WellFormed.{replaced_well_formed, well_formed_pairs};
 
 use crate::good::{have_declared_bases, is_good};
 use crate::replaced::replace_ty;
+use crate::subtype::Constraint;
 use crate::table::Table;
-use bc_syntax::{Declaration, ExternDeclaration, Instance, ItemName, StructDeclaration, Ty, Types};
+use crate::well_formed::push_replaced_pairs;
+use bc_syntax::{
+    Declaration, ExternDeclaration, Instance, ItemName, Region, StructDeclaration, Ty, Types,
+};
 use std::alloc::{AllocError, Global};
 use std::marker::Model;
 use thiserror::Error;
@@ -170,5 +175,34 @@ impl GoodTypes {
             Some(ty) => Ok(Some(replace_ty(alloc, instance.regions.as_slice(), ty)?)),
             None => Ok(None),
         }
+    }
+
+    /// Appends what a well-formed type demands: each region that is written behind a reference outlives that of the reference,
+    /// and a struct demands what the types of its fields do, with its regions in them. It looks into no closure. The error is
+    /// want of memory alone. (Rust Reference, "Trait and lifetime bounds"; RFC 1214.)
+    pub fn push_well_formed(
+        &self,
+        constraints: &mut Vec<Constraint>,
+        ty: &Ty,
+    ) -> Result<(), AllocError>
+        ensures { OnOk result (constraints.new.items ≡ constraints.old.items ++ well_formed_pairs self.now ty.now) }
+    {
+        self.table.push_well_formed(constraints, ty)
+    }
+
+    /// Appends what well-formed types of a declaration or of a header demand, in order, with the declared regions replaced by
+    /// arguments. The error is want of memory alone. (RFC 1214.)
+    pub fn push_replaced_well_formed(
+        &self,
+        alloc: Global,
+        constraints: &mut Vec<Constraint>,
+        arguments: &[Region],
+        types: &[Ty],
+    ) -> Result<(), AllocError>
+        ensures { OnOk result (constraints.new.items
+            ≡ constraints.old.items ++ replaced_well_formed self.now arguments.now types.now) }
+    {
+        let pairs = self.table.pairs_of_types(alloc, types)?;
+        push_replaced_pairs(constraints, arguments, &pairs)
     }
 }

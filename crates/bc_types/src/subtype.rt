@@ -1,5 +1,6 @@
 //! Regions that outlive others (RFC 2094, "Subtyping").
 ghost use Rattle.std.specs.Prelude.{◌≡◌, ◌++◌, ◌∷◌, [], OnOk};
+ghost use Rattle.bc_types.specs.Subtype.{same_region};
 
 use bc_syntax::Region;
 use std::alloc::AllocError;
@@ -10,6 +11,13 @@ use std::alloc::AllocError;
 pub struct Constraint {
     pub longer: Region,
     pub shorter: Region,
+}
+
+/// Whether two regions are one.
+pub fn is_same_region(first: Region, second: Region) -> bool
+    ensures { result ≡ same_region first second }
+{
+    first == second
 }
 
 /// Appends that a region outlives another. The error is want of memory alone.

@@ -1,14 +1,17 @@
 //! Declarations, and where they stand under their names.
 ghost use Rattle.std.specs.Prelude.{◌≡◌, ◌++◌, ◌∷◌, ◌||◌, [], false, reverse, length, IfOk, OnOk};
-ghost use Rattle.std.specs.List.{list_any};
+ghost use Rattle.std.specs.List.{flat_map, list_any};
 ghost use Rattle.std.specs.Option.{option_copied, option_map_or};
 ghost use Rattle.bc_types.specs.Declarations.{struct_of, extern_of, takes_regions as takes};
 ghost use Rattle.std.specs.Str.{bytes_eq};
 ghost use Rattle.indexmap.specs.IndexMap.{get_by};
-ghost use Rattle.bc_types.specs.Known.{known_struct, known_extern, Adds, struct_at as struct_there, extern_at as extern_there};
+ghost use Rattle.bc_types.specs.Known.{known_behind as behind, known_struct, known_extern, Adds, struct_at as struct_there, extern_at as extern_there};
 ghost use Rattle.bc_types.specs.Drops.{holds_drop as holding, struct_holds_drop as struct_holding};
+ghost use Rattle.bc_types.specs.WellFormed.{base_pairs, field_pairs as pairs_of_fields, struct_pairs as pairs_of_struct, well_formed_pairs};
 
 use crate::replaced::copy_name;
+use crate::subtype::Constraint;
+use crate::well_formed::{each_once, push_reference_pairs, push_replaced_pairs};
 use bc_syntax::{
     Base, Declaration, ExternDeclaration, Instance, ItemName, Outlives, RegionName, Sequence,
     Signature, StructDeclaration, Ty,
@@ -17,11 +20,13 @@ use indexmap::IndexMap;
 use std::alloc::{AllocError, Global};
 use std::marker::Model;
 
-/// Where a struct stands among declarations, and whether it holds a drop.
-#[derive(Clone, Copy)]
+/// Where a struct stands among declarations, whether it holds a drop, and what the types of its fields demand of its own
+/// regions, each pair once: there are at most 81, since a struct has at most 8 regions, and `'static` is one more.
+#[derive(Drop)]
 pub(crate) struct KnownStruct {
     pub(crate) position: usize,
     pub(crate) holds_drop: bool,
+    pub(crate) pairs: Sequence<Constraint>,
 }
 
 /// Declarations that are looked up by name: of several with one kind and name the last.
@@ -107,10 +112,13 @@ pub fn takes_regions(instance: &Instance, declaration: &StructDeclaration) -> bo
     declaration.regions.len() == instance.regions.as_slice().len()
 }
 
-fn find_struct(structs: &IndexMap<Vec<u8>, KnownStruct>, name: &[u8]) -> Option<KnownStruct>
-    ensures { result ≡ get_by (λ key. bytes_eq name.now key.items) structs.now }
+fn find_struct<'a>(
+    structs: &'a IndexMap<Vec<u8>, KnownStruct>,
+    name: &[u8],
+) -> Option<&'a KnownStruct>
+    ensures { option_copied result ≡ get_by (λ key. bytes_eq name.now key.items) structs.now }
 {
-    structs.get(name).copied()
+    structs.get(name)
 }
 
 fn find_extern(externs: &IndexMap<Vec<u8>, usize>, name: &[u8]) -> Option<usize>
@@ -220,10 +228,7 @@ impl Table {
     ) -> Result<Table, AllocError>
         ensures { IfOk result (λ table. table ≡ self ++ Declaration.Struct declaration.now ∷ []) }
     {
-        let known = KnownStruct {
-            position: self.declarations.len(),
-            holds_drop: self.finds_drop(declaration),
-        };
+        let known = self.known_behind(alloc, declaration)?;
         let Table {
             mut declarations,
             mut structs,
@@ -271,8 +276,8 @@ impl Table {
     }
 
     /// What is known of the struct of a name.
-    fn known_struct(&self, name: &ItemName) -> Option<KnownStruct>
-        ensures { result ≡ known_struct (reverse self.now) name.now.bytes }
+    fn known_struct(&self, name: &ItemName) -> Option<&KnownStruct>
+        ensures { option_copied result ≡ known_struct (reverse self.now) name.now.bytes }
     {
         find_struct(&self.structs, name.bytes.as_slice())
     }
@@ -355,5 +360,94 @@ impl Table {
         ensures { result ≡ declaration.now.has_drop || list_any (holding self.now) declaration.now.fields }
     {
         declaration.has_drop || self.any_holds_drop(declaration.fields.as_slice())
+    }
+
+    /// What has been found that the fields of the struct of a name demand.
+    fn known_pairs(&self, name: &ItemName) -> &[Constraint]
+        ensures { result.now ≡ option_map_or (λ known. known.pairs) (known_struct (reverse self.now) name.now.bytes) [] }
+    {
+        match self.known_struct(name) {
+            Some(known) => known.pairs.as_slice(),
+            None => &[],
+        }
+    }
+
+    /// What the declaration of a struct demands of the struct's own regions.
+    fn struct_pairs(&self, instance: &Instance) -> &[Constraint]
+        ensures { result.now ≡ pairs_of_struct (reverse self.now) instance.now }
+    {
+        if self.declares(instance) {
+            self.known_pairs(&instance.name)
+        } else {
+            &[]
+        }
+    }
+
+    fn push_base_pairs(
+        &self,
+        constraints: &mut Vec<Constraint>,
+        base: &Base,
+    ) -> Result<(), AllocError>
+        ensures { OnOk result (constraints.new.items
+            ≡ constraints.old.items ++ base_pairs (pairs_of_struct (reverse self.now)) base.now) }
+    {
+        match base {
+            Base::Int | Base::Closure(_) => Ok(()),
+            Base::Struct(instance) => push_replaced_pairs(
+                constraints,
+                instance.regions.as_slice(),
+                self.struct_pairs(instance),
+            ),
+        }
+    }
+
+    /// Appends what a well-formed type demands.
+    pub(crate) fn push_well_formed(
+        &self,
+        constraints: &mut Vec<Constraint>,
+        ty: &Ty,
+    ) -> Result<(), AllocError>
+        ensures { OnOk result (constraints.new.items ≡ constraints.old.items ++ well_formed_pairs self.now ty.now) }
+    {
+        push_reference_pairs(constraints, ty.references.as_slice(), &ty.base)?;
+        self.push_base_pairs(constraints, &ty.base)
+    }
+
+    /// What well-formed types demand, of each in turn.
+    pub(crate) fn pairs_of_types(
+        &self,
+        alloc: Global,
+        types: &[Ty],
+    ) -> Result<Vec<Constraint>, AllocError>
+        ensures { IfOk result (λ pairs. pairs.items ≡ flat_map (well_formed_pairs self.now) types.now) }
+    {
+        let mut pairs = Vec::new(alloc);
+        for ty in types {
+            self.push_well_formed(&mut pairs, ty)?;
+        }
+        Ok(pairs)
+    }
+
+    /// What the types of fields that mention structs of the table demand, each pair once.
+    fn field_pairs(&self, alloc: Global, fields: &[Ty]) -> Result<Sequence<Constraint>, AllocError>
+        ensures { IfOk result (λ pairs. pairs ≡ pairs_of_fields (pairs_of_struct (reverse self.now)) fields.now) }
+    {
+        let pairs = self.pairs_of_types(alloc, fields)?;
+        each_once(alloc, &pairs)
+    }
+
+    /// What is kept of a struct behind the declarations of the table.
+    fn known_behind(
+        &self,
+        alloc: Global,
+        declaration: &StructDeclaration,
+    ) -> Result<KnownStruct, AllocError>
+        ensures { IfOk result (λ known. known ≡ behind (reverse self.now) declaration.now) }
+    {
+        Ok(KnownStruct {
+            position: self.declarations.len(),
+            holds_drop: self.finds_drop(declaration),
+            pairs: self.field_pairs(alloc, declaration.fields.as_slice())?,
+        })
     }
 }

@@ -1,4 +1,4 @@
-use Rattle.bc_judge.proofs.Closure.{firsts_within, clauses_within, tells_known}
+use Rattle.bc_judge.proofs.Closure.{firsts_within, tells_known}
 use Rattle.bc_flow.proofs.Rows.{no_rows, no_sizes}
 use Rattle.bc_judge.proofs.known.known_relations.Goals as goal
 
@@ -7,8 +7,7 @@ table-requires c = rw (c.deref.ensures.value, c.in_ok-entries.ensures) (firsts_w
 
 pub flow-requires-clause-edges : goal.flow-requires-clause-edges
 flow-requires-clause-edges c =
-    rw (c.deref-2.ensures.value, c.in_ok-edges.ensures, c.in_ok-seeds.ensures.nodes, c.from-universals.ensures, c.universals.ensures.value, c.clauses.ensures.value)
-    (clauses_within c.args.typed.now.clauses c.args.typed.now.universals (rw c.clauses.ensures.value at c.clauses.ensures.declared))
+    rw (c.deref-2.ensures.value, c.in_ok-seeds.ensures.nodes, c.from-universals.ensures, c.universals.ensures.value) c.in_ok-edges.ensures.within
 
 pub flow-requires-clause-kills : goal.flow-requires-clause-kills
 flow-requires-clause-kills c = no_sizes _ c.in_ok-no_kills.no_kills c.in_ok-no_kills.ensures.rows
@@ -17,4 +16,4 @@ pub returns-clause-tells : goal.returns-clause-tells
 returns-clause-tells c =
     tells_known c.args.typed.now c.in_ok-seeds.seeds c.in_ok-rows.rows
     (rw (c.deref.ensures.value, c.in_ok-entries.ensures, c.from-universals.ensures, c.universals.ensures.value) at c.in_ok-seeds.ensures.entries)
-    (rw (c.deref-2.ensures.value, c.in_ok-edges.ensures, c.clauses.ensures.value, no_rows c.in_ok-no_kills.no_kills c.in_ok-no_kills.ensures.rows) at c.in_ok-rows.ensures.flow)
+    (rw (c.deref-2.ensures.value, c.in_ok-edges.ensures.value, no_rows c.in_ok-no_kills.no_kills c.in_ok-no_kills.ensures.rows) at c.in_ok-rows.ensures.flow)

@@ -6,8 +6,8 @@ use Rattle.bc_types.proofs.table.Table.struct_of.Goals as goal
 pub returns-in-Some : goal.returns-in-Some
 returns-in-Some c =
     c.struct_at.ensures
-    ∙ ap (λ ds. struct_at ds c.in-Some.known.position) (c.as_slice.ensures ∙ c.self.view_is)
-    ∙ found-struct c.args.self.now c.args.name.now (Some c.in-Some.known) (sym c.in-Some.is ∙ c.known_struct.ensures)
+    ∙ ap (λ ds. struct_at ds c.in-Some.known.now.position) (c.as_slice.ensures ∙ c.self.view_is)
+    ∙ found-struct c.args.self.now c.args.name.now (Some c.in-Some.known.now) c.in-Some.ensures
 
 pub returns-in-None : goal.returns-in-None
-returns-in-None c = found-struct c.args.self.now c.args.name.now None (sym c.in-None.is ∙ c.known_struct.ensures)
+returns-in-None c = found-struct c.args.self.now c.args.name.now None c.in-None.ensures

@@ -1,0 +1,84 @@
+-- What well-formed types demand: a reference does not outlive what it points at, so that each region that is written behind
+-- it outlives its own.
+use Rattle.std.specs.Prelude.{Bool, ◌&&◌, if◌then◌else◌, List, [], ◌∷◌, ◌++◌, fold, map, reverse}
+use Rattle.std.specs.List.{flat_map, list_any}
+use Rattle.bc_syntax.specs.declared.syntax.Region.{Region}
+use Rattle.bc_syntax.specs.declared.syntax.Reference.{Reference}
+use Rattle.bc_syntax.specs.declared.syntax.Instance.{Instance}
+use Rattle.bc_syntax.specs.declared.syntax.Base.{Base}
+use Rattle.bc_syntax.specs.declared.syntax.Base.TheVariants.{Int, Struct, Closure}
+use Rattle.bc_syntax.specs.declared.syntax.Ty.{Ty}
+use Rattle.bc_syntax.specs.declared.syntax.Declaration.{Declaration}
+use Rattle.bc_syntax.specs.declared.syntax.Declaration.TheVariants as kinds
+use Rattle.bc_types.specs.declared.subtype.Constraint.{Constraint}
+use Rattle.bc_types.specs.Declarations.{same_name, takes_regions}
+use Rattle.bc_types.specs.Mentions.{regions_of_references, regions_of_base}
+use Rattle.bc_types.specs.Replaced.{replaced_region}
+use Rattle.bc_types.specs.Subtype.{outlives, same_region}
+
+-- each of these regions outlives another
+abbrev pub each_outlives : List Region → Region → List Constraint
+each_outlives regions shorter = map (λ region. outlives region shorter) regions
+
+-- what the references of a type demand, the outermost first: each region that is written behind a reference outlives that of
+-- the reference
+abbrev pub reference_pairs : List Reference → Base → List Constraint
+reference_pairs [] base = []
+reference_pairs (reference ∷ references) base =
+    each_outlives (regions_of_references references ++ regions_of_base base) reference.region ++ reference_pairs references base
+
+-- a pair of a declaration, with its regions replaced by arguments
+abbrev pub replaced_pair : List Region → Constraint → Constraint
+replaced_pair arguments pair =
+    outlives (replaced_region arguments pair.longer) (replaced_region arguments pair.shorter)
+
+-- what a struct demands of its arguments, where `declared` is what its declaration demands of the struct's own regions.
+-- Declarations know no closures: what one demands is told where the children are known
+abbrev pub base_pairs : (Instance → List Constraint) → Base → List Constraint
+base_pairs declared Int = []
+base_pairs declared (Struct instance) = map (replaced_pair instance.regions) (declared instance)
+base_pairs declared (Closure closure) = []
+
+-- what a type demands: what its references do, and what they lead to does
+abbrev pub pairs_over : (Instance → List Constraint) → Ty → List Constraint
+pairs_over declared ty = reference_pairs ty.references ty.base ++ base_pairs declared ty.base
+
+-- ---- structs
+
+abbrev pub same_pair : Constraint → Constraint → Bool
+same_pair first second = same_region first.longer second.longer && same_region first.shorter second.shorter
+
+-- a pair behind others, unless it is one of them
+abbrev pub with_pair : List Constraint → Constraint → List Constraint
+with_pair pairs pair = if list_any (same_pair pair) pairs then pairs else pairs ++ pair ∷ []
+
+-- each pair once, where it comes first
+abbrev pub each_once : List Constraint → List Constraint
+each_once pairs = fold with_pair [] pairs
+
+-- what the types of fields demand, each pair once
+abbrev pub field_pairs : (Instance → List Constraint) → List Ty → List Constraint
+field_pairs declared fields = each_once (flat_map (pairs_over declared) fields)
+
+-- what the declaration of a struct demands of the struct's own regions: what the types of its fields do. A struct that is not
+-- declared with this number of regions demands nothing. The last declaration comes first: what its fields mention is behind it
+abbrev pub struct_pairs : List Declaration → Instance → List Constraint
+struct_pairs [] instance = []
+struct_pairs (kinds.Struct d ∷ earlier) instance =
+    if same_name instance.name d.name
+    then (if takes_regions instance d then field_pairs (struct_pairs earlier) d.fields else [])
+    else struct_pairs earlier instance
+struct_pairs (kinds.Extern d ∷ earlier) instance = struct_pairs earlier instance
+
+abbrev pub well_formed_among : List Declaration → Ty → List Constraint
+well_formed_among earlier ty = pairs_over (struct_pairs earlier) ty
+
+-- what a well-formed type demands, pairs of a region and one that it outlives: `int` demands nothing, a reference what is
+-- said above, and a struct what the types of its fields do, with the struct's regions replaced by its arguments
+abbrev pub well_formed_pairs : List Declaration → Ty → List Constraint
+well_formed_pairs declarations ty = well_formed_among (reverse declarations) ty
+
+-- what types of a declaration or of a header demand, in order, with the declared regions replaced by arguments
+abbrev pub replaced_well_formed : List Declaration → List Region → List Ty → List Constraint
+replaced_well_formed declarations arguments types =
+    map (replaced_pair arguments) (flat_map (well_formed_pairs declarations) types)
