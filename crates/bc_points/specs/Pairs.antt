@@ -47,6 +47,11 @@ operand_pairs mir arguments (operand ∷ operands) [] = []
 operand_pairs mir arguments (operand ∷ operands) (ty ∷ expected) =
     operand_pair mir arguments operand ty ++ operand_pairs mir arguments operands expected
 
+-- each operand is a subtype of its parameter, and the types of the parameters are well-formed
+abbrev pub parameter_pairs : Mir → List Region → List Operand → List Ty → List Constraint
+parameter_pairs mir arguments operands parameters =
+    operand_pairs mir arguments operands parameters ++ replaced_well_formed mir.types arguments parameters
+
 -- a clause of a declaration, with its regions replaced
 abbrev pub replaced_clause : List Region → Outlives → Constraint
 replaced_clause arguments clause =
@@ -82,14 +87,13 @@ assignment_pairs mir assignment =
     field_pairs mir assignment.value
     ++ sub_place mir (type_of_rvalue mir assignment.value) assignment.target
 
--- the operands are subtypes of the parameters, the parameters' types are well-formed, the clauses hold, and the result is a
--- subtype of the destination, with the function's regions replaced
+-- the operands are taken for the parameters, the clauses hold, and the result is a subtype of the destination, with the
+-- function's regions replaced
 abbrev pub called_pairs : Mir → Calling → ExternDeclaration → List Constraint
 called_pairs mir call d =
-    operand_pairs mir call.function.regions call.operands d.signature.parameters
-    ++ (replaced_well_formed mir.types call.function.regions d.signature.parameters
+    parameter_pairs mir call.function.regions call.operands d.signature.parameters
     ++ (map (replaced_clause call.function.regions) d.signature.clauses
-    ++ sub_place mir (Some (replaced_ty call.function.regions d.signature.result)) call.destination))
+    ++ sub_place mir (Some (replaced_ty call.function.regions d.signature.result)) call.destination)
 
 abbrev pub call_pairs : Mir → Calling → List Constraint
 call_pairs mir call = option_map_or (called_pairs mir call) (extern_of mir.types call.function.name) []
@@ -98,14 +102,13 @@ call_pairs mir call = option_map_or (called_pairs mir call) (extern_of mir.types
 abbrev pub is_inner_clause : Header → Outlives → Bool
 is_inner_clause header clause = not (is_outer_clause header.captures clause)
 
--- the operands are subtypes of the parameters, the parameters' types are well-formed, the clauses hold that did not at the
--- creation, and the result is a subtype of the destination, with a child's regions replaced by arguments
+-- the operands are taken for the parameters, the clauses hold that did not at the creation, and the result is a subtype of
+-- the destination, with a child's regions replaced by arguments
 abbrev pub passed_pairs : Mir → List Region → Invocation → Header → List Constraint
 passed_pairs mir arguments invocation header =
-    operand_pairs mir arguments invocation.operands header.signature.parameters
-    ++ (replaced_well_formed mir.types arguments header.signature.parameters
+    parameter_pairs mir arguments invocation.operands header.signature.parameters
     ++ (clauses_where (is_inner_clause header) arguments header.signature.clauses
-    ++ sub_place mir (Some (replaced_ty arguments header.signature.result)) invocation.destination))
+    ++ sub_place mir (Some (replaced_ty arguments header.signature.result)) invocation.destination)
 
 -- the external regions are those of the closure, and the local ones those of the call
 abbrev pub invoked_pairs : Mir → Invocation → ClosureInstance → List Constraint

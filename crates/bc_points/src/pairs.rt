@@ -2,9 +2,8 @@
 ghost use Rattle.std.specs.Prelude.{◌≡◌, ◌++◌, ◌∷◌, [], Some, map, OnOk};
 ghost use Rattle.bc_mir.specs.Rules.{type_referenced, type_of_operand as operand_type, type_of_rvalue as rvalue_type};
 ghost use Rattle.bc_types.specs.Replaced.{replaced_ty};
-ghost use Rattle.bc_types.specs.WellFormed.{replaced_well_formed};
 ghost use Rattle.bc_mir.specs.Children.{is_outer_clause as outer_clause};
-ghost use Rattle.bc_points.specs.Pairs.{sub_found, sub_place, operand_pair, operand_pairs, replaced_clause, clauses_where, captured_pairs, field_pairs, assignment_pairs, called_pairs, call_pairs, is_inner_clause, passed_pairs, invoked_pairs, invocation_pairs};
+ghost use Rattle.bc_points.specs.Pairs.{sub_found, sub_place, operand_pair, operand_pairs, parameter_pairs, replaced_clause, clauses_where, captured_pairs, field_pairs, assignment_pairs, called_pairs, call_pairs, is_inner_clause, passed_pairs, invoked_pairs, invocation_pairs};
 
 use bc_mir::{Typed, arguments, is_outer_clause};
 use bc_syntax::{
@@ -362,17 +361,20 @@ fn push_returned_pairs(
     push_sub_place(alloc, constraints, typed, &TyRef::of(&returned), place)
 }
 
-/// Appends what the types of parameters demand to be well-formed, with the declared regions replaced by arguments.
+/// Appends what makes operands subtypes of parameters, and what the parameters' types demand to be well-formed, with the declared
+/// regions replaced by arguments.
 fn push_parameter_pairs(
     alloc: Global,
     constraints: &mut Vec<Constraint>,
     typed: &Typed,
     arguments: &[Region],
+    operands: &[Operand],
     parameters: &[Ty],
 ) -> Result<(), AllocError>
     ensures { OnOk result (constraints.new.items
-        ≡ constraints.old.items ++ replaced_well_formed typed.now.types arguments.now parameters.now) }
+        ≡ constraints.old.items ++ parameter_pairs typed.now arguments.now operands.now parameters.now) }
 {
+    push_operand_pairs(alloc, constraints, typed, arguments, operands, parameters)?;
     typed
         .types()
         .push_replaced_well_formed(alloc, constraints, arguments, parameters)
@@ -391,8 +393,7 @@ fn push_called_pairs(
     let signature = &declaration.signature;
     let operands = call.operands.as_slice();
     let parameters = signature.parameters.as_slice();
-    push_operand_pairs(alloc, constraints, typed, arguments, operands, parameters)?;
-    push_parameter_pairs(alloc, constraints, typed, arguments, parameters)?;
+    push_parameter_pairs(alloc, constraints, typed, arguments, operands, parameters)?;
     push_clauses(constraints, arguments, signature.clauses.as_slice())?;
     push_returned_pairs(
         alloc,
@@ -436,8 +437,7 @@ fn push_passed_pairs(
     let signature = &header.signature;
     let operands = invocation.operands.as_slice();
     let expected = signature.parameters.as_slice();
-    push_operand_pairs(alloc, constraints, typed, arguments, operands, expected)?;
-    push_parameter_pairs(alloc, constraints, typed, arguments, expected)?;
+    push_parameter_pairs(alloc, constraints, typed, arguments, operands, expected)?;
     push_inner_clauses(constraints, header, arguments, signature.clauses.as_slice())?;
     push_returned_pairs(
         alloc,

@@ -35,5 +35,5 @@ pub returns-clause-regions : goal.returns-clause-regions
 returns-clause-regions c =
     let mir = c.args.typed.now in
     let count : length c.new.result.starts ≡ pairs_bound mir.universals (types_bound mir.universals mir.universals mir.locals) (filter differ (all_pairs mir c.args.requirements.now)) =
-    rw (c.new.ensures.starts, c.in_ok-starts.ensures.regions, c.pairs_bound-regions.ensures.bound, c.types_bound-declared.ensures.bound, c.from.ensures, c.deref-2.ensures.value, c.in_ok-pairs.ensures, c.deref.ensures.value, c.in_ok-pairs_of_body.ensures, c.universals-universals.ensures.value, c.locals.ensures.value, c.steps.ensures.value) refl in
+    rw (c.new.ensures.starts, c.in_ok-starts.ensures.regions, c.pairs_bound-regions.ensures.bound, c.types_bound-declared.ensures.bound, c.from.ensures, c.deref-2.ensures.value, c.in_ok-pairs.ensures, c.deref.ensures.value, c.in_ok-pairs_of_body.ensures, c.universals-universals.ensures.value, c.locals.ensures.value) refl in
     subst (IsRegionCount mir c.args.requirements.now) (sym count) (is_region_count mir c.args.requirements.now)
