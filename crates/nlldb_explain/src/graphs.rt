@@ -1,0 +1,67 @@
+//! Constraints between few regions, without a pattern.
+ghost use Rattle.std.specs.Prelude.{IfOk, ◌<◌};
+ghost use Rattle.bc_flow.specs.Flow.{AreEntriesWithin};
+ghost use Rattle.bc_cons.specs.Facts.{ArePairsWithin};
+
+use bc_bench::below;
+use bc_cons::{Constraint, Facts};
+use bc_flow::{Entry, table};
+use rand_pcg::Pcg32;
+use std::alloc::{AllocError, Global};
+
+/// How many of the regions are universal.
+pub const UNIVERSALS: u8 = 3;
+
+const REGIONS: u32 = 7;
+
+const ELEMENTS: u32 = 3;
+
+fn pair(random: &mut Pcg32) -> Constraint
+    ensures longer { result.longer < 7 }
+    ensures shorter { result.shorter < 7 }
+{
+    Constraint {
+        longer: below(random, REGIONS) as usize,
+        shorter: below(random, REGIONS) as usize,
+    }
+}
+
+/// Up to eighteen constraints, also of a region with itself, and some twice.
+fn pairs(alloc: Global, random: &mut Pcg32) -> Result<Vec<Constraint>, AllocError>
+    ensures { IfOk result (λ pairs. ArePairsWithin 7 pairs.items) }
+{
+    let mut pairs = Vec::new(alloc);
+    for _turn in 0..below(random, 19) {
+        pairs.push(pair(random))?;
+    }
+    Ok(pairs)
+}
+
+fn entry(random: &mut Pcg32) -> Entry
+    ensures node { result.node < 7 }
+    ensures fact { result.fact < 3 }
+{
+    Entry {
+        node: below(random, REGIONS) as usize,
+        fact: below(random, ELEMENTS) as usize,
+    }
+}
+
+/// Up to four elements that regions start with.
+fn entries(alloc: Global, random: &mut Pcg32) -> Result<Vec<Entry>, AllocError>
+    ensures { IfOk result (λ entries. AreEntriesWithin entries.items 7 3) }
+{
+    let mut entries = Vec::new(alloc);
+    for _turn in 0..below(random, 5) {
+        entries.push(entry(random))?;
+    }
+    Ok(entries)
+}
+
+/// Constraints between seven regions, and what these start with of three elements.
+pub fn facts(alloc: Global, random: &mut Pcg32) -> Result<Facts, AllocError> {
+    let pairs = pairs(alloc, random)?;
+    let entries = entries(alloc, random)?;
+    let starts = table(alloc, 7, 3, &entries)?;
+    Ok(Facts::new(UNIVERSALS, starts, pairs, 3))
+}

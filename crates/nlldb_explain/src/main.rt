@@ -1,0 +1,87 @@
+//! Explains each element of each region in 2,000 small random graphs, and finds each chain once more by a plain search. It prints
+//! how many questions and chains that were, and how many answers differed, so that the gate compares it.
+#![tactic(auto)]
+
+mod graphs;
+mod plain;
+
+use crate::graphs::{UNIVERSALS, facts};
+use crate::plain::first_shortest;
+use bc_bench::generator;
+use bc_cons::Facts;
+use bc_solve::Explainer;
+use bc_syntax::Region;
+use std::alloc::{AllocError, Global};
+
+const GRAPHS: u32 = 2000;
+
+/// How many answers there were, how many of them were chains, of how many regions, and how many the plain search did not find.
+#[derive(Clone, Copy)]
+struct Counts {
+    answers: usize,
+    chains: usize,
+    regions: usize,
+    other: usize,
+}
+
+/// Whether a region is that of a number.
+fn is_numbered(region: Region, number: usize) -> bool {
+    match region {
+        Region::Universal(universal) => universal < UNIVERSALS && usize::from(universal) == number,
+        Region::Variable(variable) => { usize::from(variable) + usize::from(UNIVERSALS) == number }
+    }
+}
+
+/// Whether two chains are the same, one of them by numbers and from its end.
+fn is_same(chain: &[Region], numbers: &[usize]) -> bool {
+    let mut same = chain.len() == numbers.len();
+    for (region, number) in chain.iter().zip(numbers.iter().rev()) {
+        same &= is_numbered(*region, *number);
+    }
+    same
+}
+
+fn count(counts: &mut Counts, found: &Option<Vec<Region>>, numbers: &[usize]) {
+    counts.answers = counts.answers.wrapping_add(1);
+    let same = match found {
+        Some(chain) => {
+            counts.chains = counts.chains.wrapping_add(1);
+            counts.regions = counts.regions.wrapping_add(chain.len());
+            is_same(chain, numbers)
+        }
+        None => numbers.is_empty(),
+    };
+    if !same {
+        counts.other = counts.other.wrapping_add(1);
+    }
+}
+
+/// Asks for all regions and elements, also for a number of none.
+fn ask(alloc: Global, facts: &Facts, counts: &mut Counts) -> Result<(), AllocError> {
+    let mut explainer = Explainer::new(alloc, facts)?;
+    for question in 0..32usize {
+        let numbers = first_shortest(alloc, facts, question % 8, question / 8)?;
+        let found = explainer.explain(alloc, question % 8, question / 8)?;
+        count(counts, &found, &numbers);
+    }
+    Ok(())
+}
+
+fn main(rt: HostRuntime) -> anyhow::Result<()> {
+    let mut random = generator();
+    let mut counts = Counts {
+        answers: 0,
+        chains: 0,
+        regions: 0,
+        other: 0,
+    };
+    for _ in 0..GRAPHS {
+        let facts = facts(rt.alloc(), &mut random)?;
+        ask(rt.alloc(), &facts, &mut counts)?;
+    }
+    println!(rt;
+        "{} answers, {} chains of {} regions, {} that differ",
+        counts.answers, counts.chains, counts.regions, counts.other
+    )?;
+    Ok(())
+}
