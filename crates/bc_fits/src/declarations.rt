@@ -5,9 +5,7 @@ ghost use Rattle.bc_syntax.specs.Fits as spec;
 ghost use Rattle.bc_syntax.specs.Fits.{TypesFit};
 
 use crate::bodies::{Limits, are_new, item_fits, signature_fits, tys_fit};
-use bc_syntax::{
-    Declaration, ExternDeclaration, Sequence, StructDeclaration, Types, is_struct,
-};
+use bc_syntax::{Declaration, ExternDeclaration, Sequence, StructDeclaration, Types, is_struct};
 
 fn struct_fits(declaration: &StructDeclaration) -> bool
     ensures { result ≡ spec.struct_fits declaration.now }

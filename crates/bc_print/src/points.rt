@@ -9,8 +9,8 @@ ghost use Rattle.bc_syntax.specs.Spelling as spell;
 use crate::names::{write_closure_instance, write_instance, write_reference};
 use crate::tokens::{Spelled, write_angled, write_commas, write_numbered, write_symbol};
 use bc_syntax::{
-    Aggregate, Assignment, Block, Borrow, Call, Condition, Creation, Invocation, Numbering, Operand,
-    Place, Projection, RegionName, Rvalue, Statement, Symbol, Terminator,
+    Aggregate, Assignment, Block, Borrow, Call, Condition, Creation, Invocation, Numbering,
+    Operand, Place, Projection, RegionName, Rvalue, Statement, Symbol, Terminator,
 };
 use std::io;
 use std::io::Write;
