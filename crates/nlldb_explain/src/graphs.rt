@@ -3,9 +3,9 @@ ghost use Rattle.std.specs.Prelude.{IfOk, ◌<◌};
 ghost use Rattle.bc_flow.specs.Flow.{AreEntriesWithin};
 ghost use Rattle.bc_cons.specs.Facts.{ArePairsWithin};
 
-use bc_bench::below;
 use bc_cons::{Constraint, Facts};
 use bc_flow::{Entry, table};
+use rand_core::Rng;
 use rand_pcg::Pcg32;
 use std::alloc::{AllocError, Global};
 
@@ -21,8 +21,8 @@ fn pair(random: &mut Pcg32) -> Constraint
     ensures shorter { result.shorter < 7 }
 {
     Constraint {
-        longer: below(random, REGIONS) as usize,
-        shorter: below(random, REGIONS) as usize,
+        longer: (random.next_u32() % REGIONS) as usize,
+        shorter: (random.next_u32() % REGIONS) as usize,
     }
 }
 
@@ -31,7 +31,7 @@ fn pairs(alloc: Global, random: &mut Pcg32) -> Result<Vec<Constraint>, AllocErro
     ensures { IfOk result (λ pairs. ArePairsWithin 7 pairs.items) }
 {
     let mut pairs = Vec::new(alloc);
-    for _turn in 0..below(random, 19) {
+    for _turn in 0..random.next_u32() % 19 {
         pairs.push(pair(random))?;
     }
     Ok(pairs)
@@ -42,8 +42,8 @@ fn entry(random: &mut Pcg32) -> Entry
     ensures fact { result.fact < 3 }
 {
     Entry {
-        node: below(random, REGIONS) as usize,
-        fact: below(random, ELEMENTS) as usize,
+        node: (random.next_u32() % REGIONS) as usize,
+        fact: (random.next_u32() % ELEMENTS) as usize,
     }
 }
 
@@ -52,7 +52,7 @@ fn entries(alloc: Global, random: &mut Pcg32) -> Result<Vec<Entry>, AllocError>
     ensures { IfOk result (λ entries. AreEntriesWithin entries.items 7 3) }
 {
     let mut entries = Vec::new(alloc);
-    for _turn in 0..below(random, 5) {
+    for _turn in 0..random.next_u32() % 5 {
         entries.push(entry(random))?;
     }
     Ok(entries)

@@ -7,10 +7,10 @@ mod plain;
 
 use crate::graphs::{UNIVERSALS, facts};
 use crate::plain::first_shortest;
-use bc_bench::generator;
 use bc_cons::Facts;
 use bc_solve::Explainer;
 use bc_syntax::Region;
+use rand_pcg::Pcg32;
 use std::alloc::{AllocError, Global};
 
 const GRAPHS: u32 = 2000;
@@ -68,7 +68,7 @@ fn ask(alloc: Global, facts: &Facts, counts: &mut Counts) -> Result<(), AllocErr
 }
 
 fn main(rt: HostRuntime) -> anyhow::Result<()> {
-    let mut random = generator();
+    let mut random = Pcg32::new(2094, 0);
     let mut counts = Counts {
         answers: 0,
         chains: 0,
