@@ -1,6 +1,8 @@
-//! Tests of tables and what flows along edges, of groups of nodes, and of both solvers.
+//! Tests of tables and what flows along edges, of groups of nodes, of both solvers, and of the chains that explain values.
 #![tactic(auto)]
 
+#[cfg(test)]
+mod chains;
 #[cfg(test)]
 mod groups;
 #[cfg(test)]

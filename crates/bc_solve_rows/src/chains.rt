@@ -1,0 +1,209 @@
+//! The chains that explain why elements are in the values of regions.
+ghost use Rattle.std.specs.Prelude.{IfOk};
+ghost use Rattle.bc_flow.specs.Flow.{AreEntriesWithin};
+ghost use Rattle.bc_cons.specs.Facts.{ArePairsWithin};
+
+use bc_cons::{Constraint, Facts};
+use bc_flow::{Entry, table};
+use bc_solve::{Explainer, explain};
+use bc_syntax::Region;
+use bc_syntax::Region::{Universal, Variable};
+use std::alloc::{AllocError, Global};
+use std::test::Fail;
+
+/// Constraints, each between two of eight regions.
+fn pairs_of(alloc: Global, pairs: &[[usize; 2]]) -> Result<Vec<Constraint>, AllocError>
+    ensures { IfOk result (λ found. ArePairsWithin 8 found.items) }
+{
+    let mut found = Vec::new(alloc);
+    for pair in pairs {
+        found.push(Constraint {
+            longer: pair[0] % 8,
+            shorter: pair[1] % 8,
+        })?;
+    }
+    Ok(found)
+}
+
+/// Eight regions with these constraints, of which the first three are universal, and what they start with of four elements.
+fn facts_of(alloc: Global, pairs: &[[usize; 2]], starts: &[Entry]) -> Result<Facts, AllocError>
+    requires { AreEntriesWithin starts.now 8 4 }
+{
+    let pairs = pairs_of(alloc, pairs)?;
+    let starts = table(alloc, 8, 4, starts)?;
+    Ok(Facts::new(3, starts, pairs, 4))
+}
+
+/// A question, and the chain that answers it, or no region where there is none.
+#[derive(Clone, Copy)]
+struct Case<'a> {
+    region: usize,
+    element: usize,
+    chain: &'a [Region],
+}
+
+fn is(found: &Option<Vec<Region>>, chain: &[Region]) -> bool {
+    match found {
+        Some(found) => found.as_slice() == chain,
+        None => chain.is_empty(),
+    }
+}
+
+/// The chain of a region, by `Explainer::chain` where there is one.
+fn chain_of(
+    alloc: Global,
+    facts: &Facts,
+    region: usize,
+    element: usize,
+) -> Result<Option<Vec<Region>>, AllocError> {
+    let mut explainer = Explainer::new(alloc, facts)?;
+    if explainer.explain(alloc, region, element)?.is_none() {
+        return Ok(None);
+    }
+    let chain = explainer.chain(alloc, region, element)?;
+    Ok(Some(chain))
+}
+
+#[test]
+fn the_first_of_the_shortest_chains_explains(rt: HostRuntime) -> Result<(), Fail> {
+    let pairs = [
+        [3, 5],
+        [5, 6],
+        [3, 4],
+        [4, 6],
+        [4, 6],
+        [3, 1],
+        [3, 1],
+        [1, 6],
+        [3, 7],
+        [7, 0],
+        [0, 2],
+    ];
+    let starts = [
+        Entry { node: 6, fact: 0 },
+        Entry { node: 2, fact: 0 },
+        Entry { node: 5, fact: 1 },
+        Entry { node: 4, fact: 1 },
+    ];
+    let cases = [
+        Case {
+            region: 3,
+            element: 0,
+            chain: &[Variable(0), Universal(1), Variable(3)],
+        },
+        Case {
+            region: 7,
+            element: 0,
+            chain: &[Variable(4), Universal(0), Universal(2)],
+        },
+        Case {
+            region: 3,
+            element: 1,
+            chain: &[Variable(0), Variable(1)],
+        },
+        Case {
+            region: 4,
+            element: 1,
+            chain: &[Variable(1)],
+        },
+        Case {
+            region: 0,
+            element: 1,
+            chain: &[],
+        },
+    ];
+    let facts = facts_of(rt.alloc(), &pairs, &starts)?;
+    for case in &cases {
+        let found = chain_of(rt.alloc(), &facts, case.region, case.element)?;
+        assert!(rt; is(&found, case.chain));
+    }
+    Ok(())
+}
+
+#[test]
+fn a_ring_is_gone_round_once(rt: HostRuntime) -> Result<(), Fail> {
+    let starts = [Entry { node: 5, fact: 3 }];
+    let cases = [
+        Case {
+            region: 0,
+            element: 3,
+            chain: &[Universal(0), Universal(1), Variable(2)],
+        },
+        Case {
+            region: 5,
+            element: 3,
+            chain: &[Variable(2)],
+        },
+        Case {
+            region: 2,
+            element: 3,
+            chain: &[],
+        },
+        Case {
+            region: 8,
+            element: 3,
+            chain: &[],
+        },
+        Case {
+            region: 0,
+            element: 4,
+            chain: &[],
+        },
+    ];
+    let facts = facts_of(rt.alloc(), &[[0, 1], [1, 5], [5, 0]], &starts)?;
+    for case in &cases {
+        let found = explain(rt.alloc(), &facts, case.region, case.element)?;
+        assert!(rt; is(&found, case.chain));
+    }
+    Ok(())
+}
+
+/// Each region outlives the next.
+fn in_a_row(alloc: Global, regions: usize) -> Result<Vec<Constraint>, AllocError>
+    ensures { IfOk result (λ found. ArePairsWithin regions found.items) }
+{
+    let mut found = Vec::new(alloc);
+    for next in 1..regions {
+        found.push(Constraint {
+            longer: next - 1,
+            shorter: next,
+        })?;
+    }
+    Ok(found)
+}
+
+/// Whether a chain has the regions of all numbers, in order, where 16 are universal.
+fn goes_by_number(chain: &[Region]) -> bool {
+    let mut number = 0u16;
+    for region in chain {
+        let same = match *region {
+            Universal(universal) => universal < 16 && u16::from(universal) == number,
+            Variable(variable) => variable.wrapping_add(16) == number,
+        };
+        if !same {
+            return false;
+        }
+        number = number.wrapping_add(1);
+    }
+    true
+}
+
+#[test]
+fn a_chain_goes_through_as_many_regions_as_a_body_has(rt: HostRuntime) -> Result<(), Fail> {
+    let alloc = rt.alloc();
+    let pairs = in_a_row(alloc, 1040)?;
+    let starts = table(
+        alloc,
+        1040,
+        1,
+        &[Entry {
+            node: 1039,
+            fact: 0,
+        }],
+    )?;
+    let facts = Facts::new(16, starts, pairs, 1);
+    let found = explain(alloc, &facts, 0, 0)?;
+    let chain = found.as_deref().unwrap_or(&[]);
+    assert!(rt; chain.len() == 1040 && goes_by_number(chain));
+    Ok(())
+}
