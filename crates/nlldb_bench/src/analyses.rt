@@ -1,117 +1,83 @@
-//! What the analysis finds of a body, and how long each of its steps takes at best, in microseconds.
+//! What is read from a text and found of its body, and how long each step takes at best.
 use bc_bench::timed;
 use bc_cons::Facts;
 use bc_fixtures::{facts_alone, good_types, typed_alone};
 use bc_judge::judge;
-use bc_live::{LiveSets, live};
+use bc_live::live;
 use bc_loans::in_scope;
-use bc_mir::{GoodTypes, Typed};
-use bc_solve::{Values, solve_plain};
+use bc_mir::Typed;
+use bc_print::print_unit;
+use bc_solve::{Values, solve_components, solve_plain};
 use bc_syntax::Unit;
 use bc_text::read_unit;
-use std::alloc::Global;
-use std::io::Write;
-use std::sync::Arc;
 
-fn measure_values<O: Write, E: Write>(
-    rt: &HostRuntime,
-    typed: &Typed,
-    values: &Values,
-    out: &mut O,
-    err: &mut E,
-) -> anyhow::Result<()> {
-    let scopes = timed(
-        rt,
-        "scopes",
-        || Ok(in_scope(rt.alloc(), typed, values)?),
-        err,
-    )?;
-    let verdict = timed(
-        rt,
-        "judging",
-        || Ok(judge(rt.alloc(), typed, values, &scopes)?),
-        err,
-    )?;
-    let errors = verdict.errors.len();
-    writeln!(out, "{errors} errors")?;
-    Ok(())
+/// The FNV-1a checksum of bytes.
+fn checksum(bytes: &[u8]) -> u64 {
+    let mut sum = 0xcbf2_9ce4_8422_2325u64;
+    for byte in bytes {
+        sum = (sum ^ u64::from(*byte)).wrapping_mul(0x0100_0000_01b3);
+    }
+    sum
 }
 
-fn measure_facts<O: Write, E: Write>(
-    rt: &HostRuntime,
-    typed: &Typed,
-    facts: &Facts,
-    out: &mut O,
-    err: &mut E,
-) -> anyhow::Result<()> {
-    let regions = facts.regions();
-    let pairs = facts.pairs().len();
-    write!(out, "{regions} regions, {pairs} constraints, ")?;
-    let values = timed(rt, "solving", || Ok(solve_plain(rt.alloc(), facts)?), err)?;
-    measure_values(rt, typed, &values, out, err)
+/// The checksum of what is printed of a unit.
+fn printed_sum(rt: &HostRuntime, unit: &Unit) -> anyhow::Result<u64> {
+    let mut printed = Vec::new(rt.alloc());
+    print_unit(unit, &mut printed)?;
+    Ok(checksum(&printed))
 }
 
-fn measure_live<O: Write, E: Write>(
-    rt: &HostRuntime,
-    typed: &Typed,
-    live: &LiveSets,
-    out: &mut O,
-    err: &mut E,
-) -> anyhow::Result<()> {
-    let facts = timed(
-        rt,
-        "constraints",
-        || facts_alone(rt.alloc(), typed, live),
-        err,
-    )?;
-    measure_facts(rt, typed, &facts, out, err)
-}
-
-fn measure_typed<O: Write, E: Write>(
-    rt: &HostRuntime,
-    typed: &Typed,
-    out: &mut O,
-    err: &mut E,
-) -> anyhow::Result<()> {
-    let points = typed.steps().len();
-    write!(out, "{points} points, ")?;
-    let live = timed(rt, "liveness", || Ok(live(rt.alloc(), typed)?), err)?;
-    measure_live(rt, typed, &live, out, err)
-}
-
-fn measure_over<O: Write, E: Write>(
-    rt: &HostRuntime,
-    types: &Arc<GoodTypes, Global>,
-    unit: &Unit,
-    out: &mut O,
-    err: &mut E,
-) -> anyhow::Result<()> {
-    let typed = timed(rt, "typing", || typed_alone(rt.alloc(), types, unit), err)?;
-    measure_typed(rt, &typed, out, err)
-}
-
-fn measure_unit<O: Write, E: Write>(
-    rt: &HostRuntime,
-    unit: &Unit,
-    out: &mut O,
-    err: &mut E,
-) -> anyhow::Result<()> {
+/// A body without closures over no declarations, typed.
+fn typed(rt: &HostRuntime, unit: &Unit) -> anyhow::Result<Typed> {
     let types = good_types(rt.alloc(), b"")?;
-    measure_over(rt, &types, unit, out, err)
+    timed(rt, "typing", 1, || typed_alone(rt.alloc(), &types, unit))
 }
 
-/// Analyses a body over no declarations, and writes what was found to `out` and the times to `err`.
-pub fn measure_body<O: Write, E: Write>(
-    rt: &HostRuntime,
-    name: &str,
-    text: &[u8],
-    out: &mut O,
-    err: &mut E,
-) -> anyhow::Result<()> {
-    write!(out, "{name}: ")?;
-    write!(err, "{name}: microseconds:")?;
-    let unit = read_unit(rt.alloc(), text)?;
-    measure_unit(rt, &unit, out, err)?;
-    writeln!(err)?;
+/// The start elements and the constraints of a body's regions.
+fn facts(rt: &HostRuntime, typed: &Typed) -> anyhow::Result<Facts> {
+    let live = timed(rt, "liveness", 1, || Ok(live(rt.alloc(), typed)?))?;
+    timed(rt, "constraints", 1, || {
+        facts_alone(rt.alloc(), typed, &live)
+    })
+}
+
+/// The values of regions, by each solver.
+pub fn values(rt: &HostRuntime, facts: &Facts) -> anyhow::Result<Values> {
+    let _by_groups = timed(rt, "solving by groups", 1, || {
+        Ok(solve_components(rt.alloc(), facts)?)
+    })?;
+    timed(rt, "solving", 1, || Ok(solve_plain(rt.alloc(), facts)?))
+}
+
+/// How many errors a body has.
+fn errors(rt: &HostRuntime, typed: &Typed, values: &Values) -> anyhow::Result<usize> {
+    let scopes = timed(rt, "scopes", 1, || Ok(in_scope(rt.alloc(), typed, values)?))?;
+    let verdict = timed(rt, "judging", 1, || {
+        Ok(judge(rt.alloc(), typed, values, &scopes)?)
+    })?;
+    Ok(verdict.errors.len())
+}
+
+/// Analyses a typed body, and writes what was found.
+fn analyse(rt: &HostRuntime, typed: &Typed) -> anyhow::Result<()> {
+    let facts = facts(rt, typed)?;
+    let values = values(rt, &facts)?;
+    let errors = errors(rt, typed, &values)?;
+    let (points, regions) = (typed.steps().len(), facts.regions());
+    let pairs = facts.pairs().len();
+    println!(rt; "{points} points, {regions} regions, {pairs} constraints, {errors} errors")?;
     Ok(())
+}
+
+/// Reads a text, and analyses its body over no declarations if it is well typed. Writes what was read and found to standard output,
+/// and how long each step took to standard error.
+pub fn measure_text(rt: &HostRuntime, name: &str, text: &[u8]) -> anyhow::Result<()> {
+    eprintln!(rt; "{name}")?;
+    let unit = timed(rt, "reading", 1, || Ok(read_unit(rt.alloc(), text)?))?;
+    let (bytes, sum) = (text.len(), printed_sum(rt, &unit)?);
+    println!(rt; "{name}: {bytes} bytes, checksum {sum}")?;
+    match typed(rt, &unit) {
+        Ok(typed) => analyse(rt, &typed),
+        Err(_) => Ok(()),
+    }
 }

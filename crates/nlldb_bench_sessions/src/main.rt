@@ -1,47 +1,21 @@
-//! Asks for a body again, and for a function one of whose closures was replaced; glances at names, begins parts and puts bodies; reads
-//! names while others are written; and reads, puts and asks for many bodies, many times. What was answered goes to standard output and is the same
-//! at each run; how fast goes to standard error.
+//! Glances, look-ups beside them, beginnings and puts by one session, and reads while other sessions write, many times. How many of them
+//! were answered goes to standard output and is the same at each run; how long each took goes to standard error.
 #![tactic(auto)]
 
-mod asks;
-mod bodies;
-mod closures;
-mod glances;
-mod reads;
+mod alone;
+mod beside;
+mod held;
 
-use crate::asks::measure_asks;
-use crate::bodies::measure_bodies;
-use crate::closures::measure_closures;
-use crate::glances::measure_names;
-use crate::reads::measure_reads;
-use bc_bench::borrows_and_reads;
-use std::io::Write;
-use std::sync::Wait;
-use std::time::Clock;
-
-fn measure_asking<R: AllocGlobal + Clock + Wait, O: Write, E: Write>(
-    rt: &R,
-    out: &mut O,
-    err: &mut E,
-) -> anyhow::Result<()> {
-    let text = borrows_and_reads(rt.alloc())?;
-    measure_asks(rt, "asks of many points", &text, out, err)?;
-    measure_asks(
-        rt,
-        "asks of two points",
-        b"fn()->int{bb0{_0=1;return;}}",
-        out,
-        err,
-    )?;
-    measure_closures(rt, 30, out, err)?;
-    measure_closures(rt, 300, out, err)
-}
+use crate::alone::measure_alone;
+use crate::beside::{Reading, measure_beside};
 
 fn main(rt: HostRuntime) -> anyhow::Result<()> {
-    let mut out = rt.stdout();
-    let mut err = rt.stderr();
-    measure_asking(&rt, &mut out, &mut err)?;
-    measure_names(&rt, &mut out, &mut err)?;
-    measure_reads(&rt, &mut out, &mut err)?;
-    measure_bodies(&rt, &mut out, &mut err)
+    measure_alone(&rt, 1)?;
+    measure_alone(&rt, 16)?;
+    for writers in [0u8, 1, 3] {
+        for reading in [Reading::Glances, Reading::Begins, Reading::Locked] {
+            measure_beside(&rt, reading, writers)?;
+        }
+    }
+    Ok(())
 }
