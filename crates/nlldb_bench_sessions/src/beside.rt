@@ -1,28 +1,24 @@
 //! Reads by one thread while others write: each by a session of its own, or all by one session under a lock.
-use crate::held::{FUNCTION, answer, names, opened};
-use anyhow::{bail, ensure};
-use bc_fixtures::shared_unit;
+use crate::held::{Row, begin_all, functions, glance_all, hold, opened, put_all};
+use anyhow::bail;
 use bc_share::Session;
-use bc_syntax::Unit;
-use bc_text::Name;
 use bc_versions::Ending;
-use std::alloc::Global;
 use std::sync::atomic::AtomicBool;
 use std::sync::atomic::Ordering::SeqCst;
-use std::sync::{Arc, Mutex, Wait};
+use std::sync::{Mutex, Wait};
 use std::thread;
 use std::thread::Threads;
 use std::time::{Clock, Duration, Instant};
 
-/// How many names each thread has: a quarter of all that may be held.
+/// How many names each thread has.
 const OWN: usize = 64;
 
 /// How often a writer puts at most.
-const MOST_PUTS: u32 = 300_000;
+const MOST_PUTS: usize = 300_000;
 
-/// What is read, and by which session.
+/// What is read.
 #[derive(Clone, Copy)]
-pub enum Reading {
+enum Reading {
     /// The answer of a name, by a session of the reader's own.
     Glances,
     /// The part of a name, by a session of the reader's own.
@@ -31,30 +27,9 @@ pub enum Reading {
     Locked,
 }
 
-/// By what a thread reads or writes.
-#[derive(Drop)]
-enum Access<'a, E: Ending> {
-    Glances(Session<E>),
-    Begins(Session<E>),
-    Locked(&'a Mutex<Session<E>>),
-}
-
-/// A thread with names of its own, and how many calls a second it made, if each was answered.
-#[derive(Drop)]
-struct Seat<'a, E: Ending> {
-    access: Access<'a, E>,
-    own: &'a [Name],
-    rate: Option<u128>,
-}
-
-/// How many calls a second so many are that took so long.
-fn rate(calls: u32, took: Duration) -> u128 {
-    u128::from(calls).saturating_mul(1_000_000_000) / took.as_nanos().max(1)
-}
-
 impl Reading {
-    /// What it is called, and how often it is read: for some fifth of a second.
-    fn told(self) -> (&'static str, u32) {
+    /// What it is called, and how often it is read: for a fifth of a second or so.
+    fn told(self) -> (&'static str, usize) {
         match self {
             Reading::Glances => ("glances", 1_000_000),
             Reading::Begins => ("begins", 200_000),
@@ -63,199 +38,132 @@ impl Reading {
     }
 }
 
-impl<'a, E: Ending> Access<'a, E> {
-    /// Reads a name, which has an answer.
-    fn read<R: Wait>(&mut self, rt: &R, name: &Name) -> anyhow::Result<()> {
-        match self {
-            Access::Glances(session) => ensure!(session.glance(name)?.is_some(), "no answer"),
-            Access::Begins(session) => {
-                let _begun = session.begin(name)?;
-            }
-            Access::Locked(session) => {
-                let _begun = session.lock(rt).begin(name)?;
-            }
-        }
-        Ok(())
-    }
-
-    /// Puts a unit under a name.
-    fn write<R: Wait>(
-        &mut self,
-        rt: &R,
-        name: &Name,
-        unit: &Arc<Unit, Global>,
-    ) -> anyhow::Result<()> {
-        let unit = Arc::try_clone(unit)?;
-        match self {
-            Access::Glances(session) | Access::Begins(session) => session.put(rt, *name, unit)?,
-            Access::Locked(session) => session.lock(rt).put(rt, *name, unit)?,
-        };
-        Ok(())
-    }
+/// How many calls a second so many are that took so long.
+fn rate(calls: usize, took: Duration) -> u128 {
+    (calls as u128).saturating_mul(1_000_000_000) / took.as_nanos().max(1)
 }
 
-impl<'a, E: Ending> Seat<'a, E> {
-    /// Reads the own names in turn, so often, a little after the writers begin. Gives how many reads a second that were.
-    fn read_all<R: Clock + Wait>(&mut self, rt: &R, reads: u32) -> anyhow::Result<u128> {
-        thread::sleep(rt, Duration::from_millis(5));
-        let own = self.own;
-        let start = Instant::now(rt)?;
-        for turn in 0..reads {
-            let Some(name) = own.get(turn as usize % OWN) else {
-                bail!("no such name");
-            };
-            self.access.read(rt, name)?;
-        }
-        Ok(rate(reads, start.elapsed(rt)?))
-    }
-
-    /// Puts a unit under the own names in turn, until the reader has read. Gives how many puts a second that were.
-    fn write_all<R: Clock + Wait>(
-        &mut self,
-        rt: &R,
-        unit: &Arc<Unit, Global>,
-        has_read: &AtomicBool,
-    ) -> anyhow::Result<u128> {
-        let own = self.own;
-        let start = Instant::now(rt)?;
-        let mut puts = 0u32;
-        for turn in 0..MOST_PUTS {
-            if has_read.load(SeqCst) {
-                break;
-            }
-            let Some(name) = own.get(turn as usize % OWN) else {
-                bail!("no such name");
-            };
-            self.access.write(rt, name, unit)?;
-            puts = turn + 1;
-        }
-        Ok(rate(puts, start.elapsed(rt)?))
-    }
-}
-
-/// Has the first seat read so often while the others write.
-fn sit_all<R: Clock + Threads + Wait + Sync, E: Ending + Send>(
+/// Begins rows in turn, so often, each under the lock. Gives how many begins that were.
+fn begin_locked<R: Wait, E: Ending>(
     rt: &R,
-    reads: u32,
-    seats: &mut [Seat<E>],
-    unit: &Arc<Unit, Global>,
-) {
-    let has_read = AtomicBool::new(false);
-    let threads = seats.len().max(1);
-    thread::for_each_mut(
-        rt,
-        seats,
-        threads,
-        &|index: usize, seat: &mut Seat<E>| {
-            if index == 0 {
-                seat.rate = seat.read_all(rt, reads).ok();
-                has_read.store(true, SeqCst);
-            } else {
-                seat.rate = seat.write_all(rt, unit, &has_read).ok();
-            }
-        },
-    );
-}
-
-/// Has the seats read and write, and writes how many reads and puts a second that were to standard error. Fails where a call was not
-/// answered.
-fn measure_seats<R: Clock + Print + Eprint + Threads + Wait + Sync, E: Ending + Send>(
-    rt: &R,
-    reading: Reading,
-    seats: &mut [Seat<E>],
-    unit: &Arc<Unit, Global>,
-) -> anyhow::Result<()> {
-    let (name, reads) = reading.told();
-    sit_all(rt, reads, seats, unit);
-    let writers = seats.len().saturating_sub(1);
-    eprint!(rt; "{name}, writers {writers}: reads and puts a second")?;
-    for seat in seats.iter() {
-        let Some(rate) = seat.rate else {
-            bail!("a call was not answered");
-        };
-        eprint!(rt; " {rate}")?;
-    }
-    eprintln!(rt; "")?;
-    println!(rt; "{name}, writers {writers}: {reads} answered")?;
-    Ok(())
-}
-
-/// Measures reads of a session beside sessions that write.
-fn measure_sessions<R: AllocGlobal + Clock + Print + Eprint + Threads + Wait + Sync>(
-    rt: &R,
-    reading: Reading,
-    writers: u8,
-    names: &[Name],
-    unit: &Arc<Unit, Global>,
-) -> anyhow::Result<()> {
-    let mut sessions = opened(rt, writers.saturating_add(1))?;
-    if let Some(session) = sessions.first_mut() {
-        answer(rt, session, names)?;
-    }
-    let mut seats = Vec::new(rt.alloc());
-    for (session, own) in sessions.into_iter().zip(names.chunks(OWN)) {
-        let access = match reading {
-            Reading::Glances => Access::Glances(session),
-            Reading::Begins | Reading::Locked => Access::Begins(session),
-        };
-        seats.push(Seat {
-            access,
-            own,
-            rate: None,
-        })?;
-    }
-    measure_seats(rt, reading, &mut seats, unit)
-}
-
-/// Measures reads of a session that all threads share under a lock.
-fn measure_shared<R, E: Ending + Send>(
-    rt: &R,
-    writers: u8,
     session: &Mutex<Session<E>>,
-    names: &[Name],
-    unit: &Arc<Unit, Global>,
+    rows: &[Row],
+    calls: usize,
+) -> anyhow::Result<u32> {
+    let mut begun = 0u32;
+    for row in rows.chunks(1).cycle().take(calls) {
+        begun = begun.saturating_add(begin_all(&mut session.lock(rt), row, 1)?);
+    }
+    Ok(begun)
+}
+
+/// Reads rows, a little after the writers begin. Gives how many reads a second that were, where each was answered.
+fn read_all<R: Clock + Wait, E: Ending>(
+    rt: &R,
+    reading: Reading,
+    session: &Mutex<Session<E>>,
+    rows: &[Row],
+) -> anyhow::Result<u128> {
+    thread::sleep(rt, Duration::from_millis(5));
+    let (_, reads) = reading.told();
+    let start = Instant::now(rt)?;
+    let answered = match reading {
+        Reading::Glances => glance_all(&mut session.lock(rt), rows, reads)?,
+        Reading::Begins => begin_all(&mut session.lock(rt), rows, reads)?,
+        Reading::Locked => begin_locked(rt, session, rows, reads)?,
+    };
+    if answered as usize != reads {
+        bail!("no answer");
+    }
+    Ok(rate(reads, start.elapsed(rt)?))
+}
+
+/// Puts rows in turn until the reader has read. Gives how many puts a second that were.
+fn write_all<R: Clock + Wait, E: Ending>(
+    rt: &R,
+    session: &Mutex<Session<E>>,
+    rows: &[Row],
+    has_read: &AtomicBool,
+) -> anyhow::Result<u128> {
+    let start = Instant::now(rt)?;
+    let mut puts: usize = 0;
+    for row in rows.chunks(1).cycle().take(MOST_PUTS) {
+        if has_read.load(SeqCst) {
+            break;
+        }
+        put_all(rt, &mut session.lock(rt), row, 1)?;
+        puts = puts.saturating_add(1);
+    }
+    Ok(rate(puts, start.elapsed(rt)?))
+}
+
+/// Has one thread read the first rows while others write the rest, and writes how many reads were answered, and how many calls a second
+/// each thread made.
+fn measure_reading<R, E: Ending + Send>(
+    rt: &R,
+    reading: Reading,
+    sessions: &[Mutex<Session<E>>],
+    rows: &[Row],
 ) -> anyhow::Result<()>
 where
     R: AllocGlobal + Clock + Print + Eprint + Threads + Wait + Sync,
 {
-    let mut seats = Vec::new(rt.alloc());
-    for own in names.chunks(OWN).take(1 + usize::from(writers)) {
-        seats.push(Seat {
-            access: Access::Locked(session),
-            own,
-            rate: None,
-        })?;
+    let (name, reads) = reading.told();
+    let has_read = AtomicBool::new(false);
+    let rates = thread::map_chunks(
+        rt,
+        rt.alloc(),
+        rows,
+        OWN,
+        &|start: usize, own: &[Row]| {
+            let session = sessions.get(start / OWN).or(sessions.first())?;
+            if start > 0 {
+                return write_all(rt, session, own, &has_read).ok();
+            }
+            let rate = read_all(rt, reading, session, own).ok();
+            has_read.store(true, SeqCst);
+            rate
+        },
+    )?;
+    println!(rt; "{name}: {reads}")?;
+    eprintln!(rt; "{name}, reads and puts a second:")?;
+    for rate in rates {
+        let Some(rate) = rate else {
+            bail!("a call was not answered");
+        };
+        eprintln!(rt; "{rate}")?;
     }
-    measure_seats(rt, Reading::Locked, &mut seats, unit)
+    Ok(())
 }
 
-/// Measures reads of the one session of a new database, which all threads share under a lock.
-fn measure_lock<R: AllocGlobal + Clock + Print + Eprint + Threads + Wait + Sync>(
-    rt: &R,
-    writers: u8,
-    names: &[Name],
-    unit: &Arc<Unit, Global>,
-) -> anyhow::Result<()> {
-    let Some(mut session) = opened(rt, 1)?.pop() else {
-        bail!("no session");
-    };
-    answer(rt, &mut session, names)?;
-    measure_shared(rt, writers, &Mutex::new(session), names, unit)
-}
-
-/// Reads names again and again by one thread while so many others write. Writes how many reads were answered to standard output, and
-/// how many reads and puts a second there were to standard error. Fails where one was not answered.
-pub fn measure_beside<R: AllocGlobal + Clock + Print + Eprint + Threads + Wait + Sync>(
+/// Measures reads by sessions of a new database that has so many.
+fn measure_sessions<R: AllocGlobal + Clock + Print + Eprint + Threads + Wait + Sync>(
     rt: &R,
     reading: Reading,
+    count: u8,
+    rows: &[Row],
+) -> anyhow::Result<()> {
+    let mut sessions = opened(rt, count)?;
+    if let Some(session) = sessions.first_mut() {
+        hold(rt, session, rows)?;
+    }
+    let sessions: Vec<_> = sessions
+        .into_iter()
+        .map(|session| Mutex::new(session))
+        .collect(rt.alloc())?;
+    measure_reading(rt, reading, &sessions, rows)
+}
+
+/// Measures reads while so many others write, who have names of their own. Writes how many reads were answered to standard output, and
+/// how many calls a second the reader and each writer made to standard error. Fails where a call was not answered.
+pub fn measure_beside<R: AllocGlobal + Clock + Print + Eprint + Threads + Wait + Sync>(
+    rt: &R,
     writers: u8,
 ) -> anyhow::Result<()> {
-    let names = names(rt.alloc(), 256)?;
-    let unit = shared_unit(rt.alloc(), FUNCTION)?;
-    match reading {
-        Reading::Glances | Reading::Begins => {
-            measure_sessions(rt, reading, writers, &names, &unit)
-        }
-        Reading::Locked => measure_lock(rt, writers, &names, &unit),
-    }
+    eprintln!(rt; "beside {writers} writers")?;
+    let threads = writers.saturating_add(1);
+    let rows = functions(rt.alloc(), usize::from(threads) * OWN)?;
+    measure_sessions(rt, Reading::Glances, threads, &rows)?;
+    measure_sessions(rt, Reading::Begins, threads, &rows)?;
+    measure_sessions(rt, Reading::Locked, 1, &rows)
 }

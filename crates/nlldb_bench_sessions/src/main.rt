@@ -1,5 +1,5 @@
-//! Glances, look-ups beside them, beginnings and puts by one session, and reads while other sessions write, many times. How many of them
-//! were answered goes to standard output and is the same at each run; how long each took goes to standard error.
+//! Glances, look-ups beside them, begins and puts by one session, and reads while others write, many times. How many of them were answered
+//! goes to standard output and is the same at each run; how long each took goes to standard error.
 #![tactic(auto)]
 
 mod alone;
@@ -7,15 +7,13 @@ mod beside;
 mod held;
 
 use crate::alone::measure_alone;
-use crate::beside::{Reading, measure_beside};
+use crate::beside::measure_beside;
 
 fn main(rt: HostRuntime) -> anyhow::Result<()> {
     measure_alone(&rt, 1)?;
     measure_alone(&rt, 16)?;
-    for writers in [0u8, 1, 3] {
-        for reading in [Reading::Glances, Reading::Begins, Reading::Locked] {
-            measure_beside(&rt, reading, writers)?;
-        }
+    for writers in [0, 1, 3] {
+        measure_beside(&rt, writers)?;
     }
     Ok(())
 }
