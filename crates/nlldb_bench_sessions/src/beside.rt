@@ -1,5 +1,5 @@
 //! Reads by one thread while others write: each by a session of its own, or all by one session under a lock.
-use crate::held::{Row, begin_all, functions, glance_all, hold, opened, put_all};
+use crate::calls::{Row, begin_all, functions, glance_all, hold, opened, put_all};
 use anyhow::bail;
 use bc_share::Session;
 use bc_versions::Ending;
@@ -10,54 +10,51 @@ use std::thread;
 use std::thread::Threads;
 use std::time::{Clock, Duration, Instant};
 
-/// How many names each thread has.
+/// How many rows each thread has.
 const OWN: usize = 64;
 
 /// How often a writer puts at most.
 const MOST_PUTS: usize = 300_000;
 
-/// What is read.
+/// Reads that are measured: what they are called, whether they are glances or begins, and how many are made, for a fifth of a second or
+/// so. As many as are made at once are made under one lock: one where all threads share a session.
 #[derive(Clone, Copy)]
-enum Reading {
-    /// The answer of a name, by a session of the reader's own.
-    Glances,
-    /// The part of a name, by a session of the reader's own.
-    Begins,
-    /// The part of a name, by the one session of all threads.
-    Locked,
+pub struct Reading {
+    name: &'static str,
+    is_glance: bool,
+    reads: usize,
+    is_shared: bool,
 }
 
-impl Reading {
-    /// What it is called, and how often it is read: for a fifth of a second or so.
-    fn told(self) -> (&'static str, usize) {
-        match self {
-            Reading::Glances => ("glances", 1_000_000),
-            Reading::Begins => ("begins", 200_000),
-            Reading::Locked => ("begins under the lock", 50_000),
-        }
-    }
-}
+/// All readings that are measured.
+pub const READINGS: [Reading; 3] = [
+    Reading {
+        name: "glances",
+        is_glance: true,
+        reads: 1_024_000,
+        is_shared: false,
+    },
+    Reading {
+        name: "begins",
+        is_glance: false,
+        reads: 204_800,
+        is_shared: false,
+    },
+    Reading {
+        name: "begins under the lock",
+        is_glance: false,
+        reads: 51_200,
+        is_shared: true,
+    },
+];
 
 /// How many calls a second so many are that took so long.
 fn rate(calls: usize, took: Duration) -> u128 {
     (calls as u128).saturating_mul(1_000_000_000) / took.as_nanos().max(1)
 }
 
-/// Begins rows in turn, so often, each under the lock. Gives how many begins that were.
-fn begin_locked<R: Wait, E: Ending>(
-    rt: &R,
-    session: &Mutex<Session<E>>,
-    rows: &[Row],
-    calls: usize,
-) -> anyhow::Result<u32> {
-    let mut begun = 0u32;
-    for row in rows.chunks(1).cycle().take(calls) {
-        begun = begun.saturating_add(begin_all(&mut session.lock(rt), row, 1)?);
-    }
-    Ok(begun)
-}
-
-/// Reads rows, a little after the writers begin. Gives how many reads a second that were, where each was answered.
+/// Reads rows by a session in turn, a little after the writers begin. Gives how many reads a second that were. Fails where one is not
+/// answered.
 fn read_all<R: Clock + Wait, E: Ending>(
     rt: &R,
     reading: Reading,
@@ -65,17 +62,23 @@ fn read_all<R: Clock + Wait, E: Ending>(
     rows: &[Row],
 ) -> anyhow::Result<u128> {
     thread::sleep(rt, Duration::from_millis(5));
-    let (_, reads) = reading.told();
+    let at_once = if reading.is_shared { 1 } else { OWN };
+    let mut answered: usize = 0;
     let start = Instant::now(rt)?;
-    let answered = match reading {
-        Reading::Glances => glance_all(&mut session.lock(rt), rows, reads)?,
-        Reading::Begins => begin_all(&mut session.lock(rt), rows, reads)?,
-        Reading::Locked => begin_locked(rt, session, rows, reads)?,
-    };
-    if answered as usize != reads {
+    for part in rows.chunks(at_once).cycle().take(reading.reads / at_once) {
+        let mut session = session.lock(rt);
+        let more = if reading.is_glance {
+            glance_all(&mut session, part, at_once)?
+        } else {
+            begin_all(&mut session, part, at_once)?
+        };
+        answered = answered.saturating_add(more);
+    }
+    let took = start.elapsed(rt)?;
+    if answered != reading.reads {
         bail!("no answer");
     }
-    Ok(rate(reads, start.elapsed(rt)?))
+    Ok(rate(answered, took))
 }
 
 /// Puts rows in turn until the reader has read. Gives how many puts a second that were.
@@ -85,8 +88,8 @@ fn write_all<R: Clock + Wait, E: Ending>(
     rows: &[Row],
     has_read: &AtomicBool,
 ) -> anyhow::Result<u128> {
-    let start = Instant::now(rt)?;
     let mut puts: usize = 0;
+    let start = Instant::now(rt)?;
     for row in rows.chunks(1).cycle().take(MOST_PUTS) {
         if has_read.load(SeqCst) {
             break;
@@ -97,18 +100,13 @@ fn write_all<R: Clock + Wait, E: Ending>(
     Ok(rate(puts, start.elapsed(rt)?))
 }
 
-/// Has one thread read the first rows while others write the rest, and writes how many reads were answered, and how many calls a second
-/// each thread made.
-fn measure_reading<R, E: Ending + Send>(
+/// Has one thread read the first rows while others write the rest, and writes how many calls a second each made.
+fn measure_threads<R: AllocGlobal + Clock + Eprint + Threads + Wait + Sync, E: Ending + Send>(
     rt: &R,
     reading: Reading,
     sessions: &[Mutex<Session<E>>],
     rows: &[Row],
-) -> anyhow::Result<()>
-where
-    R: AllocGlobal + Clock + Print + Eprint + Threads + Wait + Sync,
-{
-    let (name, reads) = reading.told();
+) -> anyhow::Result<()> {
     let has_read = AtomicBool::new(false);
     let rates = thread::map_chunks(
         rt,
@@ -125,45 +123,34 @@ where
             rate
         },
     )?;
-    println!(rt; "{name}: {reads}")?;
-    eprintln!(rt; "{name}, reads and puts a second:")?;
     for rate in rates {
         let Some(rate) = rate else {
             bail!("a call was not answered");
         };
-        eprintln!(rt; "{rate}")?;
+        eprintln!(rt; "{rate} a second")?;
     }
     Ok(())
 }
 
-/// Measures reads by sessions of a new database that has so many.
-fn measure_sessions<R: AllocGlobal + Clock + Print + Eprint + Threads + Wait + Sync>(
+/// Measures reads while so many others write, who have rows of their own. Writes how many reads were answered to standard output, and
+/// how many reads and how many puts a second each thread made to standard error. Fails where a call was not answered.
+pub fn measure_reading<R: AllocGlobal + Clock + Print + Eprint + Threads + Wait + Sync>(
     rt: &R,
     reading: Reading,
-    count: u8,
-    rows: &[Row],
+    writers: u8,
 ) -> anyhow::Result<()> {
-    let mut sessions = opened(rt, count)?;
+    let Reading { name, reads, .. } = reading;
+    println!(rt; "{name} beside {writers} writers: {reads}")?;
+    eprintln!(rt; "{name} beside {writers} writers:")?;
+    let threads = writers.saturating_add(1);
+    let rows = functions(rt.alloc(), usize::from(threads) * OWN)?;
+    let mut sessions = opened(rt, if reading.is_shared { 1 } else { threads })?;
     if let Some(session) = sessions.first_mut() {
-        hold(rt, session, rows)?;
+        hold(rt, session, &rows)?;
     }
     let sessions: Vec<_> = sessions
         .into_iter()
         .map(|session| Mutex::new(session))
         .collect(rt.alloc())?;
-    measure_reading(rt, reading, &sessions, rows)
-}
-
-/// Measures reads while so many others write, who have names of their own. Writes how many reads were answered to standard output, and
-/// how many calls a second the reader and each writer made to standard error. Fails where a call was not answered.
-pub fn measure_beside<R: AllocGlobal + Clock + Print + Eprint + Threads + Wait + Sync>(
-    rt: &R,
-    writers: u8,
-) -> anyhow::Result<()> {
-    eprintln!(rt; "beside {writers} writers")?;
-    let threads = writers.saturating_add(1);
-    let rows = functions(rt.alloc(), usize::from(threads) * OWN)?;
-    measure_sessions(rt, Reading::Glances, threads, &rows)?;
-    measure_sessions(rt, Reading::Begins, threads, &rows)?;
-    measure_sessions(rt, Reading::Locked, 1, &rows)
+    measure_threads(rt, reading, &sessions, &rows)
 }

@@ -4,16 +4,18 @@
 
 mod alone;
 mod beside;
-mod held;
+mod calls;
 
 use crate::alone::measure_alone;
-use crate::beside::measure_beside;
+use crate::beside::{READINGS, measure_reading};
 
 fn main(rt: HostRuntime) -> anyhow::Result<()> {
     measure_alone(&rt, 1)?;
     measure_alone(&rt, 16)?;
-    for writers in [0, 1, 3] {
-        measure_beside(&rt, writers)?;
+    for writers in [0u8, 1, 3] {
+        for reading in READINGS {
+            measure_reading(&rt, reading, writers)?;
+        }
     }
     Ok(())
 }

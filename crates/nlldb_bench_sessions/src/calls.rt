@@ -1,9 +1,7 @@
-//! New databases, what they hold, and calls over that.
-use anyhow::bail;
+//! Sessions of new databases, and calls that they make again and again.
 use bc_analyses::providers;
 use bc_calls::PutReply;
 use bc_fixtures::{name, shared_unit};
-use bc_prov::Providers;
 use bc_share::{Db, Session};
 use bc_syntax::Unit;
 use bc_text::Name;
@@ -37,43 +35,16 @@ pub fn opened<R: AllocGlobal + Wait>(
     Ok(sessions)
 }
 
-/// Asks for each row by these providers.
-fn ask_all<R: Wait, E: Ending>(
-    rt: &R,
-    session: &mut Session<E>,
-    rows: &[Row],
-    providers: &Providers,
-) -> anyhow::Result<()> {
-    for (name, _) in rows {
-        let _outcome = session.ask(rt, name, providers)?;
-    }
-    Ok(())
-}
-
-/// Puts each row, and asks for each.
+/// Puts each row, and asks for it.
 pub fn hold<R: AllocGlobal + Wait, E: Ending>(
     rt: &R,
     session: &mut Session<E>,
     rows: &[Row],
 ) -> anyhow::Result<()> {
-    put_all(rt, session, rows, rows.len())?;
     let providers = providers!(rt.alloc());
-    ask_all(rt, session, rows, &providers)
-}
-
-/// Puts small closures below a name, so many units with that of the name itself.
-pub fn hold_below<R: AllocGlobal + Wait, E: Ending>(
-    rt: &R,
-    session: &mut Session<E>,
-    name: &Name,
-    units: u8,
-) -> anyhow::Result<()> {
-    for number in 1..units {
-        let Some(closure) = name.child(number) else {
-            bail!("no such closure");
-        };
-        let unit = shared_unit(rt.alloc(), b"closure[]()->int{bb0{_0=1;return;}}")?;
-        session.put(rt, closure, unit)?;
+    for (name, unit) in rows {
+        session.put(rt, *name, Arc::try_clone(unit)?)?;
+        let _outcome = session.ask(rt, name, &providers)?;
     }
     Ok(())
 }
@@ -83,10 +54,10 @@ pub fn glance_all<E: Ending>(
     session: &mut Session<E>,
     rows: &[Row],
     calls: usize,
-) -> anyhow::Result<u32> {
-    let mut answered = 0u32;
+) -> anyhow::Result<usize> {
+    let mut answered: usize = 0;
     for (name, _) in rows.iter().cycle().take(calls) {
-        answered = answered.saturating_add(u32::from(session.glance(name)?.is_some()));
+        answered = answered.saturating_add(usize::from(session.glance(name)?.is_some()));
     }
     Ok(answered)
 }
@@ -96,8 +67,8 @@ pub fn begin_all<E: Ending>(
     session: &mut Session<E>,
     rows: &[Row],
     calls: usize,
-) -> anyhow::Result<u32> {
-    let mut begun = 0u32;
+) -> anyhow::Result<usize> {
+    let mut begun: usize = 0;
     for (name, _) in rows.iter().cycle().take(calls) {
         let _begun = session.begin(name)?;
         begun = begun.saturating_add(1);
@@ -111,11 +82,11 @@ pub fn put_all<R: Wait, E: Ending>(
     session: &mut Session<E>,
     rows: &[Row],
     calls: usize,
-) -> anyhow::Result<u32> {
-    let mut replaced = 0u32;
+) -> anyhow::Result<usize> {
+    let mut replaced: usize = 0;
     for (name, unit) in rows.iter().cycle().take(calls) {
         let reply = session.put(rt, *name, Arc::try_clone(unit)?)?;
-        replaced = replaced.saturating_add(u32::from(reply == PutReply::Replaced));
+        replaced = replaced.saturating_add(usize::from(reply == PutReply::Replaced));
     }
     Ok(replaced)
 }
