@@ -49,24 +49,31 @@ pub fn values(rt: &HostRuntime, facts: &Facts) -> anyhow::Result<Values> {
     timed(rt, "solving", 1, || Ok(solve_plain(rt.alloc(), facts)?))
 }
 
-/// How many errors a body has.
-fn errors(rt: &HostRuntime, typed: &Typed, values: &Values) -> anyhow::Result<usize> {
+/// Where the loans of a body are in scope, and how many errors it has.
+fn judge_values(rt: &HostRuntime, typed: &Typed, values: &Values) -> anyhow::Result<()> {
     let scopes = timed(rt, "scopes", 1, || Ok(in_scope(rt.alloc(), typed, values)?))?;
     let verdict = timed(rt, "judging", 1, || {
         Ok(judge(rt.alloc(), typed, values, &scopes)?)
     })?;
-    Ok(verdict.errors.len())
+    let errors = verdict.errors.len();
+    println!(rt; "{errors} errors")?;
+    Ok(())
+}
+
+/// Solves what the values of a body's regions are made from, and judges it.
+fn judge_facts(rt: &HostRuntime, typed: &Typed, facts: &Facts) -> anyhow::Result<()> {
+    let (regions, pairs) = (facts.regions(), facts.pairs().len());
+    println!(rt; "{regions} regions, {pairs} constraints")?;
+    let values = values(rt, facts)?;
+    judge_values(rt, typed, &values)
 }
 
 /// Analyses a typed body, and writes what was found.
 fn analyse(rt: &HostRuntime, typed: &Typed) -> anyhow::Result<()> {
+    let points = typed.steps().len();
+    println!(rt; "{points} points")?;
     let facts = facts(rt, typed)?;
-    let values = values(rt, &facts)?;
-    let errors = errors(rt, typed, &values)?;
-    let (points, regions) = (typed.steps().len(), facts.regions());
-    let pairs = facts.pairs().len();
-    println!(rt; "{points} points, {regions} regions, {pairs} constraints, {errors} errors")?;
-    Ok(())
+    judge_facts(rt, typed, &facts)
 }
 
 /// Reads a text, and analyses its body over no declarations if it is well typed. Writes what was read and found to standard output,

@@ -1,92 +1,170 @@
-//! Sessions of new databases, and calls that they make again and again.
+//! What is held, and the calls that are measured.
+use anyhow::{Result, bail};
 use bc_analyses::providers;
+use bc_bench::{below, generator};
 use bc_calls::PutReply;
 use bc_fixtures::{name, shared_unit};
-use bc_share::{Db, Session};
+use bc_prov::Providers;
+use bc_share::Session;
 use bc_syntax::Unit;
 use bc_text::Name;
-use bc_versions::{Ending, Waiting};
+use bc_versions::Ending;
 use std::alloc::Global;
 use std::sync::{Arc, Wait};
 
-/// How many entries a history has room for: more than are made.
-const CAPACITY: u32 = 1_000_000;
+/// How many rows are drawn.
+pub const DRAWS: usize = 4096;
 
 /// A name and a unit.
 pub type Row = (Name, Arc<Unit, Global>);
 
-/// So many small functions, of 1,000 at most, in the order of their names.
-pub fn functions(alloc: Global, count: usize) -> anyhow::Result<Vec<Row>> {
+/// A kind of call, or a look-up in a list that stands beside the database.
+#[derive(Clone, Copy)]
+pub enum Call {
+    Glance,
+    LookUp,
+    Begin,
+    Put,
+}
+
+/// A small function of this number.
+fn function(alloc: Global, number: u32) -> Result<Row> {
+    let text = format!(in alloc; "body_{number}")?;
+    let name = name(text.as_bytes())?;
+    Ok((name, shared_unit(alloc, b"fn()->int{bb0{_0=1;return;}}")?))
+}
+
+/// So many small functions, in the order of their names.
+pub fn functions(alloc: Global, count: u32) -> Result<Vec<Row>> {
     let mut rows = Vec::new(alloc);
-    for number in (1000..2000u32).take(count) {
-        let text = format!(in alloc; "body_{number}")?;
-        let unit = shared_unit(alloc, b"fn()->int{bb0{_0=1;return;}}")?;
-        rows.push((name(text.as_bytes())?, unit))?;
+    for number in 0..count {
+        rows.push(function(alloc, number.saturating_add(1000))?)?;
     }
     Ok(rows)
 }
 
-/// The sessions of a new database.
-pub fn opened<R: AllocGlobal + Wait>(
-    rt: &R,
-    sessions: u8,
-) -> anyhow::Result<Vec<Session<Waiting<&R>>>> {
-    let (_db, sessions) = Db::open(rt.alloc(), Waiting::new(rt), 0, CAPACITY, sessions)?;
-    Ok(sessions)
+/// Rows that are drawn without a pattern.
+pub fn draws(alloc: Global, rows: &[Row]) -> Result<Vec<Row>> {
+    let mut random = generator();
+    let mut draws = Vec::new(alloc);
+    for _ in 0..DRAWS {
+        let number = below(&mut random, 1000) as usize % rows.len().max(1);
+        let Some((name, unit)) = rows.get(number) else {
+            bail!("no rows");
+        };
+        draws.push((*name, Arc::try_clone(unit)?))?;
+    }
+    Ok(draws)
 }
 
-/// Puts each row, and asks for it.
-pub fn hold<R: AllocGlobal + Wait, E: Ending>(
+/// Puts each row, and asks for it by these providers.
+fn answer_all<R: Wait, E: Ending>(
     rt: &R,
     session: &mut Session<E>,
     rows: &[Row],
-) -> anyhow::Result<()> {
-    let providers = providers!(rt.alloc());
+    providers: &Providers,
+) -> Result<()> {
     for (name, unit) in rows {
         session.put(rt, *name, Arc::try_clone(unit)?)?;
-        let _outcome = session.ask(rt, name, &providers)?;
+        let _outcome = session.ask(rt, name, providers)?;
     }
     Ok(())
 }
 
-/// Glances at rows in turn, so often. Gives how many are answered.
-pub fn glance_all<E: Ending>(
-    session: &mut Session<E>,
-    rows: &[Row],
-    calls: usize,
-) -> anyhow::Result<usize> {
+/// Puts each row, and asks for it.
+pub fn hold<R, E>(rt: &R, session: &mut Session<E>, rows: &[Row]) -> Result<()>
+where
+    R: AllocGlobal + Wait,
+    E: Ending,
+{
+    let providers = providers!(rt.alloc());
+    answer_all(rt, session, rows, &providers)
+}
+
+/// Puts small closures below a name, so many units with that of the name itself.
+pub fn hold_below<R, E>(rt: &R, session: &mut Session<E>, name: &Name, units: u8) -> Result<()>
+where
+    R: AllocGlobal + Wait,
+    E: Ending,
+{
+    for number in 1..units {
+        let Some(closure) = name.child(number) else {
+            bail!("no such closure");
+        };
+        let unit = shared_unit(rt.alloc(), b"closure[]()->int{bb0{_0=1;return;}}")?;
+        session.put(rt, closure, unit)?;
+    }
+    Ok(())
+}
+
+/// Glances at each row. Gives how many are answered.
+fn glance_all<E: Ending>(session: &mut Session<E>, rows: &[Row]) -> Result<usize> {
     let mut answered: usize = 0;
-    for (name, _) in rows.iter().cycle().take(calls) {
+    for (name, _) in rows {
         answered = answered.saturating_add(usize::from(session.glance(name)?.is_some()));
     }
     Ok(answered)
 }
 
-/// Begins rows in turn, so often. Gives how many begins that were.
-pub fn begin_all<E: Ending>(
-    session: &mut Session<E>,
-    rows: &[Row],
-    calls: usize,
-) -> anyhow::Result<usize> {
-    let mut begun: usize = 0;
-    for (name, _) in rows.iter().cycle().take(calls) {
-        let _begun = session.begin(name)?;
-        begun = begun.saturating_add(1);
+/// Looks each row up in a list that is in the order of its names, and takes one more owner of the unit there. Gives how many are found.
+fn look_up_all(list: &[Row], rows: &[Row]) -> Result<usize> {
+    let mut found: usize = 0;
+    for (name, _) in rows {
+        let place = list.binary_search_by(|row| row.0.cmp(name)).ok();
+        if let Some((_, unit)) = place.and_then(|place| list.get(place)) {
+            let _unit = Arc::try_clone(unit)?;
+            found = found.saturating_add(1);
+        }
     }
-    Ok(begun)
+    Ok(found)
 }
 
-/// Puts rows in turn, so often. Gives how many units that replaced.
+/// Begins each row. Gives how many that were.
+fn begin_all<E: Ending>(session: &mut Session<E>, rows: &[Row]) -> Result<usize> {
+    for (name, _) in rows {
+        let _begun = session.begin(name)?;
+    }
+    Ok(rows.len())
+}
+
+/// Puts each row. Gives how many units that replaced.
 pub fn put_all<R: Wait, E: Ending>(
     rt: &R,
     session: &mut Session<E>,
     rows: &[Row],
-    calls: usize,
-) -> anyhow::Result<usize> {
+) -> Result<usize> {
     let mut replaced: usize = 0;
-    for (name, unit) in rows.iter().cycle().take(calls) {
+    for (name, unit) in rows {
         let reply = session.put(rt, *name, Arc::try_clone(unit)?)?;
         replaced = replaced.saturating_add(usize::from(reply == PutReply::Replaced));
     }
     Ok(replaced)
+}
+
+impl Call {
+    /// What it is called, and how often it is made: for a fifth of a second or so.
+    pub fn told(self) -> (&'static str, usize) {
+        match self {
+            Call::Glance => ("glances", 1_024_000),
+            Call::LookUp => ("look-ups", 1_024_000),
+            Call::Begin => ("begins", 204_800),
+            Call::Put => ("puts", 204_800),
+        }
+    }
+
+    /// Makes it for each row, of all that the list has. Gives how many were answered.
+    pub fn make<R: Wait, E: Ending>(
+        self,
+        rt: &R,
+        session: &mut Session<E>,
+        list: &[Row],
+        rows: &[Row],
+    ) -> Result<usize> {
+        match self {
+            Call::Glance => glance_all(session, rows),
+            Call::LookUp => look_up_all(list, rows),
+            Call::Begin => begin_all(session, rows),
+            Call::Put => put_all(rt, session, rows),
+        }
+    }
 }

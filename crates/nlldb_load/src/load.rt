@@ -3,7 +3,7 @@ use crate::model::{CLOSURES, Deed, Kind, Log, Reading, Seen, agree};
 use bc_book::Refusal;
 use bc_fixtures::{MARKED_INVARIANT, Sight, shared_types, shared_unit};
 use bc_prov::{Providers, Shared};
-use bc_share::{Db, MOST_ENTRIES, Session};
+use bc_share::{Db, History, MOST_ENTRIES, Session};
 use bc_syntax::{Types, Unit};
 use bc_text::Name;
 use bc_versions::{Ending, Waiting};
@@ -11,7 +11,7 @@ use rand_core::Rng;
 use rand_pcg::Pcg32;
 use std::alloc::{AllocError, Global};
 use std::io::ErrorKind;
-use std::sync::Wait;
+use std::sync::{Mutex, Wait};
 use std::thread::Threads;
 use std::time::{Clock, Instant};
 use std::{io, thread};
@@ -89,8 +89,8 @@ struct Round<'a> {
 
 /// A session on a thread of its own: what it draws its calls by, and what it did.
 #[derive(Drop)]
-struct Seat<E: Ending> {
-    session: Session<E>,
+struct Seat<'a, E: Ending> {
+    session: &'a mut Session<E>,
     dice: Pcg32,
     log: Log,
 }
@@ -151,7 +151,7 @@ fn names(alloc: Global, functions: u32) -> io::Result<Vec<Name>> {
     Ok(names)
 }
 
-impl<E: Ending> Seat<E> {
+impl<E: Ending> Seat<'_, E> {
     /// A number below a limit.
     fn draw(&mut self, limit: usize) -> usize {
         self.dice.next_u32() as usize % limit.max(1)
@@ -241,7 +241,7 @@ impl<E: Ending> Seat<E> {
     }
 
     /// Makes all calls and readings, until one is refused.
-    fn sit<R: Wait>(&mut self, rt: &R, round: &Round<'_>) {
+    fn act_all<R: Wait>(&mut self, rt: &R, round: &Round<'_>) {
         for _turn in 0..round.shape.turns {
             if self.act(rt, round).is_err() {
                 self.log.is_refused = true;
@@ -251,58 +251,67 @@ impl<E: Ending> Seat<E> {
     }
 }
 
-/// The sessions at seats, each with dice of its own.
-fn seats<E: Ending>(
-    alloc: Global,
-    seed: u32,
-    sessions: Vec<Session<E>>,
-) -> Result<Vec<Seat<E>>, AllocError> {
-    let mut seats = Vec::new(alloc);
-    for session in sessions {
-        let stream = u64::from(session.number());
-        seats.push(Seat {
-            session,
-            dice: Pcg32::new(u64::from(seed), stream),
-            log: Log::new(alloc),
-        })?;
-    }
-    Ok(seats)
-}
-
-/// The sessions from their seats, and what each did.
-fn risen<E: Ending>(
-    alloc: Global,
-    seats: Vec<Seat<E>>,
-) -> Result<(Vec<Session<E>>, Vec<Log>), AllocError> {
-    let mut sessions = Vec::new(alloc);
-    let mut logs = Vec::new(alloc);
-    for seat in seats {
-        let Seat {
-            session,
-            dice: _,
-            log,
-        } = seat;
-        sessions.push(session)?;
-        logs.push(log)?;
-    }
-    Ok((sessions, logs))
-}
-
-/// Has each session make its calls and readings, on a thread of its own. Gives the sessions, and what each did.
-fn sat<R: Threads + Wait + Sync, E: Ending + Send>(
+/// Has a session make its calls and readings, and leave what it did in its log.
+fn sit<R: Wait, E: Ending>(
     rt: &R,
     round: &Round<'_>,
     seed: u32,
-    sessions: Vec<Session<E>>,
-) -> Result<(Vec<Session<E>>, Vec<Log>), AllocError> {
-    let mut seats = seats(round.alloc, seed, sessions)?;
+    session: &mut Session<E>,
+    log: &Mutex<Log>,
+) {
+    let stream = u64::from(session.number());
+    let mut seat = Seat {
+        session,
+        dice: Pcg32::new(u64::from(seed), stream),
+        log: Log::new(round.alloc),
+    };
+    seat.act_all(rt, round);
+    let Seat {
+        session: _,
+        dice: _,
+        log: done,
+    } = seat;
+    *log.lock(rt) = done;
+}
+
+/// A log for each session, which are those of a refused call until each session leaves its own.
+fn logs(alloc: Global) -> Result<Vec<Mutex<Log>>, AllocError> {
+    let mut logs = Vec::new(alloc);
+    for _session in 0..SESSIONS {
+        logs.push(Mutex::new(Log::refused(alloc)))?;
+    }
+    Ok(logs)
+}
+
+/// Has each session of a new database make its calls and readings, on a thread of its own, and closes the database. Gives the history;
+/// what each session did stands in its log.
+fn played<R: Threads + Wait + Sync>(
+    rt: &R,
+    round: &Round<'_>,
+    seed: u32,
+    logs: &[Mutex<Log>],
+) -> io::Result<History> {
+    let turns = round.shape.turns.saturating_mul(u32::from(SESSIONS));
+    let capacity = turns.min(MOST_ENTRIES);
+    let opened = Db::open(round.alloc, Waiting::new(rt), 0, capacity, SESSIONS);
+    let Ok((db, mut sessions)) = opened else {
+        return Err(ErrorKind::OutOfMemory.into());
+    };
+    let threads = usize::from(SESSIONS);
     thread::for_each_mut(
         rt,
-        &mut seats,
-        usize::from(SESSIONS),
-        &|_index: usize, seat: &mut Seat<E>| seat.sit(rt, round),
+        &mut sessions,
+        threads,
+        &|number: usize, session| {
+            if let Some(log) = logs.get(number) {
+                sit(rt, round, seed, session, log);
+            }
+        },
     );
-    risen(round.alloc, seats)
+    match db.close(rt, sessions) {
+        Ok(history) => Ok(history),
+        Err(_) => Err(ErrorKind::InvalidData.into()),
+    }
 }
 
 impl Tally {
@@ -327,21 +336,17 @@ fn make_round<R: Clock + Threads + Wait + Sync>(
     all: Tally,
 ) -> io::Result<Tally> {
     let start = Instant::now(rt)?;
-    let turns = round.shape.turns.saturating_mul(u32::from(SESSIONS));
-    let capacity = turns.min(MOST_ENTRIES);
-    let opened = Db::open(round.alloc, Waiting::new(rt), 0, capacity, SESSIONS);
-    let Ok((db, sessions)) = opened else {
-        return Err(ErrorKind::OutOfMemory.into());
-    };
-    let (sessions, logs) = sat(rt, round, seed, sessions)?;
+    let logs = logs(round.alloc)?;
+    let history = played(rt, round, seed, &logs)?;
     let nanos = start.elapsed(rt).map_or(0, |took| took.as_nanos());
-    let Ok(history) = db.close(rt, sessions) else {
-        return Err(ErrorKind::InvalidData.into());
-    };
-    if agree(round.alloc, round.names, &logs, history.entries())? {
-        Ok(all.with(&logs, nanos))
-    } else {
-        Err(ErrorKind::InvalidData.into())
+    let logs: Vec<_> = logs
+        .into_iter()
+        .map(|log| log.into_inner())
+        .collect(round.alloc)?;
+    match agree(round.alloc, round.names, &logs, history.entries()) {
+        Ok(true) => Ok(all.with(&logs, nanos)),
+        Ok(false) => Err(ErrorKind::InvalidData.into()),
+        Err(_) => Err(ErrorKind::OutOfMemory.into()),
     }
 }
 

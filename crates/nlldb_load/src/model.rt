@@ -52,7 +52,14 @@ pub(crate) struct Log {
 }
 
 impl Log {
-    /// What a session did that did nothing.
+    /// No call and no reading, and a refused call.
+    pub(crate) fn refused(alloc: Global) -> Log {
+        let mut log = Log::new(alloc);
+        log.is_refused = true;
+        log
+    }
+
+    /// No call and no reading.
     pub(crate) fn new(alloc: Global) -> Log {
         Log {
             calls: Vec::new(alloc),
