@@ -1,10 +1,8 @@
-//! What is held, and the calls that are measured.
+//! The calls that are measured, over rows of names and units.
 use anyhow::{Result, bail};
-use bc_analyses::providers;
 use bc_bench::{below, generator};
 use bc_calls::PutReply;
 use bc_fixtures::{name, shared_unit};
-use bc_prov::Providers;
 use bc_share::Session;
 use bc_syntax::Unit;
 use bc_text::Name;
@@ -12,22 +10,10 @@ use bc_versions::Ending;
 use std::alloc::Global;
 use std::sync::{Arc, Wait};
 
-/// How many rows are drawn.
-pub const DRAWS: usize = 4096;
-
 /// A name and a unit.
 pub type Row = (Name, Arc<Unit, Global>);
 
-/// A kind of call, or a look-up in a list that stands beside the database.
-#[derive(Clone, Copy)]
-pub enum Call {
-    Glance,
-    LookUp,
-    Begin,
-    Put,
-}
-
-/// A small function of this number.
+/// A small function, which has this number in its name.
 fn function(alloc: Global, number: u32) -> Result<Row> {
     let text = format!(in alloc; "body_{number}")?;
     let name = name(text.as_bytes())?;
@@ -43,11 +29,11 @@ pub fn functions(alloc: Global, count: u32) -> Result<Vec<Row>> {
     Ok(rows)
 }
 
-/// Rows that are drawn without a pattern.
-pub fn draws(alloc: Global, rows: &[Row]) -> Result<Vec<Row>> {
+/// As many rows as are to be drawn, without a pattern, of those that are given.
+pub fn draws(alloc: Global, rows: &[Row], count: usize) -> Result<Vec<Row>> {
     let mut random = generator();
     let mut draws = Vec::new(alloc);
-    for _ in 0..DRAWS {
+    for _ in 0..count {
         let number = below(&mut random, 1000) as usize % rows.len().max(1);
         let Some((name, unit)) = rows.get(number) else {
             bail!("no rows");
@@ -55,55 +41,6 @@ pub fn draws(alloc: Global, rows: &[Row]) -> Result<Vec<Row>> {
         draws.push((*name, Arc::try_clone(unit)?))?;
     }
     Ok(draws)
-}
-
-/// Puts each row, and asks for it by these providers.
-fn answer_all<R: Wait, E: Ending>(
-    rt: &R,
-    session: &mut Session<E>,
-    rows: &[Row],
-    providers: &Providers,
-) -> Result<()> {
-    for (name, unit) in rows {
-        session.put(rt, *name, Arc::try_clone(unit)?)?;
-        let _outcome = session.ask(rt, name, providers)?;
-    }
-    Ok(())
-}
-
-/// Puts each row, and asks for it.
-pub fn hold<R, E>(rt: &R, session: &mut Session<E>, rows: &[Row]) -> Result<()>
-where
-    R: AllocGlobal + Wait,
-    E: Ending,
-{
-    let providers = providers!(rt.alloc());
-    answer_all(rt, session, rows, &providers)
-}
-
-/// Puts small closures below a name, so many units with that of the name itself.
-pub fn hold_below<R, E>(rt: &R, session: &mut Session<E>, name: &Name, units: u8) -> Result<()>
-where
-    R: AllocGlobal + Wait,
-    E: Ending,
-{
-    for number in 1..units {
-        let Some(closure) = name.child(number) else {
-            bail!("no such closure");
-        };
-        let unit = shared_unit(rt.alloc(), b"closure[]()->int{bb0{_0=1;return;}}")?;
-        session.put(rt, closure, unit)?;
-    }
-    Ok(())
-}
-
-/// Glances at each row. Gives how many are answered.
-fn glance_all<E: Ending>(session: &mut Session<E>, rows: &[Row]) -> Result<usize> {
-    let mut answered: usize = 0;
-    for (name, _) in rows {
-        answered = answered.saturating_add(usize::from(session.glance(name)?.is_some()));
-    }
-    Ok(answered)
 }
 
 /// Looks each row up in a list that is in the order of its names, and takes one more owner of the unit there. Gives how many are found.
@@ -119,6 +56,15 @@ fn look_up_all(list: &[Row], rows: &[Row]) -> Result<usize> {
     Ok(found)
 }
 
+/// Glances at each row. Gives how many are answered.
+fn glance_all<E: Ending>(session: &mut Session<E>, rows: &[Row]) -> Result<usize> {
+    let mut answered: usize = 0;
+    for (name, _) in rows {
+        answered = answered.saturating_add(usize::from(session.glance(name)?.is_some()));
+    }
+    Ok(answered)
+}
+
 /// Begins each row. Gives how many that were.
 fn begin_all<E: Ending>(session: &mut Session<E>, rows: &[Row]) -> Result<usize> {
     for (name, _) in rows {
@@ -127,12 +73,33 @@ fn begin_all<E: Ending>(session: &mut Session<E>, rows: &[Row]) -> Result<usize>
     Ok(rows.len())
 }
 
+/// A kind of call, or a look-up in a list that stands beside the database.
+#[derive(Clone, Copy)]
+pub enum Call {
+    Glance,
+    LookUp,
+    Begin,
+    Put,
+}
+
+impl Call {
+    /// What it is called.
+    pub fn name(self) -> &'static str {
+        match self {
+            Call::Glance => "glances",
+            Call::LookUp => "look-ups",
+            Call::Begin => "begins",
+            Call::Put => "puts",
+        }
+    }
+}
+
 /// Puts each row. Gives how many units that replaced.
-pub fn put_all<R: Wait, E: Ending>(
-    rt: &R,
-    session: &mut Session<E>,
-    rows: &[Row],
-) -> Result<usize> {
+pub fn put_all<R, E>(rt: &R, session: &mut Session<E>, rows: &[Row]) -> Result<usize>
+where
+    R: Wait,
+    E: Ending,
+{
     let mut replaced: usize = 0;
     for (name, unit) in rows {
         let reply = session.put(rt, *name, Arc::try_clone(unit)?)?;
@@ -141,30 +108,18 @@ pub fn put_all<R: Wait, E: Ending>(
     Ok(replaced)
 }
 
-impl Call {
-    /// What it is called, and how often it is made: for a fifth of a second or so.
-    pub fn told(self) -> (&'static str, usize) {
-        match self {
-            Call::Glance => ("glances", 1_024_000),
-            Call::LookUp => ("look-ups", 1_024_000),
-            Call::Begin => ("begins", 204_800),
-            Call::Put => ("puts", 204_800),
-        }
-    }
-
-    /// Makes it for each row, of all that the list has. Gives how many were answered.
-    pub fn make<R: Wait, E: Ending>(
-        self,
-        rt: &R,
-        session: &mut Session<E>,
-        list: &[Row],
-        rows: &[Row],
-    ) -> Result<usize> {
-        match self {
-            Call::Glance => glance_all(session, rows),
-            Call::LookUp => look_up_all(list, rows),
-            Call::Begin => begin_all(session, rows),
-            Call::Put => put_all(rt, session, rows),
-        }
+/// Makes a call for each row, of all that the list has. Gives how many were answered.
+pub fn call_all<R: Wait, E: Ending>(
+    rt: &R,
+    call: Call,
+    session: &mut Session<E>,
+    list: &[Row],
+    rows: &[Row],
+) -> Result<usize> {
+    match call {
+        Call::Glance => glance_all(session, rows),
+        Call::LookUp => look_up_all(list, rows),
+        Call::Begin => begin_all(session, rows),
+        Call::Put => put_all(rt, session, rows),
     }
 }

@@ -3,38 +3,22 @@
 #![tactic(auto)]
 
 mod calls;
-mod threads;
+mod cases;
 
 use crate::calls::Call;
-use crate::threads::{Case, measure};
-
-/// What is measured: which calls, of parts of how many units; by how many sessions, and beside how many writers. Where there are too few
-/// sessions, all threads share the first, under a lock.
-const CASES: [(Call, u8, u8, u8); 13] = [
-    (Call::Glance, 1, 1, 0),
-    (Call::LookUp, 1, 1, 0),
-    (Call::Begin, 1, 1, 0),
-    (Call::Begin, 16, 1, 0),
-    (Call::Begin, 64, 1, 0),
-    (Call::Put, 1, 1, 0),
-    (Call::Put, 1, 16, 0),
-    (Call::Glance, 1, 2, 1),
-    (Call::Begin, 1, 2, 1),
-    (Call::Begin, 1, 1, 1),
-    (Call::Glance, 1, 4, 3),
-    (Call::Begin, 1, 4, 3),
-    (Call::Begin, 1, 1, 3),
-];
+use crate::cases::measure;
 
 fn main(rt: HostRuntime) -> anyhow::Result<()> {
-    for (call, units, sessions, writers) in CASES {
-        let case = Case {
-            call,
-            units,
-            sessions,
-            writers,
-        };
-        measure(&rt, case)?;
+    for (units, sessions) in [(1u8, 1u8), (16, 1), (64, 1), (1, 16)] {
+        measure(&rt, Call::Glance, units, sessions, 0)?;
+        measure(&rt, Call::LookUp, units, sessions, 0)?;
+        measure(&rt, Call::Begin, units, sessions, 0)?;
+        measure(&rt, Call::Put, units, sessions, 0)?;
+    }
+    for writers in [1u8, 3] {
+        measure(&rt, Call::Glance, 1, writers + 1, writers)?;
+        measure(&rt, Call::Begin, 1, writers + 1, writers)?;
+        measure(&rt, Call::Begin, 1, 1, writers)?;
     }
     Ok(())
 }
