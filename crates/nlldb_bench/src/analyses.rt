@@ -1,5 +1,5 @@
 //! What is read from a text and found of its body, and how long each step takes at best.
-use bc_bench::timed;
+use crate::times::{Step, Times};
 use bc_cons::Facts;
 use bc_fixtures::{facts_alone, good_types, typed_alone};
 use bc_judge::judge;
@@ -10,6 +10,18 @@ use bc_print::print_unit;
 use bc_solve::{Values, solve_components, solve_plain};
 use bc_syntax::Unit;
 use bc_text::read_unit;
+
+/// How often each text is read and analysed.
+const TURNS: u32 = 20;
+
+/// What was found of a body.
+#[derive(Clone, Copy)]
+struct Found {
+    points: usize,
+    regions: usize,
+    constraints: usize,
+    errors: usize,
+}
 
 /// The FNV-1a checksum of bytes.
 fn checksum(bytes: &[u8]) -> u64 {
@@ -27,64 +39,101 @@ fn printed_sum(rt: &HostRuntime, unit: &Unit) -> anyhow::Result<u64> {
     Ok(checksum(&printed))
 }
 
-/// A body without closures over no declarations, typed.
-fn typed(rt: &HostRuntime, unit: &Unit) -> anyhow::Result<Typed> {
-    let types = good_types(rt.alloc(), b"")?;
-    timed(rt, "typing", 1, || typed_alone(rt.alloc(), &types, unit))
+/// How many errors a body has.
+fn errors(
+    rt: &HostRuntime,
+    typed: &Typed,
+    values: &Values,
+    times: &mut Times,
+) -> anyhow::Result<usize> {
+    times.begin(rt);
+    let scopes = in_scope(rt.alloc(), typed, values)?;
+    times.end(rt, Step::Scopes);
+    let verdict = judge(rt.alloc(), typed, values, &scopes)?;
+    times.end(rt, Step::Judging);
+    Ok(verdict.errors.len())
+}
+
+/// The values of regions by the list of constraints; those by groups of regions are found before and let go.
+pub fn values(rt: &HostRuntime, facts: &Facts, times: &mut Times) -> anyhow::Result<Values> {
+    times.begin(rt);
+    let by_groups = solve_components(rt.alloc(), facts)?;
+    times.end(rt, Step::SolvingByGroups);
+    drop(by_groups);
+    times.begin(rt);
+    let values = solve_plain(rt.alloc(), facts)?;
+    times.end(rt, Step::Solving);
+    Ok(values)
 }
 
 /// The start elements and the constraints of a body's regions.
-fn facts(rt: &HostRuntime, typed: &Typed) -> anyhow::Result<Facts> {
-    let live = timed(rt, "liveness", 1, || Ok(live(rt.alloc(), typed)?))?;
-    timed(rt, "constraints", 1, || {
-        facts_alone(rt.alloc(), typed, &live)
+fn facts(rt: &HostRuntime, typed: &Typed, times: &mut Times) -> anyhow::Result<Facts> {
+    times.begin(rt);
+    let live = live(rt.alloc(), typed)?;
+    times.end(rt, Step::Liveness);
+    let facts = facts_alone(rt.alloc(), typed, &live)?;
+    times.end(rt, Step::Constraints);
+    Ok(facts)
+}
+
+/// How many errors a body has whose regions have these constraints.
+fn errors_by(
+    rt: &HostRuntime,
+    typed: &Typed,
+    facts: &Facts,
+    times: &mut Times,
+) -> anyhow::Result<usize> {
+    let values = values(rt, facts, times)?;
+    errors(rt, typed, &values, times)
+}
+
+/// What is found of a typed body.
+fn found(rt: &HostRuntime, typed: &Typed, times: &mut Times) -> anyhow::Result<Found> {
+    let facts = facts(rt, typed, times)?;
+    let errors = errors_by(rt, typed, &facts, times)?;
+    Ok(Found {
+        points: typed.steps().len(),
+        regions: facts.regions(),
+        constraints: facts.pairs().len(),
+        errors,
     })
 }
 
-/// The values of regions, by each solver.
-pub fn values(rt: &HostRuntime, facts: &Facts) -> anyhow::Result<Values> {
-    let _by_groups = timed(rt, "solving by groups", 1, || {
-        Ok(solve_components(rt.alloc(), facts)?)
-    })?;
-    timed(rt, "solving", 1, || Ok(solve_plain(rt.alloc(), facts)?))
+/// What is found of a body without closures over no declarations.
+fn analysed(rt: &HostRuntime, unit: &Unit, times: &mut Times) -> anyhow::Result<Found> {
+    let types = good_types(rt.alloc(), b"")?;
+    times.begin(rt);
+    let typed = typed_alone(rt.alloc(), &types, unit)?;
+    times.end(rt, Step::Typing);
+    found(rt, &typed, times)
 }
 
-/// Where the loans of a body are in scope, and how many errors it has.
-fn judge_values(rt: &HostRuntime, typed: &Typed, values: &Values) -> anyhow::Result<()> {
-    let scopes = timed(rt, "scopes", 1, || Ok(in_scope(rt.alloc(), typed, values)?))?;
-    let verdict = timed(rt, "judging", 1, || {
-        Ok(judge(rt.alloc(), typed, values, &scopes)?)
-    })?;
-    let errors = verdict.errors.len();
-    println!(rt; "{errors} errors")?;
-    Ok(())
+/// Reads a text. Gives the checksum of what is printed of it, and what is found of its body, if it is well typed.
+fn turn(rt: &HostRuntime, text: &[u8], times: &mut Times) -> anyhow::Result<(u64, Option<Found>)> {
+    times.begin(rt);
+    let unit = read_unit(rt.alloc(), text)?;
+    times.end(rt, Step::Reading);
+    let sum = printed_sum(rt, &unit)?;
+    Ok((sum, analysed(rt, &unit, times).ok()))
 }
 
-/// Solves what the values of a body's regions are made from, and judges it.
-fn judge_facts(rt: &HostRuntime, typed: &Typed, facts: &Facts) -> anyhow::Result<()> {
-    let (regions, pairs) = (facts.regions(), facts.pairs().len());
-    println!(rt; "{regions} regions, {pairs} constraints")?;
-    let values = values(rt, facts)?;
-    judge_values(rt, typed, &values)
-}
-
-/// Analyses a typed body, and writes what was found.
-fn analyse(rt: &HostRuntime, typed: &Typed) -> anyhow::Result<()> {
-    let points = typed.steps().len();
-    println!(rt; "{points} points")?;
-    let facts = facts(rt, typed)?;
-    judge_facts(rt, typed, &facts)
-}
-
-/// Reads a text, and analyses its body over no declarations if it is well typed. Writes what was read and found to standard output,
-/// and how long each step took to standard error.
+/// Reads a text and analyses its body, many times. Writes what was read and found to standard output, and how long each step took at
+/// best to standard error.
 pub fn measure_text(rt: &HostRuntime, name: &str, text: &[u8]) -> anyhow::Result<()> {
-    eprintln!(rt; "{name}")?;
-    let unit = timed(rt, "reading", 1, || Ok(read_unit(rt.alloc(), text)?))?;
-    let (bytes, sum) = (text.len(), printed_sum(rt, &unit)?);
-    println!(rt; "{name}: {bytes} bytes, checksum {sum}")?;
-    match typed(rt, &unit) {
-        Ok(typed) => analyse(rt, &typed),
-        Err(_) => Ok(()),
+    let mut times = Times::new();
+    for _ in 1..TURNS {
+        let _found = turn(rt, text, &mut times)?;
     }
+    let (sum, found) = turn(rt, text, &mut times)?;
+    let bytes = text.len();
+    println!(rt; "{name}: {bytes} bytes, checksum {sum}")?;
+    if let Some(it) = found {
+        let (points, regions) = (it.points, it.regions);
+        let (constraints, errors) = (it.constraints, it.errors);
+        println!(rt;
+            "{points} points, {regions} regions, {constraints} constraints, {errors} errors"
+        )?;
+    }
+    times.show(rt, name)?;
+    Ok(())
 }

@@ -4,16 +4,20 @@ ghost use Rattle.bc_flow.specs.Flow.{AreEntriesWithin};
 ghost use Rattle.bc_cons.specs.Facts.{ArePairsWithin};
 
 use crate::analyses::values;
-use bc_bench::{below, generator};
+use crate::times::Times;
 use bc_cons::{Constraint, Facts};
 use bc_flow::{Entry, table};
 use bc_solve::Values;
+use rand_core::Rng;
 use rand_pcg::Pcg32;
 use std::alloc::{AllocError, Global};
 
 const REGIONS: u32 = 1040;
 
 const ELEMENTS: u32 = 4112;
+
+/// How often each list is solved.
+const TURNS: u32 = 10;
 
 /// Which regions outlive which.
 #[derive(Clone, Copy)]
@@ -44,7 +48,7 @@ fn pair_of(shape: Shape, turn: u32, random: &mut Pcg32) -> Constraint
     let (longer, shorter) = match shape {
         Shape::Chain => (next, region),
         Shape::ChainBack => (region, next),
-        Shape::Random => (below(random, REGIONS), below(random, REGIONS)),
+        Shape::Random => (random.next_u32() % REGIONS, random.next_u32() % REGIONS),
     };
     Constraint {
         longer: longer as usize,
@@ -55,7 +59,7 @@ fn pair_of(shape: Shape, turn: u32, random: &mut Pcg32) -> Constraint
 fn pairs_of(alloc: Global, shape: Shape, count: u32) -> Result<Vec<Constraint>, AllocError>
     ensures { IfOk result (λ pairs. ArePairsWithin 1040 pairs.items) }
 {
-    let mut random = generator();
+    let mut random = Pcg32::new(2094, 0);
     let mut pairs = Vec::new(alloc);
     for turn in 0..count {
         pairs.push(pair_of(shape, turn, &mut random))?;
@@ -69,7 +73,7 @@ fn start_of(turn: u32, random: &mut Pcg32) -> Entry
 {
     Entry {
         node: (turn % REGIONS) as usize,
-        fact: below(random, ELEMENTS) as usize,
+        fact: (random.next_u32() % ELEMENTS) as usize,
     }
 }
 
@@ -77,7 +81,7 @@ fn start_of(turn: u32, random: &mut Pcg32) -> Entry
 fn starts(alloc: Global) -> Result<Vec<Entry>, AllocError>
     ensures { IfOk result (λ entries. AreEntriesWithin entries.items 1040 4112) }
 {
-    let mut random = generator();
+    let mut random = Pcg32::new(2094, 0);
     let mut entries = Vec::new(alloc);
     for turn in 0..3120u32 {
         entries.push(start_of(turn, &mut random))?;
@@ -105,14 +109,31 @@ fn count(values: &Values) -> u64 {
     members
 }
 
-/// Solves four lists of constraints between regions that start with up to three elements each, and writes how many elements the values
-/// have to standard output, and how long it took to standard error.
+/// How many elements are in the values that a list of constraints has.
+fn solved(rt: &HostRuntime, shape: Shape, pairs: u32, times: &mut Times) -> anyhow::Result<u64> {
+    let facts = facts_of(rt.alloc(), shape, pairs)?;
+    let values = values(rt, &facts, times)?;
+    Ok(count(&values))
+}
+
+/// Solves a list of constraints, many times. Writes how many elements the values have to standard output, and how long solving took at best to
+/// standard error.
+fn measure_list(rt: &HostRuntime, name: &str, pairs: u32, shape: Shape) -> anyhow::Result<()> {
+    let mut times = Times::new();
+    let mut members = 0;
+    for _ in 0..TURNS {
+        members = solved(rt, shape, pairs, &mut times)?;
+    }
+    println!(rt; "{name}: {members} elements in values")?;
+    times.show(rt, name)?;
+    Ok(())
+}
+
+/// Solves four lists of constraints between regions that start with up to three elements each. Writes how many elements the values have
+/// to standard output, and how long solving took at best to standard error.
 pub fn measure_constraints(rt: &HostRuntime) -> anyhow::Result<()> {
     for (name, pairs, shape) in LISTS {
-        eprintln!(rt; "{name}")?;
-        let facts = facts_of(rt.alloc(), shape, pairs)?;
-        let members = count(&values(rt, &facts)?);
-        println!(rt; "{name}: {members} elements in values")?;
+        measure_list(rt, name, pairs, shape)?;
     }
     Ok(())
 }

@@ -4,6 +4,7 @@
 
 mod analyses;
 mod chains;
+mod times;
 
 use crate::analyses::measure_text;
 use crate::chains::measure_constraints;

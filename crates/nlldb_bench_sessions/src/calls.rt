@@ -1,12 +1,13 @@
 //! The calls that are measured, over rows of names and units.
 use anyhow::{Result, bail};
-use bc_bench::{below, generator};
 use bc_calls::PutReply;
 use bc_fixtures::{name, shared_unit};
 use bc_share::Session;
 use bc_syntax::Unit;
 use bc_text::Name;
 use bc_versions::Ending;
+use rand_core::Rng;
+use rand_pcg::Pcg32;
 use std::alloc::Global;
 use std::sync::{Arc, Wait};
 
@@ -31,10 +32,10 @@ pub fn functions(alloc: Global, count: u32) -> Result<Vec<Row>> {
 
 /// As many rows as are to be drawn, without a pattern, of those that are given.
 pub fn draws(alloc: Global, rows: &[Row], count: usize) -> Result<Vec<Row>> {
-    let mut random = generator();
+    let mut random = Pcg32::new(2094, 0);
     let mut draws = Vec::new(alloc);
     for _ in 0..count {
-        let number = below(&mut random, 1000) as usize % rows.len().max(1);
+        let number = random.next_u32() as usize % rows.len().max(1);
         let Some((name, unit)) = rows.get(number) else {
             bail!("no rows");
         };
