@@ -88,7 +88,7 @@ fn errors_by(
 }
 
 /// What is found of a typed body.
-fn found(rt: &HostRuntime, typed: &Typed, times: &mut Times) -> anyhow::Result<Found> {
+fn findings(rt: &HostRuntime, typed: &Typed, times: &mut Times) -> anyhow::Result<Found> {
     let facts = facts(rt, typed, times)?;
     let errors = errors_by(rt, typed, &facts, times)?;
     Ok(Found {
@@ -105,7 +105,7 @@ fn analysed(rt: &HostRuntime, unit: &Unit, times: &mut Times) -> anyhow::Result<
     times.begin(rt);
     let typed = typed_alone(rt.alloc(), &types, unit)?;
     times.end(rt, Step::Typing);
-    found(rt, &typed, times)
+    findings(rt, &typed, times)
 }
 
 /// Reads a text. Gives the checksum of what is printed of it, and what is found of its body, if it is well typed.
