@@ -104,7 +104,7 @@ struct Tally {
 }
 
 /// The units.
-fn units(alloc: Global) -> io::Result<Vec<(Kind, Shared<Unit>)>> {
+fn make_units(alloc: Global) -> io::Result<Vec<(Kind, Shared<Unit>)>> {
     let mut units = Vec::new(alloc);
     for (kind, text) in UNITS {
         let Ok(unit) = shared_unit(alloc, text.as_bytes()) else {
@@ -116,12 +116,12 @@ fn units(alloc: Global) -> io::Result<Vec<(Kind, Shared<Unit>)>> {
 }
 
 /// The units and the declarations.
-fn stock(alloc: Global) -> io::Result<Stock> {
+fn make_stock(alloc: Global) -> io::Result<Stock> {
     let Ok(types) = shared_types(alloc, MARKED_INVARIANT) else {
         return Err(ErrorKind::InvalidData.into());
     };
     Ok(Stock {
-        units: units(alloc)?,
+        units: make_units(alloc)?,
         types: Shared::new(types),
     })
 }
@@ -359,7 +359,7 @@ pub fn show_rounds<R: AllocGlobal + Clock + Print + Eprint + Threads + Wait + Sy
     rounds: u32,
 ) -> io::Result<()> {
     let alloc = rt.alloc();
-    let stock = stock(alloc)?;
+    let stock = make_stock(alloc)?;
     let names = names(alloc, shape.functions)?;
     let round = Round {
         alloc,

@@ -160,12 +160,17 @@ impl Map {
         RemoveReply::Removed
     }
 
-    /// Asks for a name, which is answered then if it is held, and gives what is found.
+    /// Answers a name, if it is held.
+    fn answer_with(&mut self, name: usize, found: &Sight) {
+        if self.held(name).is_some() {
+            self.set_answer(name, Some(*found));
+        }
+    }
+
+    /// Asks for a name, and gives what is found.
     fn ask(&mut self, names: &[Name], name: usize) -> Sight {
         let found = self.found(names, name);
-        if self.held(name).is_some() {
-            self.set_answer(name, Some(found));
-        }
+        self.answer_with(name, &found);
         found
     }
 
