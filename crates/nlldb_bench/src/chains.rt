@@ -3,67 +3,65 @@ ghost use Rattle.std.specs.Prelude.{IfOk, ◌<◌};
 ghost use Rattle.bc_flow.specs.Flow.{AreEntriesWithin};
 ghost use Rattle.bc_cons.specs.Facts.{ArePairsWithin};
 
-use bc_bench::{below, generator, timed};
+use crate::analyses::values;
+use crate::times::Times;
 use bc_cons::{Constraint, Facts};
 use bc_flow::{Entry, table};
-use bc_solve::{Values, solve_plain};
+use bc_solve::Values;
+use rand_core::Rng;
 use rand_pcg::Pcg32;
 use std::alloc::{AllocError, Global};
-use std::io::Write;
 
 const REGIONS: u32 = 1040;
 
 const ELEMENTS: u32 = 4112;
 
+/// How often each list is solved.
+const TURNS: u32 = 10;
+
 /// Which regions outlive which.
 #[derive(Clone, Copy)]
-pub enum Shape {
+enum Shape {
     /// Each region outlives the one before it.
     Chain,
     /// Each region outlives the one behind it.
     ChainBack,
-    /// Each region outlives the one before it, and the first the last.
-    Ring,
-    /// 8,000 pairs of regions without a pattern.
-    RandomPairs,
+    /// Pairs of regions without a pattern.
+    Random,
 }
 
-fn pair_count(shape: Shape) -> u32 {
-    match shape {
-        Shape::Chain | Shape::ChainBack => 1039,
-        Shape::Ring => 1040,
-        Shape::RandomPairs => 8000,
-    }
-}
+/// The lists of constraints: what each is called, how many there are, and of which shape. A chain through all regions and on to the
+/// first is a ring.
+const LISTS: [(&str, u32, Shape); 4] = [
+    ("chain", 1039, Shape::Chain),
+    ("chain back", 1039, Shape::ChainBack),
+    ("ring", 1040, Shape::Chain),
+    ("random pairs", 8000, Shape::Random),
+];
 
 fn pair_of(shape: Shape, turn: u32, random: &mut Pcg32) -> Constraint
     ensures longer { result.longer < 1040 }
     ensures shorter { result.shorter < 1040 }
 {
-    let region = (turn % REGIONS) as usize;
-    let next = (turn % REGIONS + 1) % REGIONS;
-    match shape {
-        Shape::Chain | Shape::Ring => Constraint {
-            longer: next as usize,
-            shorter: region,
-        },
-        Shape::ChainBack => Constraint {
-            longer: region,
-            shorter: next as usize,
-        },
-        Shape::RandomPairs => Constraint {
-            longer: below(random, REGIONS) as usize,
-            shorter: below(random, REGIONS) as usize,
-        },
+    let region = turn % REGIONS;
+    let next = (region + 1) % REGIONS;
+    let (longer, shorter) = match shape {
+        Shape::Chain => (next, region),
+        Shape::ChainBack => (region, next),
+        Shape::Random => (random.next_u32() % REGIONS, random.next_u32() % REGIONS),
+    };
+    Constraint {
+        longer: longer as usize,
+        shorter: shorter as usize,
     }
 }
 
-fn pairs_of(alloc: Global, shape: Shape) -> Result<Vec<Constraint>, AllocError>
+fn pairs_of(alloc: Global, shape: Shape, count: u32) -> Result<Vec<Constraint>, AllocError>
     ensures { IfOk result (λ pairs. ArePairsWithin 1040 pairs.items) }
 {
-    let mut random = generator();
+    let mut random = Pcg32::new(2094, 0);
     let mut pairs = Vec::new(alloc);
-    for turn in 0..pair_count(shape) {
+    for turn in 0..count {
         pairs.push(pair_of(shape, turn, &mut random))?;
     }
     Ok(pairs)
@@ -75,7 +73,7 @@ fn start_of(turn: u32, random: &mut Pcg32) -> Entry
 {
     Entry {
         node: (turn % REGIONS) as usize,
-        fact: below(random, ELEMENTS) as usize,
+        fact: (random.next_u32() % ELEMENTS) as usize,
     }
 }
 
@@ -83,7 +81,7 @@ fn start_of(turn: u32, random: &mut Pcg32) -> Entry
 fn starts(alloc: Global) -> Result<Vec<Entry>, AllocError>
     ensures { IfOk result (λ entries. AreEntriesWithin entries.items 1040 4112) }
 {
-    let mut random = generator();
+    let mut random = Pcg32::new(2094, 0);
     let mut entries = Vec::new(alloc);
     for turn in 0..3120u32 {
         entries.push(start_of(turn, &mut random))?;
@@ -91,9 +89,9 @@ fn starts(alloc: Global) -> Result<Vec<Entry>, AllocError>
     Ok(entries)
 }
 
-/// The constraints of a shape, between regions that start with up to three elements each.
-fn facts_of(alloc: Global, shape: Shape) -> Result<Facts, AllocError> {
-    let pairs = pairs_of(alloc, shape)?;
+/// So many constraints of a shape, between regions that start with up to three elements each.
+fn facts_of(alloc: Global, shape: Shape, count: u32) -> Result<Facts, AllocError> {
+    let pairs = pairs_of(alloc, shape, count)?;
     let entries = starts(alloc)?;
     let rows = table(alloc, 1040, 4112, &entries)?;
     Ok(Facts::new(16, rows, pairs, 4112))
@@ -102,40 +100,40 @@ fn facts_of(alloc: Global, shape: Shape) -> Result<Facts, AllocError> {
 /// How many elements are in the values of all regions.
 fn count(values: &Values) -> u64 {
     let mut members = 0u64;
-    for region in 0..REGIONS {
-        for element in 0..ELEMENTS {
-            if values.contains(region as usize, element as usize) {
-                members = members.saturating_add(1);
-            }
+    for place in 0..REGIONS * ELEMENTS {
+        let (region, element) = (place / ELEMENTS, place % ELEMENTS);
+        if values.contains(region as usize, element as usize) {
+            members = members.saturating_add(1);
         }
     }
     members
 }
 
-fn measure_facts<O: Write, E: Write>(
-    rt: &HostRuntime,
-    facts: &Facts,
-    out: &mut O,
-    err: &mut E,
-) -> anyhow::Result<()> {
-    let values = timed(rt, "solving", || Ok(solve_plain(rt.alloc(), facts)?), err)?;
-    let members = count(&values);
-    writeln!(out, "{members} elements in values")?;
-    writeln!(err)?;
+/// How many elements are in the values that a list of constraints has.
+fn solved(rt: &HostRuntime, shape: Shape, pairs: u32, times: &mut Times) -> anyhow::Result<u64> {
+    let facts = facts_of(rt.alloc(), shape, pairs)?;
+    let values = values(rt, &facts, times)?;
+    Ok(count(&values))
+}
+
+/// Solves a list of constraints, many times. Writes how many elements the values have to standard output, and how long solving took at best to
+/// standard error.
+fn measure_list(rt: &HostRuntime, name: &str, pairs: u32, shape: Shape) -> anyhow::Result<()> {
+    let mut times = Times::new();
+    let mut members = 0;
+    for _ in 0..TURNS {
+        members = solved(rt, shape, pairs, &mut times)?;
+    }
+    println!(rt; "{name}: {members} elements in values")?;
+    times.show(rt, name)?;
     Ok(())
 }
 
-/// Solves constraints between regions that start with up to three elements each, and writes how many elements the values have
-/// to `out` and the shortest time to `err`.
-pub fn measure_constraints<O: Write, E: Write>(
-    rt: &HostRuntime,
-    name: &str,
-    shape: Shape,
-    out: &mut O,
-    err: &mut E,
-) -> anyhow::Result<()> {
-    write!(out, "{name}: ")?;
-    write!(err, "{name}: microseconds:")?;
-    let facts = facts_of(rt.alloc(), shape)?;
-    measure_facts(rt, &facts, out, err)
+/// Solves four lists of constraints between regions that start with up to three elements each. Writes how many elements the values have
+/// to standard output, and how long solving took at best to standard error.
+pub fn measure_constraints(rt: &HostRuntime) -> anyhow::Result<()> {
+    for (name, pairs, shape) in LISTS {
+        measure_list(rt, name, pairs, shape)?;
+    }
+    Ok(())
 }

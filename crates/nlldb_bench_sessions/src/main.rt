@@ -1,47 +1,24 @@
-//! Asks for a body again, and for a function one of whose closures was replaced; glances at names, begins parts and puts bodies; reads
-//! names while others are written; and reads, puts and asks for many bodies, many times. What was answered goes to standard output and is the same
-//! at each run; how fast goes to standard error.
+//! Calls of one thread, alone and while others write, each kind of them many times. How many of them were answered goes to standard output
+//! and is the same at each run; how many a second that were goes to standard error, and behind it how many the others made.
 #![tactic(auto)]
 
-mod asks;
-mod bodies;
-mod closures;
-mod glances;
-mod reads;
+mod calls;
+mod cases;
 
-use crate::asks::measure_asks;
-use crate::bodies::measure_bodies;
-use crate::closures::measure_closures;
-use crate::glances::measure_names;
-use crate::reads::measure_reads;
-use bc_bench::borrows_and_reads;
-use std::io::Write;
-use std::sync::Wait;
-use std::time::Clock;
-
-fn measure_asking<R: AllocGlobal + Clock + Wait, O: Write, E: Write>(
-    rt: &R,
-    out: &mut O,
-    err: &mut E,
-) -> anyhow::Result<()> {
-    let text = borrows_and_reads(rt.alloc())?;
-    measure_asks(rt, "asks of many points", &text, out, err)?;
-    measure_asks(
-        rt,
-        "asks of two points",
-        b"fn()->int{bb0{_0=1;return;}}",
-        out,
-        err,
-    )?;
-    measure_closures(rt, 30, out, err)?;
-    measure_closures(rt, 300, out, err)
-}
+use crate::calls::Call;
+use crate::cases::measure;
 
 fn main(rt: HostRuntime) -> anyhow::Result<()> {
-    let mut out = rt.stdout();
-    let mut err = rt.stderr();
-    measure_asking(&rt, &mut out, &mut err)?;
-    measure_names(&rt, &mut out, &mut err)?;
-    measure_reads(&rt, &mut out, &mut err)?;
-    measure_bodies(&rt, &mut out, &mut err)
+    for (units, sessions) in [(1u8, 1u8), (16, 1), (64, 1), (1, 16)] {
+        measure(&rt, Call::Glance, units, sessions, 0)?;
+        measure(&rt, Call::LookUp, units, sessions, 0)?;
+        measure(&rt, Call::Begin, units, sessions, 0)?;
+        measure(&rt, Call::Put, units, sessions, 0)?;
+    }
+    for writers in [1u8, 3] {
+        measure(&rt, Call::Glance, 1, writers + 1, writers)?;
+        measure(&rt, Call::Begin, 1, writers + 1, writers)?;
+        measure(&rt, Call::Begin, 1, 1, writers)?;
+    }
+    Ok(())
 }

@@ -1,0 +1,71 @@
+//! How long each step takes at best.
+use std::io;
+use std::time::Instant;
+
+/// A step that is measured.
+#[derive(Clone, Copy)]
+pub enum Step {
+    Reading,
+    Typing,
+    Liveness,
+    Constraints,
+    SolvingByGroups,
+    Solving,
+    Scopes,
+    Judging,
+}
+
+/// What the steps are called, in their order.
+const NAMES: [&str; 8] = [
+    "reading",
+    "typing",
+    "liveness",
+    "constraints",
+    "solving by groups",
+    "solving",
+    "scopes",
+    "judging",
+];
+
+/// The least time of each step in nanoseconds, if it was taken, and when the step that is taken now began, if the clock tells.
+#[derive(Clone, Copy)]
+pub struct Times {
+    least: [Option<u128>; 8],
+    began: Option<Instant>,
+}
+
+impl Times {
+    /// No step was taken.
+    pub fn new() -> Times {
+        Times {
+            least: [None; 8],
+            began: None,
+        }
+    }
+
+    /// A step begins.
+    pub fn begin(&mut self, rt: &HostRuntime) {
+        self.began = Instant::now(rt).ok();
+    }
+
+    /// A step ends, and the next one begins.
+    pub fn end(&mut self, rt: &HostRuntime, step: Step) {
+        let took = self.began.and_then(|began| began.elapsed(rt).ok());
+        if let (Some(took), Some(least)) = (took, self.least.get_mut(step as usize)) {
+            let nanos = took.as_nanos();
+            *least = Some(least.map_or(nanos, |least| least.min(nanos)));
+        }
+        self.begin(rt);
+    }
+
+    /// Writes a name to standard error, and below it each step that was taken with its least time.
+    pub fn show(&self, rt: &HostRuntime, name: &str) -> io::Result<()> {
+        eprintln!(rt; "{name}")?;
+        for (step, least) in NAMES.iter().zip(self.least) {
+            if let Some(nanos) = least {
+                eprintln!(rt; "{step}: {nanos} ns")?;
+            }
+        }
+        Ok(())
+    }
+}
