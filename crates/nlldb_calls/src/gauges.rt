@@ -1,14 +1,5 @@
-//! The program's providers, each behind a gauge, which counts its calls and may have it want memory.
-ghost use Rattle.std.specs.Prelude.{IfOk};
-ghost use Rattle.bc_prov.specs.Facts.{AreLive, AreScopes, AreValues};
-
+//! Gauges of providers, which count their calls and may have them want memory.
 use anyhow::bail;
-use bc_cons::Facts;
-use bc_fixtures::{no_live, no_scopes, want_memory};
-use bc_live::LiveSets;
-use bc_loans::Scopes;
-use bc_mir::Typed;
-use bc_solve::Values;
 use std::alloc::{AllocError, Global};
 use std::io;
 use std::io::Write;
@@ -18,7 +9,7 @@ use std::sync::atomic::{AtomicBool, AtomicU64};
 
 /// How often a provider was called, and whether it wants memory.
 #[derive(Drop)]
-struct Gauge {
+pub struct Gauge {
     calls: AtomicU64,
     refuses: AtomicBool,
 }
@@ -31,23 +22,32 @@ impl Gauge {
         }
     }
 
-    /// Counts a call, and tells whether it is answered.
-    fn answers(&self) -> bool {
+    /// Counts a call; `AllocError` where the provider wants memory.
+    pub fn count(&self) -> Result<(), AllocError> {
         self.calls.fetch_add(1, SeqCst);
-        !self.refuses.load(SeqCst)
+        if self.refuses.load(SeqCst) {
+            return Err(AllocError);
+        }
+        Ok(())
+    }
+
+    /// Counts anew from now on, and wants memory or not.
+    fn set(&self, refuses: bool) {
+        self.calls.store(0, SeqCst);
+        self.refuses.store(refuses, SeqCst);
     }
 }
 
 /// The gauges of the three providers.
 #[derive(Drop)]
 pub struct Gauges {
-    live: Gauge,
-    solve: Gauge,
-    scopes: Gauge,
+    pub live: Gauge,
+    pub solve: Gauge,
+    pub scopes: Gauge,
 }
 
 impl Gauges {
-    /// Nothing was called, and nothing wants memory.
+    /// Gauges behind an `Arc`, so that each provider may own a part: none was called, and none wants memory.
     pub fn shared(alloc: Global) -> Result<Arc<Gauges, Global>, AllocError> {
         let gauges = Gauges {
             live: Gauge::new(),
@@ -60,42 +60,7 @@ impl Gauges {
         }
     }
 
-    pub fn find_live(&self, alloc: Global, typed: &Typed) -> Result<LiveSets, AllocError>
-        ensures { IfOk result (AreLive typed.now) }
-    {
-        if self.live.answers() {
-            bc_analyses::find_live(alloc, typed)
-        } else {
-            no_live(alloc, typed)
-        }
-    }
-
-    pub fn find_values(&self, alloc: Global, facts: &Facts) -> Result<Values, AllocError>
-        ensures { IfOk result (AreValues facts.now) }
-    {
-        if self.solve.answers() {
-            bc_analyses::find_values(alloc, facts)
-        } else {
-            want_memory(alloc, facts)
-        }
-    }
-
-    pub fn find_scopes(
-        &self,
-        alloc: Global,
-        typed: &Typed,
-        values: &Values,
-    ) -> Result<Scopes, AllocError>
-        ensures { IfOk result (AreScopes typed.now values.now) }
-    {
-        if self.scopes.answers() {
-            bc_analyses::find_scopes(alloc, typed, values)
-        } else {
-            no_scopes(alloc, typed, values)
-        }
-    }
-
-    /// Has those providers want memory from now on that a word names, and no other.
+    /// Counts anew from now on, and has those providers want memory that a word names, and no other.
     pub fn refuse(&self, which: &str) -> anyhow::Result<()> {
         let (live, solve, scopes) = match which {
             "none" => (false, false, false),
@@ -103,15 +68,15 @@ impl Gauges {
             "solve" => (false, true, false),
             "scopes" => (false, false, true),
             "all" => (true, true, true),
-            _ => bail!("no such provider"),
+            _ => bail!("no such providers"),
         };
-        self.live.refuses.store(live, SeqCst);
-        self.solve.refuses.store(solve, SeqCst);
-        self.scopes.refuses.store(scopes, SeqCst);
+        self.live.set(live);
+        self.solve.set(solve);
+        self.scopes.set(scopes);
         Ok(())
     }
 
-    /// Writes how often each provider was called since the last time.
+    /// Writes how often each provider was called, and counts anew.
     pub fn write_counts<W: Write>(&self, out: &mut W) -> io::Result<()> {
         let live = self.live.calls.swap(0, SeqCst);
         let solve = self.solve.calls.swap(0, SeqCst);

@@ -1,29 +1,29 @@
-//! Has sessions make the calls of rows, and prints each row and what it answered, so that the gate compares it.
+//! Has sessions make the calls of rows, and prints each row and what it was answered, so that the gate compares it.
 //!
-//! A row is a line, of words with a blank between them. A line that begins with `#` begins a case: nothing is open, no provider wants
-//! memory, and none was called. Such lines and empty ones are printed as they stand, and so is `text NAME TEXT`, which has a name
-//! for the rest of its line in all rows of its file. Each other line is printed behind `> `, and what it answers below:
+//! A row is a line, of words with a blank between them. A line that begins with `#` begins a case, of which nothing is open and no
+//! provider wants memory. It is printed as it stands, and so are empty lines and `text NAME TEXT`, which names the rest of its line
+//! for all rows of its file. Each other line is printed behind `> `, and what is answered below it: why, where it is refused.
 //!
-//! - `open TAG CAPACITY SESSIONS` opens a database, the first of a case as `a` and the second as `b`;
-//! - `a0 put NAME TEXT`, `a0 types TEXT`, `a0 remove NAME` and `a0 ask NAME` are calls of session 0 of `a`, of texts by their names;
-//!   `types` alone stores the empty text;
-//! - `a0 glance NAME` reads the answer that is published, `a0 work NAME` begins a name and works on it, and `a0 settle` settles the work
-//!   that was done last, whose ever it is;
-//! - `close a b` closes `a` with the sessions that `b` has left, and `close a` with none; it tells how many entries the history has;
-//!   `history a b` does so, and prints each;
+//! - `open TAG CAPACITY SESSIONS` opens a database: the first of a case is `a`, the second `b`, and so on;
+//! - `a0 put NAME TEXT`, `a0 types TEXT`, `a0 remove NAME` and `a0 ask NAME` are calls of session 0 of `a`; a text stands there by its name, and
+//!   no name for the empty one;
+//! - `a0 glance NAME` reads the answer that is published; `a0 work NAME` begins a name and works on it, and `a0 settle` settles the work that
+//!   was done last, whoever did it;
+//! - `close a b` closes `a` with the sessions that `b` has left, and `close a` with none;
 //! - `refuse live`, `solve`, `scopes`, `all` or `none` says which providers want memory from then on;
-//! - `count` tells how often each provider was called since the last count;
-//! - `9 ROW` makes a row nine times, where `#` stands for the number of the turn, from 0; all have to answer the same, which is printed once.
+//! - `count` tells how often each provider was called since the last count, or since `refuse`;
+//! - `9 ROW` makes a row nine times, with the number of the turn, from 0, for each `#` in it; each has to be answered the same, which is
+//!   printed once.
 #![tactic(auto)]
 
-mod answers;
 mod calls;
 mod cases;
 mod gauges;
 mod rows;
 
 use crate::gauges::Gauges;
-use crate::rows::{Ground, show_rows};
+use crate::rows::Context;
+use bc_analyses::{find_live, find_scopes, find_values};
 use bc_cons::Facts;
 use bc_mir::Typed;
 use bc_prov::{Liveness, Providers, Scoping, Solver};
@@ -43,14 +43,14 @@ fn show_files<R: AllocGlobal + Env + Files + Wait, W: Write>(
     out: &mut W,
 ) -> anyhow::Result<()> {
     for name in env::args(rt)?.skip(1) {
-        let rows = fs::read_to_string(rt, &name)?;
-        let ground = Ground {
-            alloc: rt.alloc(),
+        let rows = &fs::read_to_string(rt, &name)?;
+        let context = Context {
+            rt,
             gauges,
             providers,
-            rows: &rows,
+            rows,
         };
-        show_rows(rt, &ground, out)?;
+        context.show_rows(out)?;
     }
     Ok(())
 }
@@ -62,15 +62,18 @@ fn main(rt: HostRuntime) -> anyhow::Result<()> {
     let to_solve = Arc::try_clone(&gauges)?;
     let to_scope = Arc::try_clone(&gauges)?;
     let live: Liveness = Box::new(alloc, move |alloc: Global, typed: &Typed| {
-        to_live.find_live(alloc, typed)
+        to_live.live.count()?;
+        find_live(alloc, typed)
     })?;
     let solve: Solver = Box::new(alloc, move |alloc: Global, facts: &Facts| {
-        to_solve.find_values(alloc, facts)
+        to_solve.solve.count()?;
+        find_values(alloc, facts)
     })?;
     let in_scope: Scoping = Box::new(
         alloc,
         move |alloc: Global, typed: &Typed, values: &Values| {
-            to_scope.find_scopes(alloc, typed, values)
+            to_scope.scopes.count()?;
+            find_scopes(alloc, typed, values)
         },
     )?;
     let providers = Providers::new(live, solve, in_scope);
