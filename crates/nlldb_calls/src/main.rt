@@ -1,19 +1,21 @@
-//! Has sessions make the calls of rows, and prints each row and what it was answered, so that the gate compares it.
+//! Makes the calls of rows, and prints each row with its answer, so that the gate compares them.
 //!
-//! A row is a line, of words with a blank between them. A line that begins with `#` begins a case, of which nothing is open and no
-//! provider wants memory. It is printed as it stands, and so are empty lines and `text NAME TEXT`, which names the rest of its line
-//! for all rows of its file. Each other line is printed behind `> `, and what is answered below it: why, where it is refused.
+//! Each argument names a file of rows. A row is a line of words with one blank between them:
 //!
-//! - `open TAG CAPACITY SESSIONS` opens a database: the first of a case is `a`, the second `b`, and so on;
-//! - `a0 put NAME TEXT`, `a0 types TEXT`, `a0 remove NAME` and `a0 ask NAME` are calls of session 0 of `a`; a text stands there by its name, and
-//!   no name for the empty one;
-//! - `a0 glance NAME` reads the answer that is published; `a0 work NAME` begins a name and works on it, and `a0 settle` settles the work that
-//!   was done last, whoever did it;
-//! - `close a b` closes `a` with the sessions that `b` has left, and `close a` with none;
-//! - `refuse live`, `solve`, `scopes`, `all` or `none` says which providers want memory from then on;
-//! - `count` tells how often each provider was called since the last count, or since `refuse`;
-//! - `9 ROW` makes a row nine times, with the number of the turn, from 0, for each `#` in it; each has to be answered the same, which is
-//!   printed once.
+//! - `open TAG CAPACITY SESSIONS` opens a database. The first one of a case is `a`, the second one `b`, and so on.
+//! - `a0 put NAME TEXT`, `a0 types TEXT`, `a0 remove NAME` and `a0 ask NAME` are calls of session 0 of `a`. A text is given by its name, the
+//!   empty one by none.
+//! - `a0 glance NAME` reads the answer that is published. `a0 work NAME` begins a name and works on it. `a0 settle` settles the work that
+//!   was done last, whichever session did it.
+//! - `close a b` closes `a` with the sessions that `b` has left, and `close a` with none. The answer is how many entries the history has.
+//! - `refuse live`, `solve`, `scopes`, `all` or `none` says which providers want memory from then on.
+//! - `count` is answered by how often each provider was called since the last `count` or `refuse`.
+//! - `9 ROW` makes a row nine times, with the number of the turn, from 0, for each `#` in it. Its answers have to be the same, and are printed
+//!   once.
+//!
+//! A row is printed behind `> `, and its answer below it. Where it is refused, the answer says why. Three more kinds of lines are printed as
+//! they stand: `# TEXT` begins a case, in which nothing is open and no provider wants memory; `text NAME TEXT` gives a text a name, for all rows
+//! of its file; and an empty line.
 #![tactic(auto)]
 
 mod calls;
