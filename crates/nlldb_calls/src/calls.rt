@@ -1,0 +1,115 @@
+//! What sessions do.
+use crate::cases::Case;
+use crate::rows::{Context, halves};
+use anyhow::{Result, bail};
+use bc_calls::{PutReply, RemoveReply, Work};
+use bc_fixtures::{name, shared_types, shared_unit};
+use bc_report::write_report;
+use bc_share::Session;
+use bc_versions::Ending;
+use std::io::Write;
+use std::sync::Wait;
+
+impl<R: AllocGlobal + Wait> Context<'_, R> {
+    /// Puts the unit of a text under a name, and answers the line of the reply.
+    fn put<E: Ending>(&self, session: &mut Session<E>, row: &str) -> Result<&'static [u8]> {
+        let (put, text) = halves(row);
+        let put = name(put.as_bytes())?;
+        let unit = shared_unit(self.rt.alloc(), self.text(text)?.as_bytes())?;
+        match session.put(self.rt, put, unit)? {
+            PutReply::Added => Ok(b"added\n"),
+            PutReply::Replaced => Ok(b"replaced\n"),
+            PutReply::Full => Ok(b"full\n"),
+            PutReply::WrongKind => Ok(b"wrongkind\n"),
+        }
+    }
+
+    /// Stores the declarations of a text, and answers the line of that.
+    fn put_types<E: Ending>(&self, session: &mut Session<E>, text: &str) -> Result<&'static [u8]> {
+        let types = shared_types(self.rt.alloc(), self.text(text)?.as_bytes())?;
+        session.put_types(self.rt, types)?;
+        Ok(b"stored\n")
+    }
+
+    /// Removes a name, and answers the line of the reply.
+    fn remove<E: Ending>(&self, session: &mut Session<E>, text: &str) -> Result<&'static [u8]> {
+        match session.remove(self.rt, name(text.as_bytes())?)? {
+            RemoveReply::Removed => Ok(b"removed\n"),
+            RemoveReply::Absent => Ok(b"absent\n"),
+        }
+    }
+
+    /// Asks for a name, and writes the report.
+    fn ask<E: Ending>(
+        &self,
+        session: &mut Session<E>,
+        text: &str,
+        out: &mut Vec<u8>,
+    ) -> Result<()> {
+        let outcome = session.ask(self.rt, &name(text.as_bytes())?, self.providers)?;
+        write_report(&outcome, out)?;
+        Ok(())
+    }
+
+    /// Begins a name, works on it, and writes the report of what that finds.
+    fn work<E: Ending>(
+        &self,
+        session: &mut Session<E>,
+        text: &str,
+        out: &mut Vec<u8>,
+    ) -> Result<Work> {
+        let begun = session.begin(&name(text.as_bytes())?)?;
+        let work = begun.work(self.rt.alloc(), self.providers)?;
+        write_report(work.outcome(), out)?;
+        Ok(work)
+    }
+
+    /// Settles a work, and writes the report.
+    fn settle<E: Ending>(
+        &self,
+        session: &mut Session<E>,
+        work: Option<Work>,
+        out: &mut Vec<u8>,
+    ) -> Result<()> {
+        let Some(work) = work else {
+            bail!("no work was done");
+        };
+        let outcome = session.settle(self.rt, work, self.providers)?;
+        write_report(&outcome, out)?;
+        Ok(())
+    }
+
+    /// Has a session do what a row says, and writes what it is answered.
+    pub fn act<E: Ending>(
+        &self,
+        case: &mut Case<E>,
+        who: &str,
+        row: &str,
+        out: &mut Vec<u8>,
+    ) -> Result<()> {
+        let (verb, rest) = halves(row);
+        match verb {
+            "put" => out.extend_from_slice(self.put(case.session(who)?, rest)?)?,
+            "types" => out.extend_from_slice(self.put_types(case.session(who)?, rest)?)?,
+            "remove" => out.extend_from_slice(self.remove(case.session(who)?, rest)?)?,
+            "ask" => self.ask(case.session(who)?, rest, out)?,
+            "glance" => glance(case.session(who)?, rest, out)?,
+            "work" => case.work = Some(self.work(case.session(who)?, rest, out)?),
+            "settle" => {
+                let work = case.work.take();
+                self.settle(case.session(who)?, work, out)?;
+            }
+            _ => bail!("no session does this"),
+        }
+        Ok(())
+    }
+}
+
+/// Writes the report that a session sees published of a name.
+fn glance<E: Ending>(session: &mut Session<E>, text: &str, out: &mut Vec<u8>) -> Result<()> {
+    match session.glance(&name(text.as_bytes())?)? {
+        Some(outcome) => write_report(&outcome, out)?,
+        None => out.extend_from_slice(b"no answer\n")?,
+    }
+    Ok(())
+}

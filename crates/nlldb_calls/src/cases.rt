@@ -1,0 +1,77 @@
+//! The databases that the rows of a case open, with their sessions.
+use anyhow::{Result, bail};
+use bc_calls::Work;
+use bc_share::{Db, Session};
+use bc_versions::Ending;
+use std::alloc::Global;
+use std::mem;
+
+/// A database, until it is closed, and its sessions, until a database is closed with them.
+#[derive(Drop)]
+struct Opened<E: Ending> {
+    db: Option<Db<E>>,
+    sessions: Vec<Session<E>>,
+}
+
+/// What the rows of a case have opened, and the work that was done last, until it is settled.
+#[derive(Drop)]
+pub struct Case<E: Ending> {
+    opened: Vec<Opened<E>>,
+    pub work: Option<Work>,
+}
+
+impl<E: Ending> Case<E> {
+    /// Nothing is opened, and no work was done.
+    pub fn new(alloc: Global) -> Case<E> {
+        Case {
+            opened: Vec::new(alloc),
+            work: None,
+        }
+    }
+
+    /// Keeps a database and its sessions, under the next letter.
+    pub fn push(&mut self, db: Db<E>, sessions: Vec<Session<E>>) -> Result<()> {
+        let db = Some(db);
+        self.opened.push(Opened { db, sessions })?;
+        Ok(())
+    }
+
+    /// What was opened under a letter; fails where nothing was.
+    fn at(&mut self, letter: &str) -> Result<&mut Opened<E>> {
+        let place = match letter.as_bytes() {
+            [letter] => usize::from(letter.wrapping_sub(b'a')),
+            _ => usize::MAX,
+        };
+        match self.opened.get_mut(place) {
+            Some(opened) => Ok(opened),
+            None => bail!("no database has this letter"),
+        }
+    }
+
+    /// The session of a letter and a number; fails where there is none.
+    pub fn session(&mut self, who: &str) -> Result<&mut Session<E>> {
+        let (letter, number) = who.split_at_checked(1).unwrap_or(("", ""));
+        let number: usize = number.parse()?;
+        match self.at(letter)?.sessions.get_mut(number) {
+            Some(session) => Ok(session),
+            None => bail!("no session has this number"),
+        }
+    }
+
+    /// Takes the database of a letter; fails where it was closed before.
+    pub fn take_db(&mut self, letter: &str) -> Result<Db<E>> {
+        match self.at(letter)?.db.take() {
+            Some(db) => Ok(db),
+            None => bail!("this database was closed before"),
+        }
+    }
+
+    /// Takes the sessions of a letter; none of no letter.
+    pub fn take_sessions(&mut self, alloc: Global, letter: &str) -> Result<Vec<Session<E>>> {
+        if letter.is_empty() {
+            return Ok(Vec::new(alloc));
+        }
+        let opened = self.at(letter)?;
+        Ok(mem::replace(&mut opened.sessions, Vec::new(alloc)))
+    }
+}

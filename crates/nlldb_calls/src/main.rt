@@ -1,0 +1,83 @@
+//! Makes the calls of rows, and prints each row with its answer, so that the gate compares them.
+//!
+//! Each argument names a file of rows. A row is a line of words with one blank between them:
+//!
+//! - `open TAG CAPACITY SESSIONS` opens a database. The first one of a case is `a`, the second one `b`, and so on.
+//! - `a0 put NAME TEXT`, `a0 types TEXT`, `a0 remove NAME` and `a0 ask NAME` are calls of session 0 of `a`. A text is given by its name, the
+//!   empty one by none.
+//! - `a0 glance NAME` reads the answer that is published. `a0 work NAME` begins a name and works on it. `a0 settle` settles the work that
+//!   was done last, whichever session did it.
+//! - `close a b` closes `a` with the sessions that `b` has left, and `close a` with none. The answer is how many entries the history has.
+//! - `refuse live`, `solve`, `scopes`, `all` or `none` says which providers want memory from then on.
+//! - `count` is answered by how often each provider was called since the last `count` or `refuse`.
+//! - `9 ROW` makes a row nine times, with the number of the turn, from 0, for each `#` in it. Its answers have to be the same, and are printed
+//!   once.
+//!
+//! A row is printed behind `> `, and its answer below it. Where it is refused, the answer says why. Three more kinds of lines are printed as
+//! they stand: `# TEXT` begins a case, in which nothing is open and no provider wants memory; `text NAME TEXT` gives a text a name, for all rows
+//! of its file; and an empty line.
+#![tactic(auto)]
+
+mod calls;
+mod cases;
+mod gauges;
+mod rows;
+
+use crate::gauges::Gauges;
+use crate::rows::Context;
+use bc_analyses::{find_live, find_scopes, find_values};
+use bc_cons::Facts;
+use bc_mir::Typed;
+use bc_prov::{Liveness, Providers, Scoping, Solver};
+use bc_solve::Values;
+use std::alloc::Global;
+use std::fs::Files;
+use std::io::Write;
+use std::rt::Env;
+use std::sync::{Arc, Wait};
+use std::{env, fs};
+
+/// Shows the rows of each file that is named.
+fn show_files<R: AllocGlobal + Env + Files + Wait, W: Write>(
+    rt: &R,
+    gauges: &Gauges,
+    providers: &Providers,
+    out: &mut W,
+) -> anyhow::Result<()> {
+    for name in env::args(rt)?.skip(1) {
+        let rows = &fs::read_to_string(rt, &name)?;
+        let context = Context {
+            rt,
+            gauges,
+            providers,
+            rows,
+        };
+        context.show_rows(out)?;
+    }
+    Ok(())
+}
+
+fn main(rt: HostRuntime) -> anyhow::Result<()> {
+    let alloc = rt.alloc();
+    let gauges = Gauges::shared(alloc)?;
+    let to_live = Arc::try_clone(&gauges)?;
+    let to_solve = Arc::try_clone(&gauges)?;
+    let to_scope = Arc::try_clone(&gauges)?;
+    let live: Liveness = Box::new(alloc, move |alloc: Global, typed: &Typed| {
+        to_live.live.count()?;
+        find_live(alloc, typed)
+    })?;
+    let solve: Solver = Box::new(alloc, move |alloc: Global, facts: &Facts| {
+        to_solve.solve.count()?;
+        find_values(alloc, facts)
+    })?;
+    let in_scope: Scoping = Box::new(
+        alloc,
+        move |alloc: Global, typed: &Typed, values: &Values| {
+            to_scope.scopes.count()?;
+            find_scopes(alloc, typed, values)
+        },
+    )?;
+    let providers = Providers::new(live, solve, in_scope);
+    show_files(&rt, &gauges, &providers, &mut rt.stdout())
+}
