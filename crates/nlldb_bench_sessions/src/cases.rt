@@ -1,4 +1,6 @@
 //! Calls by one thread, while others write.
+ghost use Rattle.std.specs.Prelude.{◌<◌};
+
 use crate::calls::{Call, Row, call_all, draws, functions, put_all};
 use anyhow::{Result, bail};
 use bc_analyses::providers;
@@ -41,9 +43,29 @@ struct Case<'a, R> {
     draws: &'a [Row],
 }
 
+impl<R> Drop for Case<'_, R> {
+    fn drop(self) {
+        let Self {
+            rt: _,
+            call: _,
+            is_shared: _,
+            writers: _,
+            list: _,
+            draws: _,
+        } = self;
+    }
+}
+
 /// How many calls a second so many are that took so long.
 fn rate(calls: usize, took: Duration) -> u128 {
     (calls as u128).saturating_mul(1_000_000_000) / took.as_nanos().max(1)
+}
+
+/// How many calls are made under one taking of the lock.
+fn at_once(is_shared: bool) -> usize
+    ensures { 0 < result }
+{
+    if is_shared { 1 } else { DRAWS }
 }
 
 impl<'a, R: AllocGlobal + Clock + Eprint + Threads + Wait + Sync> Case<'a, R> {
@@ -81,7 +103,7 @@ impl<'a, R: AllocGlobal + Clock + Eprint + Threads + Wait + Sync> Case<'a, R> {
     /// Makes the calls, a little after the writers begin. Gives how many a second that were. Fails where one is not answered.
     fn call(&self, session: &Mutex<Own<'a, R>>) -> Result<u128> {
         thread::sleep(self.rt, Duration::from_millis(5));
-        let at_once = if self.is_shared { 1 } else { DRAWS };
+        let at_once = at_once(self.is_shared);
         let mut answered: usize = 0;
         let start = Instant::now(self.rt)?;
         for part in self
@@ -123,10 +145,11 @@ impl<'a, R: AllocGlobal + Clock + Eprint + Threads + Wait + Sync> Case<'a, R> {
     /// Has one thread make the calls while others write. Gives how many calls a second each made, if all were answered.
     fn rates(&self, sessions: &[Mutex<Own<'a, R>>]) -> Result<Vec<Option<u128>>> {
         let is_done = AtomicBool::new(false);
-        let each = |thread: usize| {
+        let quarter = (FUNCTIONS / 4) as usize;
+        let each = |thread: usize| -> Option<u128> {
             let session = sessions.get(thread).or(sessions.first())?;
             if thread > 0 {
-                let own = self.list.chunks(self.list.len() / 4 + 1).nth(thread)?;
+                let own = self.list.chunks(quarter).nth(thread)?;
                 return self.write(session, own, &is_done).ok();
             }
             let rate = self.call(session).ok();
@@ -180,8 +203,11 @@ pub fn measure<R: AllocGlobal + Clock + Print + Eprint + Threads + Wait + Sync>(
     let name = call.name();
     eprintln!(rt; "{name} of {units} units, sessions {sessions}, writers {writers}:")?;
     let list = functions(rt.alloc(), FUNCTIONS)?;
-    let drawn = if units > 1 { 1 } else { list.len() / 4 };
-    let draws = draws(rt.alloc(), list.get(..drawn).unwrap_or(&[]), DRAWS)?;
+    let drawn = if units > 1 { 1 } else { FUNCTIONS / 4 };
+    let Some(own) = list.get(..drawn as usize) else {
+        bail!("no rows");
+    };
+    let draws = draws(rt.alloc(), own, DRAWS)?;
     let case = Case {
         rt,
         call,
