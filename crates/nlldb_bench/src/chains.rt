@@ -4,6 +4,7 @@ ghost use Rattle.bc_flow.specs.Flow.{AreEntriesWithin};
 ghost use Rattle.bc_cons.specs.Facts.{ArePairsWithin};
 
 use crate::analyses::values;
+use crate::explanations::measure_explanations;
 use crate::times::Times;
 use bc_cons::{Constraint, Facts};
 use bc_flow::{Entry, table};
@@ -116,21 +117,28 @@ fn solved(rt: &HostRuntime, shape: Shape, pairs: u32, times: &mut Times) -> anyh
     Ok(count(&values))
 }
 
-/// Solves a list of constraints, many times. Writes how many elements the values have to standard output, and how long solving took at best to
-/// standard error.
+/// How many regions stand in the chains that explain elements of the values that a list of constraints has.
+fn explained(rt: &HostRuntime, shape: Shape, pairs: u32, times: &mut Times) -> anyhow::Result<u64> {
+    let facts = facts_of(rt.alloc(), shape, pairs)?;
+    Ok(measure_explanations(rt, &facts, times)?)
+}
+
+/// Solves a list of constraints, many times, and explains elements. Writes how many elements the values have, and how many regions the
+/// chains, to standard output, and how long that took at best to standard error.
 fn measure_list(rt: &HostRuntime, name: &str, pairs: u32, shape: Shape) -> anyhow::Result<()> {
     let mut times = Times::new();
     let mut members = 0;
     for _ in 0..TURNS {
         members = solved(rt, shape, pairs, &mut times)?;
     }
-    println!(rt; "{name}: {members} elements in values")?;
+    let regions = explained(rt, shape, pairs, &mut times)?;
+    println!(rt; "{name}: {members} elements in values, {regions} regions in chains")?;
     times.show(rt, name)?;
     Ok(())
 }
 
-/// Solves four lists of constraints between regions that start with up to three elements each. Writes how many elements the values have
-/// to standard output, and how long solving took at best to standard error.
+/// Solves four lists of constraints between regions that start with up to three elements each, and explains elements. Writes how many
+/// elements the values have, and how many regions the chains, to standard output, and how long that took at best to standard error.
 pub fn measure_constraints(rt: &HostRuntime) -> anyhow::Result<()> {
     for (name, pairs, shape) in LISTS {
         measure_list(rt, name, pairs, shape)?;

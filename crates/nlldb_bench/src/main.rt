@@ -1,9 +1,11 @@
-//! Reads the texts of files and analyses their bodies, and solves constraints between many regions, each step many times. What was read
-//! and found goes to standard output and is the same at each run; how long each step took at best goes to standard error.
+//! Reads the texts of files and analyses their bodies, solves constraints between many regions, and explains elements of their values, each
+//! step many times. What was read and found goes to standard output and is the same at each run; how long each step took at best goes to
+//! standard error.
 #![tactic(auto)]
 
 mod analyses;
 mod chains;
+mod explanations;
 mod times;
 
 use crate::analyses::measure_text;

@@ -13,10 +13,13 @@ pub enum Step {
     Solving,
     Scopes,
     Judging,
+    ExplainingInARow,
+    Explaining,
+    ExplainingAlone,
 }
 
 /// What the steps are called, in their order.
-const NAMES: [&str; 8] = [
+const NAMES: [&str; 11] = [
     "reading",
     "typing",
     "liveness",
@@ -25,12 +28,15 @@ const NAMES: [&str; 8] = [
     "solving",
     "scopes",
     "judging",
+    "4,000 explanations, eight in a row of an element",
+    "4,000 explanations",
+    "4,000 explanations without an explainer",
 ];
 
 /// The least time of each step in nanoseconds, if it was taken, and when the step that is taken now began, if the clock tells.
 #[derive(Clone, Copy)]
 pub struct Times {
-    least: [Option<u128>; 8],
+    least: [Option<u128>; 11],
     began: Option<Instant>,
 }
 
@@ -38,7 +44,7 @@ impl Times {
     /// No step was taken.
     pub fn new() -> Times {
         Times {
-            least: [None; 8],
+            least: [None; 11],
             began: None,
         }
     }
