@@ -16,8 +16,9 @@ fn main(rt: HostRuntime) -> anyhow::Result<()> {
         measure(&rt, Call::Put, units, sessions, 0)?;
     }
     for writers in [1u8, 3] {
-        measure(&rt, Call::Glance, 1, writers + 1, writers)?;
-        measure(&rt, Call::Begin, 1, writers + 1, writers)?;
+        let sessions = writers.saturating_add(1);
+        measure(&rt, Call::Glance, 1, sessions, writers)?;
+        measure(&rt, Call::Begin, 1, sessions, writers)?;
         measure(&rt, Call::Begin, 1, 1, writers)?;
     }
     Ok(())
