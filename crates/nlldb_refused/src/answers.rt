@@ -203,7 +203,7 @@ fn wants_memory(alloc: Global, snapshot: &Snapshot) -> Result<bool, AllocError> 
     Ok(report(alloc, &providers, snapshot).is_err())
 }
 
-impl Caller<'_> {
+impl<R: AllocGlobal> Caller<'_, R> {
     /// What a word asks for, of the first of these names.
     pub(crate) fn answer(&self, shelf: &Shelf, word: &str, names: &[Name]) -> Result<Vec<u8>> {
         let (alloc, providers) = (self.rt.alloc(), self.providers);

@@ -84,7 +84,7 @@ fn keep(memo: &mut PieceMemo, piece: &Shared<Piece>, names: &[Name]) -> Result<(
     Ok(())
 }
 
-impl Caller<'_> {
+impl<R: AllocGlobal> Caller<'_, R> {
     /// Shows how many pieces a memo keeps of a name, which keeps its piece for these names, and whether a shelf keeps that.
     fn show_kept(&self, shelf: &mut Shelf, names: &[Name], out: &mut impl Write) -> Result<()> {
         let alloc = self.rt.alloc();

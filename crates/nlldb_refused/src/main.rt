@@ -23,11 +23,14 @@ use bc_analyses::providers;
 use bc_prov::Providers;
 use std::fs;
 use std::io::Write;
+use std::rt::Files;
+use std::sync::Wait;
+use std::thread::Threads;
 
 /// What the calls are handed.
-#[derive(Clone, Copy)]
-pub(crate) struct Caller<'a> {
-    pub rt: &'a HostRuntime,
+#[derive_where(Clone, Copy)]
+pub(crate) struct Caller<'a, R> {
+    pub rt: &'a R,
     pub providers: &'a Providers,
 }
 
@@ -54,7 +57,7 @@ pub(crate) fn again_on<T, A: Drop, S: Fn(&T) -> bool, F: Fn(&mut T) -> Result<A>
     call(on)
 }
 
-impl Caller<'_> {
+impl<R: AllocGlobal + Threads + Wait + Sync> Caller<'_, R> {
     /// Makes the calls of a section, and prints its heading and what they answer.
     fn show_section(&self, section: &str, out: &mut impl Write) -> Result<()> {
         let (heading, lines) = section.split_once('\n').unwrap_or((section, ""));
@@ -71,7 +74,10 @@ impl Caller<'_> {
 }
 
 /// Makes all calls. Nothing is printed where what all of them need is refused.
-fn show(rt: &HostRuntime, out: &mut impl Write) -> Result<()> {
+fn show<R: AllocGlobal + Files + Threads + Wait + Sync>(
+    rt: &R,
+    out: &mut impl Write,
+) -> Result<()> {
     let text = fs::read_to_string(rt, "calls.txt")?;
     let providers = providers!(rt.alloc());
     let caller = Caller {

@@ -12,7 +12,7 @@ use bc_versions::{Ending, Waiting};
 use std::alloc::{AllocError, Global};
 use std::io;
 use std::io::Write;
-use std::sync::Arc;
+use std::sync::{Arc, Wait};
 
 /// The call that a word asks for, of a name and a text; an Ask where it has a session work on the name or settle that.
 pub(crate) fn call_of(alloc: Global, word: &str, at: Name, text: &str) -> Result<Call> {
@@ -58,7 +58,7 @@ fn show_entries(entries: &[Entry], session: u8, out: &mut impl Write) -> io::Res
     Ok(())
 }
 
-impl Caller<'_> {
+impl<R: AllocGlobal + Wait> Caller<'_, R> {
     /// A new database whose history may have so many entries, with two sessions.
     pub(crate) fn opened<E: Ending>(
         &self,

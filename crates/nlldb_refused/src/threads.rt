@@ -9,6 +9,8 @@ use bc_share::{Db, Session};
 use bc_versions::{Ending, Waiting};
 use std::alloc::Global;
 use std::io::Write;
+use std::sync::Wait;
+use std::thread::Threads;
 
 /// How many calls a session has made that has made all.
 const ALL: usize = usize::MAX;
@@ -65,7 +67,7 @@ fn risen<E: Ending>(
     Ok(sessions)
 }
 
-impl Caller<'_> {
+impl<R: AllocGlobal + Threads + Wait + Sync> Caller<'_, R> {
     /// The scripts of what two sessions have not made yet.
     fn scripts(&self, lines: &str, made: &[usize; 2]) -> Result<Vec<Script>> {
         let alloc = self.rt.alloc();
