@@ -1,35 +1,33 @@
-//! Rounds of a new database each, in which sixteen sessions make calls on threads and read beside them; what they leave and see is compared
-//! with a map of names. The words tell by threes how many functions there are, how many turns each session has, and how many rounds.
+//! Sixteen sessions make calls on threads and read beside them, and what they leave and see is compared with a map of names. With a number they do
+//! so for that many seconds, and how fast they were is shown.
 #![tactic(auto)]
 
 mod load;
 mod model;
 
-use crate::load::{Shape, show_rounds};
+use crate::load::{show_agreement, show_load};
 use bc_analyses::providers;
-use std::io::ErrorKind;
+use std::io::{BufWriter, ErrorKind, Write};
 use std::{env, io};
 
-/// The numbers that the words spell; `InvalidData` where one spells none.
-fn numbers(rt: &HostRuntime) -> io::Result<Vec<u32>> {
-    let mut numbers = Vec::new(rt.alloc());
-    for word in env::args(rt)?.skip(1) {
-        let Ok(number) = word.parse::<u32>() else {
-            return Err(ErrorKind::InvalidData.into());
-        };
-        numbers.push(number)?;
-    }
-    Ok(numbers)
+/// For how many seconds sessions are to make calls, where a word says that; `InvalidData` where it is no number.
+fn seconds_of_load(rt: &HostRuntime) -> io::Result<Option<u64>> {
+    let mut words = env::args(rt)?.skip(1);
+    let Some(word) = words.next() else {
+        return Ok(None);
+    };
+    let Ok(seconds) = word.parse::<u64>() else {
+        return Err(ErrorKind::InvalidData.into());
+    };
+    Ok(Some(seconds))
 }
 
 fn main(rt: HostRuntime) -> io::Result<()> {
-    let numbers = numbers(&rt)?;
+    let mut out = BufWriter::new(rt.alloc(), rt.stdout())?;
     let providers = providers!(rt.alloc());
-    for part in numbers.chunks(3) {
-        if let [functions, turns, rounds] = *part {
-            let shape = Shape { functions, turns };
-            show_rounds(&rt, &providers, shape, rounds)?;
-        }
+    match seconds_of_load(&rt)? {
+        Some(seconds) => show_load(&rt, &providers, seconds, &mut out)?,
+        None => show_agreement(&rt, &providers, &mut out)?,
     }
-    Ok(())
+    out.flush()
 }

@@ -43,89 +43,74 @@ pub(crate) struct Reading {
     pub(crate) seen: Seen,
 }
 
-/// What a session did: its calls, and its readings, both in their order, and whether the last call was refused.
+/// What a session did: its calls, and its readings, both in their order.
 #[derive(Drop)]
 pub(crate) struct Log {
     pub(crate) calls: Vec<Deed>,
     pub(crate) readings: Vec<Reading>,
-    pub(crate) is_refused: bool,
 }
 
-impl Log {
-    /// No call and no reading, and a refused call.
-    pub(crate) fn refused(alloc: Global) -> Log {
-        let mut log = Log::new(alloc);
-        log.is_refused = true;
-        log
-    }
-
-    /// No call and no reading.
-    pub(crate) fn new(alloc: Global) -> Log {
-        Log {
-            calls: Vec::new(alloc),
-            readings: Vec::new(alloc),
-            is_refused: false,
-        }
-    }
-}
-
-/// What is held under a name, and its answer.
-#[derive(Clone, Copy)]
-struct Place {
-    held: Option<Kind>,
-    answer: Option<Sight>,
-}
-
-/// A place for each name, and how many units are held.
+/// What is held under each name, and the answer of each.
 #[derive(Drop)]
 struct Map {
-    places: Vec<Place>,
+    held: Vec<Option<Kind>>,
+    answers: Vec<Option<Sight>>,
     count: usize,
 }
 
 impl Map {
     /// Nothing is held under so many names.
     fn new(alloc: Global, names: usize) -> Result<Map, AllocError> {
-        let mut places = Vec::with_capacity(alloc, names)?;
+        let mut held = Vec::with_capacity(alloc, names)?;
+        let mut answers = Vec::with_capacity(alloc, names)?;
         for _name in 0..names {
-            places.push(Place {
-                held: None,
-                answer: None,
-            })?;
+            held.push(None)?;
+            answers.push(None)?;
         }
-        Ok(Map { places, count: 0 })
+        Ok(Map {
+            held,
+            answers,
+            count: 0,
+        })
     }
 
     /// What is held under a name.
     fn held(&self, name: usize) -> Option<Kind> {
-        self.places.get(name)?.held
+        match self.held.get(name) {
+            Some(held) => *held,
+            None => None,
+        }
     }
 
     /// The answer of a name.
     fn answer(&self, name: usize) -> Option<Sight> {
-        self.places.get(name)?.answer
-    }
-
-    /// Sets the answer of a name.
-    fn set_answer(&mut self, name: usize, answer: Option<Sight>) {
-        if let Some(place) = self.places.get_mut(name) {
-            place.answer = answer;
-        }
-    }
-
-    /// Makes all answers void.
-    fn void_all(&mut self) {
-        for place in self.places.iter_mut() {
-            place.answer = None;
+        match self.answers.get(name) {
+            Some(answer) => *answer,
+            None => None,
         }
     }
 
     /// Sets what is held under a name, which makes its answer void, and that of its function.
     fn write(&mut self, name: usize, held: Option<Kind>) {
-        if let Some(place) = self.places.get_mut(name) {
-            *place = Place { held, answer: None };
+        if let Some(place) = self.held.get_mut(name) {
+            *place = held;
         }
+        self.set_answer(name, None);
         self.set_answer(name - name % FAMILY, None);
+    }
+
+    /// Makes all answers void.
+    fn void_all(&mut self) {
+        for answer in self.answers.iter_mut() {
+            *answer = None;
+        }
+    }
+
+    /// Sets the answer of a name.
+    fn set_answer(&mut self, name: usize, answer: Option<Sight>) {
+        if let Some(place) = self.answers.get_mut(name) {
+            *place = answer;
+        }
     }
 
     /// Puts a unit under a name, and gives the reply.
@@ -298,8 +283,8 @@ fn count(readers: &mut [Reader<'_>], session: u8) {
     }
 }
 
-/// Whether no call was refused, and the history is what a map of these names says of the calls of the sessions, of which it has each once,
-/// those of a session in their order, and shows all that they saw: each reading of a session saw what a beginning of the history leaves, which is no shorter than
+/// Whether the history is what a map of these names says of the calls of the sessions, of which it has each once, those of a session in
+/// their order, and shows all that they saw: each reading of a session saw what a beginning of the history leaves, which is no shorter than
 /// that of the reading before, has the calls that the session had made and none that it made later.
 pub(crate) fn agree(
     alloc: Global,
@@ -320,6 +305,5 @@ pub(crate) fn agree(
         count(&mut readers, entry.session);
     }
     read_on(&map, names, &mut readers);
-    let is_refused = logs.iter().any(|log| log.is_refused);
-    Ok(!is_refused && readers.iter().all(|reader| reader.is_done()))
+    Ok(readers.iter().all(|reader| reader.is_done()))
 }
