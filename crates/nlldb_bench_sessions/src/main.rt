@@ -1,25 +1,47 @@
-//! Calls of one thread, alone and while others write, each kind of them many times. How many of them were answered goes to standard output
-//! and is the same at each run; how many a second that were goes to standard error, and behind it how many the others made.
+//! Asks for a body again, and for a function one of whose closures was replaced; glances at names, begins parts and puts bodies; reads
+//! names while others are written; and reads, puts and asks for many bodies, many times. What was answered goes to standard output and is the same
+//! at each run; how fast goes to standard error.
 #![tactic(auto)]
 
-mod calls;
-mod cases;
+mod asks;
+mod bodies;
+mod closures;
+mod glances;
+mod reads;
 
-use crate::calls::Call;
-use crate::cases::measure;
+use crate::asks::measure_asks;
+use crate::bodies::measure_bodies;
+use crate::closures::measure_closures;
+use crate::glances::measure_names;
+use crate::reads::measure_reads;
+use bc_bench::borrows_and_reads;
+use std::io::Write;
+use std::sync::Wait;
+use std::time::Clock;
+
+fn measure_asking<R: AllocGlobal + Clock + Wait, O: Write, E: Write>(
+    rt: &R,
+    out: &mut O,
+    err: &mut E,
+) -> anyhow::Result<()> {
+    let text = borrows_and_reads(rt.alloc())?;
+    measure_asks(rt, "asks of many points", &text, out, err)?;
+    measure_asks(
+        rt,
+        "asks of two points",
+        b"fn()->int{bb0{_0=1;return;}}",
+        out,
+        err,
+    )?;
+    measure_closures(rt, 30, out, err)?;
+    measure_closures(rt, 300, out, err)
+}
 
 fn main(rt: HostRuntime) -> anyhow::Result<()> {
-    for (units, sessions) in [(1u8, 1u8), (16, 1), (64, 1), (1, 16)] {
-        measure(&rt, Call::Glance, units, sessions, 0)?;
-        measure(&rt, Call::LookUp, units, sessions, 0)?;
-        measure(&rt, Call::Begin, units, sessions, 0)?;
-        measure(&rt, Call::Put, units, sessions, 0)?;
-    }
-    for writers in [1u8, 3] {
-        let sessions = writers.saturating_add(1);
-        measure(&rt, Call::Glance, 1, sessions, writers)?;
-        measure(&rt, Call::Begin, 1, sessions, writers)?;
-        measure(&rt, Call::Begin, 1, 1, writers)?;
-    }
-    Ok(())
+    let mut out = rt.stdout();
+    let mut err = rt.stderr();
+    measure_asking(&rt, &mut out, &mut err)?;
+    measure_names(&rt, &mut out, &mut err)?;
+    measure_reads(&rt, &mut out, &mut err)?;
+    measure_bodies(&rt, &mut out, &mut err)
 }
