@@ -66,10 +66,11 @@ struct Stock {
     types: Shared<Types>,
 }
 
-/// A session on a thread of its own: what it draws its calls by, what it did, and whether it was never refused.
+/// A session on a thread of its own: what it puts and what it draws its calls by, what it did, and whether it was never refused.
 #[derive(Drop)]
-struct Seat<E: Ending> {
+struct Seat<'a, E: Ending> {
     session: Session<E>,
+    stock: &'a Stock,
     dice: Pcg32,
     log: Log,
     is_done: bool,
@@ -183,7 +184,7 @@ fn names(alloc: Global, functions: u32) -> io::Result<Vec<Name>> {
     Ok(names)
 }
 
-impl<E: Ending> Seat<E> {
+impl<'a, E: Ending> Seat<'a, E> {
     /// A number below a limit.
     fn draw(&mut self, limit: usize) -> usize {
         self.dice.next_u32() as usize % limit.max(1)
@@ -196,20 +197,16 @@ impl<E: Ending> Seat<E> {
     }
 
     /// Declares the types.
-    fn declare<R: Wait>(&mut self, rt: &R, stock: &Stock) -> Result<(), Refusal> {
+    fn declare<R: Wait>(&mut self, rt: &R) -> Result<(), Refusal> {
         self.note(Deed::Types)?;
+        let stock = self.stock;
         self.session.put_types(rt, stock.types.clone()?.into_arc())?;
         Ok(())
     }
 
     /// Puts a unit under a name.
-    fn put<R: Wait>(
-        &mut self,
-        rt: &R,
-        stock: &Stock,
-        name: &Name,
-        number: usize,
-    ) -> Result<(), Refusal> {
+    fn put<R: Wait>(&mut self, rt: &R, name: &Name, number: usize) -> Result<(), Refusal> {
+        let stock = self.stock;
         let drawn = self.draw(stock.units.len());
         if let Some((kind, unit)) = stock.units.get(drawn) {
             self.note(Deed::Put(number, *kind))?;
@@ -255,7 +252,6 @@ impl<E: Ending> Seat<E> {
         &mut self,
         rt: &R,
         alloc: Global,
-        stock: &Stock,
         names: &[Name],
         providers: &Providers,
     ) -> Result<(), Refusal> {
@@ -264,8 +260,8 @@ impl<E: Ending> Seat<E> {
             return Ok(());
         };
         match self.draw(256) {
-            0 => self.declare(rt, stock)?,
-            1..=79 => self.put(rt, stock, name, number)?,
+            0 => self.declare(rt)?,
+            1..=79 => self.put(rt, name, number)?,
             80..=95 => {
                 self.note(Deed::Remove(number))?;
                 self.session.remove(rt, *name)?;
@@ -285,13 +281,12 @@ impl<E: Ending> Seat<E> {
         &mut self,
         rt: &R,
         alloc: Global,
-        stock: &Stock,
         names: &[Name],
         providers: &Providers,
         count: u32,
     ) {
         for _turn in 0..count {
-            if self.act(rt, alloc, stock, names, providers).is_err() {
+            if self.act(rt, alloc, names, providers).is_err() {
                 return;
             }
         }
@@ -300,16 +295,18 @@ impl<E: Ending> Seat<E> {
 }
 
 /// The sessions at seats, each with dice of its own.
-fn seats<E: Ending>(
+fn seats<'a, E: Ending>(
     alloc: Global,
     seed: u64,
     sessions: Vec<Session<E>>,
-) -> io::Result<Vec<Seat<E>>> {
+    stock: &'a Stock,
+) -> io::Result<Vec<Seat<'a, E>>> {
     let mut seats = Vec::new(alloc);
     for session in sessions {
         let stream = u64::from(session.number());
         seats.push(Seat {
             session,
+            stock,
             dice: Pcg32::new(seed, stream),
             log: Log {
                 calls: Vec::new(alloc),
@@ -322,12 +319,16 @@ fn seats<E: Ending>(
 }
 
 /// The sessions from their seats, and what each did. Fails where one was refused.
-fn risen<E: Ending>(alloc: Global, seats: Vec<Seat<E>>) -> io::Result<(Vec<Session<E>>, Vec<Log>)> {
+fn risen<E: Ending>(
+    alloc: Global,
+    seats: Vec<Seat<'_, E>>,
+) -> io::Result<(Vec<Session<E>>, Vec<Log>)> {
     let mut sessions = Vec::new(alloc);
     let mut logs = Vec::new(alloc);
     for seat in seats {
         let Seat {
             session,
+            stock: _,
             dice: _,
             log,
             is_done,
@@ -345,18 +346,17 @@ fn risen<E: Ending>(alloc: Global, seats: Vec<Seat<E>>) -> io::Result<(Vec<Sessi
 fn sit_all<R: Threads + Wait + Sync, E: Ending + Send>(
     rt: &R,
     alloc: Global,
-    stock: &Stock,
     names: &[Name],
     providers: &Providers,
     count: u32,
-    seats: &mut [Seat<E>],
+    seats: &mut [Seat<'_, E>],
 ) {
     let threads = seats.len().max(1);
     thread::for_each_mut(
         rt,
         seats,
         threads,
-        &|_index: usize, seat: &mut Seat<E>| seat.sit(rt, alloc, stock, names, providers, count),
+        &|_index: usize, seat: &mut Seat<'_, E>| seat.sit(rt, alloc, names, providers, count),
     );
 }
 
@@ -390,9 +390,9 @@ fn make_round<R: Threads + Wait + Clock + Sync>(
     let Ok((db, sessions)) = Db::open(alloc, Waiting::new(rt), 0, capacity, SESSIONS) else {
         return Err(ErrorKind::OutOfMemory.into());
     };
-    let mut seats = seats(alloc, seed, sessions)?;
+    let mut seats = seats(alloc, seed, sessions, stock)?;
     let start = Instant::now(rt)?;
-    sit_all(rt, alloc, stock, &names, providers, shape.turns, &mut seats);
+    sit_all(rt, alloc, &names, providers, shape.turns, &mut seats);
     let nanos = start.elapsed(rt)?.as_nanos();
     let (sessions, logs) = risen(alloc, seats)?;
     let Ok(history) = db.close(rt, sessions) else {
