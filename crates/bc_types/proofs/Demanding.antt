@@ -1,6 +1,6 @@
 -- What types demand: behind a reference, and what is known of a struct.
-use Rattle.std.proofs.Common.{◌≡◌, Bool, true, false, cond, Option, Some, List, [], ◌∷◌, ◌++◌, map, refl, sym, ap, ◌∙◌}
-use Rattle.std.specs.Option.{option_map_or}
+use Rattle.std.proofs.Common.{◌≡◌, Bool, true, false, cond, Option, Some, List, [], ◌∷◌, ◌++◌, map, refl, ap, ◌∙◌}
+use Rattle.std.specs.Option.{option_map, option_map_or, unwrap_or}
 use Rattle.std.specs.Str.{bytes_eq}
 use Rattle.bc_syntax.specs.declared.syntax.Region.{Region}
 use Rattle.bc_syntax.specs.declared.syntax.Reference.{Reference}
@@ -22,7 +22,7 @@ behind_pairs [] regions shorter = refl
 behind_pairs (reference ∷ references) regions shorter = ap (λ ps. outlives reference.region shorter ∷ ps) (behind_pairs references regions shorter)
 
 abbrev pairs_known : Option KnownStruct → List Constraint
-pairs_known known = option_map_or (λ (k : KnownStruct). k.pairs) known []
+pairs_known known = unwrap_or (option_map (λ (k : KnownStruct). k.pairs) known) []
 
 -- a struct demands what is known of its name where it is declared with its number of regions, and else nothing
 pub known-pairs : (earlier : List Declaration) (instance : Instance) →
@@ -33,7 +33,7 @@ known-pairs (Struct d ∷ earlier) instance = by (bytes_eq instance.name.bytes d
   where
     by : (same : Bool) → cond (option_map_or (takes_regions instance) (struct_among earlier instance.name) false) (pairs_known (known_struct earlier instance.name.bytes)) [] ≡ struct_pairs earlier instance
         → cond (option_map_or (takes_regions instance) (cond same (Some d) (struct_among earlier instance.name)) false) (pairs_known (cond same (Some (known_behind earlier d)) (known_struct earlier instance.name.bytes))) []
-        ≡ cond same (cond (takes_regions instance d) (field_pairs (struct_pairs earlier) d.fields) []) (struct_pairs earlier instance)
+        ≡ cond same (cond (takes_regions instance d) (field_pairs (struct_pairs earlier) d) []) (struct_pairs earlier instance)
     by true rest = refl
     by false rest = rest
 

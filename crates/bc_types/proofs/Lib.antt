@@ -3,3 +3,5 @@ pub mod Dropping
 pub mod Adding
 pub mod Growing
 pub mod Demanding
+pub mod Marking
+pub mod Arguments

@@ -35,7 +35,7 @@ abbrev pub known_behind : List Declaration → StructDeclaration → KnownStruct
 known_behind earlier d = record {
   position = length earlier;
   holds_drop = d.has_drop || list_any (holds_drop_among earlier) d.fields;
-  pairs = field_pairs (struct_pairs earlier) d.fields;
+  pairs = field_pairs (struct_pairs earlier) d;
 }
 
 -- what is kept of the struct of a name among declarations, of which the last comes first

@@ -8,3 +8,4 @@ pub mod Shapes
 pub mod Subtype
 pub mod Subtyping
 pub mod WellFormed
+pub mod RegionPairs

@@ -1,13 +1,15 @@
 -- What well-formed types demand: a reference does not outlive what it points at, so that each region that is written behind
 -- it outlives its own.
-use Rattle.std.specs.Prelude.{Bool, ◌&&◌, if◌then◌else◌, List, [], ◌∷◌, ◌++◌, fold, map, reverse}
-use Rattle.std.specs.List.{flat_map, list_any}
+use Rattle.std.specs.Prelude.{ℕ, ◌+◌, Bool, ◌&&◌, if◌then◌else◌, List, [], ◌∷◌, ◌++◌, length, map, reverse}
+use Rattle.std.specs.List.{flat_map, list_any, range_with_len}
 use Rattle.bc_syntax.specs.declared.syntax.Region.{Region}
+use Rattle.bc_syntax.specs.declared.syntax.Region.TheVariants.{Universal}
 use Rattle.bc_syntax.specs.declared.syntax.Reference.{Reference}
 use Rattle.bc_syntax.specs.declared.syntax.Instance.{Instance}
 use Rattle.bc_syntax.specs.declared.syntax.Base.{Base}
 use Rattle.bc_syntax.specs.declared.syntax.Base.TheVariants.{Int, Struct, Closure}
 use Rattle.bc_syntax.specs.declared.syntax.Ty.{Ty}
+use Rattle.bc_syntax.specs.declared.syntax.StructDeclaration.{StructDeclaration}
 use Rattle.bc_syntax.specs.declared.syntax.Declaration.{Declaration}
 use Rattle.bc_syntax.specs.declared.syntax.Declaration.TheVariants as kinds
 use Rattle.bc_types.specs.declared.subtype.Constraint.{Constraint}
@@ -45,20 +47,29 @@ pairs_over declared ty = reference_pairs ty.references ty.base ++ base_pairs dec
 
 -- ---- structs
 
-abbrev pub same_pair : Constraint → Constraint → Bool
-same_pair first second = same_region first.longer second.longer && same_region first.shorter second.shorter
+-- a pair is that of two regions by number, of which `'static` has 0
+abbrev pub is_pair : ℕ → ℕ → Constraint → Bool
+is_pair longer shorter pair = same_region (Universal longer) pair.longer && same_region (Universal shorter) pair.shorter
 
--- a pair behind others, unless it is one of them
-abbrev pub with_pair : List Constraint → Constraint → List Constraint
-with_pair pairs pair = if list_any (same_pair pair) pairs then pairs else pairs ++ pair ∷ []
+-- it is demanded that a region outlives another
+abbrev pub is_demanded : List Constraint → ℕ → ℕ → Bool
+is_demanded pairs longer shorter = list_any (is_pair longer shorter) pairs
 
--- each pair once, where it comes first
-abbrev pub each_once : List Constraint → List Constraint
-each_once pairs = fold with_pair [] pairs
+-- the pair of two regions where a test holds of them
+abbrev pub pair_where : (ℕ → ℕ → Bool) → ℕ → ℕ → List Constraint
+pair_where test longer shorter = if test longer shorter then outlives (Universal longer) (Universal shorter) ∷ [] else []
 
--- what the types of fields demand, each pair once
-abbrev pub field_pairs : (Instance → List Constraint) → List Ty → List Constraint
-field_pairs declared fields = each_once (flat_map (pairs_over declared) fields)
+-- the pairs of a region with each of the first `count` ones
+abbrev pub row_where : (ℕ → ℕ → Bool) → ℕ → ℕ → List Constraint
+row_where test count longer = flat_map (pair_where test longer) (range_with_len 0 count)
+
+-- the pairs of the first `count` regions where a test holds, by the longer region and then by the shorter one
+abbrev pub pairs_where : (ℕ → ℕ → Bool) → ℕ → List Constraint
+pairs_where test count = flat_map (row_where test count) (range_with_len 0 count)
+
+-- what the types of a struct's fields demand of `'static` and the struct's own regions, each pair once
+abbrev pub field_pairs : (Instance → List Constraint) → StructDeclaration → List Constraint
+field_pairs declared d = pairs_where (is_demanded (flat_map (pairs_over declared) d.fields)) (length d.regions + 1)
 
 -- what the declaration of a struct demands of the struct's own regions: what the types of its fields do. A struct that is not
 -- declared with this number of regions demands nothing. The last declaration comes first: what its fields mention is behind it
@@ -66,7 +77,7 @@ abbrev pub struct_pairs : List Declaration → Instance → List Constraint
 struct_pairs [] instance = []
 struct_pairs (kinds.Struct d ∷ earlier) instance =
     if same_name instance.name d.name
-    then (if takes_regions instance d then field_pairs (struct_pairs earlier) d.fields else [])
+    then (if takes_regions instance d then field_pairs (struct_pairs earlier) d else [])
     else struct_pairs earlier instance
 struct_pairs (kinds.Extern d ∷ earlier) instance = struct_pairs earlier instance
 

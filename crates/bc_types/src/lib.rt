@@ -4,6 +4,7 @@
 mod good;
 mod good_types;
 mod mutabilities;
+mod region_pairs;
 mod replaced;
 mod shapes;
 mod subtype;

@@ -6,6 +6,21 @@ ghost use Rattle.bc_types.specs.Replaced.{replaced_region, replaced_reference, r
 use bc_syntax::{Base, ClosureInstance, Instance, ItemName, Reference, Region, ShortSequence, Ty};
 use std::alloc::{AllocError, Global};
 
+/// The argument for a region of a declaration by number, `'static` having 0.
+pub(crate) fn argument_of(arguments: &[Region], number: usize) -> Region
+    ensures value { result ≡ replaced_region arguments.now (Region.Universal number) }
+    ensures given { Contains (Region.Universal 0 ∷ arguments.now) result }
+{
+    if number == 0 {
+        Region::Universal(0)
+    } else {
+        match arguments.get(number - 1) {
+            Some(argument) => *argument,
+            None => Region::Universal(0),
+        }
+    }
+}
+
 /// A region of a declaration where the declared ones are replaced by arguments, the first by the first: `'static` stays. What
 /// has no argument becomes `'static`, so that nothing comes in but `'static` and the arguments.
 /// (Own.)
@@ -14,16 +29,7 @@ pub fn replace_region(arguments: &[Region], region: Region) -> Region
     ensures given { Contains (Region.Universal 0 ∷ arguments.now) result }
 {
     match region {
-        Region::Universal(number) => {
-            if number == 0 {
-                region
-            } else {
-                match arguments.get(usize::from(number) - 1) {
-                    Some(argument) => *argument,
-                    None => Region::Universal(0),
-                }
-            }
-        }
+        Region::Universal(number) => argument_of(arguments, usize::from(number)),
         Region::Variable(_) => Region::Universal(0),
     }
 }

@@ -1,17 +1,18 @@
 //! Declarations, and where they stand under their names.
-ghost use Rattle.std.specs.Prelude.{◌≡◌, ◌++◌, ◌∷◌, ◌||◌, [], false, reverse, length, IfOk, OnOk};
+ghost use Rattle.std.specs.Prelude.{◌≡◌, ◌++◌, ◌∷◌, ◌||◌, [], false, map, unwrap_or, reverse, length, IfOk, OnOk};
 ghost use Rattle.std.specs.List.{flat_map, list_any};
-ghost use Rattle.std.specs.Option.{option_copied, option_map_or};
+ghost use Rattle.std.specs.Option.{option_copied, option_map, option_map_or};
 ghost use Rattle.bc_types.specs.Declarations.{struct_of, extern_of, takes_regions as takes};
 ghost use Rattle.std.specs.Str.{bytes_eq};
 ghost use Rattle.indexmap.specs.IndexMap.{get_by};
 ghost use Rattle.bc_types.specs.Known.{known_behind as behind, known_struct, known_extern, Adds, struct_at as struct_there, extern_at as extern_there};
 ghost use Rattle.bc_types.specs.Drops.{holds_drop as holding, struct_holds_drop as struct_holding};
-ghost use Rattle.bc_types.specs.WellFormed.{base_pairs, field_pairs as pairs_of_fields, struct_pairs as pairs_of_struct, well_formed_pairs};
+ghost use Rattle.bc_types.specs.WellFormed.{base_pairs, field_pairs as pairs_of_fields, replaced_pair, struct_pairs as pairs_of_struct, well_formed_pairs};
 
+use crate::region_pairs::RegionPairs;
 use crate::replaced::copy_name;
 use crate::subtype::Constraint;
-use crate::well_formed::{each_once, push_reference_pairs, push_replaced_pairs};
+use crate::well_formed::push_reference_pairs;
 use bc_syntax::{
     Base, Declaration, ExternDeclaration, Instance, ItemName, Outlives, RegionName, Sequence,
     Signature, StructDeclaration, Ty,
@@ -21,12 +22,12 @@ use std::alloc::{AllocError, Global};
 use std::marker::Model;
 
 /// Where a struct stands among declarations, whether it holds a drop, and what the types of its fields demand of its own
-/// regions, each pair once: there are at most 81, since a struct has at most 8 regions, and `'static` is one more.
+/// regions: at most 81 bits, since a struct has at most 8 regions, and `'static` is one more.
 #[derive(Drop)]
 pub(crate) struct KnownStruct {
     pub(crate) position: usize,
     pub(crate) holds_drop: bool,
-    pub(crate) pairs: Sequence<Constraint>,
+    pub(crate) pairs: RegionPairs,
 }
 
 /// Declarations that are looked up by name: of several with one kind and name the last.
@@ -363,23 +364,38 @@ impl Table {
     }
 
     /// What has been found that the fields of the struct of a name demand.
-    fn known_pairs(&self, name: &ItemName) -> &[Constraint]
-        ensures { result.now ≡ option_map_or (λ known. known.pairs) (known_struct (reverse self.now) name.now.bytes) [] }
+    fn known_pairs(&self, name: &ItemName) -> Option<&RegionPairs>
+        ensures { option_copied result ≡ option_map (λ known. known.pairs) (known_struct (reverse self.now) name.now.bytes) }
     {
         match self.known_struct(name) {
-            Some(known) => known.pairs.as_slice(),
-            None => &[],
+            Some(known) => Some(&known.pairs),
+            None => None,
         }
     }
 
     /// What the declaration of a struct demands of the struct's own regions.
-    fn struct_pairs(&self, instance: &Instance) -> &[Constraint]
-        ensures { result.now ≡ pairs_of_struct (reverse self.now) instance.now }
+    fn struct_pairs(&self, instance: &Instance) -> Option<&RegionPairs>
+        ensures { unwrap_or (option_copied result) [] ≡ pairs_of_struct (reverse self.now) instance.now }
     {
         if self.declares(instance) {
             self.known_pairs(&instance.name)
         } else {
-            &[]
+            None
+        }
+    }
+
+    /// Appends what the declaration of a struct demands, with the struct's regions replaced by its arguments.
+    fn push_struct_pairs(
+        &self,
+        constraints: &mut Vec<Constraint>,
+        instance: &Instance,
+    ) -> Result<(), AllocError>
+        ensures { OnOk result (constraints.new.items
+            ≡ constraints.old.items ++ map (replaced_pair instance.now.regions) (pairs_of_struct (reverse self.now) instance.now)) }
+    {
+        match self.struct_pairs(instance) {
+            Some(pairs) => pairs.push_replaced(constraints, instance.regions.as_slice()),
+            None => Ok(()),
         }
     }
 
@@ -393,11 +409,7 @@ impl Table {
     {
         match base {
             Base::Int | Base::Closure(_) => Ok(()),
-            Base::Struct(instance) => push_replaced_pairs(
-                constraints,
-                instance.regions.as_slice(),
-                self.struct_pairs(instance),
-            ),
+            Base::Struct(instance) => self.push_struct_pairs(constraints, instance),
         }
     }
 
@@ -428,12 +440,17 @@ impl Table {
         Ok(pairs)
     }
 
-    /// What the types of fields that mention structs of the table demand, each pair once.
-    fn field_pairs(&self, alloc: Global, fields: &[Ty]) -> Result<Sequence<Constraint>, AllocError>
-        ensures { IfOk result (λ pairs. pairs ≡ pairs_of_fields (pairs_of_struct (reverse self.now)) fields.now) }
+    /// What the types of the fields of a struct demand of its own regions, where they mention structs of the table.
+    fn field_pairs(
+        &self,
+        alloc: Global,
+        declaration: &StructDeclaration,
+    ) -> Result<RegionPairs, AllocError>
+        ensures { IfOk result (λ pairs. pairs ≡ pairs_of_fields (pairs_of_struct (reverse self.now)) declaration.now) }
     {
-        let pairs = self.pairs_of_types(alloc, fields)?;
-        each_once(alloc, &pairs)
+        let pairs = self.pairs_of_types(alloc, declaration.fields.as_slice())?;
+        let regions = declaration.regions.as_slice();
+        RegionPairs::among(alloc, regions.len() + 1, &pairs)
     }
 
     /// What is kept of a struct behind the declarations of the table.
@@ -447,7 +464,7 @@ impl Table {
         Ok(KnownStruct {
             position: self.declarations.len(),
             holds_drop: self.finds_drop(declaration),
-            pairs: self.field_pairs(alloc, declaration.fields.as_slice())?,
+            pairs: self.field_pairs(alloc, declaration)?,
         })
     }
 }

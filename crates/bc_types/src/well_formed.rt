@@ -1,14 +1,13 @@
-//! What the references of well-formed types demand, and pairs each once.
-ghost use Rattle.std.specs.Prelude.{◌≡◌, ◌++◌, fold, map, IfOk, OnOk};
-ghost use Rattle.std.specs.List.{list_any};
+//! What the references of well-formed types demand.
+ghost use Rattle.std.specs.Prelude.{◌≡◌, ◌++◌, map, OnOk};
 ghost use Rattle.bc_types.specs.Mentions.{regions_of_references, regions_of_base};
 ghost use Rattle.bc_types.specs.Subtype.{outlives};
-ghost use Rattle.bc_types.specs.WellFormed.{each_outlives, reference_pairs, replaced_pair as pair_replaced, same_pair as one_pair, each_once as once_each};
+ghost use Rattle.bc_types.specs.WellFormed.{each_outlives, reference_pairs, replaced_pair as pair_replaced};
 
 use crate::replaced::replace_region;
-use crate::subtype::{Constraint, is_same_region, push_outlives};
-use bc_syntax::{Base, Reference, Region, Sequence};
-use std::alloc::{AllocError, Global};
+use crate::subtype::{Constraint, push_outlives};
+use bc_syntax::{Base, Reference, Region};
+use std::alloc::AllocError;
 
 /// Appends that each of some regions outlives another.
 fn push_each_outlives(
@@ -111,32 +110,4 @@ pub(crate) fn push_replaced_pairs(
         constraints.push(replaced_pair(arguments, *pair))?;
     }
     Ok(())
-}
-
-fn is_same_pair(first: Constraint, second: Constraint) -> bool
-    ensures { result ≡ one_pair first second }
-{
-    is_same_region(first.longer, second.longer) && is_same_region(first.shorter, second.shorter)
-}
-
-fn is_among(pair: Constraint, pairs: &[Constraint]) -> bool
-    ensures { result ≡ list_any (one_pair pair) pairs.now }
-{
-    pairs.iter().any(|other| is_same_pair(pair, *other))
-}
-
-/// Each pair once, where it comes first.
-pub(crate) fn each_once(
-    alloc: Global,
-    pairs: &[Constraint],
-) -> Result<Sequence<Constraint>, AllocError>
-    ensures { IfOk result (λ kept. kept ≡ once_each pairs.now) }
-{
-    let mut kept = Sequence::new(alloc);
-    for pair in pairs {
-        if !is_among(*pair, kept.as_slice()) {
-            kept.push(*pair)?;
-        }
-    }
-    Ok(kept)
 }

@@ -1,4 +1,4 @@
-use Rattle.std.proofs.Common.{Some, None, sym, ap, ◌∙◌}
+use Rattle.std.proofs.Common.{Some, None, ap, ◌∙◌}
 use Rattle.bc_types.specs.Known.{struct_at}
 use Rattle.bc_types.proofs.Known.{found-struct}
 use Rattle.bc_types.proofs.table.Table.struct_of.Goals as goal
