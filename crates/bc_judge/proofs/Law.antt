@@ -12,6 +12,7 @@ use Rattle.bc_syntax.specs.declared.syntax.UnitKind.TheVariants as kinds
 use Rattle.bc_cons.specs.Requirements.{may_go_up}
 use Rattle.bc_syntax.specs.declared.syntax.Mutability.{Mutability}
 use Rattle.bc_syntax.specs.declared.syntax.Mutability.TheVariants.{Shared, Mutable}
+use Rattle.bc_points.specs.declared.access.Access.{Access}
 use Rattle.bc_points.specs.declared.access.AccessKind.{AccessKind}
 use Rattle.bc_points.specs.declared.access.AccessKind.TheVariants.{Read, Write}
 use Rattle.bc_mir.specs.declared.mir.Point.{Point}
