@@ -1,16 +1,18 @@
 -- The list of errors has exactly the errors.
 use Rattle.std.proofs.Common.{◌≡◌, ℕ, ◌+◌, ◌<◌, ◌⊎◌, inl, inr, ◌↔◌, Bool, true, false, List, [], ◌∷◌, Some, refl, sym, ap, ◌∙◌, subst, arith}
-use Rattle.std.specs.Prelude.{◌&&◌, ◌||◌, not, if◌then◌else◌, slice_get, filter}
+use Rattle.std.specs.Prelude.{◌&&◌, ◌||◌, not, if◌then◌else◌, slice_get, filter, map}
 use Rattle.std.specs.List.{Contains, enumerate_from, list_all, range_with_len}
 use Rattle.std.proofs.lemmas.Bool.{and_parts, and_from, both_ways, false_from_ne_true, not-true}
 use Rattle.std.proofs.lemmas.Option.{slice_get_within, get_or_from_slice_get}
 use Rattle.std.proofs.lemmas.List.Elements.{Contains-append_left, Contains-append_right, Contains-append_cases}
 use Rattle.bc_syntax.specs.declared.syntax.Outlives.{Outlives}
+use Rattle.bc_syntax.specs.declared.syntax.Region.{Region}
 use Rattle.bc_syntax.specs.declared.syntax.UnitKind.{UnitKind}
 use Rattle.bc_syntax.specs.declared.syntax.UnitKind.TheVariants as kinds
 use Rattle.bc_cons.specs.Requirements.{may_go_up}
 use Rattle.bc_syntax.specs.declared.syntax.Mutability.{Mutability}
 use Rattle.bc_syntax.specs.declared.syntax.Mutability.TheVariants.{Shared, Mutable}
+use Rattle.bc_points.specs.declared.access.Access.{Access}
 use Rattle.bc_points.specs.declared.access.AccessKind.{AccessKind}
 use Rattle.bc_points.specs.declared.access.AccessKind.TheVariants.{Read, Write}
 use Rattle.bc_mir.specs.declared.mir.Point.{Point}
@@ -23,11 +25,13 @@ use Rattle.bc_points.specs.Accesses.{accesses_of}
 use Rattle.bc_flow.proofs.Membership.{Contains-nil, Contains-one, Contains-head, from_flat_map, in_flat_map, from_map, in_map, from_filter, in_filter, from_enumerate, in_enumerate, from_range, in_range}
 use Rattle.bc_loans.specs.Loans.{loans_of_step, loans_of}
 use Rattle.bc_loans.proofs.Listing.{from_with_point}
+use Rattle.bc_points.specs.Regions.{region_number}
 use Rattle.bc_judge.specs.declared.error.BorrowError.{BorrowError}
-use Rattle.bc_judge.specs.declared.error.BorrowError.TheVariants.{Conflict, Lifetime}
-use Rattle.bc_judge.specs.Conflicts.{ScopeTest, is_write, is_conflict, is_relevant_at, point_of, conflict_with, conflicts_of_access, conflicts_of_step, conflicts_of}
-use Rattle.bc_judge.specs.Lifetimes.{TellsKnown, ValueTest, end_of, failure_of, failures_from, failures_of, is_required_in, is_required, is_lifetime_error, lifetime_of, lifetimes_of, required_of}
-use Rattle.bc_judge.specs.Errors.{errors_of, IsConflict, IsFailure, IsLifetimeError, IsRequirement, IsError}
+use Rattle.bc_judge.specs.declared.error.BorrowError.TheVariants as variants
+use Rattle.bc_judge.specs.declared.conflicts.Conflict.{Conflict}
+use Rattle.bc_judge.specs.Conflicts.{ScopeTest, is_write, is_conflict, is_relevant_at, conflict_with, conflicts_of_access, conflicts_of_step, conflicts_of}
+use Rattle.bc_judge.specs.Lifetimes.{TellsKnown, ValueTest, end_of, failure_of, failures_from, failures_of, is_required_in, is_required, is_lifetime_error, lifetimes_of, required_of}
+use Rattle.bc_judge.specs.Errors.{ChainTo, point_of, conflict_error, lifetime_error, errors_of, IsConflict, IsFailure, IsLifetimeError, IsRequirement, IsError}
 
 -- ---- one element under a test
 
@@ -74,56 +78,69 @@ writes_one Read Mutable h = refl
 writes_one Read Shared (inl h) = absurd cc
 writes_one Read Shared (inr h) = absurd cc
 
-from_conflicts : (mir : Mir) (in_scope : ScopeTest) (value : ValueTest) (e : BorrowError) → Contains (conflicts_of mir in_scope) e → IsError mir in_scope value e
-from_conflicts mir in_scope value e h =
-    let here = from_flat_map (conflicts_of_step mir in_scope) (enumerate_from 0 mir.steps) e h in
+-- what a listed conflict comes from
+pub record IsListed (mir : Mir) (in_scope : ScopeTest) (conflict : Conflict) : Type 0 where
+  pub step : Step
+  pub is_step : slice_get mir.steps conflict.point ≡ Some step
+  pub access : Access
+  pub is_access : slice_get (accesses_of mir step.instruction) conflict.access ≡ Some access
+  pub loan_number : ℕ
+  pub loan : Loan
+  pub is_loan : slice_get (loans_of mir) loan_number ≡ Some (conflict.maker, loan)
+  pub maker_step : Step
+  pub is_maker : slice_get mir.steps conflict.maker ≡ Some maker_step
+  pub region : loan.region ≡ conflict.region
+  pub in_scope_here : in_scope conflict.point loan_number ≡ true
+  pub one_writes : (access.kind ≡ Write) ⊎ (loan.mutability ≡ Mutable)
+  pub relevant : is_relevant_at mir access.depth access.place loan.path ≡ true
+
+pub from_conflicts : (mir : Mir) (in_scope : ScopeTest) (c : Conflict) → Contains (conflicts_of mir in_scope) c → IsListed mir in_scope c
+from_conflicts mir in_scope c h =
+    let here = from_flat_map (conflicts_of_step mir in_scope) (enumerate_from 0 mir.steps) c h in
     let step = here.0.1 in
     let accesses = accesses_of mir step.instruction in
-    let access = from_flat_map (conflicts_of_access mir (in_scope here.0.0) step.point) (enumerate_from 0 accesses) e here.2 in
-    let loan = from_flat_map (conflict_with mir (in_scope here.0.0) step.point access.0) (enumerate_from 0 (loans_of mir)) e access.2 in
+    let access = from_flat_map (conflicts_of_access mir (in_scope here.0.0) here.0.0) (enumerate_from 0 accesses) c here.2 in
+    let loan = from_flat_map (conflict_with mir (in_scope here.0.0) here.0.0 access.0) (enumerate_from 0 (loans_of mir)) c access.2 in
     let is_loan = at_number (loans_of mir) loan.0 loan.1 in
     let maker = maker_of mir loan.0.0 loan.0.1 is_loan in
     let conflicts = is_conflict mir access.0.1 loan.0.1.1 in
-    let one = from_if (in_scope here.0.0 loan.0.0 && conflicts) (Conflict step.point access.0.0 (point_of mir.steps loan.0.1.0)) e loan.2 in
+    let found : Conflict = record { point = here.0.0; access = access.0.0; maker = loan.0.1.0; region = loan.0.1.1.region } in
+    let one = from_if (in_scope here.0.0 loan.0.0 && conflicts) found c loan.2 in
     let both = and_parts (in_scope here.0.0 loan.0.0) conflicts one.0 in
     let parts = and_parts (is_write access.0.1.kind || is_mutable loan.0.1.1.mutability) (is_relevant_at mir access.0.1.depth access.0.1.place loan.0.1.1.path) both.1 in
-    let found : IsConflict mir in_scope step.point access.0.0 (point_of mir.steps loan.0.1.0) = record {
-      point = here.0.0;
+    let listed : IsListed mir in_scope found = record {
       step = step;
       is_step = at_number mir.steps here.0 here.1;
-      at_point = refl;
       access = access.0.1;
       is_access = at_number accesses access.0 access.1;
       loan_number = loan.0.0;
-      maker = loan.0.1.0;
       loan = loan.0.1.1;
       is_loan = is_loan;
       maker_step = maker.0;
       is_maker = maker.1;
-      at_maker = sym (printed_at mir.steps loan.0.1.0 maker.0 maker.1);
+      region = refl;
       in_scope_here = both.0;
       one_writes = one_writes access.0.1.kind loan.0.1.1.mutability parts.0;
       relevant = parts.1;
     } in
-    subst (IsError mir in_scope value) one.1 found
+    subst (IsListed mir in_scope) one.1 listed
 
-in_conflicts : (mir : Mir) (in_scope : ScopeTest) (at : Point) (number : ℕ) (loan_at : Point) → IsConflict mir in_scope at number loan_at → Contains (conflicts_of mir in_scope) (Conflict at number loan_at)
-in_conflicts mir in_scope at number loan_at h =
-    let e = Conflict at number loan_at in
-    let loan : ℕ × (ℕ × Loan) = (h.loan_number, (h.maker, h.loan)) in
-    let printed : point_of mir.steps h.maker ≡ loan_at = printed_at mir.steps h.maker h.maker_step h.is_maker ∙ h.at_maker in
-    let is_e : Conflict h.step.point number (point_of mir.steps h.maker) ≡ e = ap (λ v. Conflict v number (point_of mir.steps h.maker)) h.at_point ∙ ap (λ v. Conflict at number v) printed in
+in_conflicts : (mir : Mir) (in_scope : ScopeTest) (c : Conflict) → IsListed mir in_scope c → Contains (conflicts_of mir in_scope) c
+in_conflicts mir in_scope c h =
+    let loan : ℕ × (ℕ × Loan) = (h.loan_number, (c.maker, h.loan)) in
+    let found : Conflict = record { point = c.point; access = c.access; maker = c.maker; region = h.loan.region } in
+    let is_c : found ≡ c = λ i. record { point = c.point; access = c.access; maker = c.maker; region = h.region i } in
     let conflicts : is_conflict mir h.access h.loan ≡ true =
     and_from (is_write h.access.kind || is_mutable h.loan.mutability) (is_relevant_at mir h.access.depth h.access.place h.loan.path)
     (writes_one h.access.kind h.loan.mutability h.one_writes) h.relevant in
-    let both = and_from (in_scope h.point h.loan_number) (is_conflict mir h.access h.loan) h.in_scope_here conflicts in
-    in_flat_map (conflicts_of_step mir in_scope) (enumerate_from 0 mir.steps) (h.point, h.step) e (numbered mir.steps h.point h.step h.is_step)
-    (in_flat_map (conflicts_of_access mir (in_scope h.point) h.step.point) (enumerate_from 0 (accesses_of mir h.step.instruction)) (number, h.access) e
-    (numbered (accesses_of mir h.step.instruction) number h.access h.is_access)
-    (in_flat_map (conflict_with mir (in_scope h.point) h.step.point (number, h.access)) (enumerate_from 0 (loans_of mir)) loan e
-    (numbered (loans_of mir) h.loan_number (h.maker, h.loan) h.is_loan)
-    (subst (λ v. Contains (conflict_with mir (in_scope h.point) h.step.point (number, h.access) loan) v) is_e
-    (in_if (in_scope h.point h.loan_number && is_conflict mir h.access h.loan) (Conflict h.step.point number (point_of mir.steps h.maker)) both))))
+    let both = and_from (in_scope c.point h.loan_number) (is_conflict mir h.access h.loan) h.in_scope_here conflicts in
+    in_flat_map (conflicts_of_step mir in_scope) (enumerate_from 0 mir.steps) (c.point, h.step) c (numbered mir.steps c.point h.step h.is_step)
+    (in_flat_map (conflicts_of_access mir (in_scope c.point) c.point) (enumerate_from 0 (accesses_of mir h.step.instruction)) (c.access, h.access) c
+    (numbered (accesses_of mir h.step.instruction) c.access h.access h.is_access)
+    (in_flat_map (conflict_with mir (in_scope c.point) c.point (c.access, h.access)) (enumerate_from 0 (loans_of mir)) loan c
+    (numbered (loans_of mir) h.loan_number (c.maker, h.loan) h.is_loan)
+    (subst (λ v. Contains (conflict_with mir (in_scope c.point) c.point (c.access, h.access) loan) v) is_c
+    (in_if (in_scope c.point h.loan_number && is_conflict mir h.access h.loan) found both))))
 
 -- ---- failures
 
@@ -153,22 +170,6 @@ in_failures mir value known tells f h =
     (in_flat_map (failure_of mir value known f.longer) (range_with_len 0 mir.universals) f.shorter f (in_range 0 mir.universals f.shorter (omega arith) (omega arith))
     (in_if (value f.longer (end_of mir f.shorter) && not (known f.longer f.shorter)) f both))
 
-from_lifetimes : (mir : Mir) (in_scope : ScopeTest) (value : ValueTest) (known : ℕ → ℕ → Bool) → TellsKnown mir known → (e : BorrowError) → Contains (lifetimes_of mir value known) e → IsError mir in_scope value e
-from_lifetimes mir in_scope value known tells e h =
-    let failures = failures_of mir value known in
-    let mapped = from_map lifetime_of (filter (is_lifetime_error mir) failures) e h in
-    let kept = from_filter (is_lifetime_error mir) failures mapped.0 mapped.1 in
-    let found : IsLifetimeError mir value mapped.0 = record {
-      fails = from_failures mir value known tells mapped.0 kept.0;
-      not_required = not-true (is_required mir mapped.0) kept.1;
-    } in
-    subst (IsError mir in_scope value) mapped.2 found
-
-in_lifetimes : (mir : Mir) (value : ValueTest) (known : ℕ → ℕ → Bool) → TellsKnown mir known → (f : Outlives) → IsLifetimeError mir value f → Contains (lifetimes_of mir value known) (lifetime_of f)
-in_lifetimes mir value known tells f h =
-    in_map lifetime_of (filter (is_lifetime_error mir) (failures_of mir value known)) f
-    (in_filter (is_lifetime_error mir) (failures_of mir value known) f (in_failures mir value known tells f h.fails) (rw h.not_required))
-
 -- ---- requirements
 
 pub listed_is_required : (mir : Mir) (value : ValueTest) (known : ℕ → ℕ → Bool) → TellsKnown mir known → (f : Outlives) → Contains (required_of mir value known) f ↔ IsRequirement mir value f
@@ -193,18 +194,117 @@ required_may_go_up mir (f ∷ fs) = by_cases (is_required mir f) refl (required_
 
 -- ---- errors
 
-to_list : (mir : Mir) (in_scope : ScopeTest) (value : ValueTest) (known : ℕ → ℕ → Bool) → TellsKnown mir known → (e : BorrowError) → IsError mir in_scope value e → Contains (errors_of mir in_scope value known) e
-to_list mir in_scope value known tells (Conflict at number loan_at) h =
-    Contains-append_left (conflicts_of mir in_scope) (lifetimes_of mir value known) (Conflict at number loan_at) (in_conflicts mir in_scope at number loan_at h)
-to_list mir in_scope value known tells (Lifetime longer shorter) h =
-    Contains-append_right (conflicts_of mir in_scope) (lifetimes_of mir value known) (Lifetime longer shorter) (in_lifetimes mir value known tells (record { longer = longer; shorter = shorter }) h)
+-- a failure that is an error
+pub from_lifetimes : (mir : Mir) (value : ValueTest) (known : ℕ → ℕ → Bool) → TellsKnown mir known → (f : Outlives) → Contains (lifetimes_of mir value known) f →
+    IsFailure mir value f.longer f.shorter × (is_required mir f ≡ false)
+from_lifetimes mir value known tells f h =
+    let kept = from_filter (is_lifetime_error mir) (failures_of mir value known) f h in
+    (from_failures mir value known tells f kept.0, not-true (is_required mir f) kept.1)
 
-from_list : (mir : Mir) (in_scope : ScopeTest) (value : ValueTest) (known : ℕ → ℕ → Bool) → TellsKnown mir known → (e : BorrowError) → Contains (errors_of mir in_scope value known) e → IsError mir in_scope value e
-from_list mir in_scope value known tells e h = elim (Contains-append_cases (conflicts_of mir in_scope) (lifetimes_of mir value known) e h) [
-  | inl conflict ↦ from_conflicts mir in_scope value e conflict
-  | inr lifetime ↦ from_lifetimes mir in_scope value known tells e lifetime
-]
+-- the point of a conflict is in the value of the loan's region where each loan in scope has it there
+abbrev pub IsWithin : Mir → ScopeTest → ValueTest → Type 0
+IsWithin mir in_scope value =
+    (point number : ℕ) (made : ℕ × Loan) → in_scope point number ≡ true → slice_get (loans_of mir) number ≡ Some made → value (region_number mir.universals made.1.region) point ≡ true
 
-pub listed_is_error : (mir : Mir) (in_scope : ScopeTest) (value : ValueTest) (known : ℕ → ℕ → Bool) → TellsKnown mir known → (e : BorrowError) →
-    Contains (errors_of mir in_scope value known) e ↔ IsError mir in_scope value e
-listed_is_error mir in_scope value known tells e = (from_list mir in_scope value known tells e, to_list mir in_scope value known tells e)
+-- for each region and element there is one explanation at most
+abbrev pub IsOne : (ℕ → ℕ → List Region → Type 0) → Type 0
+IsOne Explains = (r e : ℕ) (chain other : List Region) → Explains r e chain → Explains r e other → chain ≡ other
+
+module _ (mir : Mir) (Explains : ℕ → ℕ → List Region → Type 0) (in_scope : ScopeTest) (value : ValueTest) (known : ℕ → ℕ → Bool) (chain : ChainTo)
+    (within : IsWithin mir in_scope value) (tells : TellsKnown mir known) (one : IsOne Explains)
+    (explains : (r e : ℕ) → value r e ≡ true → Explains r e (chain r e)) where
+  from_conflict_errors : (e : BorrowError) → Contains (map (conflict_error mir chain) (conflicts_of mir in_scope)) e → IsError mir Explains in_scope value e
+  from_conflict_errors e h =
+      let mapped = from_map (conflict_error mir chain) (conflicts_of mir in_scope) e h in
+      let c = mapped.0 in
+      let listed = from_conflicts mir in_scope c mapped.1 in
+      let has : value (region_number mir.universals listed.loan.region) c.point ≡ true = within c.point listed.loan_number (c.maker, listed.loan) listed.in_scope_here listed.is_loan in
+      let told = explains (region_number mir.universals listed.loan.region) c.point has in
+      let found : IsError mir Explains in_scope value (conflict_error mir chain c) = record {
+        point = c.point;
+        step = listed.step;
+        is_step = listed.is_step;
+        at_point = sym (printed_at mir.steps c.point listed.step listed.is_step);
+        access = listed.access;
+        is_access = listed.is_access;
+        loan_number = listed.loan_number;
+        maker = c.maker;
+        loan = listed.loan;
+        is_loan = listed.is_loan;
+        maker_step = listed.maker_step;
+        is_maker = listed.is_maker;
+        at_maker = sym (printed_at mir.steps c.maker listed.maker_step listed.is_maker);
+        in_scope_here = listed.in_scope_here;
+        one_writes = listed.one_writes;
+        relevant = listed.relevant;
+        explained = subst (λ r. Explains (region_number mir.universals listed.loan.region) c.point (chain (region_number mir.universals r) c.point)) listed.region told;
+      } in
+      subst (IsError mir Explains in_scope value) mapped.2 found
+
+  in_conflict_errors : (at : Point) (number : ℕ) (loan_at : Point) (because : List Region) → IsConflict mir Explains in_scope at number loan_at because →
+      Contains (map (conflict_error mir chain) (conflicts_of mir in_scope)) (variants.Conflict at number loan_at because)
+  in_conflict_errors at number loan_at because h =
+      let c : Conflict = record { point = h.point; access = number; maker = h.maker; region = h.loan.region } in
+      let listed : IsListed mir in_scope c = record {
+        step = h.step;
+        is_step = h.is_step;
+        access = h.access;
+        is_access = h.is_access;
+        loan_number = h.loan_number;
+        loan = h.loan;
+        is_loan = h.is_loan;
+        maker_step = h.maker_step;
+        is_maker = h.is_maker;
+        region = refl;
+        in_scope_here = h.in_scope_here;
+        one_writes = h.one_writes;
+        relevant = h.relevant;
+      } in
+      let region = region_number mir.universals h.loan.region in
+      let has : value region h.point ≡ true = within h.point h.loan_number (h.maker, h.loan) h.in_scope_here h.is_loan in
+      let there : point_of mir.steps h.point ≡ at = printed_at mir.steps h.point h.step h.is_step ∙ h.at_point in
+      let made : point_of mir.steps h.maker ≡ loan_at = printed_at mir.steps h.maker h.maker_step h.is_maker ∙ h.at_maker in
+      let why : chain region h.point ≡ because = one region h.point (chain region h.point) because (explains region h.point has) h.explained in
+      let is_e : conflict_error mir chain c ≡ variants.Conflict at number loan_at because = λ i. variants.Conflict (there i) number (made i) (why i) in
+      subst (Contains (map (conflict_error mir chain) (conflicts_of mir in_scope))) is_e
+      (in_map (conflict_error mir chain) (conflicts_of mir in_scope) c (in_conflicts mir in_scope c listed))
+
+  from_lifetime_errors : (e : BorrowError) → Contains (map (lifetime_error mir chain) (lifetimes_of mir value known)) e → IsError mir Explains in_scope value e
+  from_lifetime_errors e h =
+      let mapped = from_map (lifetime_error mir chain) (lifetimes_of mir value known) e h in
+      let f = mapped.0 in
+      let kept = from_lifetimes mir value known tells f mapped.1 in
+      let found : IsError mir Explains in_scope value (lifetime_error mir chain f) = record {
+        fails = kept.0;
+        not_required = kept.1;
+        explained = explains f.longer (end_of mir f.shorter) kept.0.has_end;
+      } in
+      subst (IsError mir Explains in_scope value) mapped.2 found
+
+  in_lifetime_errors : (longer shorter : ℕ) (because : List Region) → IsLifetimeError mir Explains value (record { longer = longer; shorter = shorter }) because →
+      Contains (map (lifetime_error mir chain) (lifetimes_of mir value known)) (variants.Lifetime longer shorter because)
+  in_lifetime_errors longer shorter because h =
+      let f : Outlives = record { longer = longer; shorter = shorter } in
+      let end = end_of mir shorter in
+      let why : chain longer end ≡ because = one longer end (chain longer end) because (explains longer end h.fails.has_end) h.explained in
+      let there : Contains (lifetimes_of mir value known) f =
+      in_filter (is_lifetime_error mir) (failures_of mir value known) f (in_failures mir value known tells f h.fails) (rw h.not_required) in
+      subst (λ (ch : List Region). Contains (map (lifetime_error mir chain) (lifetimes_of mir value known)) (variants.Lifetime longer shorter ch)) why
+      (in_map (lifetime_error mir chain) (lifetimes_of mir value known) f there)
+
+  to_list : (e : BorrowError) → IsError mir Explains in_scope value e → Contains (errors_of mir in_scope value known chain) e
+  to_list (variants.Conflict at number loan_at because) h =
+      Contains-append_left (map (conflict_error mir chain) (conflicts_of mir in_scope)) (map (lifetime_error mir chain) (lifetimes_of mir value known))
+      (variants.Conflict at number loan_at because) (in_conflict_errors at number loan_at because h)
+  to_list (variants.Lifetime longer shorter because) h =
+      Contains-append_right (map (conflict_error mir chain) (conflicts_of mir in_scope)) (map (lifetime_error mir chain) (lifetimes_of mir value known))
+      (variants.Lifetime longer shorter because) (in_lifetime_errors longer shorter because h)
+
+  from_list : (e : BorrowError) → Contains (errors_of mir in_scope value known chain) e → IsError mir Explains in_scope value e
+  from_list e h = elim (Contains-append_cases (map (conflict_error mir chain) (conflicts_of mir in_scope)) (map (lifetime_error mir chain) (lifetimes_of mir value known)) e h) [
+    | inl conflict ↦ from_conflict_errors e conflict
+    | inr lifetime ↦ from_lifetime_errors e lifetime
+  ]
+
+  pub listed_is_error : (e : BorrowError) → Contains (errors_of mir in_scope value known chain) e ↔ IsError mir Explains in_scope value e
+  listed_is_error e = (from_list e, to_list e)

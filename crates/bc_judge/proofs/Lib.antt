@@ -2,3 +2,5 @@ pub mod Walks
 pub mod OutOfScope
 pub mod Closure
 pub mod Law
+pub mod Inside
+pub mod Turns

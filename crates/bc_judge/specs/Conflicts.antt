@@ -1,14 +1,12 @@
 -- Which accesses conflict with which loans.
-use Rattle.std.specs.Prelude.{ℕ, Bool, true, false, ◌&&◌, ◌||◌, if◌then◌else◌, List, [], ◌∷◌, slice_get}
+use Rattle.std.specs.Prelude.{ℕ, Bool, true, false, ◌&&◌, ◌||◌, if◌then◌else◌, List, [], ◌∷◌}
 use Rattle.std.specs.List.{flat_map, enumerate_from}
-use Rattle.std.specs.Option.{option_map_or}
 use Rattle.bc_syntax.specs.declared.syntax.Place.{Place}
 use Rattle.bc_points.specs.declared.access.Access.{Access}
 use Rattle.bc_points.specs.declared.access.Depth.{Depth}
 use Rattle.bc_points.specs.declared.access.Depth.TheVariants.{Shallow, Deep}
 use Rattle.bc_points.specs.declared.access.AccessKind.{AccessKind}
 use Rattle.bc_points.specs.declared.access.AccessKind.TheVariants.{Read, Write}
-use Rattle.bc_mir.specs.declared.mir.Point.{Point}
 use Rattle.bc_mir.specs.declared.mir.Step.{Step}
 use Rattle.bc_points.specs.declared.loan.Loan.{Loan}
 use Rattle.bc_mir.specs.Mir.{Mir}
@@ -17,8 +15,7 @@ use Rattle.bc_points.specs.Prefixes.{is_prefix, is_shallow_prefix}
 use Rattle.bc_points.specs.Supports.{supports}
 use Rattle.bc_points.specs.Accesses.{accesses_of}
 use Rattle.bc_loans.specs.Loans.{loans_of}
-use Rattle.bc_judge.specs.declared.error.BorrowError.{BorrowError}
-use Rattle.bc_judge.specs.declared.error.BorrowError.TheVariants.{Conflict}
+use Rattle.bc_judge.specs.declared.conflicts.Conflict.{Conflict}
 
 -- an access of this depth to a place reaches a loan of a path
 abbrev pub is_relevant_at : Mir → Depth → Place → Place → Bool
@@ -34,35 +31,31 @@ abbrev pub is_conflict : Mir → Access → Loan → Bool
 is_conflict mir access loan =
     (is_write access.kind || is_mutable loan.mutability) && is_relevant_at mir access.depth access.place loan.path
 
--- a point, by its number, as it is printed
-abbrev pub point_of : List Step → ℕ → Point
-point_of steps p = option_map_or (λ (step : Step). step.point) (slice_get steps p) (record { block = 0; index = 0 })
-
 -- whether a loan is in scope on entry to a point: of the point's number and the loan's
 abbrev pub ScopeTest : Type 0
 ScopeTest = ℕ → ℕ → Bool
 
--- the conflict of a numbered access of a point with a numbered loan, if they conflict and the loan is in scope there
-abbrev pub conflict_with : Mir → (ℕ → Bool) → Point → ℕ × Access → ℕ × (ℕ × Loan) → List BorrowError
-conflict_with mir in_scope at access loan =
+-- the conflict of a numbered access of a numbered point with a numbered loan, if they conflict and the loan is in scope there
+abbrev pub conflict_with : Mir → (ℕ → Bool) → ℕ → ℕ × Access → ℕ × (ℕ × Loan) → List Conflict
+conflict_with mir in_scope point access loan =
     if in_scope loan.0 && is_conflict mir access.1 loan.1.1
-    then Conflict at access.0 (point_of mir.steps loan.1.0) ∷ []
+    then record { point = point; access = access.0; maker = loan.1.0; region = loan.1.1.region } ∷ []
     else []
 
--- the conflicts of one access of a point, by the loan
-abbrev pub conflicts_of_access : Mir → (ℕ → Bool) → Point → ℕ × Access → List BorrowError
-conflicts_of_access mir in_scope at access =
-    flat_map (conflict_with mir in_scope at access) (enumerate_from 0 (loans_of mir))
+-- the conflicts of one access of a numbered point, by the loan
+abbrev pub conflicts_of_access : Mir → (ℕ → Bool) → ℕ → ℕ × Access → List Conflict
+conflicts_of_access mir in_scope point access =
+    flat_map (conflict_with mir in_scope point access) (enumerate_from 0 (loans_of mir))
 
--- the conflicts of a point, by the access
-abbrev pub conflicts_at : Mir → (ℕ → Bool) → Step → List BorrowError
+-- the conflicts of a numbered point, by the access
+abbrev pub conflicts_at : Mir → (ℕ → Bool) → ℕ × Step → List Conflict
 conflicts_at mir in_scope here =
-    flat_map (conflicts_of_access mir in_scope here.point) (enumerate_from 0 (accesses_of mir here.instruction))
+    flat_map (conflicts_of_access mir in_scope here.0) (enumerate_from 0 (accesses_of mir here.1.instruction))
 
--- the conflicts of a numbered point
-abbrev pub conflicts_of_step : Mir → ScopeTest → ℕ × Step → List BorrowError
-conflicts_of_step mir in_scope here = conflicts_at mir (in_scope here.0) here.1
+-- the same, of the loans in scope there
+abbrev pub conflicts_of_step : Mir → ScopeTest → ℕ × Step → List Conflict
+conflicts_of_step mir in_scope here = conflicts_at mir (in_scope here.0) here
 
 -- the conflicts of a body, by the point
-abbrev pub conflicts_of : Mir → ScopeTest → List BorrowError
+abbrev pub conflicts_of : Mir → ScopeTest → List Conflict
 conflicts_of mir in_scope = flat_map (conflicts_of_step mir in_scope) (enumerate_from 0 mir.steps)

@@ -2,4 +2,5 @@ pub mod Conflicts
 pub mod Lifetimes
 pub mod Errors
 pub mod Known
+pub mod Explained
 pub mod Lines

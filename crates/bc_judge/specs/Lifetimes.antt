@@ -1,5 +1,5 @@
 -- What is known of universal regions, and what fails.
-use Rattle.std.specs.Prelude.{◌≡◌, ℕ, ◌+◌, ◌<◌, ◌↔◌, Bool, true, false, ◌&&◌, not, if◌then◌else◌, List, [], ◌∷◌, length, map, filter}
+use Rattle.std.specs.Prelude.{◌≡◌, ℕ, ◌+◌, ◌<◌, ◌↔◌, Bool, true, false, ◌&&◌, not, if◌then◌else◌, List, [], ◌∷◌, length, filter}
 use Rattle.std.specs.List.{flat_map, Contains, range_with_len}
 use Rattle.bc_syntax.specs.declared.syntax.Outlives.{Outlives}
 use Rattle.bc_syntax.specs.declared.syntax.Region.TheVariants.{Universal}
@@ -9,8 +9,6 @@ use Rattle.bc_cons.specs.Requirements.{may_go_up}
 use Rattle.bc_mir.specs.Mir.{Mir}
 use Rattle.bc_mir.specs.WellFormed.{implied_pairs}
 use Rattle.bc_types.specs.Subtype.{outlives}
-use Rattle.bc_judge.specs.declared.error.BorrowError.{BorrowError}
-use Rattle.bc_judge.specs.declared.error.BorrowError.TheVariants.{Lifetime}
 
 -- a is known to outlive b: the least reflexive and transitive relation with the `where` clauses, and with what the types of
 -- the captures and the parameters demand to be well-formed, in which 'static outlives all
@@ -59,12 +57,9 @@ is_required mir failure = is_required_in mir.kind mir.externals failure
 abbrev pub is_lifetime_error : Mir → Outlives → Bool
 is_lifetime_error mir failure = not (is_required mir failure)
 
-abbrev pub lifetime_of : Outlives → BorrowError
-lifetime_of failure = Lifetime failure.longer failure.shorter
-
--- the lifetime errors of a body, by the longer region
-abbrev pub lifetimes_of : Mir → ValueTest → (ℕ → ℕ → Bool) → List BorrowError
-lifetimes_of mir value known = map lifetime_of (filter (is_lifetime_error mir) (failures_of mir value known))
+-- the failures of a body that are errors, by the longer region
+abbrev pub lifetimes_of : Mir → ValueTest → (ℕ → ℕ → Bool) → List Outlives
+lifetimes_of mir value known = filter (is_lifetime_error mir) (failures_of mir value known)
 
 -- what a body requires of its creator, by the longer region
 abbrev pub required_of : Mir → ValueTest → (ℕ → ℕ → Bool) → List Outlives

@@ -5,44 +5,45 @@ ghost use Rattle.bc_flow.specs.BitSet.{has};
 ghost use Rattle.bc_flow.specs.Flow.{holds};
 ghost use Rattle.bc_points.specs.Accesses.{accesses_of};
 ghost use Rattle.bc_loans.specs.Loans.{loans_of};
-ghost use Rattle.bc_judge.specs.Conflicts.{is_conflict as conflict_test, point_of, conflict_with, conflicts_of_access, conflicts_at, conflicts_of_step, conflicts_of};
+ghost use Rattle.bc_judge.specs.Conflicts.{is_conflict as conflict_test, conflict_with, conflicts_of_access, conflicts_at, conflicts_of_step, conflicts_of};
 
-use crate::error::BorrowError;
 use crate::relevance::is_conflict;
 use bc_flow::{BitRow, BitTable};
 use bc_loans::loans;
-use bc_mir::{Point, Step, Typed};
+use bc_mir::{Step, Typed};
 use bc_points::{Access, Loan, push_accesses};
+use bc_syntax::Region;
 use std::alloc::{AllocError, Global};
 
-/// A point, by its number, as it is printed. For a number that is no point's the answer is of no use.
-fn printed(steps: &[Step], point: usize) -> Point
-    ensures { result ≡ point_of steps.now point }
-{
-    match steps.get(point) {
-        Some(step) => step.point,
-        None => Point { block: 0, index: 0 },
-    }
+/// An access that a loan in scope makes illegal: the numbers of its point, of the access among the point's accesses, and of the point
+/// that makes the loan, with the loan's region.
+#[derive(Clone, Copy)]
+pub(crate) struct Conflict {
+    pub(crate) point: usize,
+    pub(crate) access: usize,
+    pub(crate) maker: usize,
+    pub(crate) region: Region,
 }
 
 /// Appends the conflict of an access with a loan that is in scope, if they conflict.
 fn push_conflict(
-    errors: &mut Vec<BorrowError>,
+    conflicts: &mut Vec<Conflict>,
     typed: &Typed,
-    at: Point,
+    point: usize,
     number: usize,
     access: &Access<'_>,
     maker: usize,
     loan: &Loan<'_>,
 ) -> Result<(), AllocError>
     ensures { OnOk result ((scope : ℕ → Bool) (n : ℕ) → scope n ≡ true →
-        errors.new.items ≡ errors.old.items ++ conflict_with typed.now scope at (number, access.now) (n, (maker, loan.now))) }
+        conflicts.new.items ≡ conflicts.old.items ++ conflict_with typed.now scope point (number, access.now) (n, (maker, loan.now))) }
 {
     if is_conflict(typed, access, loan) {
-        errors.push(BorrowError::Conflict {
-            at,
+        conflicts.push(Conflict {
+            point,
             access: number,
-            loan: printed(typed.steps(), maker),
+            maker,
+            region: loan.region,
         })?;
     }
     Ok(())
@@ -50,24 +51,24 @@ fn push_conflict(
 
 /// Appends the conflicts of an access with the loans of `scope`, which are in scope on entry to its point.
 fn push_access(
-    errors: &mut Vec<BorrowError>,
+    conflicts: &mut Vec<Conflict>,
     typed: &Typed,
     loans: &[(usize, Loan<'_>)],
     scope: &BitRow<'_>,
-    at: Point,
+    point: usize,
     number: usize,
     access: &Access<'_>,
 ) -> Result<(), AllocError>
     requires { loans.now ≡ loans_of typed.now }
-    ensures { OnOk result (errors.new.items
-        ≡ errors.old.items ++ conflicts_of_access typed.now (has scope.now) at (number, access.now)) }
+    ensures { OnOk result (conflicts.new.items
+        ≡ conflicts.old.items ++ conflicts_of_access typed.now (has scope.now) point (number, access.now)) }
 {
     let mut from = 0;
     while let Some(member) = scope.next_member(from) {
         let Some((maker, loan)) = loans.get(member) else {
             return Ok(());
         };
-        push_conflict(errors, typed, at, number, access, *maker, loan)?;
+        push_conflict(conflicts, typed, point, number, access, *maker, loan)?;
         from = member + 1;
     }
     Ok(())
@@ -75,19 +76,19 @@ fn push_access(
 
 /// Appends the conflicts of the accesses of a point.
 fn push_conflicts(
-    errors: &mut Vec<BorrowError>,
+    conflicts: &mut Vec<Conflict>,
     typed: &Typed,
     loans: &[(usize, Loan<'_>)],
     scope: &BitRow<'_>,
-    at: Point,
+    point: usize,
     accesses: &[Access<'_>],
 ) -> Result<(), AllocError>
     requires { loans.now ≡ loans_of typed.now }
-    ensures { OnOk result (errors.new.items
-        ≡ errors.old.items ++ flat_map (conflicts_of_access typed.now (has scope.now) at) (enumerate_from 0 accesses.now)) }
+    ensures { OnOk result (conflicts.new.items
+        ≡ conflicts.old.items ++ flat_map (conflicts_of_access typed.now (has scope.now) point) (enumerate_from 0 accesses.now)) }
 {
     for (number, access) in accesses.iter().enumerate() {
-        push_access(errors, typed, loans, scope, at, number, access)?;
+        push_access(conflicts, typed, loans, scope, point, number, access)?;
     }
     Ok(())
 }
@@ -96,28 +97,29 @@ fn push_conflicts(
 /// filled anew.
 fn push_step<'a>(
     alloc: Global,
-    errors: &mut Vec<BorrowError>,
+    conflicts: &mut Vec<Conflict>,
     accesses: &mut Vec<Access<'a>>,
     typed: &Typed,
     loans: &[(usize, Loan<'_>)],
     scope: &BitRow<'_>,
+    point: usize,
     step: &'a Step,
 ) -> Result<(), AllocError>
     requires { loans.now ≡ loans_of typed.now }
-    ensures { OnOk result (errors.new.items ≡ errors.old.items ++ conflicts_at typed.now (has scope.now) step.now) }
+    ensures { OnOk result (conflicts.new.items ≡ conflicts.old.items ++ conflicts_at typed.now (has scope.now) (point, step.now)) }
 {
     if scope.next_member(0).is_none() {
         return Ok(());
     }
     accesses.clear();
     push_accesses(alloc, accesses, typed, &step.instruction)?;
-    push_conflicts(errors, typed, loans, scope, step.point, accesses)
+    push_conflicts(conflicts, typed, loans, scope, point, accesses)
 }
 
 /// Appends the conflicts of a point, by its number.
 fn push_point<'a>(
     alloc: Global,
-    errors: &mut Vec<BorrowError>,
+    conflicts: &mut Vec<Conflict>,
     accesses: &mut Vec<Access<'a>>,
     typed: &Typed,
     loans: &[(usize, Loan<'_>)],
@@ -126,10 +128,12 @@ fn push_point<'a>(
     step: &'a Step,
 ) -> Result<(), AllocError>
     requires { loans.now ≡ loans_of typed.now }
-    ensures { OnOk result (errors.new.items ≡ errors.old.items ++ conflicts_of_step typed.now (holds scopes.now) (point, step.now)) }
+    ensures { OnOk result (conflicts.new.items ≡ conflicts.old.items ++ conflicts_of_step typed.now (holds scopes.now) (point, step.now)) }
 {
     match scopes.get(point) {
-        Some(scope) => push_step(alloc, errors, accesses, typed, loans, &scope, step),
+        Some(scope) => push_step(
+            alloc, conflicts, accesses, typed, loans, &scope, point, step,
+        ),
         None => Ok(()),
     }
 }
@@ -139,16 +143,16 @@ pub(crate) fn conflicts(
     alloc: Global,
     typed: &Typed,
     scopes: &BitTable,
-) -> Result<Vec<BorrowError>, AllocError>
-    ensures { IfOk result (λ errors. errors.items ≡ conflicts_of typed.now (holds scopes.now)) }
+) -> Result<Vec<Conflict>, AllocError>
+    ensures { IfOk result (λ conflicts. conflicts.items ≡ conflicts_of typed.now (holds scopes.now)) }
 {
     let loans = loans(alloc, typed)?;
-    let mut errors = Vec::new(alloc);
+    let mut conflicts = Vec::new(alloc);
     let mut accesses = Vec::new(alloc);
     for (point, step) in typed.steps().iter().enumerate() {
         push_point(
             alloc,
-            &mut errors,
+            &mut conflicts,
             &mut accesses,
             typed,
             &loans,
@@ -157,5 +161,5 @@ pub(crate) fn conflicts(
             step,
         )?;
     }
-    Ok(errors)
+    Ok(conflicts)
 }

@@ -4,34 +4,42 @@ ghost use Rattle.std.specs.List.{Contains};
 ghost use Rattle.bc_flow.specs.Flow.{holds};
 ghost use Rattle.bc_syntax.specs.declared.syntax.Outlives.{Outlives};
 ghost use Rattle.bc_cons.specs.Requirements.{MayGoUp};
+ghost use Rattle.bc_solve.specs.Values.{AreValues};
+ghost use Rattle.bc_solve.specs.Chains.{Explains};
+ghost use Rattle.bc_loans.specs.Scope.{AreScopes};
 ghost use Rattle.bc_judge.specs.Errors.{AreErrors, AreRequirements, IsError, IsRequirement};
 ghost use Rattle.bc_judge.specs.declared.error.BorrowError.{BorrowError as AnError};
 
 use crate::verdict::{Verdict, verdict_over};
+use bc_cons::Facts;
 use bc_loans::Scopes;
 use bc_mir::Typed;
 use bc_solve::Values;
 use std::alloc::{AllocError, Global};
 
-/// The verdict on a body, over the values and scopes that are handed in: its errors, which are the conflicts by
-/// point, access and loan, and then the lifetime errors by longer and shorter region, each once; and what it requires of its
-/// creator, by longer and shorter region, each once. In a function each failure is a lifetime error. In a closure one between
+/// The verdict on a body, over the facts, values and scopes that are handed in: its errors, which are the conflicts by
+/// point, access and loan, and then the lifetime errors by longer and shorter region, each once and with the chain that explains it;
+/// and what it requires of its creator, by longer and shorter region, each once. It asks that the values are those of the facts, and
+/// the scopes those of the values. In a function each failure is a lifetime error. In a closure one between
 /// external regions and `'static` alone is a requirement, and any other an error. Answers `AllocError` only where memory was
 /// refused (RFC 2094, "Borrow checker phase 2" and "Named lifetimes"; rustc-dev-guide, "Propagating closure constraints").
 pub fn judge(
     alloc: Global,
     typed: &Typed,
+    facts: &Facts,
     values: &Values,
     scopes: &Scopes,
 ) -> Result<Verdict, AllocError>
-    ensures errors { IfOk result (λ verdict. AreErrors typed.now (holds scopes.now) (holds values.now) verdict.errors) }
+    requires values { AreValues facts.now values.now }
+    requires scopes { AreScopes typed.now values.now scopes.now }
+    ensures errors { IfOk result (λ verdict. AreErrors typed.now (Explains facts.now) (holds scopes.now) (holds values.now) verdict.errors) }
     // An error stands in the list exactly where it is a conflict or a failure that is no requirement.
-    ensures error { IfOk result (λ verdict. (e : AnError) → Contains verdict.errors e ↔ IsError typed.now (holds scopes.now) (holds values.now) e) }
+    ensures error { IfOk result (λ verdict. (e : AnError) → Contains verdict.errors e ↔ IsError typed.now (Explains facts.now) (holds scopes.now) (holds values.now) e) }
     ensures requirements { IfOk result (λ verdict. AreRequirements typed.now (holds values.now) verdict.requirements) }
     // A pair is required exactly where it is a failure of a closure between its external regions and `'static` alone.
     ensures requirement { IfOk result (λ verdict. (r : Outlives) → Contains verdict.requirements.pairs r ↔ IsRequirement typed.now (holds values.now) r) }
     ensures external { IfOk result (λ verdict. MayGoUp typed.now.externals verdict.requirements) }
 {
-    let verdict = verdict_over(alloc, typed, values, scopes.rows())?;
+    let verdict = verdict_over(alloc, typed, facts, values, scopes.rows())?;
     Ok(verdict)
 }

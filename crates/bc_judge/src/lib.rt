@@ -4,6 +4,7 @@
 
 mod conflicts;
 mod error;
+mod explained;
 mod failures;
 mod judging;
 mod known;
@@ -15,4 +16,5 @@ mod verdict;
 pub use error::BorrowError;
 pub use judging::judge;
 pub use known::{KnownRelations, known_relations};
+pub use print::{PrintedChain, PrintedRegion};
 pub use verdict::Verdict;

@@ -1,11 +1,10 @@
 //! Failures as lifetime errors and as requirements (RFC 2094, "Named lifetimes"; rustc-dev-guide, "Propagating closure
 //! constraints").
-ghost use Rattle.std.specs.Prelude.{◌≡◌, ◌==◌, ◌++◌, filter, map, IfOk, OnOk};
+ghost use Rattle.std.specs.Prelude.{◌≡◌, ◌==◌, filter, IfOk};
 ghost use Rattle.std.specs.List.{list_any};
 ghost use Rattle.bc_cons.specs.Requirements.{is_static_or as static_or, may_go_up as goes_up};
-ghost use Rattle.bc_judge.specs.Lifetimes.{is_required_in as required_in, is_required as required, is_lifetime_error, lifetime_of};
+ghost use Rattle.bc_judge.specs.Lifetimes.{is_required_in as required_in, is_required as required, is_lifetime_error};
 
-use crate::error::BorrowError;
 use bc_cons::Requirements;
 use bc_mir::Typed;
 use bc_syntax::{Outlives, Sequence, UnitKind};
@@ -46,24 +45,21 @@ fn is_required(typed: &Typed, failure: Outlives) -> bool
     is_required_in(typed.kind(), typed.externals(), failure)
 }
 
-/// Appends the failures that are lifetime errors, in order.
-pub(crate) fn push_lifetimes(
-    errors: &mut Vec<BorrowError>,
+/// The failures that are errors, in order.
+pub(crate) fn lifetimes(
+    alloc: Global,
     typed: &Typed,
     failures: &[Outlives],
-) -> Result<(), AllocError>
-    ensures { OnOk result (errors.new.items
-        ≡ errors.old.items ++ map lifetime_of (filter (is_lifetime_error typed.now) failures.now)) }
+) -> Result<Vec<Outlives>, AllocError>
+    ensures { IfOk result (λ lifetimes. lifetimes.items ≡ filter (is_lifetime_error typed.now) failures.now) }
 {
+    let mut lifetimes = Vec::new(alloc);
     for failure in failures {
         if !is_required(typed, *failure) {
-            errors.push(BorrowError::Lifetime {
-                longer: failure.longer,
-                shorter: failure.shorter,
-            })?;
+            lifetimes.push(*failure)?;
         }
     }
-    Ok(())
+    Ok(lifetimes)
 }
 
 /// The failures that are requirements, in order.

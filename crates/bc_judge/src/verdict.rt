@@ -1,24 +1,26 @@
 //! What is found of a body.
-ghost use Rattle.std.specs.Prelude.{◌≡◌, ◌↔◌, ◌++◌, filter, map, IfOk};
+ghost use Rattle.std.specs.Prelude.{◌↔◌, IfOk};
 ghost use Rattle.std.specs.List.{Contains};
 ghost use Rattle.bc_flow.specs.Flow.{holds};
 ghost use Rattle.bc_syntax.specs.declared.syntax.Outlives.{Outlives};
 ghost use Rattle.bc_cons.specs.Requirements.{MayGoUp};
-ghost use Rattle.bc_judge.specs.Conflicts.{conflicts_of};
+ghost use Rattle.bc_solve.specs.Values.{AreValues};
+ghost use Rattle.bc_solve.specs.Chains.{Explains};
+ghost use Rattle.bc_loans.specs.Scope.{AreScopes};
 ghost use Rattle.bc_judge.specs.Errors.{AreErrors, AreRequirements, IsError, IsRequirement};
-ghost use Rattle.bc_judge.specs.Lifetimes.{is_lifetime_error, lifetime_of};
 ghost use Rattle.bc_judge.specs.declared.error.BorrowError.{BorrowError as AnError};
 
 use crate::conflicts::conflicts;
 use crate::error::BorrowError;
+use crate::explained::explained;
 use crate::failures::failures;
 use crate::known::known_relations;
-use crate::lifetimes::{push_lifetimes, requirements};
-use bc_cons::Requirements;
+use crate::lifetimes::{lifetimes, requirements};
+use bc_cons::{Facts, Requirements};
 use bc_flow::BitTable;
 use bc_mir::Typed;
 use bc_solve::Values;
-use bc_syntax::{Outlives as Failure, Sequence};
+use bc_syntax::Sequence;
 use std::alloc::{AllocError, Global};
 
 /// What is found of a body: its errors in order, and the relations between its external regions that its creator
@@ -30,39 +32,29 @@ pub struct Verdict {
     pub requirements: Requirements,
 }
 
-/// The errors of a body in order, where these are its failures.
-fn errors_where(
-    alloc: Global,
-    typed: &Typed,
-    scopes: &BitTable,
-    failures: &[Failure],
-) -> Result<Vec<BorrowError>, AllocError>
-    ensures { IfOk result (λ errors. errors.items
-        ≡ conflicts_of typed.now (holds scopes.now) ++ map lifetime_of (filter (is_lifetime_error typed.now) failures.now)) }
-{
-    let mut errors = conflicts(alloc, typed, scopes)?;
-    push_lifetimes(&mut errors, typed, failures)?;
-    Ok(errors)
-}
-
 /// The verdict on a body, over the values and scopes that are handed in: `values` has for each region the elements
 /// of its value, the points before the ends, and `scopes` has for each point the loans in scope on entry to it, each
-/// by its place among all loans.
+/// by its place among all loans. It asks that the values are those of the facts, and the scopes those of the values.
 pub(crate) fn verdict_over(
     alloc: Global,
     typed: &Typed,
+    facts: &Facts,
     values: &Values,
     scopes: &BitTable,
 ) -> Result<Verdict, AllocError>
-    ensures errors { IfOk result (λ verdict. AreErrors typed.now (holds scopes.now) (holds values.now) verdict.errors) }
-    ensures error { IfOk result (λ verdict. (e : AnError) → Contains verdict.errors e ↔ IsError typed.now (holds scopes.now) (holds values.now) e) }
+    requires values { AreValues facts.now values.now }
+    requires scopes { AreScopes typed.now values.now scopes.now }
+    ensures errors { IfOk result (λ verdict. AreErrors typed.now (Explains facts.now) (holds scopes.now) (holds values.now) verdict.errors) }
+    ensures error { IfOk result (λ verdict. (e : AnError) → Contains verdict.errors e ↔ IsError typed.now (Explains facts.now) (holds scopes.now) (holds values.now) e) }
     ensures requirements { IfOk result (λ verdict. AreRequirements typed.now (holds values.now) verdict.requirements) }
     ensures requirement { IfOk result (λ verdict. (r : Outlives) → Contains verdict.requirements.pairs r ↔ IsRequirement typed.now (holds values.now) r) }
     ensures external { IfOk result (λ verdict. MayGoUp typed.now.externals verdict.requirements) }
 {
     let known = known_relations(alloc, typed)?;
     let failures = failures(alloc, typed, values, &known)?;
-    let errors = errors_where(alloc, typed, scopes, &failures)?;
+    let conflicts = conflicts(alloc, typed, scopes)?;
+    let lifetimes = lifetimes(alloc, typed, &failures)?;
+    let errors = explained(alloc, typed, facts, &conflicts, &lifetimes)?;
     let requirements = requirements(alloc, typed, &failures)?;
     Ok(Verdict {
         errors: Sequence::from(errors),

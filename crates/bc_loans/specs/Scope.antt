@@ -6,6 +6,8 @@ use Rattle.bc_points.specs.declared.loan.Loan.{Loan}
 use Rattle.bc_mir.specs.Mir.{Mir, edges_of}
 use Rattle.bc_points.specs.Points.{Kills}
 use Rattle.bc_points.specs.Regions.{region_number}
+use Rattle.bc_flow.specs.Flow.{holds}
+use Rattle.bc_solve.specs.Values.{Tells}
 use Rattle.bc_loans.specs.Loans.{loans_of}
 
 -- A loan, by its number, is in scope on entry to a point, where `value` tells the points in the value of each region:
@@ -18,3 +20,7 @@ pub record IsInScope (mir : Mir) (value : ℕ → ℕ → Bool) (loan point : �
   pub is_path : IsPath (edges_of mir) (made.0 ∷ (between ++ point ∷ []))
   pub inside : All (λ p. value (region_number mir.universals made.1.region) p ≡ true) (between ++ point ∷ [])
   pub kept : All (λ p. ¬ (Kills mir made.1.path p)) (made.0 ∷ between)
+
+-- the scopes have, for each point, just the loans that are in scope on entry to it, within these values
+abbrev pub AreScopes : Mir → List (List Bool) → List (List Bool) → Type 0
+AreScopes mir values scopes = Tells (holds scopes) (λ point loan. IsInScope mir (holds values) loan point)

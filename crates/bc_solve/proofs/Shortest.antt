@@ -7,7 +7,7 @@ use Rattle.bc_flow.specs.Flow.{holds}
 use Rattle.bc_points.specs.Regions.{region_of_number}
 use Rattle.bc_cons.specs.declared.facts.Constraint.{Constraint}
 use Rattle.bc_cons.specs.Facts.{RegionFacts, Outlives}
-use Rattle.bc_solve.specs.Chains.{IsChain, IsBefore, IsFirstShortest, Explains}
+use Rattle.bc_solve.specs.Chains.{IsChain, IsBefore, IsFirstShortest, ExplainsOver}
 use Rattle.bc_solve.specs.Ways.{AreLengths, AreSteps, AreWays, way}
 
 pub length-way : (steps : List ℕ) (k r : ℕ) → length (way steps k r) ≡ k
@@ -105,9 +105,10 @@ only_one starts pairs r e chain other is are = elim (is.first other are.is_chain
 ]
 
 -- there is only one explanation
-pub explained_once : (facts : RegionFacts) (r e : ℕ) (chain other : List Region) → Explains facts r e chain → Explains facts r e other → chain ≡ other
-explained_once facts r e chain other is are =
-    is.2 ∙ (ap (map (region_of_number facts.universals)) (only_one (holds facts.starts) facts.pairs r e is.0 are.0 is.1 are.1) ∙ sym are.2)
+pub explained_once : (universals : ℕ) (starts : ℕ → ℕ → Bool) (pairs : List Constraint) (r e : ℕ) (chain other : List Region) →
+    ExplainsOver universals starts pairs r e chain → ExplainsOver universals starts pairs r e other → chain ≡ other
+explained_once universals starts pairs r e chain other is are =
+    is.2 ∙ (ap (map (region_of_number universals)) (only_one starts pairs r e is.0 are.0 is.1 are.1) ∙ sym are.2)
 
 -- a region without a length has no chain
 pub no_chain : (starts : ℕ → ℕ → Bool) (pairs : List Constraint) (e : ℕ) (lengths : List ℕ) → AreLengths starts pairs e lengths → (r : ℕ) → get_or lengths r 0 ≡ 0 →

@@ -26,10 +26,15 @@ pub record IsFirstShortest (starts : ℕ → ℕ → Bool) (pairs : List Constra
   pub first : (other : List ℕ) → IsChain starts pairs region element other →
       (length chain < length other) ⊎ ((length other ≡ length chain) × ¬ (IsBefore other chain))
 
--- regions explain why an element is in the value of a region: they are the first of the shortest chains, number by number
+-- regions explain why an element is in the value of a region, where so many regions are universal, by what regions start with and
+-- have to outlive: they are the first of the shortest chains, number by number
+abbrev pub ExplainsOver : ℕ → (ℕ → ℕ → Bool) → List Constraint → ℕ → ℕ → List Region → Type 0
+ExplainsOver universals starts pairs region element chain =
+    (numbers : List ℕ) × IsFirstShortest starts pairs region element numbers × (chain ≡ map (region_of_number universals) numbers)
+
+-- the same over facts
 abbrev pub Explains : RegionFacts → ℕ → ℕ → List Region → Type 0
-Explains facts region element chain =
-    (numbers : List ℕ) × IsFirstShortest (holds facts.starts) facts.pairs region element numbers × (chain ≡ map (region_of_number facts.universals) numbers)
+Explains facts region element chain = ExplainsOver facts.universals (holds facts.starts) facts.pairs region element chain
 
 -- a function tells the first shortest chain from each region to each element of its value
 abbrev pub TellsChains : RegionFacts → (ℕ → ℕ → List Region) → Type 0

@@ -4,7 +4,7 @@ ghost use Rattle.bc_syntax.specs.declared.syntax.Region.{Region};
 ghost use Rattle.bc_cons.specs.declared.facts.Constraint.{Constraint as APair};
 ghost use Rattle.bc_cons.specs.Facts.{RegionFacts};
 ghost use Rattle.bc_solve.specs.Values.{IsInValue};
-ghost use Rattle.bc_solve.specs.Chains.{IsChain, IsFirstShortest, Explains, TellsChains};
+ghost use Rattle.bc_solve.specs.Chains.{IsChain, IsFirstShortest, ExplainsOver, TellsChains};
 
 /// An element is in the value of a region exactly where there is a chain; there is at most one first shortest chain, and at most
 /// one explanation; and for all facts there is a function that tells the explanation of each element of each value. This is a law
@@ -13,6 +13,7 @@ pub fn chain_law()
     ensures value { (starts : ℕ → ℕ → Bool) (pairs : List APair) (r e : ℕ) → IsInValue starts pairs r e ↔ ((chain : List ℕ) × IsChain starts pairs r e chain) }
     ensures one { (starts : ℕ → ℕ → Bool) (pairs : List APair) (r e : ℕ) (chain other : List ℕ) →
         IsFirstShortest starts pairs r e chain → IsFirstShortest starts pairs r e other → chain ≡ other }
-    ensures once { (facts : RegionFacts) (r e : ℕ) (chain other : List Region) → Explains facts r e chain → Explains facts r e other → chain ≡ other }
+    ensures once { (universals : ℕ) (starts : ℕ → ℕ → Bool) (pairs : List APair) (r e : ℕ) (chain other : List Region) →
+        ExplainsOver universals starts pairs r e chain → ExplainsOver universals starts pairs r e other → chain ≡ other }
     ensures told { (facts : RegionFacts) → (chain : ℕ → ℕ → List Region) × TellsChains facts chain }
 {}

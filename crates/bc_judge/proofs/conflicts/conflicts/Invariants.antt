@@ -6,5 +6,5 @@ use Rattle.bc_judge.proofs.conflicts.conflicts.Given as goal
 
 abbrev pub invariant-loop-point : goal.invariant-loop-point
 invariant-loop-point l =
-    l.errors.items ++ flat_map (conflicts_of_step l.typed (holds l.scopes)) (enumerate_from l.point (drop l.point l.typed.steps))
+    l.conflicts.items ++ flat_map (conflicts_of_step l.typed (holds l.scopes)) (enumerate_from l.point (drop l.point l.typed.steps))
     ≡ conflicts_of l.typed (holds l.scopes)

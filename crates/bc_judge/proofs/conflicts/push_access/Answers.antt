@@ -6,15 +6,15 @@ use Rattle.bc_judge.proofs.conflicts.push_access.Goals as goal
 
 pub returns-in_default-get : goal.returns-in_default-get
 returns-in_default-get c =
-    access-past c.args.typed.now c.args.scope.now c.args.at (c.args.number, c.args.access.now) c.args.loans.now _ _ c.loop-member.from c.in-Some.member
+    access-past c.args.typed.now c.args.scope.now c.args.point (c.args.number, c.args.access.now) c.args.loans.now _ _ c.loop-member.from c.in-Some.member
     c.in-Some.ensures c.in_default-get.ensures.lookup.3 c.loop-member.invariant
 
 pub loop-member-preserved : goal.loop-member-preserved
 loop-member-preserved c =
-    access-turn c.args.typed.now c.args.scope.now c.args.at (c.args.number, c.args.access.now) c.args.loans.now _ _ _ c.loop-member.from c.in-Some.member c.in-Some-get.field-0.now
+    access-turn c.args.typed.now c.args.scope.now c.args.point (c.args.number, c.args.access.now) c.args.loans.now _ _ _ c.loop-member.from c.in-Some.member c.in-Some-get.field-0.now
     c.in-Some.ensures (slice_get_read c.args.loans.now _ c.in-Some.member c.in-Some-get.field-0.now refl c.in-Some-get.ensures.lookup.3.0 c.in-Some-get.ensures.lookup.1)
     (c.in_ok-push_conflict.ensures (has c.args.scope.now) c.in-Some.member c.in-Some.ensures.is_member) c.loop-member.invariant
 
 pub returns : goal.returns
 returns c =
-    access-end c.args.typed.now c.args.scope.now c.args.at (c.args.number, c.args.access.now) c.args.loans.now _ _ c.loop-member.from c.in_default.ensures c.loop-member.invariant
+    access-end c.args.typed.now c.args.scope.now c.args.point (c.args.number, c.args.access.now) c.args.loans.now _ _ c.loop-member.from c.in_default.ensures c.loop-member.invariant

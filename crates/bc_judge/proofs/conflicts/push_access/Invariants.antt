@@ -6,8 +6,8 @@ use Rattle.bc_judge.proofs.conflicts.push_access.Given as goal
 
 abbrev pub invariant-loop-member : goal.invariant-loop-member
 invariant-loop-member l =
-    l.errors.items ++ flat_map (conflict_with l.typed (has l.scope) l.at (l.number, l.access)) (enumerate_from l.from (drop l.from l.loans))
-    ≡ l.initial.errors.items ++ conflicts_of_access l.typed (has l.scope) l.at (l.number, l.access)
+    l.conflicts.items ++ flat_map (conflict_with l.typed (has l.scope) l.point (l.number, l.access)) (enumerate_from l.from (drop l.from l.loans))
+    ≡ l.initial.conflicts.items ++ conflicts_of_access l.typed (has l.scope) l.point (l.number, l.access)
 
 abbrev pub decreases-loop-member : goal.decreases-loop-member
 decreases-loop-member l = length l.loans - l.from

@@ -6,5 +6,5 @@ use Rattle.bc_judge.proofs.conflicts.push_conflicts.Given as goal
 
 abbrev pub invariant-loop-number : goal.invariant-loop-number
 invariant-loop-number l =
-    l.errors.items ++ flat_map (conflicts_of_access l.typed (has l.scope) l.at) (enumerate_from l.number (drop l.number l.accesses))
-    ≡ l.initial.errors.items ++ flat_map (conflicts_of_access l.typed (has l.scope) l.at) (enumerate_from 0 l.accesses)
+    l.conflicts.items ++ flat_map (conflicts_of_access l.typed (has l.scope) l.point) (enumerate_from l.number (drop l.number l.accesses))
+    ≡ l.initial.conflicts.items ++ flat_map (conflicts_of_access l.typed (has l.scope) l.point) (enumerate_from 0 l.accesses)

@@ -5,8 +5,8 @@ use Rattle.bc_judge.proofs.conflicts.push_point.Goals as goal
 
 pub returns-in-None : goal.returns-in-None
 returns-in-None c =
-    nothing-added c.args.errors.now.items (conflicts_of_step c.args.typed.now (holds c.args.scopes.now) (c.args.point, c.args.step.now))
-    (no_loan_in_scope c.args.typed.now (holds c.args.scopes.now c.args.point) c.args.step.now c.in-None.ensures.row)
+    nothing-added c.args.conflicts.now.items (conflicts_of_step c.args.typed.now (holds c.args.scopes.now) (c.args.point, c.args.step.now))
+    (no_loan_in_scope c.args.typed.now (holds c.args.scopes.now c.args.point) (c.args.point, c.args.step.now) c.in-None.ensures.row)
 
 pub returns-in-Some : goal.returns-in-Some
 returns-in-Some c = rw c.in-Some.ensures.row at c.push_step.ensures

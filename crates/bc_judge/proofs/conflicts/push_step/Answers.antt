@@ -5,5 +5,5 @@ use Rattle.bc_judge.proofs.conflicts.push_step.Goals as goal
 
 pub returns-then-is_none : goal.returns-then-is_none
 returns-then-is_none c =
-    nothing-added c.args.errors.now.items (conflicts_at c.args.typed.now (has c.args.scope.now) c.args.step.now)
-    (no_loan_in_scope c.args.typed.now (has c.args.scope.now) c.args.step.now (empty_set c.args.scope.now c.next_member.result c.if-is_none.ensures c.next_member.ensures))
+    nothing-added c.args.conflicts.now.items (conflicts_at c.args.typed.now (has c.args.scope.now) (c.args.point, c.args.step.now))
+    (no_loan_in_scope c.args.typed.now (has c.args.scope.now) (c.args.point, c.args.step.now) (empty_set c.args.scope.now c.next_member.result c.if-is_none.ensures c.next_member.ensures))

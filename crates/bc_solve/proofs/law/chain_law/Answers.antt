@@ -1,9 +1,6 @@
-use Rattle.std.proofs.Common.{map, refl}
-use Rattle.bc_flow.specs.Flow.{holds}
-use Rattle.bc_points.specs.Regions.{region_of_number}
 use Rattle.bc_solve.proofs.Shortest.{only_one, explained_once}
 use Rattle.bc_solve.proofs.Existing.{value_is_chain}
-use Rattle.bc_solve.proofs.First.{first_chain, first_chain_is}
+use Rattle.bc_solve.proofs.First.{teller}
 use Rattle.bc_solve.proofs.law.chain_law.Goals as goal
 
 pub returns-clause-value : goal.returns-clause-value
@@ -16,7 +13,4 @@ pub returns-clause-once : goal.returns-clause-once
 returns-clause-once c = explained_once
 
 pub returns-clause-told : goal.returns-clause-told
-returns-clause-told c = λ facts. (
-  λ r e. map (region_of_number facts.universals) (first_chain (holds facts.starts) facts.pairs r e),
-  λ r e h. (first_chain (holds facts.starts) facts.pairs r e, first_chain_is (holds facts.starts) facts.pairs r e h, refl),
-)
+returns-clause-told c = teller
