@@ -3,7 +3,9 @@
 #![tactic(auto)]
 
 ghost use Rattle.std.specs.Prelude.{IfOk};
-ghost use Rattle.bc_prov.specs.Facts.{AreLive, AreScopes, AreValues};
+ghost use Rattle.bc_solve.specs.Values.{AreValues};
+ghost use Rattle.bc_loans.specs.Scope.{AreScopes};
+ghost use Rattle.bc_prov.specs.Facts.{AreLive};
 
 mod alone;
 mod bodies;

@@ -13,7 +13,7 @@ use Rattle.bc_points.specs.declared.loan.Loan.{Loan}
 use Rattle.bc_points.specs.Regions.{region_number}
 use Rattle.bc_mir.specs.Mir.{Mir}
 use Rattle.bc_cons.specs.Facts.{RegionFacts}
-use Rattle.bc_solve.specs.Values.{AreValues, IsInValue}
+use Rattle.bc_solve.specs.Values.{AreValues, IsInValue, Tells}
 use Rattle.bc_solve.specs.Chains.{Explains, TellsChains}
 use Rattle.bc_solve.proofs.Telling.{in_value}
 use Rattle.bc_solve.proofs.Shortest.{explained_once}
@@ -36,14 +36,13 @@ scope_within mir value number point made is_loan h =
     (Contains-append_right h.between (point ∷ []) point (Contains-head point [])) in
     subst (λ (m : ℕ × Loan). value (region_number mir.universals m.1.region) point ≡ true) same last
 
-pub scopes_within : (mir : Mir) (values scopes : List (List Bool)) → AreScopes mir values scopes → IsWithin mir (holds scopes) (holds values)
-scopes_within mir values scopes are point number made has is_loan =
-    ∥∥₁_elim ((are point number).0 has) (Bool-set _ _) (scope_within mir (holds values) number point made is_loan)
+pub scopes_within : (mir : Mir) (value in_scope : ℕ → ℕ → Bool) → Tells in_scope (λ point loan. IsInScope mir value loan point) → IsWithin mir in_scope value
+scopes_within mir value in_scope tells point number made has is_loan = ∥∥₁_elim ((tells point number).0 has) (Bool-set _ _) (scope_within mir value number point made is_loan)
 
 pub conflicts_inside : (mir : Mir) (facts : RegionFacts) (values scopes : List (List Bool)) → AreValues facts values → AreScopes mir values scopes → AreInside mir facts (conflicts_of mir (holds scopes))
 conflicts_inside mir facts values scopes are_values are_scopes c there =
     let listed = from_conflicts mir (holds scopes) c there in
-    let has = scopes_within mir values scopes are_scopes c.point listed.loan_number (c.maker, listed.loan) listed.in_scope_here listed.is_loan in
+    let has = scopes_within mir (holds values) (holds scopes) are_scopes c.point listed.loan_number (c.maker, listed.loan) listed.in_scope_here listed.is_loan in
     subst (λ r. IsInValue (holds facts.starts) facts.pairs (region_number mir.universals r) c.point) listed.region
     (in_value facts values are_values (region_number mir.universals listed.loan.region) c.point has)
 

@@ -4,3 +4,4 @@ pub mod Closure
 pub mod Law
 pub mod Inside
 pub mod Turns
+pub mod Once

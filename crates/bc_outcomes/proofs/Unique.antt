@@ -1,9 +1,8 @@
 -- A name has one verdict and one outcome at most.
 use Rattle.std.proofs.Common.{◌≡◌, ℕ, zero, suc, ◌+◌, ◌<◌, Bool, true, false, List, [], ◌∷◌, ◌++◌, refl, sym, ap, ◌∙◌, subst, arith, Option, Some, None}
-use Rattle.std.specs.Prelude.{◌&&◌, not, if◌then◌else◌, map, filter}
-use Rattle.std.specs.List.{AllZip, flat_map, range_with_len}
+use Rattle.std.specs.List.{AllZip}
 use Rattle.bc_syntax.specs.declared.syntax.Body.{Body}
-use Rattle.bc_syntax.specs.declared.syntax.Outlives.{Outlives}
+use Rattle.bc_syntax.specs.declared.syntax.Region.{Region}
 use Rattle.bc_syntax.specs.Children.{children_of}
 use Rattle.bc_text.specs.Names.{NameParts}
 use Rattle.bc_types.specs.Declarations.{first_bad}
@@ -12,16 +11,17 @@ use Rattle.bc_live.specs.Live.{IsLive}
 use Rattle.bc_cons.specs.declared.requirements.Requirements.{Requirements}
 use Rattle.bc_cons.specs.Constraints.{constraints_of}
 use Rattle.bc_cons.specs.Starts.{starts_with}
-use Rattle.bc_solve.specs.Values.{IsInValue}
+use Rattle.bc_solve.specs.Values.{IsInValue, Tells}
+use Rattle.bc_solve.specs.Chains.{ExplainsOver}
+use Rattle.bc_solve.proofs.Shortest.{explained_once}
 use Rattle.bc_loans.specs.Scope.{IsInScope}
 use Rattle.bc_judge.specs.declared.verdict.Verdict.{Verdict}
-use Rattle.bc_judge.specs.Conflicts.{conflicts_of}
-use Rattle.bc_judge.specs.Errors.{errors_of}
-use Rattle.bc_judge.specs.Lifetimes.{TellsKnown, ValueTest, end_of, failure_of, failures_from, failures_of, is_lifetime_error, is_required, lifetime_of, required_of}
+use Rattle.bc_judge.specs.Errors.{AreErrors, AreRequirements}
+use Rattle.bc_judge.proofs.Inside.{scopes_within}
+use Rattle.bc_judge.proofs.Once.{errors_once, requirements_once}
 use Rattle.bc_prov.specs.declared.outcome.BodyErrors.{BodyErrors}
 use Rattle.bc_prov.specs.declared.outcome.Outcome.{Outcome}
 use Rattle.bc_prov.specs.declared.outcome.Outcome.TheVariants.{Report}
-use Rattle.bc_prov.specs.Facts.{Tells}
 use Rattle.bc_prov.specs.State.{State, child, levels_from, mir_at}
 use Rattle.bc_prov.specs.Verdicts.{IsVerdictOf, IsVerdictOver, IsVerdictWithin, IsVerdictAt, requirements_by}
 use Rattle.bc_prov.specs.Outcome.{IsReported, IsOutcomeAfter, IsOutcomeOf, IsOutcomeBehind, IsOutcomeIn, fault_at, units_at}
@@ -35,26 +35,6 @@ both_ways false false f g = refl
 same_test : (Fact : ℕ → ℕ → Type 0) (a b : ℕ → ℕ → Bool) → Tells a Fact → Tells b Fact → a ≡ b
 same_test Fact a b ta tb = λ i x y. both_ways (a x y) (b x y) (λ e. (tb x y).1 ((ta x y).0 e)) (λ e. (ta x y).1 ((tb x y).0 e)) i
 
--- lists that are gathered over the same numbers, where what each number gives is the same
-gathered : {A : Type 0} (f g : ℕ → List A) (start len : ℕ) → ((x : ℕ) → x < start + len → f x ≡ g x) → flat_map f (range_with_len start len) ≡ flat_map g (range_with_len start len)
-gathered f g start zero same = refl
-gathered f g start (suc len) same =
-    let more = gathered f g (start + 1) len (λ x within. same x (omega (arith, within))) in
-    λ i. same start (omega arith) i ++ more i
-
-module _ (mir : Mir) (value : ValueTest) (one other : ℕ → ℕ → Bool) (tells_one : TellsKnown mir one) (tells_other : TellsKnown mir other) where
-  known_same : (a b : ℕ) → a < mir.universals → b < mir.universals → one a b ≡ other a b
-  known_same a b ha hb = both_ways (one a b) (other a b) (λ e. (tells_other a b ha hb).1 ((tells_one a b ha hb).0 e)) (λ e. (tells_one a b ha hb).1 ((tells_other a b ha hb).0 e))
-
-  failure_same : (a b : ℕ) → a < mir.universals → b < mir.universals → failure_of mir value one a b ≡ failure_of mir value other a b
-  failure_same a b ha hb = ap (λ (k : Bool). if value a (end_of mir b) && not k then record { longer = a; shorter = b } ∷ [] else []) (known_same a b ha hb)
-
-  from_same : (a : ℕ) → a < mir.universals → failures_from mir value one a ≡ failures_from mir value other a
-  from_same a ha = gathered (failure_of mir value one a) (failure_of mir value other a) 0 mir.universals (λ b hb. failure_same a b ha (omega (arith, hb)))
-
-  failures_same : failures_of mir value one ≡ failures_of mir value other
-  failures_same = gathered (failures_from mir value one) (failures_from mir value other) 0 mir.universals (λ a ha. from_same a (omega (arith, ha)))
-
 one_verdict : (mir : Mir) (kids : List (ℕ × Requirements)) (v w : Verdict) → IsVerdictOf mir kids v → IsVerdictOf mir kids w → v ≡ w
 one_verdict mir kids v w a b =
     let live = same_test (IsLive mir) a.live b.live a.tells_live b.tells_live in
@@ -62,13 +42,13 @@ one_verdict mir kids v w a b =
     (subst (λ (l : ℕ → ℕ → Bool). Tells b.value (IsInValue (starts_with mir l) (constraints_of mir kids))) (sym live) b.tells_value) in
     let scope = same_test (λ point loan. IsInScope mir a.value loan point) a.in_scope b.in_scope a.tells_scope
     (subst (λ (t : ℕ → ℕ → Bool). Tells b.in_scope (λ point loan. IsInScope mir t loan point)) (sym value) b.tells_scope) in
-    let failures = failures_same mir b.value a.errors.known b.errors.known a.errors.decides b.errors.decides in
-    let needed = failures_same mir b.value a.requirements.known b.requirements.known a.requirements.decides b.requirements.decides in
+    let Wanted : (ℕ → ℕ → Bool) → ℕ → ℕ → List Region → Type 0 = λ l. ExplainsOver mir.universals (starts_with mir l) (constraints_of mir kids) in
     let errors : v.errors ≡ w.errors =
-    a.errors.listed ∙ (λ i. errors_of mir (scope i) (value i) a.errors.known) ∙ ap (λ (fs : List Outlives). conflicts_of mir b.in_scope ++ map lifetime_of (filter (is_lifetime_error mir) fs)) failures
-    ∙ sym b.errors.listed in
+    errors_once mir (Wanted a.live) a.in_scope a.value v.errors w.errors (scopes_within mir a.value a.in_scope a.tells_scope)
+    (explained_once mir.universals (starts_with mir a.live) (constraints_of mir kids)) a.errors
+    (subst (λ (p : (ℕ → ℕ → Bool) × ((ℕ → ℕ → Bool) × (ℕ → ℕ → Bool))). AreErrors mir (Wanted p.0) p.1.0 p.1.1 w.errors) (λ i. (sym live i, (sym scope i, sym value i))) b.errors) in
     let pairs : v.requirements.pairs ≡ w.requirements.pairs =
-    a.requirements.listed ∙ (λ i. required_of mir (value i) a.requirements.known) ∙ ap (filter (is_required mir)) needed ∙ sym b.requirements.listed in
+    requirements_once mir a.value v.requirements w.requirements a.requirements (subst (λ (t : ℕ → ℕ → Bool). AreRequirements mir t w.requirements) (sym value) b.requirements) in
     λ i. record { errors = errors i; requirements = record { pairs = pairs i } }
 
 one_list : {A B : Type 0} (R : A → B → Type 0) → ((x : A) (y z : B) → R x y → R x z → y ≡ z) → (xs : List A) (ys zs : List B) → AllZip R xs ys → AllZip R xs zs → ys ≡ zs

@@ -10,10 +10,8 @@ use crate::held::Held;
 use crate::stack::Stack;
 use crate::visit::Visit;
 use bc_cons::Requirements;
-use bc_judge::BorrowError;
 use bc_mir::Child;
 use bc_prov::{BodyErrors, Piece, Pieces, Providers, Shared};
-use bc_syntax::Sequence;
 use bc_text::Name;
 use std::alloc::{AllocError, Global};
 
@@ -41,12 +39,6 @@ fn copy_requirements(requirements: &Requirements) -> Result<Requirements, AllocE
     Ok(Requirements {
         pairs: requirements.pairs.clone()?,
     })
-}
-
-fn copy_errors(errors: &Sequence<BorrowError>) -> Result<Sequence<BorrowError>, AllocError>
-    ensures { IfOk result (λ copy. copy ≡ errors.now) }
-{
-    errors.clone()
 }
 
 impl Held<'_> {
@@ -77,7 +69,7 @@ impl Held<'_> {
     }
 }
 
-/// The errors of bodies, from their pieces.
+/// The errors of bodies, as one more owner of those that their pieces have.
 pub(crate) fn errors_of(
     alloc: Global,
     pieces: &[(Name, Shared<Piece>)],
@@ -86,7 +78,7 @@ pub(crate) fn errors_of(
 {
     let mut found = Vec::with_capacity(alloc, pieces.len())?;
     for piece in pieces {
-        let errors = copy_errors(piece.1.get().errors())?;
+        let errors = piece.1.get().errors().clone()?;
         found.push(BodyErrors {
             name: piece.0,
             errors,

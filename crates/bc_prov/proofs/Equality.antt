@@ -3,7 +3,7 @@ use Rattle.std.proofs.Common.{◌≡◌, List, refl, ap}
 use Rattle.std.specs.Bool.{Decides}
 use Rattle.std.proofs.lemmas.Bool.Decides.{Decides-and, Decides-like, Decides-eqb}
 use Rattle.std.proofs.lemmas.Slice.Eq.{slice_eq-Decides}
-use Rattle.bc_syntax.proofs.Equality.{apart, declaration}
+use Rattle.bc_syntax.proofs.Equality.{apart, declaration, region}
 use Rattle.bc_text.proofs.Equality.{name}
 use Rattle.bc_syntax.specs.declared.syntax.Declaration.{Declaration}
 use Rattle.bc_mir.specs.declared.mir.Point.{Point}
@@ -33,10 +33,12 @@ place (wheres.At x) wheres.Header = apart (λ e. absurd (cc))
 place (wheres.At x) (wheres.At y) = Decides-like _ (λ p i. wheres.At (p i)) (λ e. cc) (point x y)
 
 pub error : (a b : BorrowError) → Decides ((error_impl.ghosts).eq a b) (a ≡ b)
-error (errors.Conflict x0 x1 x2) (errors.Conflict y0 y1 y2) = Decides-like _ (λ p i. errors.Conflict (p.0 i) (p.1.0 i) (p.1.1 i)) (λ e. (cc, (cc, cc))) (Decides-and _ _ (point x0 y0) (Decides-and _ _ (Decides-eqb x1 y1) (point x2 y2)))
-error (errors.Conflict x0 x1 x2) (errors.Lifetime y0 y1) = apart (λ e. absurd (cc))
-error (errors.Lifetime x0 x1) (errors.Conflict y0 y1 y2) = apart (λ e. absurd (cc))
-error (errors.Lifetime x0 x1) (errors.Lifetime y0 y1) = Decides-like _ (λ p i. errors.Lifetime (p.0 i) (p.1 i)) (λ e. (cc, cc)) (Decides-and _ _ (Decides-eqb x0 y0) (Decides-eqb x1 y1))
+error (errors.Conflict x0 x1 x2 x3) (errors.Conflict y0 y1 y2 y3) = Decides-like _ (λ p i. errors.Conflict (p.0 i) (p.1.0 i) (p.1.1.0 i) (p.1.1.1 i)) (λ e. (cc, (cc, (cc, cc))))
+    (Decides-and _ _ (point x0 y0) (Decides-and _ _ (Decides-eqb x1 y1) (Decides-and _ _ (point x2 y2) (slice_eq-Decides region x3 y3 _ refl))))
+error (errors.Conflict x0 x1 x2 x3) (errors.Lifetime y0 y1 y2) = apart (λ e. absurd (cc))
+error (errors.Lifetime x0 x1 x2) (errors.Conflict y0 y1 y2 y3) = apart (λ e. absurd (cc))
+error (errors.Lifetime x0 x1 x2) (errors.Lifetime y0 y1 y2) = Decides-like _ (λ p i. errors.Lifetime (p.0 i) (p.1.0 i) (p.1.1 i)) (λ e. (cc, (cc, cc)))
+    (Decides-and _ _ (Decides-eqb x0 y0) (Decides-and _ _ (Decides-eqb x1 y1) (slice_eq-Decides region x2 y2 _ refl)))
 
 pub body : (a b : BodyErrors) → Decides ((body_impl.ghosts).eq a b) (a ≡ b)
 body a b =

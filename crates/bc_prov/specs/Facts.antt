@@ -1,5 +1,5 @@
 -- What liveness, region values and loans in scope have to say of a body.
-use Rattle.std.specs.Prelude.{◌≡◌, ◌↔◌, ℕ, Bool, true, List, Result}
+use Rattle.std.specs.Prelude.{Bool, List, Result}
 use Rattle.std.specs.Result.{ForOk}
 use Rattle.std.proofs.Common.{Bor}
 use Rattle.std.specs.declared.alloc.AllocError.{AllocError}
@@ -8,24 +8,12 @@ use Rattle.bc_flow.specs.Flow.{holds}
 use Rattle.bc_mir.specs.Mir.{Mir}
 use Rattle.bc_cons.specs.Facts.{RegionFacts}
 use Rattle.bc_live.specs.Live.{IsLive}
-use Rattle.bc_solve.specs.Values.{IsInValue}
-use Rattle.bc_loans.specs.Scope.{IsInScope}
-
--- a test tells of two numbers whether the fact holds: whether there is a proof, and not which one
-abbrev pub Tells : (ℕ → ℕ → Bool) → (ℕ → ℕ → Type 0) → Type 0
-Tells test Fact = (x y : ℕ) → (test x y ≡ true) ↔ ∥ Fact x y ∥₁
+use Rattle.bc_solve.specs.Values.{Tells, AreValues}
+use Rattle.bc_loans.specs.Scope.{AreScopes}
 
 -- the sets have, for each local, just the points on whose entry it is live
 abbrev pub AreLive : Mir → List (List Bool) → Type 0
 AreLive mir sets = Tells (holds sets) (IsLive mir)
-
--- the values have, for each region, just the elements that every lawful assignment gives it
-abbrev pub AreValues : RegionFacts → List (List Bool) → Type 0
-AreValues facts values = Tells (holds values) (IsInValue (holds facts.starts) facts.pairs)
-
--- the scopes have, for each point, just the loans that are in scope on entry to it, within these values
-abbrev pub AreScopes : Mir → List (List Bool) → List (List Bool) → Type 0
-AreScopes mir values scopes = Tells (holds scopes) (λ point loan. IsInScope mir (holds values) loan point)
 
 -- what a closure answers for a body is its liveness, or want of memory; `post` tells what it may answer
 abbrev pub AnswersLiveness : (Global → Bor Mir → Result (List (List Bool)) AllocError → Type 0) → Type 0

@@ -9,16 +9,17 @@ use Rattle.bc_live.specs.Live.{IsLive}
 use Rattle.bc_cons.specs.declared.requirements.Requirements.{Requirements}
 use Rattle.bc_cons.specs.Constraints.{constraints_of}
 use Rattle.bc_cons.specs.Starts.{starts_with}
-use Rattle.bc_solve.specs.Values.{IsInValue}
+use Rattle.bc_solve.specs.Values.{IsInValue, Tells}
+use Rattle.bc_solve.specs.Chains.{ExplainsOver}
 use Rattle.bc_loans.specs.Scope.{IsInScope}
 use Rattle.bc_judge.specs.declared.verdict.Verdict.{Verdict}
 use Rattle.bc_judge.specs.Errors.{AreErrors, AreRequirements}
 use Rattle.bc_prov.specs.State.{State, child, levels_from, mir_at}
-use Rattle.bc_prov.specs.Facts.{Tells}
 
 -- This is the verdict on a body, whose children require so much: `live` tells the points on whose entry each local is live,
 -- `value` the elements in the value of each region over that liveness, `in_scope` the loans in scope on entry to each point
--- within those values, and the errors and the requirements are the conflicts and failures there.
+-- within those values, the errors and the requirements are the conflicts and failures there, and the chain of an error explains it
+-- by the same start elements and constraints.
 pub record IsVerdictOf (mir : Mir) (kids : List (ℕ × Requirements)) (verdict : Verdict) : Type 0 where
   pub live : ℕ → ℕ → Bool
   pub value : ℕ → ℕ → Bool
@@ -26,7 +27,7 @@ pub record IsVerdictOf (mir : Mir) (kids : List (ℕ × Requirements)) (verdict 
   pub tells_live : Tells live (IsLive mir)
   pub tells_value : Tells value (IsInValue (starts_with mir live) (constraints_of mir kids))
   pub tells_scope : Tells in_scope (λ point loan. IsInScope mir value loan point)
-  pub errors : AreErrors mir in_scope value verdict.errors
+  pub errors : AreErrors mir (ExplainsOver mir.universals (starts_with mir live) (constraints_of mir kids)) in_scope value verdict.errors
   pub requirements : AreRequirements mir value verdict.requirements
 
 -- what each of these closures requires

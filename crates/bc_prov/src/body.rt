@@ -26,6 +26,6 @@ pub(crate) fn verdict_on(
     let facts = constraints(alloc, typed, &live, kids)?;
     let values = providers.solve(alloc, &facts)?;
     let scopes = providers.in_scope(alloc, typed, &values)?;
-    let verdict = judge(alloc, typed, &values, &scopes)?;
+    let verdict = judge(alloc, typed, &facts, &values, &scopes)?;
     Ok(verdict)
 }

@@ -8,7 +8,7 @@ ghost use Rattle.bc_prov.specs.Pieces.{IsFitted, IsFoundFrom, IsPiece};
 use crate::body::verdict_on;
 use crate::declared::Declared;
 use crate::providers::Providers;
-use crate::shared::Shared;
+use crate::shared::{Shared, share};
 use bc_cons::Requirements;
 use bc_judge::{BorrowError, Verdict};
 use bc_mir::{Child, Typed};
@@ -30,7 +30,8 @@ pub struct Piece {
     unit: Shared<Unit>,
     typed: Shared<Typed>,
     kids: Vec<(u8, Requirements)>,
-    verdict: Verdict,
+    errors: Shared<Sequence<BorrowError>>,
+    requirements: Requirements,
 }
 
 /// The same pieces, as one more owner of each. Answers `AllocError` only where memory was refused. (Own.)
@@ -53,7 +54,8 @@ impl Drop for Piece {
             unit: _,
             typed: _,
             kids: _,
-            verdict: _,
+            errors: _,
+            requirements: _,
         } = self;
     }
 }
@@ -63,9 +65,9 @@ impl Model for Piece {
 
     ghost Value = { PieceView };
 
-    ghost view = { λ p. record { types = p.types; unit = p.unit; mir = p.typed; kids = p.kids.items; verdict = p.verdict } };
+    ghost view = { λ p. record { types = p.types; unit = p.unit; mir = p.typed; kids = p.kids.items; verdict = record { errors = p.errors; requirements = p.requirements } } };
 
-    ghost invariant = { λ p. IsPiece (record { types = p.types; unit = p.unit; mir = p.typed; kids = p.kids.items; verdict = p.verdict }) };
+    ghost invariant = { λ p. IsPiece (record { types = p.types; unit = p.unit; mir = p.typed; kids = p.kids.items; verdict = record { errors = p.errors; requirements = p.requirements } }) };
 }
 
 impl Piece {
@@ -83,12 +85,12 @@ impl Piece {
         &self.unit
     }
 
-    /// The errors of the body, in order. Own.
-    pub fn errors(&self) -> &Sequence<BorrowError>
+    /// The errors of the body, in order, to be lent or shared. Own.
+    pub fn errors(&self) -> &Shared<Sequence<BorrowError>>
         ensures value { result.now ≡ self.now.verdict.errors }
         ensures right { IsPiece self.now }
     {
-        &self.verdict.errors
+        &self.errors
     }
 
     /// What the body requires of its creator. Own.
@@ -96,7 +98,7 @@ impl Piece {
         ensures value { result.now ≡ self.now.verdict.requirements }
         ensures right { IsPiece self.now }
     {
-        &self.verdict.requirements
+        &self.requirements
     }
 
     /// The unit as it was typed. Own.
@@ -197,12 +199,17 @@ pub fn piece_of(
     requires kids { AreOfChildren typed.children kids.items }
     ensures { IfOk result (IsFoundFrom types unit typed kids.items) }
 {
-    let verdict = verdict_on(alloc, providers, typed.get(), &kids)?;
+    let Verdict {
+        errors,
+        requirements,
+    } = verdict_on(alloc, providers, typed.get(), &kids)?;
+    let errors = share(alloc, errors)?;
     Ok(Piece {
         types,
         unit,
         typed,
         kids,
-        verdict,
+        errors,
+        requirements,
     })
 }

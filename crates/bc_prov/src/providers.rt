@@ -1,6 +1,8 @@
 //! The analyses of a body, as closures that are stored.
 ghost use Rattle.std.specs.Prelude.{IfOk};
-ghost use Rattle.bc_prov.specs.Facts.{AnswersLiveness, AnswersScopes, AnswersValues, AreLive, AreScopes, AreValues};
+ghost use Rattle.bc_solve.specs.Values.{AreValues};
+ghost use Rattle.bc_loans.specs.Scope.{AreScopes};
+ghost use Rattle.bc_prov.specs.Facts.{AnswersLiveness, AnswersScopes, AnswersValues, AreLive};
 
 use bc_cons::Facts;
 use bc_live::LiveSets;

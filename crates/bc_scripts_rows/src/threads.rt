@@ -1,6 +1,6 @@
 //! Sessions that make the calls of scripts on threads.
 ghost use Rattle.std.specs.Prelude.{IfOk};
-ghost use Rattle.bc_prov.specs.Facts.{AreValues};
+ghost use Rattle.bc_solve.specs.Values.{AreValues};
 
 use crate::waits::Patience;
 use bc_analyses::{find_values, providers};

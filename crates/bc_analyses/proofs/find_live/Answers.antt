@@ -1,6 +1,6 @@
 use Rattle.bc_flow.specs.Flow.{holds}
 use Rattle.bc_live.specs.Live.{IsLive}
-use Rattle.bc_prov.proofs.Starts.{told}
+use Rattle.bc_solve.proofs.Telling.{told}
 use Rattle.bc_analyses.proofs.find_live.Goals as goal
 
 pub returns : goal.returns

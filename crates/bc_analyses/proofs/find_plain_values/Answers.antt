@@ -1,6 +1,6 @@
 use Rattle.bc_flow.specs.Flow.{holds}
 use Rattle.bc_solve.specs.Values.{IsInValue}
-use Rattle.bc_prov.proofs.Starts.{told}
+use Rattle.bc_solve.proofs.Telling.{told}
 use Rattle.bc_analyses.proofs.find_plain_values.Goals as goal
 
 pub returns : goal.returns

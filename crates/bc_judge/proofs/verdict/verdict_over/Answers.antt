@@ -33,7 +33,7 @@ returns-clause-error c =
     let found = returns-clause-errors c in
     rw found.listed
     (listed_is_error c.args.typed.now (Explains c.args.facts.now) (holds c.args.scopes.now) (holds c.args.values.now) found.known found.chain
-    (scopes_within c.args.typed.now c.args.values.now c.args.scopes.now c.requires.scopes) found.decides (explained_one c.args.facts.now) found.explains)
+    (scopes_within c.args.typed.now (holds c.args.values.now) (holds c.args.scopes.now) c.requires.scopes) found.decides (explained_one c.args.facts.now) found.explains)
 
 pub returns-clause-requirement : goal.returns-clause-requirement
 returns-clause-requirement c =
