@@ -17,4 +17,4 @@ pub errors_over : (mir : Mir) (in_scope value : ℕ → ℕ → Bool) (errors : 
     universals ≡ wanted_universals → ((q f : ℕ) → starts q f ≡ wanted q f) → pairs ≡ wanted_pairs →
     AreErrors mir (ExplainsOver universals starts pairs) in_scope value errors → AreErrors mir (ExplainsOver wanted_universals wanted wanted_pairs) in_scope value errors
 errors_over mir in_scope value errors universals wanted_universals starts wanted pairs wanted_pairs so_many same is are =
-    subst (λ (p : ℕ × (ℕ → ℕ → Bool) × List Constraint). AreErrors mir (ExplainsOver p.0 p.1.0 p.1.1) in_scope value errors) (λ i. (so_many i, (λ q f. same q f i, is i))) are
+    subst (λ (p : ℕ × ((ℕ → ℕ → Bool) × List Constraint)). AreErrors mir (ExplainsOver p.0 p.1.0 p.1.1) in_scope value errors) (λ i. (so_many i, (λ q f. same q f i, is i))) are
