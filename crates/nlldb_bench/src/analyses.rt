@@ -1,4 +1,7 @@
 //! What is read from a text and found of its body, and how long each step takes at best.
+ghost use Rattle.std.specs.Prelude.{IfOk};
+ghost use Rattle.bc_solve.specs.Values.{AreValues};
+
 use crate::times::{Step, Times};
 use bc_cons::Facts;
 use bc_fixtures::{facts_alone, good_types, typed_alone};
@@ -43,19 +46,24 @@ fn printed_sum(rt: &HostRuntime, unit: &Unit) -> anyhow::Result<u64> {
 fn errors(
     rt: &HostRuntime,
     typed: &Typed,
+    facts: &Facts,
     values: &Values,
     times: &mut Times,
-) -> anyhow::Result<usize> {
+) -> anyhow::Result<usize>
+    requires { AreValues facts.now values.now }
+{
     times.begin(rt);
     let scopes = in_scope(rt.alloc(), typed, values)?;
     times.end(rt, Step::Scopes);
-    let verdict = judge(rt.alloc(), typed, values, &scopes)?;
+    let verdict = judge(rt.alloc(), typed, facts, values, &scopes)?;
     times.end(rt, Step::Judging);
     Ok(verdict.errors.len())
 }
 
 /// The values of regions by the list of constraints; those by groups of regions are found before and let go.
-pub fn values(rt: &HostRuntime, facts: &Facts, times: &mut Times) -> anyhow::Result<Values> {
+pub fn values(rt: &HostRuntime, facts: &Facts, times: &mut Times) -> anyhow::Result<Values>
+    ensures { IfOk result (AreValues facts.now) }
+{
     times.begin(rt);
     let by_groups = solve_components(rt.alloc(), facts)?;
     times.end(rt, Step::SolvingByGroups);
@@ -84,7 +92,7 @@ fn errors_by(
     times: &mut Times,
 ) -> anyhow::Result<usize> {
     let values = values(rt, facts, times)?;
-    errors(rt, typed, &values, times)
+    errors(rt, typed, facts, &values, times)
 }
 
 /// What is found of a typed body.
