@@ -3,14 +3,14 @@ ghost use Rattle.std.specs.Prelude.{IfOk};
 ghost use Rattle.bc_solve.specs.Values.{AreValues};
 
 use crate::times::{Step, Times};
+use bc_analyses::{find_plain_values, find_scopes};
 use bc_cons::Facts;
 use bc_fixtures::{facts_alone, good_types, typed_alone};
 use bc_judge::judge;
 use bc_live::live;
-use bc_loans::in_scope;
 use bc_mir::Typed;
 use bc_print::print_unit;
-use bc_solve::{Values, solve_components, solve_plain};
+use bc_solve::{Values, solve_components};
 use bc_syntax::Unit;
 use bc_text::read_unit;
 
@@ -53,7 +53,7 @@ fn errors(
     requires { AreValues facts.now values.now }
 {
     times.begin(rt);
-    let scopes = in_scope(rt.alloc(), typed, values)?;
+    let scopes = find_scopes(rt.alloc(), typed, values)?;
     times.end(rt, Step::Scopes);
     let verdict = judge(rt.alloc(), typed, facts, values, &scopes)?;
     times.end(rt, Step::Judging);
@@ -69,7 +69,7 @@ pub fn values(rt: &HostRuntime, facts: &Facts, times: &mut Times) -> anyhow::Res
     times.end(rt, Step::SolvingByGroups);
     drop(by_groups);
     times.begin(rt);
-    let values = solve_plain(rt.alloc(), facts)?;
+    let values = find_plain_values(rt.alloc(), facts)?;
     times.end(rt, Step::Solving);
     Ok(values)
 }

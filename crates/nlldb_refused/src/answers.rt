@@ -6,19 +6,20 @@ ghost use Rattle.bc_solve.specs.Values.{AreValues};
 
 use crate::Caller;
 use anyhow::{Result, bail};
+use bc_analyses::{find_scopes, find_values};
 use bc_cons::{Facts, Requirements};
 use bc_fixtures::{facts_alone, refusing, typed_alone};
 use bc_json::json_report;
 use bc_judge::{BorrowError, PrintedChain, Verdict, judge, known_relations};
 use bc_live::live;
-use bc_loans::{in_scope, loans};
+use bc_loans::loans;
 use bc_memo::Shelf;
 use bc_mir::{Instruction, KidHeader, Typed};
 use bc_outcomes::{piece, report, report_pieces};
 use bc_points::accesses;
 use bc_print::{print_types, print_unit};
 use bc_prov::{Check, Piece, Pieces, Providers, Snapshot, share};
-use bc_solve::{Values, solve_components, solve_plain};
+use bc_solve::{Values, solve_plain};
 use bc_syntax::{Base, Sequence, Statement, Unit, UnitKind};
 use bc_text::{Name, read_types, read_unit};
 use std::alloc::{AllocError, Global};
@@ -97,7 +98,7 @@ fn are_plain(alloc: Global, facts: &Facts, values: &Values) -> Result<bool> {
 fn verdict(alloc: Global, typed: &Typed, facts: &Facts, values: &Values) -> Result<Verdict>
     requires { AreValues facts.now values.now }
 {
-    let scopes = in_scope(alloc, typed, values)?;
+    let scopes = find_scopes(alloc, typed, values)?;
     Ok(judge(alloc, typed, facts, values, &scopes)?)
 }
 
@@ -122,7 +123,7 @@ fn write_errors(errors: &[BorrowError], out: &mut Vec<u8>) -> Result<()> {
 
 /// Writes what both solvers find over facts, and the errors.
 fn write_found(alloc: Global, typed: &Typed, facts: &Facts, out: &mut Vec<u8>) -> Result<()> {
-    let values = solve_components(alloc, facts)?;
+    let values = find_values(alloc, facts)?;
     let same = are_plain(alloc, facts, &values)?;
     let pairs = facts.pairs().len();
     let verdict = verdict(alloc, typed, facts, &values)?;

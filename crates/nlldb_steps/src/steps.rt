@@ -10,14 +10,15 @@ ghost use Rattle.bc_solve.specs.Values.{AreValues};
 ghost use Rattle.bc_loans.specs.Scope.{AreScopes};
 
 use crate::rows::{named, text_under};
+use bc_analyses::{find_plain_values, find_scopes};
 use bc_cons::{Facts, Requirements, constraints};
 use bc_fixtures::{good_types, typed_alone};
 use bc_judge::{BorrowError, PrintedChain, judge, known_relations};
 use bc_live::{LiveSets, live};
-use bc_loans::{Scopes, in_scope, loans};
+use bc_loans::{Scopes, loans};
 use bc_mir::{Child, GoodTypes, Step, Typed};
 use bc_points::{Access, AccessKind, Depth, Loan, accesses, region_number};
-use bc_solve::{Values, solve_plain};
+use bc_solve::Values;
 use bc_syntax::{Sequence, Unit};
 use bc_text::read_unit;
 use std::alloc::{AllocError, Global};
@@ -195,7 +196,7 @@ fn show_from_values<W: Write>(
     requires { AreValues facts.now values.now }
 {
     let loans = show_loans(alloc, typed, out)?;
-    let scopes = in_scope(alloc, typed, values)?;
+    let scopes = find_scopes(alloc, typed, values)?;
     show_scopes(typed, &scopes, loans, out)?;
     show_known(alloc, typed, out)?;
     show_errors(alloc, typed, facts, values, &scopes, out)
@@ -208,7 +209,7 @@ fn show_from_facts<W: Write>(
     out: &mut W,
 ) -> io::Result<()> {
     show_demands(facts, out)?;
-    let values = solve_plain(alloc, facts)?;
+    let values = find_plain_values(alloc, facts)?;
     show_values(&values, facts.elements(), out)?;
     show_from_values(alloc, typed, facts, &values, out)
 }
