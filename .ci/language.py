@@ -1,7 +1,7 @@
 """The texts of `docs/LANGUAGE.md` read once more, by a reader that shares nothing with the program: what a text spells, as far as a put
-asks for it, or the first fault with its place. `.ci/damaged-files` compares the program with it.
+asks for it, or the first fault with its place, and what a chain of regions has to keep to. `.ci/damaged-files` compares the program with it.
 """
-import re
+import re, typing
 
 KEYWORDS = set("fn closure where let int mut copy move calc dead drop nop goto if call invoke return stop struct extern".split())
 RUN = re.compile(rb"[A-Za-z0-9_]+")
@@ -10,6 +10,18 @@ MOST_BYTES = 1_048_576
 
 class Fault(Exception):
     """The first bad token of a text: its kind, in the words of a report, and its place."""
+
+
+class Unit(typing.NamedTuple):
+    """What is kept of a unit: whether it is a function, the numbers of its closures, its universal regions, its region variables, those of them
+    that stand in the type of a local, and the region of each borrow by its point. Regions are words of a chain."""
+
+    is_function: bool
+    closures: frozenset
+    universals: frozenset
+    variables: frozenset
+    in_locals: frozenset
+    loans: dict
 
 
 class Token:
@@ -62,7 +74,8 @@ class Reader:
 
     def __init__(self, text):
         self.text, self.next = text, token_at(text, 0)
-        self.regions, self.in_body, self.locals, self.points, self.children = set(), False, 0, 0, set()
+        self.regions, self.in_body, self.locals, self.points, self.children = [], False, 0, 0, set()
+        self.variables, self.in_locals, self.loans, self.here = set(), frozenset(), {}, ""
 
     def take(self):
         taken, self.next = self.next, token_at(self.text, self.next.end)
@@ -118,7 +131,7 @@ class Reader:
         if self.next.kind != "region":
             self.grammar()
         self.check(is_within and len(self.next.word) <= 16, self.next.word != "static" and self.next.word not in self.regions)
-        self.regions.add(self.take().word)
+        self.regions.append(self.take().word)
 
     def marked(self, is_within):
         if not self.sees("+", "="):
@@ -128,14 +141,18 @@ class Reader:
         self.declared(True)
 
     def region(self, is_within=True):
-        """A region that was declared, or a variable."""
+        """A region that was declared, or a variable: its word in a chain."""
         if self.in_body and self.next.kind == "variable":
             self.check(is_within and self.next.word <= 1023)
         elif self.next.kind == "region":
             self.check(is_within and len(self.next.word) <= 16, self.next.word == "static" or self.next.word in self.regions)
         else:
             self.grammar()
-        self.take()
+        token = self.take()
+        if token.kind == "variable":
+            self.variables.add(f"'?{token.word}")
+            return f"'?{token.word}"
+        return "0" if token.word == "static" else str(1 + self.regions.index(token.word))
 
     def names(self, most):
         if self.eat("<"):
@@ -213,7 +230,7 @@ class Reader:
     def assigned(self):
         """What stands behind the sign of an assignment. Tells whether it ends the block."""
         if self.eat("&"):
-            self.region()
+            self.loans[self.here] = self.region()
             self.eat("mut")
             self.place()
         elif self.eat("closure"):
@@ -273,10 +290,12 @@ class Reader:
         self.check(self.next.word <= 255, self.next.word == number)
         self.take()
         self.expect("{")
-        ends = False
+        ends, index = False, 0
         while not ends:
+            self.here = f"bb{number}[{index}]"
             ends = self.point()
             self.expect(";")
+            index += 1
         self.expect("}")
 
     def body(self):
@@ -294,6 +313,7 @@ class Reader:
             else:
                 self.type()
             self.expect(";")
+        self.in_locals = frozenset(self.variables)
         self.block(0)
         number = 1
         while not self.eat("}"):
@@ -305,7 +325,7 @@ class Reader:
             self.grammar()
 
     def unit(self):
-        """Whether it is a function, and the numbers of its closures."""
+        """What is kept of it."""
         head = self.expect("fn", "closure").word
         self.names(15)
         self.where()
@@ -319,7 +339,8 @@ class Reader:
         self.type()
         self.body()
         self.end()
-        return head == "fn", frozenset(self.children)
+        universals = frozenset(str(number) for number in range(1 + len(self.regions)))
+        return Unit(head == "fn", frozenset(self.children), universals, frozenset(self.variables), self.in_locals, self.loans)
 
     def structure(self):
         self.name()
@@ -349,7 +370,7 @@ class Reader:
             self.check(counts[self.next.word] < 64)
             word = self.take().word
             counts[word] += 1
-            self.regions = set()
+            self.regions = []
             if word == "struct":
                 self.structure()
             else:
@@ -369,10 +390,23 @@ def read(text, what):
 
 
 def read_unit(text):
-    """Whether a unit is a function, and the numbers of its closures; and what is wrong with its text, if anything is."""
+    """What is kept of a unit, and what is wrong with its text, if anything is."""
     return read(text, Reader.unit)
 
 
 def read_types(text):
     """What is wrong with a text of declarations, if anything is."""
     return read(text, Reader.types)[1]
+
+
+def is_chain(unit, error, words):
+    """Whether words may be the chain of an error of a unit, as far as its text tells: regions of the unit, none twice. Of a conflict the first is
+    that of the loan, and the last one is universal, or in the type of a local; of a lifetime error the first is the longer one, and the last the
+    shorter or `'static`. No universal region of a conflict, and neither of these two, comes before the last."""
+    what, at, *_, other = error.split()
+    if what == "conflict":
+        first, ends, may_end = unit.loans.get(other), unit.universals, unit.universals | unit.in_locals
+    else:
+        first, ends, may_end = at, {other, "0"}, {other, "0"}
+    are_regions = len(set(words)) == len(words) and set(words) <= unit.universals | unit.variables
+    return are_regions and words[0] == first and words[-1] in may_end and not ends & set(words[:-1])

@@ -20,7 +20,7 @@ pub(crate) fn put_status(reply: PutReply) -> u8
 fn are_clean(bodies: &[BodyErrors]) -> bool
     ensures { result ≡ are_clean bodies.now }
 {
-    bodies.iter().all(|body| body.errors.len() == 0)
+    bodies.iter().all(|body| body.errors.get().len() == 0)
 }
 
 /// The status of an Ask with this outcome.

@@ -23,10 +23,14 @@ pub fn found_by(outcome: &Outcome) -> Found {
         Outcome::BadTypes(index) => Found::BadTypes(*index),
         Outcome::Ill(_, _) => Found::Other,
         Outcome::Report(bodies) => match bodies.as_slice() {
-            [body] => Found::Errors(body.errors.len()),
-            [outer, inner] => Found::Two(outer.errors.len(), inner.errors.len()),
+            [body] => Found::Errors(body.errors.get().len()),
+            [outer, inner] => Found::Two(outer.errors.get().len(), inner.errors.get().len()),
             [outer, middle, inner] => {
-                Found::Three(outer.errors.len(), middle.errors.len(), inner.errors.len())
+                Found::Three(
+                    outer.errors.get().len(),
+                    middle.errors.get().len(),
+                    inner.errors.get().len(),
+                )
             }
             _ => Found::Other,
         },
@@ -52,7 +56,7 @@ impl Sight {
             Outcome::Report(bodies) => {
                 let mut errors: usize = 0;
                 for body in bodies.as_slice() {
-                    errors = errors.saturating_add(body.errors.len());
+                    errors = errors.saturating_add(body.errors.get().len());
                 }
                 Sight::Report(bodies.len(), errors)
             }

@@ -231,6 +231,11 @@ Example: conflict.nll writes _1 while a borrow of it is used later.
   ask f
   f 1
     conflict bb0[2] access 0 loan bb0[1]
+      chain '?1 '?0
+The chain explains the error: each of its regions must outlive the next. That
+of a conflict begins with the region of the loan, and ends with one that is in
+use at the point, here that of _2. That of 'lifetime A must outlive B' leads
+from A to B, or to 0, which is 'static.
 ";
 
 #[test]

@@ -1,13 +1,16 @@
 //! What is read from a text and found of its body, and how long each step takes at best.
+ghost use Rattle.std.specs.Prelude.{IfOk};
+ghost use Rattle.bc_solve.specs.Values.{AreValues};
+
 use crate::times::{Step, Times};
+use bc_analyses::{find_plain_values, find_scopes};
 use bc_cons::Facts;
 use bc_fixtures::{facts_alone, good_types, typed_alone};
 use bc_judge::judge;
 use bc_live::live;
-use bc_loans::in_scope;
 use bc_mir::Typed;
 use bc_print::print_unit;
-use bc_solve::{Values, solve_components, solve_plain};
+use bc_solve::{Values, solve_components};
 use bc_syntax::Unit;
 use bc_text::read_unit;
 
@@ -43,25 +46,30 @@ fn printed_sum(rt: &HostRuntime, unit: &Unit) -> anyhow::Result<u64> {
 fn errors(
     rt: &HostRuntime,
     typed: &Typed,
+    facts: &Facts,
     values: &Values,
     times: &mut Times,
-) -> anyhow::Result<usize> {
+) -> anyhow::Result<usize>
+    requires { AreValues facts.now values.now }
+{
     times.begin(rt);
-    let scopes = in_scope(rt.alloc(), typed, values)?;
+    let scopes = find_scopes(rt.alloc(), typed, values)?;
     times.end(rt, Step::Scopes);
-    let verdict = judge(rt.alloc(), typed, values, &scopes)?;
+    let verdict = judge(rt.alloc(), typed, facts, values, &scopes)?;
     times.end(rt, Step::Judging);
     Ok(verdict.errors.len())
 }
 
 /// The values of regions by the list of constraints; those by groups of regions are found before and let go.
-pub fn values(rt: &HostRuntime, facts: &Facts, times: &mut Times) -> anyhow::Result<Values> {
+pub fn values(rt: &HostRuntime, facts: &Facts, times: &mut Times) -> anyhow::Result<Values>
+    ensures { IfOk result (AreValues facts.now) }
+{
     times.begin(rt);
     let by_groups = solve_components(rt.alloc(), facts)?;
     times.end(rt, Step::SolvingByGroups);
     drop(by_groups);
     times.begin(rt);
-    let values = solve_plain(rt.alloc(), facts)?;
+    let values = find_plain_values(rt.alloc(), facts)?;
     times.end(rt, Step::Solving);
     Ok(values)
 }
@@ -84,7 +92,7 @@ fn errors_by(
     times: &mut Times,
 ) -> anyhow::Result<usize> {
     let values = values(rt, facts, times)?;
-    errors(rt, typed, &values, times)
+    errors(rt, typed, facts, &values, times)
 }
 
 /// What is found of a typed body.

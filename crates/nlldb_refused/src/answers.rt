@@ -2,22 +2,24 @@
 //! creates no closure), `piece` (of a body that creates none, or closure 0 alone), `report`, `carried` (the report of a snapshot that
 //! carries it) and `asks` (whether a report asks the providers that it is handed); `read TEXT` prints a unit or declarations as read.
 ghost use Rattle.std.specs.Prelude.{◌≡◌, [], IfOk};
+ghost use Rattle.bc_solve.specs.Values.{AreValues};
 
 use crate::Caller;
 use anyhow::{Result, bail};
+use bc_analyses::{find_scopes, find_values};
 use bc_cons::{Facts, Requirements};
 use bc_fixtures::{facts_alone, refusing, typed_alone};
 use bc_json::json_report;
-use bc_judge::{Verdict, judge, known_relations};
+use bc_judge::{BorrowError, PrintedChain, Verdict, judge, known_relations};
 use bc_live::live;
-use bc_loans::{in_scope, loans};
+use bc_loans::loans;
 use bc_memo::Shelf;
 use bc_mir::{Instruction, KidHeader, Typed};
 use bc_outcomes::{piece, report, report_pieces};
 use bc_points::accesses;
 use bc_print::{print_types, print_unit};
 use bc_prov::{Check, Piece, Pieces, Providers, Snapshot, share};
-use bc_solve::{Values, solve_components, solve_plain};
+use bc_solve::{Values, solve_plain};
 use bc_syntax::{Base, Sequence, Statement, Unit, UnitKind};
 use bc_text::{Name, read_types, read_unit};
 use std::alloc::{AllocError, Global};
@@ -93,23 +95,40 @@ fn are_plain(alloc: Global, facts: &Facts, values: &Values) -> Result<bool> {
 }
 
 /// What is found over the values of regions.
-fn verdict(alloc: Global, typed: &Typed, values: &Values) -> Result<Verdict> {
-    let scopes = in_scope(alloc, typed, values)?;
-    Ok(judge(alloc, typed, values, &scopes)?)
+fn verdict(alloc: Global, typed: &Typed, facts: &Facts, values: &Values) -> Result<Verdict>
+    requires { AreValues facts.now values.now }
+{
+    let scopes = find_scopes(alloc, typed, values)?;
+    Ok(judge(alloc, typed, facts, values, &scopes)?)
+}
+
+/// Writes an error, and its chain.
+fn write_error(error: &BorrowError, out: &mut Vec<u8>) -> Result<()> {
+    let chain = PrintedChain {
+        regions: error.chain(),
+    };
+    writeln!(out, "{error}")?;
+    writeln!(out, "{chain}")?;
+    Ok(())
+}
+
+/// Writes how many errors there are, and then each with its chain.
+fn write_errors(errors: &[BorrowError], out: &mut Vec<u8>) -> Result<()> {
+    writeln!(out, "{} errors", errors.len())?;
+    for error in errors {
+        write_error(error, out)?;
+    }
+    Ok(())
 }
 
 /// Writes what both solvers find over facts, and the errors.
 fn write_found(alloc: Global, typed: &Typed, facts: &Facts, out: &mut Vec<u8>) -> Result<()> {
-    let values = solve_components(alloc, facts)?;
+    let values = find_values(alloc, facts)?;
     let same = are_plain(alloc, facts, &values)?;
     let pairs = facts.pairs().len();
-    let verdict = verdict(alloc, typed, &values)?;
-    let errors = verdict.errors.as_slice();
-    writeln!(
-        out,
-        "{pairs} pairs, both solvers find the same: {same}, {errors:?}"
-    )?;
-    Ok(())
+    let verdict = verdict(alloc, typed, facts, &values)?;
+    writeln!(out, "{pairs} pairs, both solvers find the same: {same}")?;
+    write_errors(verdict.errors.as_slice(), out)
 }
 
 /// Writes what the steps of the analysis of a body find.
@@ -185,7 +204,7 @@ fn write_outcome(
     let line = json_report(alloc, snapshot.root(), &outcome)?;
     writeln!(out, "{line}")?;
     for (at, piece) in &pieces {
-        let errors = piece.get().errors().len();
+        let errors = piece.get().errors().get().len();
         let required = piece.get().requirements().pairs.len();
         writeln!(out, "piece of {at}: {errors} errors, {required} required")?;
     }
@@ -217,7 +236,7 @@ impl<R: AllocGlobal> Caller<'_, R> {
             "steps" => write_steps(alloc, &typed_in(alloc, &snapshot)?, &mut out)?,
             "piece" => {
                 let piece = piece_in(alloc, providers, &snapshot)?;
-                writeln!(out, "{:?}", piece.errors().as_slice())?;
+                write_errors(piece.errors().get().as_slice(), &mut out)?;
             }
             "report" => write_outcome(alloc, providers, &snapshot, &mut out)?,
             "carried" => {

@@ -3,19 +3,22 @@
 //! Below a row stand the points with their accesses, the edges between points, and then by number: the points before which a local
 //! is live, the demands between regions (the longer, then the shorter), the elements of a region's value, the loans with the point
 //! that makes each and its region, the loans in scope before a point, the regions that a universal one is known to outlive, and
-//! the errors. (Own.)
+//! the errors, each with its chain. (Own.)
 ghost use Rattle.std.specs.Prelude.{◌≡◌, [], map, IfOk};
 ghost use Rattle.bc_mir.specs.declared.children.Child.{Child as AChild};
+ghost use Rattle.bc_solve.specs.Values.{AreValues};
+ghost use Rattle.bc_loans.specs.Scope.{AreScopes};
 
 use crate::rows::{named, text_under};
+use bc_analyses::{find_plain_values, find_scopes};
 use bc_cons::{Facts, Requirements, constraints};
 use bc_fixtures::{good_types, typed_alone};
-use bc_judge::{judge, known_relations};
+use bc_judge::{BorrowError, PrintedChain, judge, known_relations};
 use bc_live::{LiveSets, live};
-use bc_loans::{Scopes, in_scope, loans};
+use bc_loans::{Scopes, loans};
 use bc_mir::{Child, GoodTypes, Step, Typed};
 use bc_points::{Access, AccessKind, Depth, Loan, accesses, region_number};
-use bc_solve::{Values, solve_plain};
+use bc_solve::Values;
 use bc_syntax::{Sequence, Unit};
 use bc_text::read_unit;
 use std::alloc::{AllocError, Global};
@@ -157,16 +160,28 @@ fn show_known<W: Write>(alloc: Global, typed: &Typed, out: &mut W) -> io::Result
     Ok(())
 }
 
+fn show_error<W: Write>(error: &BorrowError, out: &mut W) -> io::Result<()> {
+    let chain = PrintedChain {
+        regions: error.chain(),
+    };
+    writeln!(out, "{error}")?;
+    writeln!(out, "{chain}")
+}
+
 fn show_errors<W: Write>(
     alloc: Global,
     typed: &Typed,
+    facts: &Facts,
     values: &Values,
     scopes: &Scopes,
     out: &mut W,
-) -> io::Result<()> {
-    let verdict = judge(alloc, typed, values, scopes)?;
+) -> io::Result<()>
+    requires values { AreValues facts.now values.now }
+    requires scopes { AreScopes typed.now values.now scopes.now }
+{
+    let verdict = judge(alloc, typed, facts, values, scopes)?;
     for error in verdict.errors.as_slice() {
-        writeln!(out, "{error}")?;
+        show_error(error, out)?;
     }
     Ok(())
 }
@@ -174,14 +189,17 @@ fn show_errors<W: Write>(
 fn show_from_values<W: Write>(
     alloc: Global,
     typed: &Typed,
+    facts: &Facts,
     values: &Values,
     out: &mut W,
-) -> io::Result<()> {
+) -> io::Result<()>
+    requires { AreValues facts.now values.now }
+{
     let loans = show_loans(alloc, typed, out)?;
-    let scopes = in_scope(alloc, typed, values)?;
+    let scopes = find_scopes(alloc, typed, values)?;
     show_scopes(typed, &scopes, loans, out)?;
     show_known(alloc, typed, out)?;
-    show_errors(alloc, typed, values, &scopes, out)
+    show_errors(alloc, typed, facts, values, &scopes, out)
 }
 
 fn show_from_facts<W: Write>(
@@ -191,9 +209,9 @@ fn show_from_facts<W: Write>(
     out: &mut W,
 ) -> io::Result<()> {
     show_demands(facts, out)?;
-    let values = solve_plain(alloc, facts)?;
+    let values = find_plain_values(alloc, facts)?;
     show_values(&values, facts.elements(), out)?;
-    show_from_values(alloc, typed, &values, out)
+    show_from_values(alloc, typed, facts, &values, out)
 }
 
 fn no_requirements(alloc: Global, child: &Child) -> (u8, Requirements)
