@@ -7,4 +7,4 @@ use Rattle.bc_report.proofs.print.write_body.Given as goal
 abbrev pub invariant-loop-error : goal.invariant-loop-error
 invariant-loop-error g l =
     Appends (g.W.Write.contents l.initial.out) (g.W.Write.contents l.out)
-    (flat_map error_lines (take l.error-index l.error-items))
+    (flat_map error_lines (take l.error-index l.errors))
