@@ -5,16 +5,18 @@ use Rattle.serde_json.specs.View.{view}
 use Rattle.serde_json.specs.declared.value.Value.{Value}
 use Rattle.serde_json.proofs.OnLiterals.{serde_json_on_literals}
 use Rattle.json.specs.Print.{quoted}
+use Rattle.bc_syntax.specs.declared.syntax.Region.{Region}
 use Rattle.bc_text.specs.Names.{NameParts, name_text}
 use Rattle.bc_mir.specs.declared.mir.Point.{Point}
 use Rattle.bc_mir.specs.declared.typed.Where.{Where}
 use Rattle.bc_mir.specs.Lines.{point_text, place_text}
 use Rattle.bc_judge.specs.declared.error.BorrowError.TheVariants.{Conflict, Lifetime}
+use Rattle.bc_judge.specs.Lines.{region_text}
 use Rattle.bc_prov.specs.declared.outcome.BodyErrors.{BodyErrors}
 use Rattle.bc_prov.specs.declared.outcome.Outcome.{Outcome}
 use Rattle.bc_prov.specs.declared.outcome.Outcome.TheVariants.{NoBody, Missing, BadTypes, Ill, Report}
 use Rattle.bc_json.specs.Texts.{HasText, array_text}
-use Rattle.bc_json.specs.Json.{error_json, body_json, outcome_json, json_line}
+use Rattle.bc_json.specs.Json.{region_json, chain_json, error_json, body_json, outcome_json, json_line}
 
 two_parts : (a x b y c : List ℕ) → a ++ (x ++ (b ++ (y ++ c))) ≡ a ++ x ++ b ++ y ++ c
 two_parts a x b y c = simp append_assoc refl
@@ -22,13 +24,19 @@ two_parts a x b y c = simp append_assoc refl
 three_parts : (a x b y c z d : List ℕ) → a ++ (x ++ (b ++ (y ++ (c ++ (z ++ d))))) ≡ a ++ x ++ b ++ y ++ c ++ z ++ d
 three_parts a x b y c z d = simp append_assoc refl
 
-pub conflict_text : (value : Value) (at : Point) (access : ℕ) (loan : Point) → view value ≡ object (member (codes "access") (number (unsigned access)) (member (codes "at") (string (point_text at)) (member (codes "kind") (string (codes "conflict")) (member (codes "loan") (string (point_text loan)) no_members)))) → HasText value (error_json (Conflict at access loan))
-unfolding serde_json_on_literals
-conflict_text value at access loan built = rw built (refl, three_parts (codes "{\"access\":") (decimal access) (codes ",\"at\":") (quoted (point_text at)) (codes ",\"kind\":\"conflict\",\"loan\":") (quoted (point_text loan)) (codes "}"))
+four_parts : (a x b y c z d w e : List ℕ) → a ++ (x ++ (b ++ (y ++ (c ++ (z ++ (d ++ (w ++ e))))))) ≡ a ++ x ++ b ++ y ++ c ++ z ++ d ++ w ++ e
+four_parts a x b y c z d w e = simp append_assoc refl
 
-pub lifetime_text : (value : Value) (longer shorter : ℕ) → view value ≡ object (member (codes "kind") (string (codes "lifetime")) (member (codes "longer") (number (unsigned longer)) (member (codes "shorter") (number (unsigned shorter)) no_members))) → HasText value (error_json (Lifetime longer shorter))
+pub word_text : (value : Value) (region : Region) → view value ≡ string (region_text region) → HasText value (region_json region)
+word_text value region built = rw built (refl, refl)
+
+pub conflict_text : (value list : Value) (at : Point) (access : ℕ) (loan : Point) (chain : List Region) → HasText list (chain_json chain) → view value ≡ object (member (codes "access") (number (unsigned access)) (member (codes "at") (string (point_text at)) (member (codes "chain") (view list) (member (codes "kind") (string (codes "conflict")) (member (codes "loan") (string (point_text loan)) no_members))))) → HasText value (error_json (Conflict at access loan chain))
 unfolding serde_json_on_literals
-lifetime_text value longer shorter built = rw built (refl, simp append_assoc refl)
+conflict_text value list at access loan chain inside built = rw built (rw inside.0 refl, rw inside.1 (four_parts (codes "{\"access\":") (decimal access) (codes ",\"at\":") (quoted (point_text at)) (codes ",\"chain\":") (chain_json chain) (codes ",\"kind\":\"conflict\",\"loan\":") (quoted (point_text loan)) (codes "}")))
+
+pub lifetime_text : (value list : Value) (longer shorter : ℕ) (chain : List Region) → HasText list (chain_json chain) → view value ≡ object (member (codes "chain") (view list) (member (codes "kind") (string (codes "lifetime")) (member (codes "longer") (number (unsigned longer)) (member (codes "shorter") (number (unsigned shorter)) no_members)))) → HasText value (error_json (Lifetime longer shorter chain))
+unfolding serde_json_on_literals
+lifetime_text value list longer shorter chain inside built = rw built (rw inside.0 refl, rw inside.1 (three_parts (codes "{\"chain\":") (chain_json chain) (codes ",\"kind\":\"lifetime\",\"longer\":") (decimal longer) (codes ",\"shorter\":") (decimal shorter) (codes "}")))
 
 pub body_text : (value list : Value) (body : BodyErrors) → HasText list (array_text (map error_json body.errors)) → view value ≡ object (member (codes "errors") (view list) (member (codes "name") (string (name_text body.name)) no_members)) → HasText value (body_json body)
 unfolding serde_json_on_literals

@@ -1,21 +1,31 @@
 -- The JSON form of an outcome: each object compact, its keys in byte order.
 use Rattle.std.specs.Prelude.{ℕ, List, ◌++◌, map, decimal, codes}
 use Rattle.json.specs.Print.{quoted}
+use Rattle.bc_syntax.specs.declared.syntax.Region.{Region}
 use Rattle.bc_text.specs.Names.{NameParts, name_text}
 use Rattle.bc_mir.specs.Lines.{point_text, place_text}
 use Rattle.bc_judge.specs.declared.error.BorrowError.{BorrowError}
 use Rattle.bc_judge.specs.declared.error.BorrowError.TheVariants.{Conflict, Lifetime}
+use Rattle.bc_judge.specs.Lines.{region_text}
 use Rattle.bc_prov.specs.declared.outcome.BodyErrors.{BodyErrors}
 use Rattle.bc_prov.specs.declared.outcome.Outcome.{Outcome}
 use Rattle.bc_prov.specs.declared.outcome.Outcome.TheVariants.{NoBody, Missing, BadTypes, Ill, Report}
 use Rattle.bc_json.specs.Texts.{array_text}
 
+-- a region of a chain, as a string
+abbrev pub region_json : Region → List ℕ
+region_json region = quoted (region_text region)
+
+-- the array of the regions of a chain, in order
+abbrev pub chain_json : List Region → List ℕ
+chain_json chain = array_text (map region_json chain)
+
 -- the object of an error
 abbrev pub error_json : BorrowError → List ℕ
-error_json (Conflict at access loan) =
-    codes "{\"access\":" ++ decimal access ++ codes ",\"at\":" ++ quoted (point_text at) ++ codes ",\"kind\":\"conflict\",\"loan\":" ++ quoted (point_text loan) ++ codes "}"
-error_json (Lifetime longer shorter) =
-    codes "{\"kind\":\"lifetime\",\"longer\":" ++ decimal longer ++ codes ",\"shorter\":" ++ decimal shorter ++ codes "}"
+error_json (Conflict at access loan chain) =
+    codes "{\"access\":" ++ decimal access ++ codes ",\"at\":" ++ quoted (point_text at) ++ codes ",\"chain\":" ++ chain_json chain ++ codes ",\"kind\":\"conflict\",\"loan\":" ++ quoted (point_text loan) ++ codes "}"
+error_json (Lifetime longer shorter chain) =
+    codes "{\"chain\":" ++ chain_json chain ++ codes ",\"kind\":\"lifetime\",\"longer\":" ++ decimal longer ++ codes ",\"shorter\":" ++ decimal shorter ++ codes "}"
 
 -- the object of a body, with its errors in order
 abbrev pub body_json : BodyErrors → List ℕ

@@ -1,29 +1,65 @@
 //! The JSON values of errors.
 ghost use Rattle.std.specs.Prelude.{map, IfOk};
 ghost use Rattle.bc_judge.specs.declared.error.BorrowError.TheVariants.{Conflict, Lifetime};
-ghost use Rattle.bc_json.specs.Json.{error_json};
+ghost use Rattle.bc_json.specs.Json.{region_json, chain_json, error_json};
 ghost use Rattle.bc_json.specs.Texts.{HasText, array_text};
 
-use bc_judge::BorrowError;
+use bc_judge::{BorrowError, PrintedRegion};
 use bc_mir::Point;
+use bc_syntax::Region;
 use serde_json::{Value, json};
 use std::alloc::{AllocError, Global};
 
+/// The value of a region.
+fn region_value(alloc: Global, region: Region) -> Result<Value, AllocError>
+    ensures { IfOk result (λ value. HasText value (region_json region)) }
+{
+    let region = PrintedRegion { region };
+    let word = format!(in alloc; "{region}")?;
+    Ok(Value::String(word))
+}
+
+/// The array of the regions of a chain, in order.
+fn chain_value(alloc: Global, chain: &[Region]) -> Result<Value, AllocError>
+    ensures { IfOk result (λ value. HasText value (chain_json chain.now)) }
+{
+    let mut words = Vec::new(alloc);
+    for region in chain {
+        words.push(region_value(alloc, *region)?)?;
+    }
+    Ok(Value::Array(words))
+}
+
 /// The value of a conflict.
-fn conflict_value(alloc: Global, at: Point, access: usize, loan: Point) -> Result<Value, AllocError>
-    ensures { IfOk result (λ value. HasText value (error_json (Conflict at access loan))) }
+fn conflict_value(
+    alloc: Global,
+    at: Point,
+    access: usize,
+    loan: Point,
+    chain: &[Region],
+) -> Result<Value, AllocError>
+    ensures { IfOk result (λ value. HasText value (error_json (Conflict at access loan chain.now))) }
 {
     let at = format!(in alloc; "{at}")?;
+    let chain = chain_value(alloc, chain)?;
     let loan = format!(in alloc; "{loan}")?;
-    let value = json!(in alloc; {"access": access, "at": at, "kind": "conflict", "loan": loan})?;
+    let value =
+        json!(in alloc; {"access": access, "at": at, "chain": chain, "kind": "conflict", "loan": loan})?;
     Ok(value)
 }
 
 /// The value of a lifetime error.
-fn lifetime_value(alloc: Global, longer: u8, shorter: u8) -> Result<Value, AllocError>
-    ensures { IfOk result (λ value. HasText value (error_json (Lifetime longer shorter))) }
+fn lifetime_value(
+    alloc: Global,
+    longer: u8,
+    shorter: u8,
+    chain: &[Region],
+) -> Result<Value, AllocError>
+    ensures { IfOk result (λ value. HasText value (error_json (Lifetime longer shorter chain.now))) }
 {
-    let value = json!(in alloc; {"kind": "lifetime", "longer": longer, "shorter": shorter})?;
+    let chain = chain_value(alloc, chain)?;
+    let value =
+        json!(in alloc; {"chain": chain, "kind": "lifetime", "longer": longer, "shorter": shorter})?;
     Ok(value)
 }
 
@@ -31,9 +67,18 @@ fn lifetime_value(alloc: Global, longer: u8, shorter: u8) -> Result<Value, Alloc
 fn error_value(alloc: Global, error: &BorrowError) -> Result<Value, AllocError>
     ensures { IfOk result (λ value. HasText value (error_json error.now)) }
 {
-    match *error {
-        BorrowError::Conflict { at, access, loan } => conflict_value(alloc, at, access, loan),
-        BorrowError::Lifetime { longer, shorter } => lifetime_value(alloc, longer, shorter),
+    match error {
+        BorrowError::Conflict {
+            at,
+            access,
+            loan,
+            chain,
+        } => conflict_value(alloc, *at, *access, *loan, chain.as_slice()),
+        BorrowError::Lifetime {
+            longer,
+            shorter,
+            chain,
+        } => lifetime_value(alloc, *longer, *shorter, chain.as_slice()),
     }
 }
 

@@ -17,7 +17,7 @@ fn body_value(alloc: Global, body: &BodyErrors) -> Result<Value, AllocError>
 {
     let name = body.name;
     let name = format!(in alloc; "{name}")?;
-    let errors = errors_value(alloc, body.errors.as_slice())?;
+    let errors = errors_value(alloc, body.errors.get().as_slice())?;
     let value = json!(in alloc; {"errors": errors, "name": name})?;
     Ok(value)
 }
