@@ -1,6 +1,5 @@
-//! Has a session glance at names, begin their parts and put units, alone and beside others that put on threads of their own, and does the same
-//! with a book under a lock. How many answers were wrong goes to standard output, and is the same at each run; how fast each session was goes to
-//! standard error.
+//! Has a session glance at names, begin their parts and put units, alone and beside others that put on threads of their own, and do so with a book
+//! under a lock. How many answers were wrong goes to standard output, the same at each run; how fast each session was goes to standard error.
 #![tactic(auto)]
 
 mod seats;
@@ -44,6 +43,7 @@ const OWN: usize = 48;
 const CAPACITY: u32 = 1_000_000;
 
 /// What is put and asked for.
+#[derive(Clone, Copy)]
 struct Bench<'a, R> {
     rt: &'a R,
     unit: &'a Arc<Unit, Global>,
