@@ -6,4 +6,4 @@ use Rattle.bc_json.proofs.errors.conflict_value.Goals as goal
 
 pub returns : goal.returns
 unfolding serde_json_on_literals
-returns c = conflict_text c.in_ok-value.value c.in_ok-chain.chain c.args.at c.args.access c.args.loan c.args.chain.now c.in_ok-chain.ensures (search (rules, the_lemmas))
+returns c = conflict_text _ c.in_ok-chain.chain c.args.at c.args.access c.args.loan c.args.chain.now c.in_ok-chain.ensures (search (rules, the_lemmas))
