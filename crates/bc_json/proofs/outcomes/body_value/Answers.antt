@@ -1,4 +1,4 @@
-use Rattle.std.proofs.Common.{map, subst, rules}
+use Rattle.std.proofs.Common.{map, subst, ◌∙◌, rules}
 use Rattle.serde_json.specs.declared.value.Value.{the_lemmas}
 use Rattle.serde_json.proofs.OnLiterals.{serde_json_on_literals}
 use Rattle.bc_json.specs.Texts.{HasText, array_text}
@@ -8,4 +8,4 @@ use Rattle.bc_json.proofs.outcomes.body_value.Goals as goal
 
 pub returns : goal.returns
 unfolding serde_json_on_literals
-returns c = body_text c.in_ok-value.value c.in_ok-errors.errors c.args.body.now (subst (λ xs. HasText c.in_ok-errors.errors (array_text (map error_json xs))) c.as_slice.ensures c.in_ok-errors.ensures) (search (rules, the_lemmas))
+returns c = body_text c.in_ok-value.value c.in_ok-errors.errors c.args.body.now (subst (λ xs. HasText c.in_ok-errors.errors (array_text (map error_json xs))) (c.as_slice.ensures ∙ c.get.ensures) c.in_ok-errors.ensures) (search (rules, the_lemmas))
