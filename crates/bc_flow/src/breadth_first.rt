@@ -8,6 +8,7 @@ ghost use Rattle.bc_flow.specs.Levels.{GivesLevel, IsSuccessor, AreLevels};
 use crate::adjacency::EdgeChains;
 use crate::graph::Edge;
 use std::alloc::{AllocError, Global};
+use std::mem;
 
 /// The level of each node: 1 for the sources, one more for each edge on the shortest way from one of them, and 0 for a node to
 /// which no way leads. So the level is the number of nodes on the shortest way. It takes time in proportion to the nodes and
@@ -45,10 +46,12 @@ fn fill_levels(
     ensures { OnOk result (AreLevels edges.now sources.now levels.new) }
 {
     let mut front = first_level(alloc, levels, sources)?;
+    let mut found = Vec::new(alloc);
     let mut level = 1;
     'levels: while !front.is_empty() {
         level += 1;
-        front = next_level(alloc, levels, &front, level, edges, chains)?;
+        next_level(levels, &front, &mut found, level, edges, chains)?;
+        mem::swap(&mut front, &mut found);
     }
     Ok(())
 }
@@ -69,26 +72,26 @@ fn first_level(
     Ok(found)
 }
 
-/// Gives the nodes this level that edges lead to from the front and that were not reached before, and lists them.
+/// Gives the nodes this level that edges lead to from the front and that were not reached before, and lists them and no others.
 fn next_level(
-    alloc: Global,
     levels: &mut [usize],
     front: &[usize],
+    found: &mut Vec<usize>,
     level: usize,
     edges: &[Edge],
     chains: &EdgeChains,
-) -> Result<Vec<usize>, AllocError>
+) -> Result<(), AllocError>
     requires front { All (λ n. n < length levels.old) front.now }
     requires level { 0 < level }
     requires edges { AreWithin edges.now (length levels.old) }
     requires chains { AreChains 0 (length levels.old) edges.now chains.now.first.items chains.now.next.items }
-    ensures { IfOk result (λ found. GivesLevel (IsSuccessor edges.now front.now) level levels.old levels.new [] found.items) }
+    ensures { OnOk result (GivesLevel (IsSuccessor edges.now front.now) level levels.old levels.new [] found.new.items) }
 {
-    let mut found = Vec::new(alloc);
+    found.clear();
     for &node in front {
-        visit(levels, &mut found, node, level, edges, chains)?;
+        visit(levels, found, node, level, edges, chains)?;
     }
-    Ok(found)
+    Ok(())
 }
 
 /// Gives the nodes this level that edges lead to from one, unless they were reached before, and lists them.

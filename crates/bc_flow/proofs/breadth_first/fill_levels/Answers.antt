@@ -8,9 +8,10 @@ next_level-requires-clause-front c = rw c.deref.ensures.value (front_within _ _ 
 
 pub levels-preserved : goal.levels-preserved
 levels-preserved c =
-    let marks : GivesLevel (IsSuccessor c.args.edges.now c.levels.front.items) (c.levels.level + 1) c.levels.levels c.next_level.new.levels [] c.in_ok-front-2.front.items = rw c.deref.ensures.value at c.in_ok-front-2.ensures in
+    let marks : GivesLevel (IsSuccessor c.args.edges.now c.levels.front.items) (c.levels.level + 1) c.levels.levels c.next_level.new.levels [] c.next_level.new.found.items = rw c.deref.ensures.value at c.in_ok-next_level.ensures in
+    let spread = AreLevelsUpTo-more c.args.edges.now c.args.sources.now c.levels.level c.levels.levels c.next_level.new.levels c.levels.front.items c.next_level.new.found.items c.levels.invariant.spread marks in
     record {
       count = grind arith;
-      spread = AreLevelsUpTo-more c.args.edges.now c.args.sources.now c.levels.level c.levels.levels c.next_level.new.levels c.levels.front.items c.in_ok-front-2.front.items c.levels.invariant.spread marks;
-      few = grind (arith, marks.counted);
+      spread = rw c.swap.ensures.x_after spread;
+      few = rw c.swap.ensures.x_after (grind (arith, marks.counted));
     }
