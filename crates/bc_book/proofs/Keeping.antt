@@ -24,7 +24,7 @@ use Rattle.bc_memo.proofs.Places.{by_bool, same_name, no_order, ordered-put, ord
 use Rattle.bc_calls.specs.declared.call.PutReply.TheVariants.{Added, Replaced, Full, WrongKind}
 use Rattle.bc_calls.specs.declared.call.RemoveReply.TheVariants.{Removed, Absent}
 use Rattle.bc_calls.specs.declared.call.Event.{Event}
-use Rattle.bc_calls.specs.declared.call.Event.TheVariants.{Types, Put, Remove, Ask}
+use Rattle.bc_calls.specs.declared.call.Event.TheVariants.{Types, Put, Remove, Ask, All as EveryRoot}
 use Rattle.bc_calls.specs.declared.call.Entry.{Entry}
 use Rattle.bc_calls.specs.declared.call.TheConstants.{MOST_BODIES}
 use Rattle.bc_book.specs.declared.ledger.TheConstants.{MOST_SESSIONS}
@@ -52,7 +52,8 @@ some_unit (Some p) = refl
 pub absent_none : (s : ShelfView) (n : NameParts) → is_some (at_name s.places n) ≡ false → bodies_of s n ≡ None
 absent_none s n absent = ap unit_of (none_if (at_name s.places n) absent)
 
-named : (es : Places) (n : NameParts) → is_some (at_name es n) ≡ true → Contains (keys_of es) n
+-- a name that is found is among the names, and the other way round
+pub named : {V : Type 0} (es : List (NameParts × V)) (n : NameParts) → is_some (at_name es n) ≡ true → Contains (keys_of es) n
 named [] n some = absurd (true≢false (sym some))
 named (e ∷ es) n some = by_bool (is_at (name_order n) e.0)
     (λ is. (0, omega arith, sym ((same_name n e.0).0 is)))
@@ -61,7 +62,7 @@ named (e ∷ es) n some = by_bool (is_at (name_order n) e.0)
     let within = t.1 in
     (suc t.0, omega (arith, within), t.2))
 
-held_at : (es : Places) (n : NameParts) (k : ℕ) → k < length (keys_of es) → get_or (keys_of es) k n ≡ n → is_some (at_name es n) ≡ true
+pub held_at : {V : Type 0} (es : List (NameParts × V)) (n : NameParts) (k : ℕ) → k < length (keys_of es) → get_or (keys_of es) k n ≡ n → is_some (at_name es n) ≡ true
 held_at [] n k within at = absurd (omega (arith, within))
 held_at (e ∷ es) n zero within at = ap (λ (b : Bool). is_some (cond b (Some e.1) (at_name es n))) ((same_name n e.0).1 (sym at))
 held_at (e ∷ es) n (suc k) within at = by_bool (is_at (name_order n) e.0)
@@ -99,6 +100,7 @@ few_placed s h (Remove m Removed) revision of right few place = let l = length-t
 few_placed s h (Remove m Absent) revision of right few place = few
 few_placed s h (Types t) revision of right few place = few
 few_placed s h (Ask m o) revision of right few place = few
+few_placed s h (EveryRoot l) revision of right few place = few
 
 -- ---- what is remembered behind a change
 
@@ -113,6 +115,7 @@ kept_row (changes.Remove m) rows n r ordered at = by_bool (is_same_name m n)
     (λ same. absurd (let none : None ≡ Some r = sym (at_name-take m n rows ordered ∙ ap (λ (b : Bool). cond b None (at_name rows n)) same) ∙ at in cc))
     (λ apart. sym (at_name-take m n rows ordered ∙ ap (λ (b : Bool). cond b None (at_name rows n)) apart) ∙ at)
 kept_row (changes.Answer m o) rows n r ordered at = at
+kept_row (changes.Answers l) rows n r ordered at = at
 kept_row changes.Nothing rows n r ordered at = at
 
 held_placed : (c : Change) (revision : ℕ) (ps : Places) (rows : List (NameParts × Remembered)) (n : NameParts) (r : Remembered) → AreOrdered ps → AreOrdered rows → at_name (kept_rows c rows) n ≡ Some r → IsSome (at_name ps n) → IsSome (at_name (placed ps c revision) n)
@@ -124,6 +127,7 @@ held_placed (changes.Remove m) revision ps rows n r ordered sorted at some = by_
     (λ same. absurd (let none : None ≡ Some r = sym (at_name-take m n rows sorted ∙ ap (λ (b : Bool). cond b None (at_name rows n)) same) ∙ at in cc))
     (λ apart. ap is_some (at_name-take m n ps ordered ∙ ap (λ (b : Bool). cond b None (at_name ps n)) apart) ∙ some)
 held_placed (changes.Answer m o) revision ps rows n r ordered sorted at some = some
+held_placed (changes.Answers l) revision ps rows n r ordered sorted at some = some
 held_placed changes.Nothing revision ps rows n r ordered sorted at some = some
 
 held_more : (s : ShelfView) (c : Change) (revision : ℕ) (rows : List (NameParts × Remembered)) (n : NameParts) (r : Remembered) → AreOrdered s.places → AreOrdered rows → at_name (kept_rows c rows) n ≡ Some r → IsSome (at_name s.places n) → IsSome (at_name (changed s c revision).places n)
@@ -136,6 +140,7 @@ sorted_left (changes.Types t) rows sorted = sorted
 sorted_left (changes.Put m u) rows sorted = sorted
 sorted_left (changes.Remove m) rows sorted = ordered-take (is_at (name_order m)) rows sorted
 sorted_left (changes.Answer m o) rows sorted = sorted
+sorted_left (changes.Answers l) rows sorted = sorted
 sorted_left changes.Nothing rows sorted = sorted
 
 -- ---- what is kept

@@ -2,3 +2,5 @@ pub mod Counting
 pub mod Remembering
 pub mod Keeping
 pub mod Recalling
+pub mod Listing
+pub mod Settling

@@ -18,7 +18,7 @@ use Rattle.bc_memo.specs.Places.{Places, ShelfView, AreOrdered, unit_of, revisio
 use Rattle.bc_memo.specs.Memos.{IsRowOf, Recorded, recorded, Stands}
 use Rattle.bc_memo.proofs.Places.{by_bool, same_name, at_name-map, placing}
 use Rattle.bc_calls.specs.declared.call.Event.{Event}
-use Rattle.bc_calls.specs.declared.call.Event.TheVariants.{Types, Put, Remove, Ask}
+use Rattle.bc_calls.specs.declared.call.Event.TheVariants.{Types, Put, Remove, Ask, All as EveryRoot}
 use Rattle.bc_calls.specs.declared.call.Entry.{Entry}
 use Rattle.bc_calls.specs.Calls.{after, stores, takes, MayComeNext}
 use Rattle.bc_calls.specs.Changes.{change_of, writes, writes_of}
@@ -120,6 +120,7 @@ types_turning s (Remove n r) revision = by_test (takes r)
     by_test true = inl (refl, refl)
     by_test false = inl (refl, refl)
 types_turning s (Ask n o) revision = inl (refl, refl)
+types_turning s (EveryRoot l) revision = inl (refl, refl)
 
 some_same : (a b : ℕ) → Some a ≡ Some b → a ≡ b
 some_same a b e = cc

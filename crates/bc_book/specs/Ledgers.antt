@@ -1,10 +1,12 @@
 -- A history as it is kept, with what it leaves.
-use Rattle.std.specs.Prelude.{◌≡◌, ◌↔◌, ℕ, ◌^◌, ◌<◌, ◌≤◌, Option, Some, None, IsSome, List, [], ◌∷◌, ◌++◌, length, slice_index}
+use Rattle.std.specs.Prelude.{◌≡◌, ◌↔◌, ℕ, ◌^◌, ◌<◌, ◌≤◌, false, Option, Some, None, IsSome, List, [], ◌∷◌, ◌++◌, length, slice_index}
+use Rattle.std.specs.List.{AllByRecursion}
 use Rattle.std.specs.Map.{remove_entry}
 use Rattle.std.specs.BTreeMap.{is_at, insert_entry}
 use Rattle.bc_text.specs.Names.{NameParts, name_order}
 use Rattle.bc_prov.specs.State.{Bodies, at_name}
 use Rattle.bc_prov.specs.declared.outcome.Outcome.{Outcome}
+use Rattle.bc_prov.specs.Outcome.{IsOutcomeIn}
 use Rattle.bc_memo.specs.declared.memo.Remembered.{Remembered}
 use Rattle.bc_memo.specs.declared.change.Change.{Change}
 use Rattle.bc_memo.specs.declared.change.Change.TheVariants as changes
@@ -12,17 +14,17 @@ use Rattle.bc_memo.specs.Memos.{IsRemembered, Stands}
 use Rattle.bc_memo.specs.Places.{ShelfView, AreOrdered, changed, empty_shelf, unit_of}
 use Rattle.bc_calls.specs.declared.call.PutReply.TheVariants.{Added}
 use Rattle.bc_calls.specs.declared.call.Event.{Event}
-use Rattle.bc_calls.specs.declared.call.Event.TheVariants.{Types, Put, Remove, Ask}
+use Rattle.bc_calls.specs.declared.call.Event.TheVariants.{Types, Put, Remove, Ask, All as EveryRoot}
 use Rattle.bc_calls.specs.declared.call.Entry.{Entry}
 use Rattle.bc_book.specs.declared.ledger.Refusal.{Refusal}
 use Rattle.bc_book.specs.declared.ledger.Refusal.TheVariants.{HistoryFull}
 use Rattle.bc_calls.specs.Calls.{most_bodies, after, count_of, IsReply, IsLegal}
 use Rattle.bc_calls.specs.Changes.{change_of, writes_after, writes_of}
-use Rattle.bc_calls.specs.Answers.{IsShelfOf}
+use Rattle.bc_calls.specs.Answers.{IsShelfOf, asks}
 use Rattle.bc_book.specs.Memory.{IsRight, ArePast}
 
 -- how many entries there may be, those that there are, what is held, what is remembered, and for how many more entries, places and
--- answers there is memory
+-- answers there is memory; and the outcomes that are ready for a change that brings many
 pub record LedgerView : Type 0 where
   pub capacity : ℕ
   pub entries : List Entry
@@ -31,6 +33,7 @@ pub record LedgerView : Type 0 where
   pub room : ℕ
   pub places : ℕ
   pub rows : ℕ
+  pub ready : List (NameParts × Outcome)
 
 -- how many sessions a database may have
 abbrev pub most_sessions : ℕ
@@ -63,6 +66,15 @@ pub record SameLedger (one other : LedgerView) : Type 0 where
   pub shelf : other.shelf ≡ one.shelf
   pub answers : other.answers ≡ one.answers
 
+-- all but what is remembered, and the memory for it, is as it was
+pub record SameButAnswers (one other : LedgerView) : Type 0 where
+  pub capacity : other.capacity ≡ one.capacity
+  pub entries : other.entries ≡ one.entries
+  pub shelf : other.shelf ≡ one.shelf
+  pub room : other.room ≡ one.room
+  pub places : other.places ≡ one.places
+  pub ready : other.ready ≡ one.ready
+
 -- this may be remembered for a name: the name is held, it is right, and it stands
 pub record IsRow (shelf : ShelfView) (h : List Entry) (name : NameParts) (row : Remembered) : Type 0 where
   pub held : IsSome (at_name shelf.places name)
@@ -74,10 +86,19 @@ abbrev pub Recalls : ShelfView → List (NameParts × Remembered) → NameParts 
 Recalls shelf rows name outcome None = IsSome (at_name shelf.places name) → IsRemembered shelf rows name (Some outcome)
 Recalls shelf rows name outcome (Some row) = (row.0 ≡ name) × (row.1.outcome ≡ outcome)
 
--- what is remembered with one more outcome, where there is one
-abbrev pub remembering : Option (NameParts × Remembered) → List (NameParts × Remembered) → List (NameParts × Remembered)
-remembering None rows = rows
-remembering (Some row) rows = insert_entry name_order rows row.0 row.1
+-- all these may be remembered
+abbrev pub AreRows : ShelfView → List Entry → List (NameParts × Remembered) → Type 0
+AreRows shelf h rows = AllByRecursion (λ (r : NameParts × Remembered). IsRow shelf h r.0 r.1) rows
+
+-- what is remembered with these rows more, one after the other
+abbrev pub remembering : List (NameParts × Remembered) → List (NameParts × Remembered) → List (NameParts × Remembered)
+remembering [] rows = rows
+remembering (r ∷ more) rows = remembering more (insert_entry name_order rows r.0 r.1)
+
+-- the row, if there is one, as a list
+abbrev pub row_list : Option (NameParts × Remembered) → List (NameParts × Remembered)
+row_list None = []
+row_list (Some row) = row ∷ []
 
 -- what is still remembered after a change: nothing for a name whose body is taken away
 abbrev pub kept_rows : Change → List (NameParts × Remembered) → List (NameParts × Remembered)
@@ -85,7 +106,20 @@ kept_rows (changes.Types types) rows = rows
 kept_rows (changes.Put name unit) rows = rows
 kept_rows (changes.Remove name) rows = remove_entry (is_at (name_order name)) rows
 kept_rows (changes.Answer name outcome) rows = rows
+kept_rows (changes.Answers listing) rows = rows
 kept_rows changes.Nothing rows = rows
+
+-- the outcome of each of these names is remembered, and stands
+abbrev pub RemembersEach : ShelfView → List (NameParts × Remembered) → List (NameParts × Outcome) → Type 0
+RemembersEach shelf answers rows = AllByRecursion (λ (r : NameParts × Outcome). IsRemembered shelf answers r.0 (Some r.1)) rows
+
+-- What was found for some roots: each outcome is right, what is to be remembered may be, and is of these names, and with it the outcome of each
+-- is remembered
+pub record IsFoundAll (shelf : ShelfView) (h : List Entry) (answers : List (NameParts × Remembered)) (listing : List (NameParts × Outcome)) (added : List (NameParts × Remembered)) : Type 0 where
+  pub right : AllByRecursion (λ (r : NameParts × Outcome). IsOutcomeIn (after h) r.0 r.1) listing
+  pub rows : AreRows shelf h added
+  pub named : AllByRecursion (λ (r : NameParts × Remembered). IsSome (at_name listing r.0)) added
+  pub remembered : RemembersEach shelf (remembering added answers) listing
 
 -- the body that is held at each name
 abbrev pub bodies_of : ShelfView → Bodies
@@ -97,6 +131,7 @@ HasPlace held (Types types) = Unit {0}
 HasPlace held (Put name body reply) = reply ≡ Added → held < most_bodies
 HasPlace held (Remove name reply) = Unit {0}
 HasPlace held (Ask name outcome) = Unit {0}
+HasPlace held (EveryRoot listing) = Unit {0}
 
 -- how many entries there may be, those that there are, what is held, and what is remembered
 pub record BookView : Type 0 where
@@ -125,6 +160,10 @@ Keeps event old new = new.answers ≡ kept_rows (change_of event) old.answers
 -- the outcome of a name that is held is remembered, and stands
 abbrev pub Remembers : NameParts → Outcome → BookView → Type 0
 Remembers name outcome book = IsSome (at_name book.shelf.places name) → IsRemembered book.shelf book.answers name (Some outcome)
+
+-- what is remembered for every name that the event does not ask for is as it was
+abbrev pub KeepsUnasked : Event → BookView → BookView → Type 0
+KeepsUnasked event old new = (name : NameParts) → asks name event ≡ false → at_name new.answers name ≡ at_name old.answers name
 
 -- what is remembered for every other name is as it was
 abbrev pub KeepsOthers : NameParts → BookView → BookView → Type 0

@@ -1,2 +1,3 @@
 pub mod Ledgers
 pub mod Memory
+pub mod Asked

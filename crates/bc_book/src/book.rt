@@ -1,71 +1,69 @@
 //! What lies under the lock: the history, what it leaves, what is remembered, and what publishes it.
-ghost use Rattle.std.specs.Prelude.{◌≡◌, ◌<◌, ◌^◌, None, length, IfOk, IfSome, IfErr, OnErr, OnOk};
-ghost use Rattle.std.specs.Option.{ForSome};
+ghost use Rattle.std.specs.Prelude.{◌≡◌, ◌<◌, ◌^◌, None, IsSome, [], List, length, IfOk, IfSome, IfErr, OnErr, OnOk};
 ghost use Rattle.bc_prov.specs.Outcome.{IsOutcomeIn};
 ghost use Rattle.bc_prov.specs.Snapshots.{IsPartOf};
 ghost use Rattle.bc_memo.specs.Memos.{IsRemembered};
 ghost use Rattle.bc_calls.specs.Calls.{IsLegal, IsReply, after};
 ghost use Rattle.bc_calls.specs.Changes.{change_of};
-ghost use Rattle.bc_book.specs.Ledgers.{Appends, HasPlace, IsFull, IsRow, Keeps, KeepsOthers, Remembers, empty_book, kept_rows, remembering};
+ghost use Rattle.bc_text.specs.Names.{NameParts};
+ghost use Rattle.bc_prov.specs.State.{at_name};
+ghost use Rattle.bc_calls.specs.declared.call.Event.TheVariants as events;
+ghost use Rattle.bc_book.specs.Asked.{IsCallOf, NeedsWork};
+ghost use Rattle.bc_book.specs.Ledgers.{Appends, AreRows, HasPlace, IsFull, Keeps, KeepsOthers, KeepsUnasked, Remembers, RemembersEach, empty_book, kept_rows, remembering};
 
+use crate::asked::Asked;
 use crate::ledger::{Ledger, MOST_SESSIONS, Refusal};
-use bc_calls::{Begun, Entry, Event, PutReply, RemoveReply, Work, no_declarations};
+use crate::roots::{FoundAll, push_row};
+use bc_calls::{Begun, Entry, Event, PutReply, RemoveReply, Told, Work, no_declarations};
 use bc_memo::Remembered;
 use bc_outcomes::Found;
-use bc_prov::{Declared, Outcome, Pieces, Providers, Shared, share_pieces};
-use bc_syntax::Unit;
+use bc_prov::{Declared, Outcome, PieceSet, Providers, Shared, share};
+use bc_syntax::{Sequence, Unit};
 use bc_text::Name;
 use bc_versions::{Ending, Fronts, Press};
 use std::alloc::{AllocError, Global};
 use std::marker::Model;
 use std::sync::Wait;
 
-/// What an Ask leaves beside its entry: the outcome that is to be remembered, and pieces that are to be kept and published.
+/// What an Ask leaves beside its entry: outcomes that are to be remembered, and pieces that are to be kept and published.
 #[derive(Drop)]
 struct Findings {
-    row: Option<(Name, Remembered)>,
-    kept: Option<Pieces>,
-    published: Option<Pieces>,
+    rows: Vec<(Name, Remembered)>,
+    kept: Option<PieceSet>,
+    published: Option<PieceSet>,
 }
 
 impl Findings {
-    /// Nothing is left beside the entry.
-    fn none() -> Findings
-        ensures { result.row ≡ None }
+    /// Nothing is left beside the entry. It takes no memory.
+    fn none(alloc: Global) -> Findings
+        ensures { result.rows.items ≡ [] }
     {
         Findings {
-            row: None,
+            rows: Vec::new(alloc),
             kept: None,
             published: None,
         }
     }
 
-    /// An outcome that is to be remembered, if there is one, and pieces that are to be kept and published. Answers `AllocError` only
+    /// Outcomes that are to be remembered, and pieces that are to be kept and published, if there are any. Answers `AllocError` only
     /// where memory was refused.
     fn of(
         alloc: Global,
-        row: Option<(Name, Remembered)>,
-        pieces: Pieces,
+        rows: Vec<(Name, Remembered)>,
+        pieces: Option<PieceSet>,
     ) -> Result<Findings, AllocError>
-        ensures { IfOk result (λ findings. findings.row ≡ row) }
+        ensures { IfOk result (λ findings. findings.rows.items ≡ rows.items) }
     {
-        let published = share_pieces(alloc, &pieces)?;
+        let published = match &pieces {
+            Some(set) => Some(set.copy(alloc)?),
+            None => None,
+        };
         Ok(Findings {
-            row,
-            kept: Some(pieces),
-            published: Some(published),
+            rows,
+            kept: pieces,
+            published,
         })
     }
-}
-
-/// Two more owners of an outcome.
-fn two_owners(outcome: &Shared<Outcome>) -> Result<(Shared<Outcome>, Shared<Outcome>), AllocError>
-    ensures first { IfOk result (λ both. both.0 ≡ outcome.now) }
-    ensures second { IfOk result (λ both. both.1 ≡ outcome.now) }
-{
-    let first = outcome.clone()?;
-    let second = outcome.clone()?;
-    Ok((first, second))
 }
 
 /// A book: the history of all calls, what it leaves, what is remembered of it, and the writer that publishes it. Contracts see how many
@@ -124,6 +122,32 @@ impl<E: Ending> Book<E> {
         self.press.fronts()
     }
 
+    /// Enters what a session asks for, and answers the call with its reply, twice: for the session's own list and for its caller. It asks for
+    /// providers where an outcome is asked for. Published and refused as the method of that call says.
+    pub fn enter<R: Wait>(
+        &mut self,
+        rt: &R,
+        alloc: Global,
+        session: u8,
+        asked: Asked,
+        providers: Option<&Providers>,
+    ) -> Result<Told, Refusal>
+        requires session { session < MOST_SESSIONS }
+        requires providers { NeedsWork asked → IsSome providers }
+        ensures step { IfOk result (λ told. IsCallOf asked told × Appends session told self.old self.new) }
+        ensures refused { OnErr result (self.new ≡ self.old) }
+        ensures full { IfErr result (IsFull self.old) }
+        ensures below { OnOk result (length self.old.entries < self.old.capacity) }
+    {
+        match asked {
+            Asked::Types(types) => self.put_types(rt, alloc, session, types),
+            Asked::Put(name, unit) => self.put(rt, alloc, session, name, unit),
+            Asked::Remove(name) => self.remove(rt, alloc, session, name),
+            Asked::Settle(work) => self.settle(rt, alloc, session, work, providers.unwrap()),
+            Asked::All(works) => self.settle_all(rt, alloc, session, works, providers.unwrap()),
+        }
+    }
+
     /// Stores a session's declarations in place of those before (own). They were checked before, since that takes memory and time.
     /// What is entered is published; it waits for those who still read what was published before.
     ///
@@ -132,17 +156,18 @@ impl<E: Ending> Book<E> {
     pub fn put_types<R: Wait>(
         &mut self,
         rt: &R,
+        alloc: Global,
         session: u8,
         types: Shared<Declared>,
-    ) -> Result<(), Refusal>
+    ) -> Result<Told, Refusal>
         requires session { session < MOST_SESSIONS }
-        ensures step { OnOk result (Appends session (Event.Types types) self.old self.new) }
-        ensures answers { OnOk result (Keeps (Event.Types types) self.old self.new) }
+        ensures step { IfOk result (λ told. (told ≡ Event.Types types) × Appends session told self.old self.new) }
+        ensures answers { IfOk result (λ told. Keeps told self.old self.new) }
         ensures refused { OnErr result (self.new ≡ self.old) }
         ensures full { IfErr result (IsFull self.old) }
         ensures below { OnOk result (length self.old.entries < self.old.capacity) }
     {
-        self.append(rt, session, Event::Types(types), Findings::none())
+        self.append(rt, session, Event::Types(types), Findings::none(alloc))
     }
 
     /// Stores a session's unit under a name, where the reply says so: `WrongKind` where the name is not one for such a unit (a
@@ -155,38 +180,46 @@ impl<E: Ending> Book<E> {
         session: u8,
         name: Name,
         unit: Shared<Unit>,
-    ) -> Result<PutReply, Refusal>
+    ) -> Result<Told, Refusal>
         requires session { session < MOST_SESSIONS }
-        ensures step { IfOk result (λ reply. Appends session (Event.Put name unit reply) self.old self.new) }
-        ensures answers { IfOk result (λ reply. Keeps (Event.Put name unit reply) self.old self.new) }
+        ensures step { IfOk result (λ told. (reply : PutReply) × (told ≡ Event.Put name unit reply) × Appends session told self.old self.new) }
+        ensures answers { IfOk result (λ told. Keeps told self.old self.new) }
         ensures refused { OnErr result (self.new ≡ self.old) }
         ensures full { IfErr result (IsFull self.old) }
         ensures below { OnOk result (length self.old.entries < self.old.capacity) }
     {
-        self.ledger.reserve()?;
+        self.ledger.has_room()?;
         let reply = self.ledger.put_reply(alloc, &name, unit.get())?;
-        self.append(rt, session, Event::Put(name, unit, reply), Findings::none())?;
-        Ok(reply)
+        self.append(
+            rt,
+            session,
+            Event::Put(name, unit, reply),
+            Findings::none(alloc),
+        )
     }
 
     /// Takes the unit of a name away: `Removed`, or `Absent` where none is held (own). Published and refused as `put_types` is.
     pub fn remove<R: Wait>(
         &mut self,
         rt: &R,
+        alloc: Global,
         session: u8,
         name: Name,
-    ) -> Result<RemoveReply, Refusal>
+    ) -> Result<Told, Refusal>
         requires session { session < MOST_SESSIONS }
-        ensures step { IfOk result (λ reply. Appends session (Event.Remove name reply) self.old self.new) }
-        ensures answers { IfOk result (λ reply. Keeps (Event.Remove name reply) self.old self.new) }
+        ensures step { IfOk result (λ told. (reply : RemoveReply) × (told ≡ Event.Remove name reply) × Appends session told self.old self.new) }
+        ensures answers { IfOk result (λ told. Keeps told self.old self.new) }
         ensures refused { OnErr result (self.new ≡ self.old) }
         ensures full { IfErr result (IsFull self.old) }
         ensures below { OnOk result (length self.old.entries < self.old.capacity) }
     {
-        self.ledger.reserve()?;
         let reply = self.ledger.remove_reply(&name);
-        self.append(rt, session, Event::Remove(name, reply), Findings::none())?;
-        Ok(reply)
+        self.append(
+            rt,
+            session,
+            Event::Remove(name, reply),
+            Findings::none(alloc),
+        )
     }
 
     /// The part of what is held that the outcome of a name rests on: the declarations, and the units at the name and at all names that
@@ -201,11 +234,11 @@ impl<E: Ending> Book<E> {
         self.ledger.begin(alloc, name)
     }
 
-    /// Enters a session's Ask of the name of a work, and answers its outcome: the one that is remembered and stands; else the one that
-    /// is put together of the pieces that stand, those that the work made and those that are kept, and that the providers give of the
-    /// other bodies; of a work that made no piece, its own where its revisions, declarations and units are those held. The outcome of a
-    /// name that is held is remembered, and published with the entry, and so are the pieces (own). It answers two owners of it, one for
-    /// the session's own list. Published and refused as `put_types` is, and with `NoMemory` where a provider wants memory.
+    /// Enters a session's Ask of the name of a work, and answers it with the name's outcome: the one that is remembered and stands; else the
+    /// work's own where its revisions, declarations and units are those held; else the one that the pieces that the work made and those
+    /// that are kept give, as far as they stand, with the other bodies worked on by the providers. The outcome of a name that is held is
+    /// remembered, and published with the entry, and so are the pieces; that of an absent name is remembered nowhere (own). Published and
+    /// refused as `put_types` is, and with `NoMemory` where a provider wants memory.
     pub fn settle<R: Wait>(
         &mut self,
         rt: &R,
@@ -213,48 +246,81 @@ impl<E: Ending> Book<E> {
         session: u8,
         work: Work,
         providers: &Providers,
-    ) -> Result<(Shared<Outcome>, Shared<Outcome>), Refusal>
+    ) -> Result<Told, Refusal>
         requires session { session < MOST_SESSIONS }
-        ensures step { IfOk result (λ told. Appends session (Event.Ask work.snapshot.root told.0) self.old self.new) }
-        ensures answers { IfOk result (λ told. Remembers work.snapshot.root told.0 self.new) }
+        ensures step { IfOk result (λ told. (outcome : Outcome) × (told ≡ Event.Ask work.snapshot.root outcome) × Appends session told self.old self.new × Remembers work.snapshot.root outcome self.new) }
         ensures others { OnOk result (KeepsOthers work.snapshot.root self.old self.new) }
-        ensures same { IfOk result (λ told. told.1 ≡ told.0) }
+        ensures absent { OnOk result (at_name self.old.shelf.places work.snapshot.root ≡ None → self.new.answers ≡ self.old.answers) }
         ensures refused { OnErr result (self.new ≡ self.old) }
         ensures full { IfErr result (IsFull self.old) }
         ensures below { OnOk result (length self.old.entries < self.old.capacity) }
     {
-        self.ledger.reserve()?;
+        self.ledger.has_room()?;
         let name = *work.name();
-        let Found { outcome, pieces } = self.ledger.outcome(alloc, work, providers)?;
+        let Found { outcome, pieces } = self.ledger.outcome(alloc, &name, Some(work), providers)?;
         let row = self.ledger.row(alloc, &name, &outcome)?;
-        let findings = Findings::of(alloc, row, pieces)?;
-        let told = two_owners(&outcome)?;
-        self.append(rt, session, Event::Ask(name, outcome), findings)?;
-        Ok(told)
+        let mut rows = Vec::new(alloc);
+        push_row(&mut rows, row)?;
+        let findings = Findings::of(alloc, rows, pieces)?;
+        self.append(rt, session, Event::Ask(name, outcome), findings)
     }
 
-    // Adds a session's event, whose reply is the one that what is held gives it, publishes it, and remembers an outcome and keeps pieces,
+    /// Enters a session's Ask for all, and answers it with the outcome of each held root, in the order of their names. Each is the one that
+    /// `settle` would answer to an Ask of that name, with a session's work on it where one is handed in. Works may be handed in in any order, and may be of names
+    /// that are no held roots, of another database, or doubled: those that do not come in the order of the names are let go, and what they
+    /// found is found again. All outcomes are remembered, and published with the one entry, and so are the pieces. Published and refused as
+    /// `settle` is. (Own.)
+    pub fn settle_all<R: Wait>(
+        &mut self,
+        rt: &R,
+        alloc: Global,
+        session: u8,
+        works: Vec<Work>,
+        providers: &Providers,
+    ) -> Result<Told, Refusal>
+        requires session { session < MOST_SESSIONS }
+        ensures step { IfOk result (λ told. (listing : List (NameParts × Outcome)) × (told ≡ events.All listing) × Appends session told self.old self.new × RemembersEach self.new.shelf self.new.answers listing) }
+        ensures others { IfOk result (λ told. KeepsUnasked told self.old self.new) }
+        ensures refused { OnErr result (self.new ≡ self.old) }
+        ensures full { IfErr result (IsFull self.old) }
+        ensures below { OnOk result (length self.old.entries < self.old.capacity) }
+    {
+        self.ledger.has_room()?;
+        let FoundAll {
+            listing,
+            rows,
+            pieces,
+        } = self.ledger.outcomes(alloc, works, providers)?;
+        let listing = share(alloc, Sequence::from(listing))?;
+        let findings = Findings::of(alloc, rows, Some(pieces))?;
+        self.append(rt, session, Event::All(listing), findings)
+    }
+
+    // Adds a session's event, whose reply is the one that what is held gives it, publishes it, and remembers outcomes and keeps pieces,
     // where there are any. The capacity is tested first, all that may be refused comes next, and of that the writer's own room is the
-    // last.
+    // last. Answers two more owners of the event.
     fn append<R: Wait>(
         &mut self,
         rt: &R,
         session: u8,
         event: Event,
         findings: Findings,
-    ) -> Result<(), Refusal>
+    ) -> Result<Told, Refusal>
         requires session { session < MOST_SESSIONS }
         requires reply { IsReply (after self.old.entries) event }
         requires place { HasPlace (length self.old.shelf.places) event }
-        requires row { ForSome findings.row (λ r. IsRow self.old.shelf self.old.entries r.0 r.1) }
+        requires rows { AreRows self.old.shelf self.old.entries findings.rows.items }
+        ensures told { IfOk result (λ told. told ≡ event) }
         ensures step { OnOk result (Appends session event self.old self.new) }
-        ensures answers { OnOk result (self.new.answers ≡ kept_rows (change_of event) (remembering findings.row self.old.answers)) }
+        ensures answers { OnOk result (self.new.answers ≡ kept_rows (change_of event) (remembering findings.rows.items self.old.answers)) }
         ensures refused { OnErr result (self.new ≡ self.old) }
         ensures full { IfErr result (IsFull self.old) }
         ensures below { OnOk result (length self.old.entries < self.old.capacity) }
     {
-        self.ledger.reserve()?;
+        self.ledger.reserve(findings.rows.len())?;
+        let told = Told::of(&event)?;
         let change = event.change()?;
+        self.ledger.prepare(&change)?;
         let number = self.ledger.number(session);
         let revision = self.ledger.revision(&event);
         let entry = Entry {
@@ -264,15 +330,15 @@ impl<E: Ending> Book<E> {
         };
         let copy = entry.copy()?;
         let Findings {
-            row,
+            rows,
             kept,
             published,
         } = findings;
         self.press.add(rt, copy, revision, published)?;
-        self.ledger.remember(row);
+        self.ledger.remember(rows);
         self.ledger.record(entry, change, revision);
         self.ledger.keep(kept);
-        Ok(())
+        Ok(told)
     }
 
     /// The history, taken out: all entries, in their order. Own.

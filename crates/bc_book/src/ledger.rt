@@ -1,20 +1,24 @@
 //! The history, and what it leaves: what lies under the lock but for what publishes. It waits for nobody.
-ghost use Rattle.std.specs.Prelude.{◌≡◌, ◌↔◌, ◌+◌, ◌^◌, ◌<◌, [], ◌∷◌, ◌++◌, length, IfOk, IfSome, IsSome, IsTrue, OnOk, IfErr};
+ghost use Rattle.std.specs.Prelude.{◌≡◌, ◌↔◌, ◌+◌, ◌^◌, ◌<◌, ◌≤◌, [], ◌∷◌, ◌++◌, length, IfOk, IfSome, IsSome, IsTrue, OnOk, IfErr};
 ghost use Rattle.std.specs.Option.{ForSome, option_copied};
+ghost use Rattle.std.specs.BTreeMap.{insert_entry};
+ghost use Rattle.std.specs.Map.{keys_of};
+ghost use Rattle.bc_text.specs.Names.{name_order};
 ghost use Rattle.bc_prov.specs.Outcome.{IsOutcomeIn};
 ghost use Rattle.bc_prov.specs.Snapshots.{IsPartOf};
 ghost use Rattle.bc_prov.specs.State.{at_name};
 ghost use Rattle.bc_memo.specs.Memos.{IsRemembered};
-ghost use Rattle.bc_memo.specs.Places.{changed, empty_shelf};
-ghost use Rattle.bc_calls.specs.Calls.{IsLegal, IsPutReply, IsRemoveReply, MayComeNext, after, count_of, most_bodies};
+ghost use Rattle.bc_memo.specs.Places.{IsReady, changed, empty_shelf};
+ghost use Rattle.bc_calls.specs.Calls.{IsLegal, IsListing, IsPutReply, IsRemoveReply, MayComeNext, after, count_of, most_bodies};
 ghost use Rattle.bc_calls.specs.Changes.{change_of, writes_after, writes_of};
-ghost use Rattle.bc_book.specs.Ledgers.{HasPlace, IsRow, Recalls, SameLedger, kept_rows, remembering};
+ghost use Rattle.bc_book.specs.Ledgers.{AreRows, HasPlace, IsFoundAll, IsRow, Recalls, SameButAnswers, SameLedger, kept_rows, remembering};
 
 use crate::reply::{put_reply, remove_reply};
+use crate::roots::{FoundAll, push_pieces, push_row, take_work};
 use bc_calls::{Begun, Entry, Event, MOST_BODIES, PutReply, RemoveReply, Work, no_declarations};
 use bc_memo::{Change, Memo, Remembered, Shelf};
 use bc_outcomes::Found;
-use bc_prov::{Outcome, Pieces, Providers, Shared};
+use bc_prov::{Outcome, PieceSet, Providers, Shared};
 use bc_syntax::Unit;
 use bc_text::Name;
 use std::alloc::{AllocError, Global};
@@ -61,7 +65,7 @@ impl Model for Ledger {
 
     ghost Value = { LedgerView };
 
-    ghost view = { λ l. record { capacity = l.capacity; entries = l.history.items; shelf = l.shelf.held; answers = l.memo.rows; room = vec_capacity l.history - l.history.len; places = l.shelf.room; rows = l.memo.room } };
+    ghost view = { λ l. record { capacity = l.capacity; entries = l.history.items; shelf = l.shelf.held; answers = l.memo.rows; room = vec_capacity l.history - l.history.len; places = l.shelf.room; rows = l.memo.room; ready = l.shelf.ready } };
 
     ghost invariant = { λ l. IsKept l.capacity l.history.items l.counts l.writes l.shelf.held l.memo.rows };
 }
@@ -83,20 +87,29 @@ impl Ledger {
         })
     }
 
-    /// Makes room for one entry, one body and one answer. The capacity is tested first: `HistoryFull` exactly where the history is as
-    /// long as it may be, and `NoMemory` only where memory was refused. What is kept is as it was in each case. (Own.)
-    pub(crate) fn reserve(&mut self) -> Result<(), Refusal>
-        ensures same { SameLedger self.old self.new }
-        ensures room { OnOk result ((0 < self.new.room) × (0 < self.new.places) × (0 < self.new.rows)) }
-        ensures below { OnOk result (length self.old.entries < self.old.capacity) }
-        ensures full { IfErr result (λ r. r ≡ Refusal.HistoryFull ↔ length self.old.entries ≡ self.old.capacity) }
+    /// Whether one more entry may come: refused with `HistoryFull` exactly where the history is as long as it may be. It takes no memory.
+    pub(crate) fn has_room(&self) -> Result<(), Refusal>
+        ensures below { OnOk result (length self.now.entries < self.now.capacity) }
+        ensures full { IfErr result (λ r. (r ≡ Refusal.HistoryFull) × (length self.now.entries ≡ self.now.capacity)) }
     {
         if self.history.len() == self.capacity as usize {
             return Err(Refusal::HistoryFull);
         }
+        Ok(())
+    }
+
+    /// Makes room for one entry, one body and so many answers. The capacity is tested first: `HistoryFull` exactly where the history is as
+    /// long as it may be, and `NoMemory` only where memory was refused. What is kept is as it was in each case. (Own.)
+    pub(crate) fn reserve(&mut self, answers: usize) -> Result<(), Refusal>
+        ensures same { SameLedger self.old self.new }
+        ensures room { OnOk result ((0 < self.new.room) × (0 < self.new.places) × (answers ≤ self.new.rows)) }
+        ensures below { OnOk result (length self.old.entries < self.old.capacity) }
+        ensures full { IfErr result (λ r. r ≡ Refusal.HistoryFull ↔ length self.old.entries ≡ self.old.capacity) }
+    {
+        self.has_room()?;
         self.history.reserve(1)?;
         self.shelf.reserve()?;
-        self.memo.reserve()?;
+        self.memo.reserve(answers)?;
         Ok(())
     }
 
@@ -148,63 +161,102 @@ impl Ledger {
         ensures remembered { IfOk result (λ begun. IsRemembered self.now.shelf self.now.answers name.now begun.carried) }
         ensures right { IfOk result (λ begun. IfSome begun.carried (IsOutcomeIn (after self.now.entries) name.now)) }
         ensures legal { OnOk result (IsLegal self.now.entries) }
+        ensures types { IfOk result (λ begun. begun.types ≡ self.now.shelf.types) }
     {
         let answer = self.shared_answer(name)?;
         let part = self.shelf.part(alloc, name)?;
         Ok(Begun::carrying(part, answer))
     }
 
-    /// The outcome of the name of a work: what is remembered for it. Else, where the work made pieces, it is put together of those that
-    /// stand and of those that are kept, and only the other bodies are worked on; else it is the work's own where it stands, or worked
-    /// out again. With it come the pieces that are not kept yet. `AllocError` only where memory was refused, as a provider may answer too.
+    /// The outcome of a name, of which a session may have worked on a part: what is remembered for it; else the work's own where the work
+    /// stands; else what its pieces and those that are kept give, as far as they stand, with the other bodies worked on. With it come
+    /// the pieces that are not kept yet. `AllocError` only where memory was refused, as a provider may answer too.
     pub(crate) fn outcome(
         &self,
         alloc: Global,
-        work: Work,
-        providers: &Providers,
-    ) -> Result<Found, AllocError>
-        ensures { IfOk result (λ found. IsOutcomeIn (after self.now.entries) work.snapshot.root found.outcome) }
-    {
-        let name = *work.name();
-        match self.shared_answer(&name)? {
-            Some(outcome) => Ok(Found::without_pieces(alloc, outcome)),
-            None => self.settled(alloc, &name, work, providers),
-        }
-    }
-
-    // The outcome of the name of a work, of which nothing that stands is remembered, with the pieces that are not kept yet.
-    fn settled(
-        &self,
-        alloc: Global,
         name: &Name,
-        work: Work,
+        work: Option<Work>,
         providers: &Providers,
     ) -> Result<Found, AllocError>
-        requires { work.snapshot.root ≡ name.now }
-        ensures { IfOk result (λ found. IsOutcomeIn (after self.now.entries) name.now found.outcome) }
+        requires { IfSome work (λ w. w.snapshot.root ≡ name.now) }
+        ensures outcome { IfOk result (λ found. IsOutcomeIn (after self.now.entries) name.now found.outcome) }
+        ensures over { IfOk result (λ found. IfSome found.pieces (λ set. set.types ≡ self.now.shelf.types)) }
     {
-        if work.has_pieces() {
-            return self.work_again(alloc, name, work.into_pieces(), providers);
+        if let Some(outcome) = self.shared_answer(name)? {
+            return Ok(Found::without_pieces(outcome));
         }
-        match work.standing(&self.shelf) {
-            Some(outcome) => Ok(Found::without_pieces(alloc, outcome)),
-            None => self.work_again(alloc, name, Vec::new(alloc), providers),
+        match work {
+            Some(work) => match work.standing(&self.shelf) {
+                Ok(found) => Ok(found),
+                Err(pieces) => self.found_anew(alloc, name, pieces, providers),
+            },
+            None => self.found_anew(alloc, name, None, providers),
         }
     }
 
     // The outcome of a name, worked out, but for the bodies of which a piece is handed in or kept that stands.
-    fn work_again(
+    fn found_anew(
         &self,
         alloc: Global,
         name: &Name,
-        pieces: Pieces,
+        pieces: Option<PieceSet>,
         providers: &Providers,
     ) -> Result<Found, AllocError>
-        ensures { IfOk result (λ found. IsOutcomeIn (after self.now.entries) name.now found.outcome) }
+        ensures outcome { IfOk result (λ found. IsOutcomeIn (after self.now.entries) name.now found.outcome) }
+        ensures over { IfOk result (λ found. IfSome found.pieces (λ set. set.types ≡ self.now.shelf.types)) }
     {
         let begun = self.begin(alloc, name)?;
-        let with_pieces = begun.carrying_pieces(pieces);
+        let with_pieces = begun.offer(pieces);
         with_pieces.find(alloc, providers)
+    }
+
+    /// The outcome of each held root, in the order of their names, with what is to be remembered and the pieces that are not kept yet. The works
+    /// are taken as `outcome` takes one, where they come in the order of their names; any other is let go, and what it found is found again.
+    /// `AllocError` only where memory was refused, as a provider may answer too.
+    pub(crate) fn outcomes(
+        &self,
+        alloc: Global,
+        works: Vec<Work>,
+        providers: &Providers,
+    ) -> Result<FoundAll, AllocError>
+        ensures listing { IfOk result (λ found. IsListing (after self.now.entries) found.listing.items) }
+        ensures found { IfOk result (λ found. IsFoundAll self.now.shelf self.now.entries self.now.answers found.listing.items found.rows.items) }
+    {
+        let types = self.shelf.types().clone()?;
+        let mut found = FoundAll::none(alloc, types);
+        let mut works = works;
+        works.reverse();
+        let roots = self.shelf.roots(alloc)?;
+        for name in &roots {
+            let work = take_work(&mut works, name);
+            self.push_outcome(alloc, &mut found, name, work, providers)?;
+        }
+        Ok(found)
+    }
+
+    // Adds the outcome of a held name, what is to be remembered of it, and the pieces that are not kept yet.
+    fn push_outcome(
+        &self,
+        alloc: Global,
+        found: &mut FoundAll,
+        name: &Name,
+        work: Option<Work>,
+        providers: &Providers,
+    ) -> Result<(), AllocError>
+        requires held { IsSome (at_name self.now.shelf.places name.now) }
+        requires work { IfSome work (λ w. w.snapshot.root ≡ name.now) }
+        requires over { found.old.pieces.types ≡ self.now.shelf.types }
+        requires found { IsFoundAll self.now.shelf self.now.entries self.now.answers found.old.listing.items found.old.rows.items }
+        ensures listed { OnOk result (keys_of found.new.listing.items ≡ keys_of found.old.listing.items ++ name.now ∷ []) }
+        ensures over { OnOk result (found.new.pieces.types ≡ self.now.shelf.types) }
+        ensures found { OnOk result (IsFoundAll self.now.shelf self.now.entries self.now.answers found.new.listing.items found.new.rows.items) }
+    {
+        let Found { outcome, pieces } = self.outcome(alloc, name, work, providers)?;
+        let row = self.row(alloc, name, &outcome)?;
+        push_row(&mut found.rows, row)?;
+        push_pieces(&mut found.pieces, pieces)?;
+        found.listing.push((*name, outcome))?;
+        Ok(())
     }
 
     /// What is to be remembered of an outcome of a name, where the name is held and nothing that stands is remembered for it.
@@ -266,25 +318,46 @@ impl Ledger {
         writes_with(self.writes, event)
     }
 
-    /// Remembers an outcome of a name that is held, where there is one. It takes no memory.
-    pub(crate) fn remember(&mut self, row: Option<(Name, Remembered)>)
-        requires room { 0 < self.old.rows }
-        requires row { ForSome row (λ r. IsRow self.old.shelf self.old.entries r.0 r.1) }
-        ensures same { (self.new.capacity ≡ self.old.capacity) × (self.new.entries ≡ self.old.entries) × (self.new.shelf ≡ self.old.shelf) × (self.new.room ≡ self.old.room) × (self.new.places ≡ self.old.places) }
-        ensures answers { self.new.answers ≡ remembering row self.old.answers }
+    /// Remembers outcomes of names that are held. It takes no memory.
+    pub(crate) fn remember(&mut self, rows: Vec<(Name, Remembered)>)
+        requires room { length rows.items ≤ self.old.rows }
+        requires rows { AreRows self.old.shelf self.old.entries rows.items }
+        ensures same { SameButAnswers self.old self.new }
+        ensures answers { self.new.answers ≡ remembering rows.items self.old.answers }
     {
-        if let Some(row) = row {
-            self.memo.put(row.0, row.1);
+        for (name, row) in rows {
+            self.remember_one(name, row);
         }
     }
 
+    // Remembers an outcome of a name that is held.
+    fn remember_one(&mut self, name: Name, row: Remembered)
+        requires room { 0 < self.old.rows }
+        requires row { IsRow self.old.shelf self.old.entries name row }
+        ensures same { SameButAnswers self.old self.new }
+        ensures answers { self.new.answers ≡ insert_entry name_order self.old.answers name row }
+        ensures room { self.old.rows ≤ self.new.rows + 1 }
+    {
+        self.memo.put(name, row);
+    }
+
     /// Keeps those pieces, if there are any, that were found from what is held. Contracts do not see them.
-    pub(crate) fn keep(&mut self, pieces: Option<Pieces>)
+    pub(crate) fn keep(&mut self, pieces: Option<PieceSet>)
         ensures { self.new ≡ self.old }
     {
-        if let Some(pieces) = pieces {
-            let _kept = self.shelf.keep_all(&pieces);
+        if let Some(set) = pieces {
+            let _kept = self.shelf.keep_all(&set);
         }
+    }
+
+    /// Makes the owners that a change brings for many names. `AllocError` only where memory or an owner was refused. What is kept is as it
+    /// was in each case.
+    pub(crate) fn prepare(&mut self, change: &Change) -> Result<(), AllocError>
+        ensures same { SameLedger self.old self.new }
+        ensures room { (self.new.room ≡ self.old.room) × (self.new.places ≡ self.old.places) × (self.new.rows ≡ self.old.rows) }
+        ensures ready { OnOk result (IsReady change.now self.new.ready) }
+    {
+        self.shelf.prepare(change)
     }
 
     /// Takes in the entry that comes next, given what it changes, and the revision that it gives to what it writes. It takes no
@@ -296,6 +369,7 @@ impl Ledger {
         requires next { MayComeNext self.old.entries entry }
         requires place { HasPlace (length self.old.shelf.places) entry.event }
         requires change { change ≡ change_of entry.event }
+        requires ready { IsReady change self.old.ready }
         requires revision { revision ≡ writes_after (writes_of self.old.entries) entry.event }
         ensures same { self.new.capacity ≡ self.old.capacity }
         ensures entries { self.new.entries ≡ self.old.entries ++ entry ∷ [] }
@@ -333,6 +407,10 @@ fn forget_removed(memo: &mut Memo, change: &Change)
 {
     match change {
         Change::Remove(name) => memo.forget(name),
-        Change::Types(_) | Change::Put(_, _) | Change::Answer(_, _) | Change::Nothing => {}
+        Change::Types(_)
+        | Change::Put(_, _)
+        | Change::Answer(_, _)
+        | Change::Answers(_)
+        | Change::Nothing => {}
     }
 }

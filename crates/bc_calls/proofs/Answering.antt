@@ -1,6 +1,6 @@
 -- What an entry does to the answers of names.
 use Rattle.std.proofs.Common.{◌≡◌, ◌⊎◌, ◌&&◌, ◌||◌, Bool, true, false, true≢false, List, [], ◌∷◌, ◌++◌, cond, refl, ap, sym, subst, ◌∙◌, inl, inr, ⊎_elim, append_assoc, Option, Some, None}
-use Rattle.std.specs.Prelude.{IsSome, MatchOption}
+use Rattle.std.specs.Prelude.{IsSome, MatchOption, is_some}
 use Rattle.std.specs.List.{list_any}
 use Rattle.std.specs.Option.{option_or}
 use Rattle.std.proofs.lemmas.List.Folds.{list_any-append}
@@ -9,16 +9,16 @@ use Rattle.bc_text.proofs.Equality.{name}
 use Rattle.bc_text.proofs.Within.{within_self}
 use Rattle.bc_syntax.specs.declared.syntax.Body.{Body}
 use Rattle.bc_prov.specs.declared.outcome.Outcome.{Outcome}
-use Rattle.bc_prov.specs.State.{State, Bodies}
-use Rattle.bc_prov.specs.Outcome.{IsOutcomeIn}
+use Rattle.bc_prov.specs.State.{State, Bodies, at_name}
+use Rattle.bc_prov.specs.Outcome.{IsOutcomeIn, OutcomeRows}
 use Rattle.bc_outcomes.specs.Laws.{HaveSamePart}
 use Rattle.bc_outcomes.proofs.Local.{outcome_same}
 use Rattle.bc_memo.proofs.Places.{by_bool}
 use Rattle.bc_memo.proofs.Marking.{other_name}
 use Rattle.bc_calls.specs.declared.call.Event.{Event}
-use Rattle.bc_calls.specs.declared.call.Event.TheVariants.{Types, Put, Remove, Ask}
+use Rattle.bc_calls.specs.declared.call.Event.TheVariants.{Types, Put, Remove, Ask, All as EveryRoot}
 use Rattle.bc_calls.specs.declared.call.Entry.{Entry}
-use Rattle.bc_calls.specs.Calls.{next, after, stores, takes, with_body, IsReply, MayComeNext}
+use Rattle.bc_calls.specs.Calls.{next, after, stores, takes, with_body, IsListing, IsReply, MayComeNext}
 use Rattle.bc_calls.specs.Answers.{clears, found, asks, IsAnswered, IsAnswer}
 use Rattle.bc_calls.proofs.Histories.{snoc_split, after-snoc}
 
@@ -33,16 +33,22 @@ same_next s n (Types t) keeps = absurd (true≢false keeps)
 same_next s n (Put m b r) keeps = record { types = refl; bodies = spared (stores r) s.bodies n m (Some b) keeps }
 same_next s n (Remove m r) keeps = record { types = refl; bodies = spared (takes r) s.bodies n m None keeps }
 same_next s n (Ask m o) keeps = record { types = refl; bodies = λ k within. refl }
+same_next s n (EveryRoot rows) keeps = record { types = refl; bodies = λ k within. refl }
 
 -- an entry that does not make an answer of n void leaves n's part
 pub same_part : (h : List Entry) (e : Entry) (n : NameParts) → clears n e.event ≡ false → HaveSamePart n (after h) (after (h ++ e ∷ []))
 same_part h e n keeps = subst (HaveSamePart n (after h)) (sym (after-snoc h e)) (same_next (after h) n e.event keeps)
 
--- an event that answers for n is an Ask of it, with its outcome; it makes no answer of n void
+-- an event that answers for n is an Ask of it, or one for all that lists it, with its outcome; it makes no answer of n void
 abbrev Finding : State → NameParts → Event → Type 0
 Finding s n e =
     ((found n e ≡ None) × (asks n e ≡ false))
     ⊎ ((o : Outcome) × (found n e ≡ Some o) × (asks n e ≡ true) × IsOutcomeIn s n o × (clears n e ≡ false))
+
+-- what is listed for n, if it is
+listing : (s : State) (n : NameParts) (rows : OutcomeRows) → IsListing s rows → (a : Option Outcome) → at_name rows n ≡ a → Finding s n (EveryRoot rows)
+listing s n rows right None e = inl (e, ap (λ (a : Option Outcome). is_some a) e)
+listing s n rows right (Some o) e = inr (o, e, ap (λ (a : Option Outcome). is_some a) e, (right.listed n o e).2, refl)
 
 finding : (s : State) (n : NameParts) (e : Event) → IsReply s e → Finding s n e
 finding s n (Types t) right = inl (refl, refl)
@@ -52,12 +58,14 @@ finding s n (Ask m o) right =
     by_bool (is_same_name m n)
     (λ e. inr (o, ap (λ (b : Bool). cond b (Some o) None) e, e, subst (λ (k : NameParts). IsOutcomeIn s k o) ((name m n).0 e) right, refl))
     (λ e. inl (ap (λ (b : Bool). cond b (Some o) None) e, e))
+finding s n (EveryRoot rows) right = listing s n rows right (at_name rows n) refl
 
 no_ask : (n : NameParts) (e : Event) → clears n e ≡ true → asks n e ≡ false
 no_ask n (Types t) voids = refl
 no_ask n (Put m b r) voids = refl
 no_ask n (Remove m r) voids = refl
 no_ask n (Ask m o) voids = absurd (true≢false (sym voids))
+no_ask n (EveryRoot rows) voids = absurd (true≢false (sym voids))
 
 held_along : (a b : Option Body) → a ≡ b → IsSome a → IsSome b
 held_along a b e = subst (λ (o : Option Body). IsSome o) e

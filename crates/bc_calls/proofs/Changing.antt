@@ -17,7 +17,7 @@ use Rattle.bc_memo.proofs.Places.{at_name-map, at_name-put, at_name-take, ordere
 use Rattle.bc_calls.specs.declared.call.PutReply.TheVariants.{Added, Replaced, Full, WrongKind}
 use Rattle.bc_calls.specs.declared.call.RemoveReply.TheVariants.{Removed, Absent}
 use Rattle.bc_calls.specs.declared.call.Event.{Event}
-use Rattle.bc_calls.specs.declared.call.Event.TheVariants.{Types, Put, Remove, Ask}
+use Rattle.bc_calls.specs.declared.call.Event.TheVariants.{Types, Put, Remove, Ask, All as EveryRoot}
 use Rattle.bc_calls.specs.declared.call.Entry.{Entry}
 use Rattle.bc_calls.specs.Calls.{IsReply, after, next_types, next_bodies, stores, takes, with_body, MayComeNext}
 use Rattle.bc_calls.specs.Changes.{change_of, writes}
@@ -41,6 +41,7 @@ same_voids n (Types t) = refl
 same_voids n (Put m b r) = put_voids (stores r) n m b
 same_voids n (Remove m r) = remove_voids (takes r) n m
 same_voids n (Ask m o) = refl
+same_voids n (EveryRoot rows) = refl
 
 put_brings : (s : Bool) (n m : NameParts) (b : Body) → brought (cond s (changes.Put m b) changes.Nothing) n ≡ None
 put_brings true n m b = refl
@@ -56,6 +57,7 @@ same_brought n (Types t) = refl
 same_brought n (Put m b r) = put_brings (stores r) n m b
 same_brought n (Remove m r) = remove_brings (takes r) n m
 same_brought n (Ask m o) = refl
+same_brought n (EveryRoot rows) = refl
 
 same_answer : (n : NameParts) (e : Event) (a : Option Outcome) → next_answer (change_of e) n a ≡ answer_after n e a
 same_answer n e a = λ i. cond (same_voids n e i) None (option_or (same_brought n e i) a)
@@ -73,6 +75,7 @@ types-changed held (Types t) = refl
 types-changed held (Put m b r) = put_types (stores r) held m b
 types-changed held (Remove m r) = remove_types (takes r) held m
 types-changed held (Ask m o) = refl
+types-changed held (EveryRoot rows) = refl
 
 -- ---- the bodies
 
@@ -103,6 +106,7 @@ body-placed ps bodies (Types t) revision n o were = were
 body-placed ps bodies (Put m b r) revision n o were = put_body (stores r) ps bodies m b revision n were
 body-placed ps bodies (Remove m r) revision n o were = take_body (takes r) ps bodies m revision n o were
 body-placed ps bodies (Ask m o') revision n o were = were
+body-placed ps bodies (EveryRoot rows) revision n o were = were
 
 -- ---- the answers
 
@@ -170,6 +174,7 @@ clears_writes n (Remove m r) is = first_true (takes r) (is_within n m) is
     first_true true b f = refl
     first_true false b f = f
 clears_writes n (Ask m o) is = absurd (cc)
+clears_writes n (EveryRoot rows) is = absurd (cc)
 
 -- a body that an event puts suits its name
 pub may_change : (s : State) (e : Event) → IsReply s e → MayChange (change_of e)
@@ -181,3 +186,4 @@ may_change s (Put m b WrongKind) right = tt
 may_change s (Remove m Removed) right = tt
 may_change s (Remove m Absent) right = tt
 may_change s (Ask m o) right = tt
+may_change s (EveryRoot rows) right = tt

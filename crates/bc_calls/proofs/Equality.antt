@@ -4,7 +4,7 @@ use Rattle.std.specs.Bool.{Decides}
 use Rattle.std.proofs.lemmas.Bool.Decides.{Decides-and, Decides-like}
 use Rattle.bc_text.proofs.Equality.{name}
 use Rattle.bc_syntax.proofs.Equality.{apart, body}
-use Rattle.bc_prov.proofs.Equality.{outcome, declared}
+use Rattle.bc_prov.proofs.Equality.{outcome, declared, listing}
 use Rattle.bc_calls.specs.declared.call.PutReply.{PutReply}
 use Rattle.bc_calls.specs.declared.call.PutReply.TheVariants as put_replies
 use Rattle.bc_calls.specs.declared.call.RemoveReply.{RemoveReply}
@@ -44,15 +44,24 @@ event (events.Types x) (events.Types y) = Decides-like _ (λ p i. events.Types (
 event (events.Types x) (events.Put y0 y1 y2) = apart (λ e. absurd (cc))
 event (events.Types x) (events.Remove y0 y1) = apart (λ e. absurd (cc))
 event (events.Types x) (events.Ask y0 y1) = apart (λ e. absurd (cc))
+event (events.Types x) (events.All y) = apart (λ e. absurd (cc))
 event (events.Put x0 x1 x2) (events.Types y) = apart (λ e. absurd (cc))
 event (events.Put x0 x1 x2) (events.Put y0 y1 y2) = Decides-like _ (λ p i. events.Put (p.0 i) (p.1.0 i) (p.1.1 i)) (λ e. (cc, (cc, cc))) (Decides-and _ _ (name x0 y0) (Decides-and _ _ (body x1 y1) (put_reply x2 y2)))
 event (events.Put x0 x1 x2) (events.Remove y0 y1) = apart (λ e. absurd (cc))
 event (events.Put x0 x1 x2) (events.Ask y0 y1) = apart (λ e. absurd (cc))
+event (events.Put x0 x1 x2) (events.All y) = apart (λ e. absurd (cc))
 event (events.Remove x0 x1) (events.Types y) = apart (λ e. absurd (cc))
 event (events.Remove x0 x1) (events.Put y0 y1 y2) = apart (λ e. absurd (cc))
 event (events.Remove x0 x1) (events.Remove y0 y1) = Decides-like _ (λ p i. events.Remove (p.0 i) (p.1 i)) (λ e. (cc, cc)) (Decides-and _ _ (name x0 y0) (remove_reply x1 y1))
 event (events.Remove x0 x1) (events.Ask y0 y1) = apart (λ e. absurd (cc))
+event (events.Remove x0 x1) (events.All y) = apart (λ e. absurd (cc))
 event (events.Ask x0 x1) (events.Types y) = apart (λ e. absurd (cc))
 event (events.Ask x0 x1) (events.Put y0 y1 y2) = apart (λ e. absurd (cc))
 event (events.Ask x0 x1) (events.Remove y0 y1) = apart (λ e. absurd (cc))
 event (events.Ask x0 x1) (events.Ask y0 y1) = Decides-like _ (λ p i. events.Ask (p.0 i) (p.1 i)) (λ e. (cc, cc)) (Decides-and _ _ (name x0 y0) (outcome x1 y1))
+event (events.Ask x0 x1) (events.All y) = apart (λ e. absurd (cc))
+event (events.All x) (events.Types y) = apart (λ e. absurd (cc))
+event (events.All x) (events.Put y0 y1 y2) = apart (λ e. absurd (cc))
+event (events.All x) (events.Remove y0 y1) = apart (λ e. absurd (cc))
+event (events.All x) (events.Ask y0 y1) = apart (λ e. absurd (cc))
+event (events.All x) (events.All y) = Decides-like _ (λ p i. events.All (p i)) (λ e. cc) (listing x y)

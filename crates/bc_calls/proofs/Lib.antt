@@ -4,3 +4,4 @@ pub mod Beginnings
 pub mod Parts
 pub mod Answering
 pub mod Changing
+pub mod Roots

@@ -1,5 +1,5 @@
 -- Which names are answered after a history.
-use Rattle.std.specs.Prelude.{◌≡◌, ◌&&◌, Bool, true, false, Option, Some, None, IsSome, List, ◌∷◌, ◌++◌, if◌then◌else◌, MatchOption}
+use Rattle.std.specs.Prelude.{◌≡◌, ◌&&◌, Bool, true, false, Option, Some, None, IsSome, is_some, List, ◌∷◌, ◌++◌, if◌then◌else◌, MatchOption}
 use Rattle.std.specs.List.{list_any}
 use Rattle.bc_text.specs.Names.{NameParts, is_same_name, is_within}
 use Rattle.bc_prov.specs.declared.outcome.Outcome.{Outcome}
@@ -7,7 +7,7 @@ use Rattle.bc_prov.specs.Outcome.{IsOutcomeIn}
 use Rattle.bc_memo.specs.Places.{ShelfView, AreOrdered, unit_of, answer_of}
 use Rattle.bc_prov.specs.State.{at_name}
 use Rattle.bc_calls.specs.declared.call.Event.{Event}
-use Rattle.bc_calls.specs.declared.call.Event.TheVariants.{Types, Put, Remove, Ask}
+use Rattle.bc_calls.specs.declared.call.Event.TheVariants.{Types, Put, Remove, Ask, All as EveryRoot}
 use Rattle.bc_calls.specs.declared.call.Entry.{Entry}
 use Rattle.bc_calls.specs.Calls.{after, stores, takes}
 
@@ -18,20 +18,23 @@ clears name (Types types) = true
 clears name (Put other body reply) = stores reply && is_within name other
 clears name (Remove other reply) = takes reply && is_within name other
 clears name (Ask other outcome) = false
+clears name (EveryRoot rows) = false
 
--- the answer that an event gives for the name: an Ask of it, its outcome
+-- the answer that an event gives for the name: an Ask of it, its outcome, and an Ask for all the one that is listed for it
 abbrev pub found : NameParts → Event → Option Outcome
 found name (Types types) = None
 found name (Put other body reply) = None
 found name (Remove other reply) = None
 found name (Ask other outcome) = if is_same_name other name then Some outcome else None
+found name (EveryRoot rows) = at_name rows name
 
--- the event asks for the name
+-- the event asks for the name: an Ask of it, or an Ask for all that lists it
 abbrev pub asks : NameParts → Event → Bool
 asks name (Types types) = false
 asks name (Put other body reply) = false
 asks name (Remove other reply) = false
 asks name (Ask other outcome) = is_same_name other name
+asks name (EveryRoot rows) = is_some (at_name rows name)
 
 -- the name is held, and was asked for since an answer of it was made void last
 abbrev pub IsAnswered : List Entry → NameParts → Type 0

@@ -4,8 +4,10 @@ use Rattle.std.specs.List.{AllPairs, Contains}
 use Rattle.bc_text.specs.Names.{NameParts, is_same_name}
 use Rattle.bc_syntax.specs.declared.syntax.Declaration.{Declaration}
 use Rattle.bc_syntax.specs.declared.syntax.Body.{Body}
-use Rattle.bc_prov.specs.State.{State, Bodies, Suits}
-use Rattle.bc_prov.specs.Outcome.{IsOutcomeIn}
+use Rattle.bc_prov.specs.State.{State, Bodies, Suits, at_name}
+use Rattle.bc_prov.specs.declared.outcome.Outcome.{Outcome}
+use Rattle.bc_prov.specs.Outcome.{IsOutcomeIn, OutcomeRows}
+use Rattle.bc_memo.specs.Places.{AreOrdered}
 use Rattle.bc_calls.specs.declared.call.Call.{Call}
 use Rattle.bc_calls.specs.declared.call.Call.TheVariants as calls_made
 use Rattle.bc_calls.specs.declared.call.PutReply.{PutReply}
@@ -13,12 +15,12 @@ use Rattle.bc_calls.specs.declared.call.PutReply.TheVariants.{Added, Replaced, F
 use Rattle.bc_calls.specs.declared.call.RemoveReply.{RemoveReply}
 use Rattle.bc_calls.specs.declared.call.RemoveReply.TheVariants.{Removed, Absent}
 use Rattle.bc_calls.specs.declared.call.Event.{Event}
-use Rattle.bc_calls.specs.declared.call.Event.TheVariants.{Types, Put, Remove, Ask}
+use Rattle.bc_calls.specs.declared.call.Event.TheVariants.{Types, Put, Remove, Ask, All as EveryRoot}
 use Rattle.bc_calls.specs.declared.call.Entry.{Entry}
 
 -- how many bodies may be held
 abbrev pub most_bodies : ℕ
-most_bodies = 256
+most_bodies = 1024
 
 -- no declaration and no body
 abbrev pub opening : State
@@ -46,12 +48,20 @@ abbrev pub IsRemoveReply : Bodies → NameParts → RemoveReply → Type 0
 IsRemoveReply bodies name Removed = IsSome (bodies name)
 IsRemoveReply bodies name Absent = bodies name ≡ None
 
--- the reply of the event is the one to its call: an Ask's is the outcome of its name
+-- The names ascend. Each is a root that is held, with its outcome, and each root that is held is among them. A root is a name without
+-- segments.
+pub record IsListing (state : State) (rows : OutcomeRows) : Type 0 where
+  pub ordered : AreOrdered rows
+  pub listed : (name : NameParts) (outcome : Outcome) → at_name rows name ≡ Some outcome → (name.segments ≡ []) × IsSome (state.bodies name) × IsOutcomeIn state name outcome
+  pub whole : (name : NameParts) → name.segments ≡ [] → IsSome (state.bodies name) → IsSome (at_name rows name)
+
+-- the reply of the event is the one to its call: an Ask's is the outcome of its name, and that of an Ask for all the outcomes of all roots
 abbrev pub IsReply : State → Event → Type 0
 IsReply state (Types types) = Unit {0}
 IsReply state (Put name body reply) = IsPutReply state.bodies name body reply
 IsReply state (Remove name reply) = IsRemoveReply state.bodies name reply
 IsReply state (Ask name outcome) = IsOutcomeIn state name outcome
+IsReply state (EveryRoot rows) = IsListing state rows
 
 -- a put with this reply stored its body
 abbrev pub stores : PutReply → Bool
@@ -71,6 +81,7 @@ next_types held (Types types) = types
 next_types held (Put name body reply) = held
 next_types held (Remove name reply) = held
 next_types held (Ask name outcome) = held
+next_types held (EveryRoot rows) = held
 
 -- the bodies after an event
 abbrev pub next_bodies : Bodies → Event → Bodies
@@ -78,6 +89,7 @@ next_bodies bodies (Types types) = bodies
 next_bodies bodies (Put name body reply) = if stores reply then with_body bodies name (Some body) else bodies
 next_bodies bodies (Remove name reply) = if takes reply then with_body bodies name None else bodies
 next_bodies bodies (Ask name outcome) = bodies
+next_bodies bodies (EveryRoot rows) = bodies
 
 -- the state after an event
 abbrev pub next : State → Event → State
@@ -109,6 +121,7 @@ call_of (Types types) = calls_made.Types types
 call_of (Put name body reply) = calls_made.Put name body
 call_of (Remove name reply) = calls_made.Remove name
 call_of (Ask name outcome) = calls_made.Ask name
+call_of (EveryRoot rows) = calls_made.All
 
 -- h is a beginning of g
 abbrev pub StartsWith : List Entry → List Entry → Type 0

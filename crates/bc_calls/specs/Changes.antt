@@ -1,7 +1,7 @@
 -- What an event changes in what is held, and how many changes a history has made.
 use Rattle.std.specs.Prelude.{ℕ, ◌+◌, Bool, true, false, List, count_by, if◌then◌else◌}
 use Rattle.bc_calls.specs.declared.call.Event.{Event}
-use Rattle.bc_calls.specs.declared.call.Event.TheVariants.{Types, Put, Remove, Ask}
+use Rattle.bc_calls.specs.declared.call.Event.TheVariants.{Types, Put, Remove, Ask, All as EveryRoot}
 use Rattle.bc_calls.specs.declared.call.Entry.{Entry}
 use Rattle.bc_memo.specs.declared.change.Change.{Change}
 use Rattle.bc_memo.specs.declared.change.Change.TheVariants as changes
@@ -13,6 +13,7 @@ change_of (Types types) = changes.Types types
 change_of (Put name body reply) = if stores reply then changes.Put name body else changes.Nothing
 change_of (Remove name reply) = if takes reply then changes.Remove name else changes.Nothing
 change_of (Ask name outcome) = changes.Answer name outcome
+change_of (EveryRoot rows) = changes.Answers rows
 
 -- the event is an accepted write: declarations that were stored, or a body that was added, replaced or removed
 abbrev pub writes : Event → Bool
@@ -20,6 +21,7 @@ writes (Types types) = true
 writes (Put name body reply) = stores reply
 writes (Remove name reply) = takes reply
 writes (Ask name outcome) = false
+writes (EveryRoot rows) = false
 
 -- so many accepted writes, with one event more
 abbrev pub writes_after : ℕ → Event → ℕ

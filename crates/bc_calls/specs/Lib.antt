@@ -2,3 +2,4 @@ pub mod Calls
 pub mod Changes
 pub mod Answers
 pub mod Works
+pub mod Beginnings

@@ -4,22 +4,23 @@ ghost use Rattle.bc_calls.specs.Calls.{stores, takes};
 ghost use Rattle.bc_calls.specs.Changes.{change_of, writes};
 
 use bc_memo::Change;
-use bc_prov::{Declared, Outcome, Shared};
+use bc_prov::{Declared, Listing, Outcome, Shared};
 use bc_syntax::{Types, Unit};
 use bc_text::Name;
 use std::alloc::AllocError;
 
 /// How many bodies may be held (own).
-pub const MOST_BODIES: usize = 256;
+pub const MOST_BODIES: usize = 1024;
 
 /// What a session asks for: to store declarations in place of those before, to put a unit under a name, to take the unit of a name
-/// away, or the outcome of a name. (Own.)
+/// away, the outcome of a name, or the outcomes of all held names without segments. (Own.)
 #[derive(Drop)]
 pub enum Call {
     Types(Shared<Types>),
     Put(Name, Shared<Unit>),
     Remove(Name),
     Ask(Name),
+    All,
 }
 
 /// The reply to a put: the body is new, or in place of another; or the name is new and `MOST_BODIES` are held; or
@@ -63,13 +64,15 @@ impl RemoveReply {
     }
 }
 
-/// A call with its reply: declarations, which are stored; a put or a removal with its reply; or an Ask with its outcome. (Own.)
+/// A call with its reply: declarations, which are stored; a put or a removal with its reply; an Ask with its outcome; or an Ask for all
+/// with the outcome of each held name without segments, in the order of the names. (Own.)
 #[derive(Drop, PartialEq)]
 pub enum Event {
     Types(Shared<Declared>),
     Put(Name, Shared<Unit>, PutReply),
     Remove(Name, RemoveReply),
     Ask(Name, Shared<Outcome>),
+    All(Shared<Listing>),
 }
 
 /// An event of a session, and how many events that session had before it. (Own.)
@@ -118,6 +121,7 @@ impl Event {
             Event::Put(name, unit, reply) => Ok(Event::Put(*name, unit.clone()?, *reply)),
             Event::Remove(name, reply) => Ok(Event::Remove(*name, *reply)),
             Event::Ask(name, outcome) => Ok(Event::Ask(*name, outcome.clone()?)),
+            Event::All(listing) => Ok(Event::All(listing.clone()?)),
         }
     }
 
@@ -130,6 +134,7 @@ impl Event {
             Event::Put(_, _, reply) => reply.stores(),
             Event::Remove(_, reply) => reply.takes(),
             Event::Ask(_, _) => false,
+            Event::All(_) => false,
         }
     }
 
@@ -154,6 +159,7 @@ impl Event {
                 }
             }
             Event::Ask(name, outcome) => Ok(Change::Answer(*name, outcome.clone()?)),
+            Event::All(listing) => Ok(Change::Answers(listing.clone()?)),
         }
     }
 }

@@ -4,8 +4,10 @@
 
 mod call;
 mod declarations;
+mod told;
 mod work;
 
 pub use call::{Call, Entry, Event, MOST_BODIES, PutReply, RemoveReply};
 pub use declarations::{checked, no_declarations};
+pub use told::Told;
 pub use work::{Begun, Work};

@@ -1,8 +1,9 @@
 //! Snapshots that were begun, and the work on them, which needs no part of what they were taken from.
-ghost use Rattle.std.specs.Prelude.{◌≡◌, ◌↔◌, [], IfOk, IfSome, IsSome};
+ghost use Rattle.std.specs.Prelude.{◌≡◌, ◌↔◌, None, IfOk, IfSome, IsOk};
 ghost use Rattle.std.specs.Option.{option_or};
 ghost use Rattle.bc_text.specs.Names.{NameParts};
 ghost use Rattle.bc_prov.specs.Outcome.{IsOutcomeIn};
+ghost use Rattle.bc_prov.specs.Pieces.{rows_of};
 ghost use Rattle.bc_prov.specs.Snapshots.{IsPartOf};
 ghost use Rattle.bc_prov.specs.State.{State, state_of};
 ghost use Rattle.bc_outcomes.specs.Reported.{AreAmongPiecesOf};
@@ -10,7 +11,7 @@ ghost use Rattle.bc_calls.specs.Works.{StandsIn, Stood};
 
 use bc_memo::{Part, Shelf};
 use bc_outcomes::{Found, find_outcome};
-use bc_prov::{Outcome, Pieces, Providers, Shared, Snapshot};
+use bc_prov::{Outcome, PieceSet, Providers, Shared, Snapshot};
 use bc_text::Name;
 use std::alloc::{AllocError, Global};
 use std::marker::Model;
@@ -31,24 +32,26 @@ impl Model for Begun {
     ghost view = { λ b. b.snapshot };
 }
 
-/// A snapshot with its revisions and its outcome, and the pieces of its bodies that were made for it. Contracts see all but the pieces. (Own.)
+/// A snapshot with its revisions and its outcome, and the pieces of its bodies that were made for it: found from its declarations, which the
+/// type keeps. Contracts see all but the pieces. (Own.)
 #[derive(Drop)]
 pub struct Work {
     snapshot: Snapshot,
     types_revision: u32,
     revisions: Vec<u32>,
     outcome: Shared<Outcome>,
-    pieces: Pieces,
+    pieces: Option<PieceSet>,
 }
 
 impl Model for Work {
+    ghost use Rattle.std.specs.Prelude.{◌≡◌, IfSome};
     ghost use Rattle.bc_calls.specs.Works.{WorkView, IsDone};
 
     ghost Value = { WorkView };
 
     ghost view = { λ w. record { snapshot = w.snapshot; types_at = w.types_revision; units_at = w.revisions.items; outcome = w.outcome } };
 
-    ghost invariant = { λ w. IsDone w.snapshot w.outcome };
+    ghost invariant = { λ w. IsDone w.snapshot w.outcome × IfSome w.pieces (λ set. set.types ≡ w.snapshot.types) };
 }
 
 impl Begun {
@@ -75,15 +78,23 @@ impl Begun {
         }
     }
 
-    /// What was begun, with pieces of its bodies, which are taken where all that they were found from is there. It takes no memory,
-    /// and asks nothing of its caller. (Own.)
-    pub fn carrying_pieces(self, pieces: Pieces) -> Begun
+    /// What was begun, with the pieces of a set, if there is one, which are taken where all that they were found from is there. It takes no
+    /// memory, and asks nothing of its caller. (Own.)
+    pub fn offer(self, pieces: Option<PieceSet>) -> Begun
         ensures { result ≡ self }
     {
+        let Some(set) = pieces else {
+            return self;
+        };
+        let Begun {
+            snapshot,
+            types_revision,
+            revisions,
+        } = self;
         Begun {
-            snapshot: self.snapshot.carry_pieces(pieces),
-            types_revision: self.types_revision,
-            revisions: self.revisions,
+            snapshot: snapshot.offer(set),
+            types_revision,
+            revisions,
         }
     }
 
@@ -92,8 +103,9 @@ impl Begun {
     /// refused, as a provider may answer too. (Own.)
     pub fn find(&self, alloc: Global, providers: &Providers) -> Result<Found, AllocError>
         ensures outcome { IfOk result (λ found. IsOutcomeIn (state_of self.now.types self.now.units) self.now.root found.outcome) }
-        ensures pieces { IfOk result (λ found. AreAmongPiecesOf (state_of self.now.types self.now.units) self.now.root self.now.carried found.outcome found.pieces.items) }
-        ensures carried { IfSome self.now.carried (λ outcome. IfOk result (λ found. (found.outcome ≡ outcome) × (found.pieces.items ≡ []))) }
+        ensures pieces { IfOk result (λ found. AreAmongPiecesOf (state_of self.now.types self.now.units) self.now.root self.now.carried found.outcome (rows_of found.pieces)) }
+        ensures over { IfOk result (λ found. IfSome found.pieces (λ set. set.types ≡ self.now.types)) }
+        ensures carried { IfSome self.now.carried (λ outcome. IfOk result (λ found. (found.outcome ≡ outcome) × (found.pieces ≡ None))) }
     {
         find_outcome(alloc, providers, &self.snapshot)
     }
@@ -132,33 +144,24 @@ impl Work {
         self.outcome.get()
     }
 
-    /// Whether it has pieces of bodies that were made for it. Own.
-    pub fn has_pieces(&self) -> bool {
-        !self.pieces.is_empty()
-    }
-
-    /// The pieces of bodies that were made for it. Own.
-    pub fn into_pieces(self) -> Pieces {
-        self.pieces
-    }
-
-    /// Its outcome, exactly where its snapshot has the revisions that a shelf has and is what the shelf holds. It takes no memory.
-    /// (Own.)
-    pub fn standing(self, shelf: &Shelf) -> Option<Shared<Outcome>>
-        ensures own { IfSome result (λ outcome. Stood shelf.now.held self outcome) }
-        ensures stands { IsSome result ↔ StandsIn shelf.now.held self }
+    /// What it found, exactly where its snapshot has the revisions that a shelf has and is what the shelf holds: its outcome, with the
+    /// pieces that were made for it. Else these pieces are handed back alone. It takes no memory. (Own.)
+    pub fn standing(self, shelf: &Shelf) -> Result<Found, Option<PieceSet>>
+        ensures own { IfOk result (λ found. Stood shelf.now.held self found.outcome) }
+        ensures over { IfOk result (λ found. IfSome found.pieces (λ set. set.types ≡ shelf.now.held.types)) }
+        ensures stands { IsOk result ↔ StandsIn shelf.now.held self }
     {
         let Work {
             snapshot,
             types_revision,
             revisions,
             outcome,
-            pieces: _,
+            pieces,
         } = self;
         if shelf.holds(&snapshot, types_revision, &revisions) {
-            Some(outcome)
+            Ok(Found { outcome, pieces })
         } else {
-            None
+            Err(pieces)
         }
     }
 }

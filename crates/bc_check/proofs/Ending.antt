@@ -9,7 +9,7 @@ use Rattle.bc_text.specs.Names.{NameParts}
 use Rattle.bc_calls.specs.declared.call.Call.{Call}
 use Rattle.bc_calls.specs.declared.call.Call.TheVariants as calls_made
 use Rattle.bc_calls.specs.declared.call.Event.{Event}
-use Rattle.bc_calls.specs.declared.call.Event.TheVariants.{Types, Put, Remove, Ask}
+use Rattle.bc_calls.specs.declared.call.Event.TheVariants.{Types, Put, Remove, Ask, All as EveryRoot}
 use Rattle.bc_calls.specs.declared.call.Entry.{Entry}
 use Rattle.bc_calls.specs.Calls.{IsLegal, calls, call_of}
 use Rattle.bc_share.specs.Sessions.{SessionView, new_session}
@@ -33,6 +33,7 @@ told_ask (Types types) name is = refl
 told_ask (Put other body reply) name is = absurd cc
 told_ask (Remove other reply) name is = refl
 told_ask (Ask other outcome) name is = refl
+told_ask (EveryRoot rows) name is = refl
 
 told_asks : (names : List NameParts) (events : List Event) (ahead : List Call) → map call_of events ++ ahead ≡ map calls_made.Ask names → flat_map told events ≡ []
 told_asks names [] ahead h = refl
@@ -49,6 +50,7 @@ shown_change json (Put name body reply) change is = refl
 shown_change json (Remove name reply) change is = refl
 shown_change json (Ask name outcome) (changes.Types types) is = absurd cc
 shown_change json (Ask name outcome) (changes.Put other unit) is = absurd cc
+shown_change json (EveryRoot rows) change is = refl
 
 shown_changes : (json : Bool) (list : List Change) (events : List Event) (ahead : List Call) → map call_of events ++ ahead ≡ map seen list → flat_map (shown json) events ≡ []
 shown_changes json list [] ahead h = refl

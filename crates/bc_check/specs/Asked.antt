@@ -4,7 +4,7 @@ use Rattle.std.specs.List.{Contains}
 use Rattle.std.specs.List.Sorted.{IsStrictlySortedBy}
 use Rattle.bc_text.specs.Names.{NameParts, name_order}
 use Rattle.bc_calls.specs.declared.call.Call.{Call}
-use Rattle.bc_calls.specs.declared.call.Call.TheVariants.{Types, Put, Remove, Ask}
+use Rattle.bc_calls.specs.declared.call.Call.TheVariants.{Types, Put, Remove, Ask, All as EveryRoot}
 
 -- the root name under which a call puts a body, if it puts one under a root
 abbrev pub root_put : Call → Option NameParts
@@ -12,6 +12,7 @@ root_put (Types types) = None
 root_put (Put name body) = if length name.segments == 0 then Some name else None
 root_put (Remove name) = None
 root_put (Ask name) = None
+root_put EveryRoot = None
 
 -- the root names under which bodies are put, in the order of names, each once
 pub record AreAsked (made : List Call) (names : List NameParts) : Type 0 where

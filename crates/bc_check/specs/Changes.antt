@@ -20,6 +20,7 @@ is_change headings.Types = true
 is_change (headings.Put name) = true
 is_change (headings.Remove name) = false
 is_change (headings.Ask name) = false
+is_change headings.All = false
 
 -- a header line of `check`: it asks for a change, and names no session
 abbrev pub Takes : Heading → List ℕ → Type 0

@@ -4,7 +4,7 @@ use Rattle.bc_text.specs.Names.{IsName, name_text}
 use Rattle.bc_calls.specs.declared.call.Call.{Call}
 use Rattle.bc_calls.specs.declared.call.Call.TheVariants as calls
 use Rattle.bc_check.specs.declared.heading.Heading.{Heading}
-use Rattle.bc_check.specs.declared.heading.Heading.TheVariants.{Types, Put, Remove, Ask}
+use Rattle.bc_check.specs.declared.heading.Heading.TheVariants.{Types, Put, Remove, Ask, All as EveryRoot}
 
 -- the words of a heading
 abbrev pub heading_text : Heading → List ℕ
@@ -12,6 +12,7 @@ heading_text Types = codes "types"
 heading_text (Put name) = codes "put " ++ name_text name
 heading_text (Remove name) = codes "remove " ++ name_text name
 heading_text (Ask name) = codes "ask " ++ name_text name
+heading_text EveryRoot = codes "askall"
 
 -- what stands for a name is one
 abbrev pub IsNamed : Heading → Type 0
@@ -19,6 +20,7 @@ IsNamed Types = Unit {0}
 IsNamed (Put name) = IsName name
 IsNamed (Remove name) = IsName name
 IsNamed (Ask name) = IsName name
+IsNamed EveryRoot = Unit {0}
 
 -- these words are this heading
 abbrev pub IsHeading : Heading → List ℕ → Type 0
@@ -39,3 +41,4 @@ heading_of (calls.Types types) = Types
 heading_of (calls.Put name body) = Put name
 heading_of (calls.Remove name) = Remove name
 heading_of (calls.Ask name) = Ask name
+heading_of calls.All = EveryRoot

@@ -10,7 +10,7 @@ use Rattle.bc_calls.specs.declared.call.Call.TheVariants as calls_made
 use Rattle.bc_calls.specs.declared.call.PutReply.{PutReply}
 use Rattle.bc_calls.specs.declared.call.PutReply.TheVariants.{Added, Replaced, Full, WrongKind}
 use Rattle.bc_calls.specs.declared.call.Event.{Event}
-use Rattle.bc_calls.specs.declared.call.Event.TheVariants.{Types, Put, Remove, Ask}
+use Rattle.bc_calls.specs.declared.call.Event.TheVariants.{Types, Put, Remove, Ask, All as EveryRoot}
 use Rattle.bc_calls.specs.declared.call.Entry.{Entry}
 use Rattle.bc_calls.specs.Calls.{IsLegal, calls}
 use Rattle.bc_report.specs.Text.{line}
@@ -39,13 +39,15 @@ told (Types types) = []
 told (Put name body reply) = refused_line name reply
 told (Remove name reply) = []
 told (Ask name outcome) = []
+told (EveryRoot rows) = []
 
--- what is printed of a call on standard output
+-- what is printed of a call on standard output; no file of `check` asks for all
 abbrev pub shown : Bool → Event → List ℕ
 shown json (Types types) = []
 shown json (Put name body reply) = []
 shown json (Remove name reply) = []
 shown json (Ask name outcome) = answer_lines json name outcome
+shown json (EveryRoot rows) = []
 
 -- 2 for a put that stored nothing
 abbrev pub put_status : PutReply → ℕ
@@ -66,12 +68,18 @@ outcome_status (BadTypes index) = 2
 outcome_status (Ill name place) = 2
 outcome_status (Report bodies) = if are_clean bodies then 0 else 1
 
+-- the greatest status of the outcomes of some names
+abbrev pub rows_status : List (NameParts × Outcome) → ℕ
+rows_status [] = 0
+rows_status (r ∷ rows) = max (outcome_status r.1) (rows_status rows)
+
 -- the status of a call: 0 for declarations and for a removal
 abbrev pub event_status : Event → ℕ
 event_status (Types types) = 0
 event_status (Put name body reply) = put_status reply
 event_status (Remove name reply) = 0
 event_status (Ask name outcome) = outcome_status outcome
+event_status (EveryRoot rows) = rows_status rows
 
 -- the greatest status of some calls
 abbrev pub greatest : List Event → ℕ

@@ -25,6 +25,7 @@ GivesCall (calls.Types types) text = read_types text ≡ Ok types
 GivesCall (calls.Put name body) text = read text ≡ Ok body
 GivesCall (calls.Remove name) text = IsBlank text
 GivesCall (calls.Ask name) text = IsBlank text
+GivesCall calls.All text = IsBlank text
 
 -- what is wrong with a text that cannot be read
 abbrev pub text_fault : ReadFault → Option FaultKind
@@ -45,6 +46,7 @@ IsTextFault headings.Types text kind = IsUnread (read_types text) kind
 IsTextFault (headings.Put name) text kind = IsUnread (read text) kind
 IsTextFault (headings.Remove name) text kind = ¬ IsBlank text × (kind ≡ TextAfterCall)
 IsTextFault (headings.Ask name) text kind = ¬ IsBlank text × (kind ≡ TextAfterCall)
+IsTextFault headings.All text kind = ¬ IsBlank text × (kind ≡ TextAfterCall)
 
 -- what is wrong with a section, where these header lines are taken: its header line is none of them, or its text is wrong
 abbrev pub IsFault : (Heading → List ℕ → Type 0) → Part → FaultKind → Type 0

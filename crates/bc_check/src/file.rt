@@ -112,6 +112,7 @@ fn read_asked(alloc: Global, section: &Section<'_>, heading: Heading) -> Result<
         Heading::Put(name) => read_put(alloc, section, name),
         Heading::Remove(_) => Err(stop_at(section, FaultKind::BadHeader)),
         Heading::Ask(_) => Err(stop_at(section, FaultKind::BadHeader)),
+        Heading::All => Err(stop_at(section, FaultKind::BadHeader)),
     }
 }
 

@@ -7,13 +7,14 @@ ghost use Rattle.bc_check.specs.Headings.{IsHeading};
 use bc_text::Name;
 
 /// What a header line of a file asks for: to store the declarations of its text, to put the body of its text under a name, to take
-/// the body of a name away, or to ask a name. (Own.)
+/// the body of a name away, to ask a name, or to ask for all. (Own.)
 #[derive(Clone, Copy, Debug)]
 pub enum Heading {
     Types,
     Put(Name),
     Remove(Name),
     Ask(Name),
+    All,
 }
 
 /// What stands behind a beginning of a text, or `None` exactly where the text does not begin so. (Own.)
@@ -32,14 +33,17 @@ fn read_named(words: &[u8], verb: &[u8]) -> Option<Name>
     Name::read(behind(words, verb)?)
 }
 
-/// What the words of a header line ask for, behind its `@` and the number of a session where there is one: `types`, or `put`,
-/// `remove` or `ask`, one blank and a name. `None` exactly where they ask for nothing. (Own.)
+/// What the words of a header line ask for, behind its `@` and the number of a session where there is one: `types` or `askall`, or
+/// `put`, `remove` or `ask`, one blank and a name. `None` exactly where they ask for nothing. (Own.)
 pub fn read_heading(words: &[u8]) -> Option<Heading>
     ensures found { IfSome result (λ heading. IsHeading heading words.now) }
     ensures none { IfNone result ((heading : Heading) → ¬ IsHeading heading words.now) }
 {
     if words == b"types".as_slice() {
         return Some(Heading::Types);
+    }
+    if words == b"askall".as_slice() {
+        return Some(Heading::All);
     }
     if let Some(name) = read_named(words, b"put ") {
         return Some(Heading::Put(name));

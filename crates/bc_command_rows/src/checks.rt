@@ -54,6 +54,9 @@ fn prints_reports_in_the_order_of_names(rt: HostRuntime) {
     let good = b"@put f\nfn()->int{bb0{_0=1;return;}}\n".as_slice();
     assert!(rt; leaves_of(&rt, good, 0, b"ask f\nf 0\n", b""));
     assert!(rt; leaves_of(&rt, b"", 0, b"", b""));
+    let none = b"line 1: bad header\n".as_slice();
+    assert!(rt; leaves_of(&rt, b"@askall\n", 2, b"", none));
+    assert!(rt; leaves_of(&rt, b"@0 askall\n", 2, b"", none));
 }
 
 #[test]
@@ -71,26 +74,28 @@ fn reads_16_mebibytes_and_no_more(rt: HostRuntime) -> Result<(), Fail> {
 fn numbered(rt: &HostRuntime, count: u32) -> Result<String, Fail> {
     let mut file = String::new(rt.alloc());
     for number in 0..count {
-        write!(file, "@put n{number:03}\nfn()->int{{bb0{{return;}}}}\n")?;
+        write!(file, "@put n{number:04}\nfn()->int{{bb0{{return;}}}}\n")?;
     }
     Ok(file)
 }
 
-/// Whether the command stores 256 bodies of a file and refuses one more, asks for all, and ends with 2.
-fn is_full_behind_256(many: &Left) -> bool {
-    many.err.as_slice() == b"put n256 full\n".as_slice()
+/// Whether the command stores 1,024 bodies of a file and refuses one more, asks each name, and ends with 2.
+fn is_full_behind_1024(many: &Left) -> bool {
+    many.err.as_slice() == b"put n1024 full\n".as_slice()
         && many.status == 2
         && many
             .out
-            .starts_with(b"ask n000\nn000 0\nask n001\nn001 0\n")
-        && many.out.ends_with(b"ask n255\nn255 0\nask n256\nno body\n")
+            .starts_with(b"ask n0000\nn0000 0\nask n0001\nn0001 0\n")
+        && many
+            .out
+            .ends_with(b"ask n1023\nn1023 0\nask n1024\nno body\n")
 }
 
 #[test]
-fn holds_256_bodies(rt: HostRuntime) -> Result<(), Fail> {
-    let file = numbered(&rt, 257)?;
+fn holds_1024_bodies(rt: HostRuntime) -> Result<(), Fail> {
+    let file = numbered(&rt, 1025)?;
     let chunk = 4096;
     let many = leave(&rt, TEXT, file.as_bytes(), Devices { chunk, ..SOUND })?;
-    assert!(rt; is_full_behind_256(&many));
+    assert!(rt; is_full_behind_1024(&many));
     Ok(())
 }

@@ -44,6 +44,36 @@ fn prints_the_history_of_one_session(rt: HostRuntime) -> Result<(), Fail> {
     Ok(())
 }
 
+/// Two bodies of which the last has an error, and an Ask for all.
+const ALL: &[u8] =
+    b"@0 put f\nfn () -> int { let _1: int; let _2: &'?0 int; bb0 { _1 = 1; _2 = &'?1 _1; _0 = copy _2.*; _1 = 2; return; } }\n@0 put g\nfn () -> int { let _1: int; let _2: &'?0 int; bb0 { _1 = 1; _2 = &'?1 _1; _1 = 2; _0 = copy _2.*; return; } }\n@0 askall\n \n";
+
+const ALL_HISTORY: &[u8] =
+    b"0 0 put f added\n0 1 put g added\n0 2 askall 2\nroot f\nf 0\nroot g\ng 1\n  conflict bb0[2] access 0 loan bb0[1]\n    chain '?1 '?0\n";
+
+/// Two bodies of which the first has an error, put in the order that is not that of their names; two behind a bad declaration; and a closure.
+const FIRST_IS_WORST: &[u8] =
+    b"@0 put b\nfn()->int{bb0{_0=1;return;}}\n@0 put a\nfn () -> int { let _1: int; let _2: &'?0 int; bb0 { _1 = 1; _2 = &'?1 _1; _1 = 2; _0 = copy _2.*; return; } }\n@0 askall";
+
+const BAD: &[u8] =
+    b"@0 types\nstruct H<+'a> { &'static mut &'a int; }\n@0 put f\nfn()->int{bb0{return;}}\n@0 put g\nfn()->int{bb0{return;}}\n@0 askall\n";
+
+const CLOSURE: &[u8] = b"@0 put h/0\nclosure [] () -> int { bb0 { _0 = 0; return; } }\n@0 askall\n";
+
+#[test]
+fn prints_each_root_of_an_ask_for_all(rt: HostRuntime) -> Result<(), Fail> {
+    assert!(rt; leaves(&rt, ONE, ALL, 1, ALL_HISTORY, b"")?);
+    let worst =
+        b"0 0 put b added\n0 1 put a added\n0 2 askall 2\nroot a\na 1\n  conflict bb0[2] access 0 loan bb0[1]\n    chain '?1 '?0\nroot b\nb 0\n".as_slice();
+    assert!(rt; leaves(&rt, ONE, FIRST_IS_WORST, 1, worst, b"")?);
+    let bad =
+        b"0 0 types stored\n0 1 put f added\n0 2 put g added\n0 3 askall 2\nroot f\nbad declaration 0\nroot g\nbad declaration 0\n".as_slice();
+    assert!(rt; leaves(&rt, ONE, BAD, 2, bad, b"")?);
+    let none = b"0 0 put h/0 added\n0 1 askall 0\n".as_slice();
+    assert!(rt; leaves(&rt, ONE, CLOSURE, 0, none, b"")?);
+    Ok(())
+}
+
 /// A file that lists a call of the last session or of one behind it, and what a run of these words leaves of it.
 const LAST: [(&[&str], &[u8], &[u8], &[u8]); 5] = [
     (ONE, b"@1 ask f\n", b"", b"line 1: bad header\n"),
@@ -62,8 +92,16 @@ fn takes_calls_of_its_sessions_alone(rt: HostRuntime) -> Result<(), Fail> {
 }
 
 /// Files, and the fault of each at its line.
-const FAULTS: [(&[u8], &[u8]); 11] = [
+const FAULTS: [(&[u8], &[u8]); 16] = [
     (b"@0 ask f\nx", b"line 1: text after call\n"),
+    (b"@0 askall\nx", b"line 1: text after call\n"),
+    (
+        b"@0 askall\n \n@0 askall\n\nx",
+        b"line 3: text after call\n",
+    ),
+    (b"@0 askall f\n", b"line 1: bad header\n"),
+    (b"@0 askall \n", b"line 1: bad header\n"),
+    (b"@askall\n", b"line 1: bad header\n"),
     (b"@0 ask f\nx\n", b"line 1: text after call\n"),
     (b"@0 ask f\n@0 remove f\n \nx", b"line 2: text after call\n"),
     (b"@0 ask f\n\n@00 ask f", b"line 3: bad header\n"),

@@ -204,7 +204,8 @@ Commands:
            '@types' (declarations follow) or '@put NAME' (a body follows).
   run      Makes the calls that FILE lists for each session, and prints what
            they answer. A section begins with '@K types', '@K put NAME',
-           '@K remove NAME' or '@K ask NAME', where K is the session, from 0.
+           '@K remove NAME', '@K ask NAME' or '@K askall' (each root name that
+           is held), where K is the session, from 0.
 
 Options:
   --json         (check) Print the reports as JSON. Default: as plain text.

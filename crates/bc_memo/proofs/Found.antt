@@ -13,10 +13,11 @@ use Rattle.bc_syntax.specs.declared.syntax.Body.{Body}
 use Rattle.bc_text.specs.Names.{NameParts, name_order, is_same_name, is_within}
 use Rattle.bc_text.proofs.Equality.{name}
 use Rattle.bc_prov.specs.State.{at_name}
-use Rattle.bc_prov.specs.Pieces.{PieceView, IsPieceFor}
+use Rattle.bc_prov.specs.Pieces.{PieceView, AreOver, IsPieceFor}
 use Rattle.bc_prov.specs.Pieces.{ArePieces as AreOfSnapshot}
 use Rattle.bc_memo.specs.declared.place.Place.{Place}
-use Rattle.bc_memo.specs.Places.{Places, PieceRows, AreKeptInOrder, AreOrdered, ArePieces, answered, cleared, part_in, pieces_with, unit_of, units_in, with_answer}
+use Rattle.bc_memo.specs.declared.change.Change.{Change}
+use Rattle.bc_memo.specs.Places.{Places, PieceRows, AreKeptInOrder, AreOrdered, ArePieces, answered, cleared, mark, marked, part_in, pieces_with, unit_of, units_in, with_answer}
 use Rattle.bc_memo.proofs.Marking.{same_unit}
 use Rattle.bc_memo.proofs.Places.{at_head, at_name-map, at_name-put, at_name-take, at_tail, by_bool, less_apart, ordered-filter, same_name, units_at}
 use Rattle.bc_prov.specs.declared.outcome.Outcome.{Outcome}
@@ -63,6 +64,9 @@ found-answered types ps rows m a found n piece at =
     subst (λ (u : Option Body). IsPieceFor types u piece)
     (sym (unit-map (λ (k : NameParts) (p : Place). cond (is_same_name m k) (with_answer p a) p) ps n (λ k p. same_unit (is_same_name m k) p a))) (found n piece at)
 
+pub found-marked : (types : List Declaration) (ps : Places) (rows : PieceRows) (c : Change) → ArePieces types ps rows → ArePieces types (marked c ps) rows
+found-marked types ps rows c found n piece at = subst (λ (u : Option Body). IsPieceFor types u piece) (sym (unit-map (mark c) ps n (λ k p. refl))) (found n piece at)
+
 pub found_none : (types : List Declaration) (ps : Places) → ArePieces types ps []
 found_none types ps n piece at = absurd (cc)
 
@@ -84,6 +88,15 @@ pub kept_more : (types : List Declaration) (ps : Places) (pieces before after : 
     → AreKeptInOrder types ps pieces before after → AreKeptInOrder types ps (pieces ++ p ∷ []) before (pieces_with fits p.0 p.1 after)
 kept_more types ps [] before after p fits is same = (fits, is, ap (λ (rows : PieceRows). pieces_with fits p.0 p.1 rows) same)
 kept_more types ps (q ∷ pieces) before after p fits is kept = (kept.0, kept.1, kept_more types ps pieces (pieces_with kept.0 q.0 q.1 before) after p fits is kept.2)
+
+-- none is kept that was found from other declarations
+pub none_kept : (types others : List Declaration) (ps : Places) (pieces before : PieceRows) → AreOver others pieces → (others ≡ types → ⊥) → AreKeptInOrder types ps pieces before before
+none_kept types others ps [] before over apart = refl
+none_kept types others ps (p ∷ pieces) before over apart = (
+  false,
+  (λ t. absurd (true≢false (sym t)), λ (fits : IsPieceFor types (unit_of (at_name ps p.0)) p.1). absurd (apart (sym over.0 ∙ fits.types))),
+  none_kept types others ps pieces before over.1 apart,
+)
 
 -- ---- a name's part
 

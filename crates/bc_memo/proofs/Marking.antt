@@ -1,5 +1,5 @@
 -- What the steps of a change do to places, as the definitions say it.
-use Rattle.std.proofs.Common.{◌≡◌, ℕ, zero, suc, ◌+◌, ◌<◌, ◌≤◌, ◌&&◌, ◌||◌, Bool, true, false, true≢false, [], ◌∷◌, length, get_or, set, take, cond, refl, ap, sym, subst, ◌∙◌, arith, Option, Some, None}
+use Rattle.std.proofs.Common.{◌≡◌, ℕ, zero, suc, ◌+◌, ◌<◌, ◌≤◌, ◌&&◌, ◌||◌, Bool, true, false, true≢false, [], ◌∷◌, ◌++◌, length, get_or, set, take, cond, refl, ap, sym, subst, ◌∙◌, arith, Option, Some, None}
 use Rattle.std.specs.Prelude.{map, nat_lt}
 use Rattle.std.specs.Option.{option_map, option_or}
 use Rattle.std.specs.List.{AllByRecursion}
@@ -15,11 +15,13 @@ use Rattle.bc_text.specs.Names.{NameParts, name_order, is_same_name, is_within}
 use Rattle.bc_text.proofs.Equality.{name, exact_names}
 use Rattle.bc_text.proofs.Within.{beginning, beginning_within, both, first_of, second_of, within_beginning, within_self}
 use Rattle.bc_prov.specs.State.{Suits, at_name}
+use Rattle.bc_prov.specs.Outcome.{OutcomeRows}
 use Rattle.bc_prov.specs.declared.outcome.Outcome.{Outcome}
 use Rattle.bc_memo.specs.declared.place.Place.{Place}
-use Rattle.bc_memo.specs.declared.change.Change.TheVariants.{Put, Remove, Answer, Nothing}
-use Rattle.bc_memo.specs.Places.{Places, ShelfView, AreKept, AreOrdered, IsAbove, IsBelow, IsFoundAt, IsGapAt, answer_of, answered, changed, cleared, marked, unanswered, with_answer, written}
-use Rattle.bc_memo.proofs.Places.{at_found, at_head, at_missed, at_name-map, at_name-take, at_tail, by_bool, by_ordering, greater_apart, less_apart, ordered-map, ordered-put, ordered-take, put_here, put_step}
+use Rattle.bc_memo.specs.declared.change.Change.{Change}
+use Rattle.bc_memo.specs.declared.change.Change.TheVariants.{Put, Remove, Answer, Answers, Nothing}
+use Rattle.bc_memo.specs.Places.{Places, ShelfView, AreKept, AreOrdered, IsAbove, IsBelow, IsFoundAt, IsGapAt, answer_of, answered, changed, cleared, mark, marked, unanswered, with_answer, written}
+use Rattle.bc_memo.proofs.Places.{at_found, at_head, at_missed, at_name-map, at_name-take, at_tail, by_bool, by_ordering, greater_apart, less_apart, ordered-map, ordered-put, ordered-take, put_here, put_step, same_back}
 
 -- ---- places stay kept
 
@@ -62,6 +64,9 @@ same_unit false p a = refl
 
 pub kept-answered : (n : NameParts) (a : Option Outcome) (ps : Places) → AreKept ps → AreKept (answered n a ps)
 kept-answered n a ps kept = kept-map (λ (m : NameParts) (p : Place). cond (is_same_name n m) (with_answer p a) p) ps (λ m p. same_unit (is_same_name n m) p a) kept
+
+pub kept-marked : (c : Change) (ps : Places) → AreKept ps → AreKept (marked c ps)
+kept-marked c ps kept = kept-map (mark c) ps (λ m p. refl) kept
 
 pub kept-cleared : (n : NameParts) (ps : Places) → AreKept ps → AreKept (cleared n ps)
 kept-cleared n ps kept = kept-map (λ (m : NameParts) (p : Place). cond (is_within m n) (with_answer p None) p) ps (λ m p. same_unit (is_within m n) p None) kept
@@ -240,6 +245,37 @@ given false p o = refl
 pub marked_answer : (n : NameParts) (o : Outcome) (ps : Places) → answered n (Some o) ps ≡ marked (Answer n o) ps
 marked_answer n o [] = refl
 marked_answer n o (p ∷ ps) = λ i. (p.0, given (is_same_name n p.0) p.1 o i) ∷ marked_answer n o ps i
+
+-- the last answer of many is given first, and then the others
+last_answer : (rows : OutcomeRows) (r : NameParts × Outcome) (n : NameParts) (p : Place) → with_answer p (option_or (at_name (rows ++ r ∷ []) n) p.answer) ≡ mark (Answers rows) n (cond (is_same_name r.0 n) (with_answer p (Some r.1)) p)
+last_answer [] r n p = ap (λ (b : Bool). with_answer p (option_or (cond b (Some r.1) None) p.answer)) (same_back r.0 n) ∙ sym (given (is_same_name r.0 n) p r.1)
+last_answer (q ∷ rows) r n p = by_bool (is_at (name_order n) q.0)
+    (λ is.
+    ap (λ (b : Bool). with_answer p (option_or (cond b (Some q.1) (at_name (rows ++ r ∷ []) n)) p.answer)) is
+    ∙ sym (over (is_same_name r.0 n))
+    ∙ sym (ap (λ (b : Bool). with_answer (first r.1) (option_or (cond b (Some q.1) (at_name rows n)) (first r.1).answer)) is))
+    (λ is.
+    ap (λ (b : Bool). with_answer p (option_or (cond b (Some q.1) (at_name (rows ++ r ∷ []) n)) p.answer)) is
+    ∙ last_answer rows r n p
+    ∙ sym (ap (λ (b : Bool). with_answer (first r.1) (option_or (cond b (Some q.1) (at_name rows n)) (first r.1).answer)) is))
+  where
+    first : Outcome → Place
+    first o = cond (is_same_name r.0 n) (with_answer p (Some o)) p
+
+    over : (b : Bool) → with_answer (cond b (with_answer p (Some r.1)) p) (Some q.1) ≡ with_answer p (Some q.1)
+    over true = refl
+    over false = refl
+
+pub marked_last : (rows : OutcomeRows) (r : NameParts × Outcome) (ps : Places) → marked (Answers (rows ++ r ∷ [])) ps ≡ marked (Answers rows) (answered r.0 (Some r.1) ps)
+marked_last rows r [] = refl
+marked_last rows r (p ∷ ps) = λ i. (p.0, last_answer rows r p.0 p.1 i) ∷ marked_last rows r ps i
+
+pub marked_none : (ps : Places) → ps ≡ marked (Answers []) ps
+marked_none [] = refl
+marked_none (p ∷ ps) = λ i. p ∷ marked_none ps i
+
+pub ordered-answered : (n : NameParts) (a : Option Outcome) (ps : Places) → AreOrdered ps → AreOrdered (answered n a ps)
+ordered-answered n a ps ordered = ordered-map (λ (m : NameParts) (p : Place). cond (is_same_name n m) (with_answer p a) p) ps ordered
 
 pub marked_nothing : (ps : Places) → ps ≡ marked Nothing ps
 marked_nothing [] = refl

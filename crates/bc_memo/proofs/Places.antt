@@ -6,7 +6,7 @@ use Rattle.std.specs.Bool.{Decides}
 use Rattle.std.specs.List.{AllByRecursion, insert, remove}
 use Rattle.std.specs.Map.{keys_of, remove_entry}
 use Rattle.std.specs.BTreeMap.{is_at, insert_entry}
-use Rattle.std.specs.Cmp.{eq_by_cmp_equiv}
+use Rattle.std.specs.Cmp.{both_ways, eq_by_cmp_equiv}
 use Rattle.std.specs.List.Sorted.{IsBinarySearchResult, IsNonDecreasingBy, IsPartitionPoint, IsSearchInRange, IsStrictlySortedBy}
 use Rattle.std.specs.declared.cmp.Ordering.{Ordering}
 use Rattle.std.specs.declared.cmp.Ordering.TheVariants.{Less, Equal, Greater}
@@ -24,7 +24,7 @@ use Rattle.bc_prov.specs.State.{at_name}
 use Rattle.bc_prov.proofs.Lookup.{equal_only, index_le}
 use Rattle.bc_memo.specs.declared.place.Place.{Place}
 use Rattle.bc_memo.specs.declared.change.Change.{Change}
-use Rattle.bc_memo.specs.declared.change.Change.TheVariants.{Types, Put, Remove, Answer, Nothing}
+use Rattle.bc_memo.specs.declared.change.Change.TheVariants.{Types, Put, Remove, Answer, Answers, Nothing}
 use Rattle.bc_memo.specs.Places.{Places, ShelfView, AreOrdered, IsAbove, IsBelow, IsFoundAt, IsGapAt, IsStartAt, changed, mark, part_in, placed, unit_of, units_in, voids, written}
 
 pub same_name : (a b : NameParts) → Decides (is_at (name_order a) b) (a ≡ b)
@@ -51,6 +51,10 @@ pub same_tests : (k n : NameParts) → is_at (name_order k) n ≡ is_same_name k
 same_tests k n = by_bool (is_same_name k n)
     (λ is. (same_name k n).1 ((name k n).0 is) ∙ sym is)
     (λ is. by_bool (is_at (name_order k) n) (λ at. absurd (true≢false (sym ((name k n).1 ((same_name k n).0 at)) ∙ is))) (λ at. at ∙ sym is))
+
+-- whichever of the two comes first
+pub same_back : (k n : NameParts) → is_at (name_order n) k ≡ is_same_name k n
+same_back k n = both_ways _ _ (λ at. (name k n).1 (sym ((same_name n k).0 at))) (λ is. (same_name n k).1 (sym ((name k n).0 is)))
 
 -- a list whose values are changed, each by its name
 pub at_name-map : {X Y : Type 0} (f : NameParts → X → Y) (n : NameParts) (es : List (NameParts × X)) → at_name (map (λ (p : NameParts × X). (p.0, f p.0 p.1)) es) n ≡ option_map (f n) (at_name es n)
@@ -356,6 +360,7 @@ ordered-placed ps (Types t) revision ordered = ordered
 ordered-placed ps (Put m u) revision ordered = ordered-put m (written u revision) ps ordered
 ordered-placed ps (Remove m) revision ordered = ordered-take (is_at (name_order m)) ps ordered
 ordered-placed ps (Answer m o) revision ordered = ordered
+ordered-placed ps (Answers rows) revision ordered = ordered
 ordered-placed ps Nothing revision ordered = ordered
 
 pub ordered-changed : (s : ShelfView) (c : Change) (revision : ℕ) → AreOrdered s.places → AreOrdered (changed s c revision).places
@@ -377,4 +382,5 @@ placing ps n (Remove m) revision ordered = by_bool (is_same_name m n)
     (λ same. inr (inl (at_name-take m n ps ordered ∙ ap (λ (x : Bool). cond x None (at_name ps n)) same)))
     (λ apart. inl (at_name-take m n ps ordered ∙ ap (λ (x : Bool). cond x None (at_name ps n)) apart))
 placing ps n (Answer m o) revision ordered = inl refl
+placing ps n (Answers rows) revision ordered = inl refl
 placing ps n Nothing revision ordered = inl refl

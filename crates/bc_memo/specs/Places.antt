@@ -10,13 +10,14 @@ use Rattle.std.specs.List.Sorted.{IsStrictlySortedBy}
 use Rattle.bc_syntax.specs.declared.syntax.Declaration.{Declaration}
 use Rattle.bc_syntax.specs.declared.syntax.Body.{Body}
 use Rattle.bc_text.specs.Names.{NameParts, name_order, is_same_name, is_within}
-use Rattle.bc_prov.specs.State.{Suits, at_name}
+use Rattle.bc_prov.specs.State.{Suits, at_name, is_root}
 use Rattle.bc_prov.specs.Pieces.{PieceView, IsPieceFor}
 use Rattle.bc_prov.specs.Snapshots.{SnapshotView}
+use Rattle.bc_prov.specs.Outcome.{OutcomeRows}
 use Rattle.bc_prov.specs.declared.outcome.Outcome.{Outcome}
 use Rattle.bc_memo.specs.declared.place.Place.{Place}
 use Rattle.bc_memo.specs.declared.change.Change.{Change}
-use Rattle.bc_memo.specs.declared.change.Change.TheVariants.{Types, Put, Remove, Answer, Nothing}
+use Rattle.bc_memo.specs.declared.change.Change.TheVariants.{Types, Put, Remove, Answer, Answers, Nothing}
 
 -- places by their names
 abbrev pub Places : Type 0
@@ -37,12 +38,14 @@ pub record PieceRoom : Type 0 where
   pub rows : PieceRows
   pub room : ℕ
 
--- what is held, the pieces that are kept of it, and for how many more places and pieces there is memory
+-- what is held, the pieces that are kept of it, the outcomes that are ready for a change, and for how many more of each there is memory
 pub record ShelfRoom : Type 0 where
   pub held : ShelfView
   pub pieces : PieceRows
   pub room : ℕ
   pub piece_room : ℕ
+  pub ready : OutcomeRows
+  pub ready_room : ℕ
 
 -- for how many pieces there is memory in all
 abbrev pub most_rows : PieceRoom → ℕ
@@ -55,6 +58,10 @@ most_places shelf = shelf.room + length shelf.held.places
 -- for how many pieces of them there is memory in all
 abbrev pub most_pieces : ShelfRoom → ℕ
 most_pieces shelf = shelf.piece_room + length shelf.pieces
+
+-- for how many outcomes that are ready there is memory in all
+abbrev pub most_ready : ShelfRoom → ℕ
+most_ready shelf = shelf.ready_room + length shelf.ready
 
 -- these declarations and no unit
 abbrev pub empty_shelf : List Declaration → ShelfView
@@ -108,7 +115,17 @@ MayChange (Types types) = Unit {0}
 MayChange (Put name unit) = Suits unit name
 MayChange (Remove name) = Unit {0}
 MayChange (Answer name outcome) = Unit {0}
+MayChange (Answers rows) = Unit {0}
 MayChange Nothing = Unit {0}
+
+-- what a change moves into the places for many names is ready
+abbrev pub IsReady : Change → OutcomeRows → Type 0
+IsReady (Types types) ready = Unit {0}
+IsReady (Put name unit) ready = Unit {0}
+IsReady (Remove name) ready = Unit {0}
+IsReady (Answer name outcome) ready = Unit {0}
+IsReady (Answers rows) ready = ready ≡ rows
+IsReady Nothing ready = Unit {0}
 
 -- the places after a change, but for their answers
 abbrev pub placed : Places → Change → ℕ → Places
@@ -116,6 +133,7 @@ placed places (Types types) revision = places
 placed places (Put name unit) revision = insert_entry name_order places name (written unit revision)
 placed places (Remove name) revision = remove_entry (is_at (name_order name)) places
 placed places (Answer name outcome) revision = places
+placed places (Answers rows) revision = places
 placed places Nothing revision = places
 
 -- a change makes the answer of a name void: it brings declarations, or it writes the name or one that begins with it and `/`
@@ -124,6 +142,7 @@ voids (Types types) name = true
 voids (Put other unit) name = is_within name other
 voids (Remove other) name = is_within name other
 voids (Answer other outcome) name = false
+voids (Answers rows) name = false
 voids Nothing name = false
 
 -- the answer that a change brings for a name
@@ -132,6 +151,7 @@ brought (Types types) name = None
 brought (Put other unit) name = None
 brought (Remove other) name = None
 brought (Answer other outcome) name = if is_same_name other name then Some outcome else None
+brought (Answers rows) name = at_name rows name
 brought Nothing name = None
 
 -- the answer of a name after a change
@@ -168,6 +188,7 @@ next_types held (Types types) = types
 next_types held (Put name unit) = held
 next_types held (Remove name) = held
 next_types held (Answer name outcome) = held
+next_types held (Answers rows) = held
 next_types held Nothing = held
 
 -- the revision of the declarations after a change
@@ -176,6 +197,7 @@ next_types_revision before (Types types) revision = revision
 next_types_revision before (Put name unit) revision = before
 next_types_revision before (Remove name) revision = before
 next_types_revision before (Answer name outcome) revision = before
+next_types_revision before (Answers rows) revision = before
 next_types_revision before Nothing revision = before
 
 -- what is held after a change, which gives this revision to what it writes
@@ -192,6 +214,7 @@ pieces_after (Types types) pieces = []
 pieces_after (Put name unit) pieces = remove_entry (is_at (name_order name)) pieces
 pieces_after (Remove name) pieces = remove_entry (is_at (name_order name)) pieces
 pieces_after (Answer name outcome) pieces = pieces
+pieces_after (Answers rows) pieces = pieces
 pieces_after Nothing pieces = pieces
 
 -- the pieces with one more, where it was found from what is held
@@ -214,6 +237,10 @@ units_in root places = map (λ (p : NameParts × Place). (p.0, p.1.unit)) (part_
 -- their revisions
 abbrev pub revisions_in : NameParts → Places → List ℕ
 revisions_in root places = map (λ (p : NameParts × Place). p.1.revision) (part_in root places)
+
+-- the names without segments, in their order
+abbrev pub roots_in : {V : Type 0} → List (NameParts × V) → List NameParts
+roots_in entries = filter is_root (keys_of entries)
 
 -- a snapshot has the declarations and the bodies that are held at its root and at names that begin with it and `/`, with these
 -- revisions

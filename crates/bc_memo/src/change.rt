@@ -1,14 +1,15 @@
 //! What a call changes in what is held.
-use bc_prov::{Declared, Outcome, Shared};
+use bc_prov::{Declared, Listing, Outcome, Shared};
 use bc_syntax::Unit;
 use bc_text::Name;
 
-/// New declarations, a unit at a name, no unit there, an answer for it, or nothing. (Own.)
+/// New declarations, a unit at a name, no unit there, an answer for it, answers for many names, or nothing. (Own.)
 #[derive(Drop)]
 pub enum Change {
     Types(Shared<Declared>),
     Put(Name, Shared<Unit>),
     Remove(Name),
     Answer(Name, Shared<Outcome>),
+    Answers(Shared<Listing>),
     Nothing,
 }

@@ -1,5 +1,5 @@
 //! Outcomes of names, with the revisions of all that they were found from.
-ghost use Rattle.std.specs.Prelude.{◌≡◌, ◌↔◌, ◌<◌, [], ◌∷◌, IfNone, IfOk, IfSome, IsOk, IsSome, IsTrue, OnErr, OnOk, Some};
+ghost use Rattle.std.specs.Prelude.{◌≡◌, ◌↔◌, ◌+◌, ◌<◌, ◌≤◌, [], ◌∷◌, IfNone, IfOk, IfSome, IsOk, IsSome, IsTrue, OnErr, OnOk, Some};
 ghost use Rattle.std.specs.BTreeMap.{insert_entry, is_at};
 ghost use Rattle.std.specs.Map.{remove_entry};
 ghost use Rattle.std.specs.List.{AllByRecursion};
@@ -96,20 +96,22 @@ impl Memo {
         }
     }
 
-    /// Makes room for one more name, and changes nothing else. It takes no memory where there is some for one name more. Answers
+    /// Makes room for so many more names, and changes nothing else. It takes no memory where there is some for as many. Answers
     /// `AllocError` only where memory was refused. (Own.)
-    pub fn reserve(&mut self) -> Result<(), AllocError>
+    pub fn reserve(&mut self, names: usize) -> Result<(), AllocError>
         ensures same { self.new.rows ≡ self.old.rows }
-        ensures room { OnOk result (0 < self.new.room) }
-        ensures granted { 0 < self.old.room → IsOk result }
+        ensures room { OnOk result (names ≤ self.new.room) }
+        ensures granted { names ≤ self.old.room → IsOk result }
     {
-        self.rows.reserve(1)
+        self.rows.reserve(names)
     }
 
-    /// Remembers a row for a name, in the place of what was remembered for it. It takes no memory: it asks for room. (Own.)
+    /// Remembers a row for a name, in the place of what was remembered for it. It takes no memory: it asks for room for one name, and
+    /// leaves that for as many as before but for one. (Own.)
     pub fn put(&mut self, name: Name, row: Remembered)
         requires { 0 < self.old.room }
-        ensures { self.new.rows ≡ insert_entry name_order self.old.rows name row }
+        ensures rows { self.new.rows ≡ insert_entry name_order self.old.rows name row }
+        ensures room { self.old.room ≤ self.new.room + 1 }
     {
         put(&mut self.rows, name, row);
     }
@@ -137,7 +139,7 @@ impl Memo {
     {
         let used = with_own(alloc, name, names)?;
         let row = Remembered::of(alloc, shelf, &used, outcome)?;
-        self.reserve()?;
+        self.reserve(1)?;
         self.put(name, row);
         Ok(())
     }

@@ -73,6 +73,15 @@ impl PieceMemo {
         share_pieces(alloc, within(&self.rows, root))
     }
 
+    /// The pieces that are kept, as further owners. Answers `AllocError` only where an owner or memory was refused. (Own.)
+    pub fn copy(&self, alloc: Global) -> Result<PieceMemo, AllocError>
+        ensures { IfOk result (λ copy. copy.rows ≡ self.now.rows) }
+    {
+        Ok(PieceMemo {
+            rows: share_pieces(alloc, &self.rows)?,
+        })
+    }
+
     /// Keeps no piece for a name. It takes no memory, and leaves that for as many pieces as before. (Own.)
     pub fn forget(&mut self, name: &Name)
         ensures rows { self.new.rows ≡ remove_entry (is_at (name_order name.now)) self.old.rows }

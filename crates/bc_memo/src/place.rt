@@ -1,6 +1,9 @@
 //! What is held under one name.
+ghost use Rattle.std.specs.Prelude.{◌≡◌, IfOk};
+
 use bc_prov::{Outcome, Shared};
 use bc_syntax::Unit;
+use std::alloc::AllocError;
 
 /// The unit of a name, the revision at which it was put there, and the outcome that was found for the name, if there is one. (Own.)
 #[derive(Drop)]
@@ -8,4 +11,27 @@ pub struct Place {
     pub unit: Shared<Unit>,
     pub revision: u32,
     pub answer: Option<Shared<Outcome>>,
+}
+
+impl Place {
+    /// One more owner of the unit and of the outcome, with the revision. Answers `AllocError` only where an owner was refused. (Own.)
+    pub fn copy(&self) -> Result<Place, AllocError>
+        ensures { IfOk result (λ copy. copy ≡ self.now) }
+    {
+        Ok(Place {
+            unit: self.unit.clone()?,
+            revision: self.revision,
+            answer: own_answer(&self.answer)?,
+        })
+    }
+}
+
+// One more owner of the outcome, if there is one.
+fn own_answer(answer: &Option<Shared<Outcome>>) -> Result<Option<Shared<Outcome>>, AllocError>
+    ensures { IfOk result (λ copy. copy ≡ answer.now) }
+{
+    match answer {
+        Some(outcome) => Ok(Some(outcome.clone()?)),
+        None => Ok(None),
+    }
 }

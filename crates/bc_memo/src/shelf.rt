@@ -1,30 +1,32 @@
 //! What is held: declarations, and units with their answers in the order of their names.
-ghost use Rattle.std.specs.Prelude.{◌≡◌, ◌↔◌, ◌<◌, ◌≤◌, ℕ, [], IfOk, IsOk, IsTrue, None, OnErr, OnOk, is_some, length, map, take, vec_capacity};
+ghost use Rattle.std.specs.Prelude.{◌≡◌, ◌↔◌, ◌∷◌, ◌++◌, ◌<◌, ◌≤◌, ℕ, [], IfOk, IsOk, IsTrue, None, OnErr, OnOk, is_some, length, map, take, vec_capacity};
 ghost use Rattle.std.specs.Option.{option_copied};
 ghost use Rattle.bc_text.specs.Names.{NameParts};
-ghost use Rattle.bc_prov.specs.Pieces.{IsPieceFor};
+ghost use Rattle.bc_prov.specs.Pieces.{AreOver};
 ghost use Rattle.bc_prov.specs.State.{at_name};
+ghost use Rattle.bc_memo.specs.declared.change.Change.TheVariants.{Answers};
 ghost use Rattle.bc_memo.specs.declared.place.Place.{Place};
-ghost use Rattle.bc_memo.specs.Places.{AreKeptInOrder, AreOrdered, IsHeld, MayChange, answer_of, answered, changed, cleared, empty_shelf, most_pieces, most_places, pieces_after, pieces_with, revision_at, revisions_in, unanswered, unit_of, units_in};
+ghost use Rattle.bc_memo.specs.Places.{AreKeptInOrder, AreOrdered, IsHeld, IsReady, MayChange, answer_of, answered, changed, cleared, empty_shelf, marked, most_pieces, most_places, most_ready, pieces_after, revision_at, revisions_in, roots_in, unanswered, unit_of, units_in};
 
 use crate::change::Change;
 use crate::pieces::PieceMemo;
 use crate::place::Place;
 use crate::rows::{find, put, take, within};
-use bc_prov::{Declared, Outcome, Piece, Shared, Snapshot};
+use bc_prov::{Declared, Outcome, Piece, PieceSet, Shared, Snapshot};
 use bc_syntax::Unit;
 use bc_text::Name;
 use std::alloc::{AllocError, Global};
 use std::marker::Model;
 
 /// What is held. Contracts see the declarations with their revision, the places in the order of their names, the pieces that are kept of
-/// the bodies, in the order of these, and for how many more places and pieces there is memory. Each piece was found from the declarations and from
-/// the unit at its name: the type keeps it. (Own.)
+/// the bodies, in the order of these, the outcomes that are ready for a change, and for how many more of each there is memory. Each piece was
+/// found from the declarations and from the unit at its name: the type keeps it. (Own.)
 pub struct Shelf {
     types: Shared<Declared>,
     types_revision: u32,
     places: Vec<(Name, Place)>,
     pieces: PieceMemo,
+    ready: Vec<(Name, Shared<Outcome>)>,
 }
 
 // Written out: the crates above call this, and prove nothing of its parts again.
@@ -35,6 +37,7 @@ impl Drop for Shelf {
             types_revision: _,
             places: _,
             pieces: _,
+            ready: _,
         } = self;
     }
 }
@@ -45,7 +48,7 @@ impl Model for Shelf {
 
     ghost Value = { ShelfRoom };
 
-    ghost view = { λ s. record { held = record { types = s.types; types_revision = s.types_revision; places = s.places.items }; pieces = s.pieces.rows; room = vec_capacity s.places - s.places.len; piece_room = s.pieces.room } };
+    ghost view = { λ s. record { held = record { types = s.types; types_revision = s.types_revision; places = s.places.items }; pieces = s.pieces.rows; room = vec_capacity s.places - s.places.len; piece_room = s.pieces.room; ready = s.ready.items; ready_room = vec_capacity s.ready - s.ready.len } };
 
     ghost invariant = { λ s. IsShelf s.types s.places.items s.pieces.rows };
 }
@@ -59,13 +62,14 @@ pub struct Part {
 }
 
 impl Shelf {
-    /// A shelf that holds these declarations, at revision 0, and no unit, with memory for so many places, and for a piece of each. Answers
-    /// `AllocError` only where memory was refused. (Own.)
+    /// A shelf that holds these declarations, at revision 0, and no unit, with memory for so many places, and for a piece and an outcome of each.
+    /// Answers `AllocError` only where memory was refused. (Own.)
     pub fn new(alloc: Global, types: Shared<Declared>, places: usize) -> Result<Shelf, AllocError>
         ensures held { IfOk result (λ shelf. shelf.held ≡ empty_shelf types) }
         ensures pieces { IfOk result (λ shelf. shelf.pieces ≡ []) }
         ensures room { IfOk result (λ shelf. places ≤ shelf.room) }
         ensures piece_room { IfOk result (λ shelf. places ≤ shelf.piece_room) }
+        ensures ready_room { IfOk result (λ shelf. places ≤ shelf.ready_room) }
     {
         let rows = Vec::with_capacity(alloc, places)?;
         Ok(Shelf {
@@ -73,6 +77,7 @@ impl Shelf {
             types_revision: 0,
             places: rows,
             pieces: PieceMemo::new(alloc, places)?,
+            ready: Vec::with_capacity(alloc, places)?,
         })
     }
 
@@ -84,8 +89,29 @@ impl Shelf {
         ensures room { OnOk result (0 < self.new.room) }
         ensures granted { 0 < self.old.room → IsOk result }
         ensures memory { (most_places self.old ≤ most_places self.new) × (self.new.piece_room ≡ self.old.piece_room) }
+        ensures ready { (self.new.ready ≡ self.old.ready) × (self.new.ready_room ≡ self.old.ready_room) }
     {
         self.places.reserve(1)
+    }
+
+    /// Makes ready what a change moves into the places for many names: one more owner of each outcome, in the place of what was ready before.
+    /// Nothing else is changed, and no memory given back; it takes none where there is some for as many outcomes. Answers `AllocError` only where
+    /// an owner or memory was refused. (Own.)
+    pub fn prepare(&mut self, change: &Change) -> Result<(), AllocError>
+        ensures same { self.new.held ≡ self.old.held }
+        ensures pieces { self.new.pieces ≡ self.old.pieces }
+        ensures ready { OnOk result (IsReady change.now self.new.ready) }
+        ensures memory { (self.new.room ≡ self.old.room) × (self.new.piece_room ≡ self.old.piece_room) × (most_ready self.old ≤ most_ready self.new) }
+    {
+        self.ready.clear();
+        match change {
+            Change::Answers(listing) => own_again(&mut self.ready, listing.get().as_slice()),
+            Change::Types(_)
+            | Change::Put(_, _)
+            | Change::Remove(_)
+            | Change::Answer(_, _)
+            | Change::Nothing => Ok(()),
+        }
     }
 
     /// Whether a unit is held under a name. (Own.)
@@ -104,6 +130,13 @@ impl Shelf {
         ensures ordered { AreOrdered self.now.held.places }
     {
         self.places.len()
+    }
+
+    /// The declarations, to be lent or shared. (Own.)
+    pub fn types(&self) -> &Shared<Declared>
+        ensures { result.now ≡ self.now.held.types }
+    {
+        &self.types
     }
 
     /// The revision of the declarations. (Own.)
@@ -167,13 +200,16 @@ impl Shelf {
     /// Changes what is held, and gives what it writes this revision. Declarations make all answers void; a unit that is put or
     /// taken away makes void the answers of its name and of those with which this begins, up to a `/`. Declarations drop all pieces; a
     /// unit that is put or taken away drops the one of its name alone. It takes no memory, and leaves that for as many places and pieces
-    /// as before: it asks for room for one place, and that a unit suits the name at which it is put, as `suits` tells. (Own.)
+    /// as before: it asks for room for one place, that a unit suits the name at which it is put, as `suits` tells, and that answers for many
+    /// names are ready, as `prepare` makes them. (Own.)
     pub fn change(&mut self, change: Change, revision: u32)
         requires room { 0 < self.old.room }
         requires suited { MayChange change }
+        requires ready { IsReady change self.old.ready }
         ensures held { self.new.held ≡ changed self.old.held change revision }
         ensures pieces { self.new.pieces ≡ pieces_after change self.old.pieces }
         ensures memory { (most_places self.new ≡ most_places self.old) × (most_pieces self.new ≡ most_pieces self.old) }
+        ensures ready_memory { most_ready self.new ≡ most_ready self.old }
     {
         match change {
             Change::Types(types) => {
@@ -198,54 +234,134 @@ impl Shelf {
                 self.pieces.forget(&name);
             }
             Change::Answer(name, outcome) => set_answer(&mut self.places, &name, Some(outcome)),
+            Change::Answers(_) => set_answers(&mut self.places, &mut self.ready),
             Change::Nothing => {}
         }
     }
 
-    /// Keeps the piece of a name, in the place of one that is kept for it, where it was found from the declarations and from the unit
-    /// that are held; else the piece is left out. They are compared as values. Answers whether it is kept, or `AllocError` only where
-    /// memory was refused, and then nothing is changed; it takes none where there is some for one piece more. (Own.)
-    pub fn keep(&mut self, name: Name, piece: Shared<Piece>) -> Result<bool, AllocError>
+    /// Keeps the pieces of a set in their order, as one more owner of each, where they were found from the declarations and from the
+    /// unit at their name that are held; the others are left out. The declarations are compared once. Answers `AllocError` only where an
+    /// owner or memory was refused: then it stopped at that piece, and nothing is lost with the others but the work to make them again. (Own.)
+    pub fn keep_all(&mut self, set: &PieceSet) -> Result<(), AllocError>
         ensures held { self.new.held ≡ self.old.held }
         ensures room { self.new.room ≡ self.old.room }
-        ensures fits { IfOk result (λ kept. IsTrue kept ↔ IsPieceFor self.old.held.types (unit_of (at_name self.old.held.places name)) piece) }
-        ensures pieces { IfOk result (λ kept. self.new.pieces ≡ pieces_with kept name piece self.old.pieces) }
-        ensures refused { OnErr result (self.new.pieces ≡ self.old.pieces) }
-        ensures granted { 0 < self.old.piece_room → IsOk result }
+        ensures kept { OnOk result (AreKeptInOrder self.old.held.types self.old.held.places set.now.rows self.old.pieces self.new.pieces) }
+        ensures refused { OnErr result ((count : ℕ) × AreKeptInOrder self.old.held.types self.old.held.places (take count set.now.rows) self.old.pieces self.new.pieces) }
         ensures memory { most_pieces self.old ≤ most_pieces self.new }
+        ensures ready { (self.new.ready ≡ self.old.ready) × (self.new.ready_room ≡ self.old.ready_room) }
     {
-        if !self.fits(&name, &piece) {
-            return Ok(false);
+        let rows = set.rows();
+        if set.is_over(&self.types) {
+            self.keep_rows(rows)
+        } else {
+            Ok(())
         }
-        self.pieces.keep(name, piece)?;
-        Ok(true)
     }
 
-    /// Keeps pieces in their order, each as `keep` does, as one more owner of each. Answers `AllocError` only where an owner or memory was
-    /// refused: then it stopped at that piece, and nothing is lost with the others but the work to make them again. (Own.)
-    pub fn keep_all(&mut self, pieces: &[(Name, Shared<Piece>)]) -> Result<(), AllocError>
+    // Keeps pieces that were found from the declarations that are held, in their order, where they were found from the unit at their name.
+    fn keep_rows(&mut self, rows: &[(Name, Shared<Piece>)]) -> Result<(), AllocError>
+        requires { AreOver self.old.held.types rows.now }
         ensures held { self.new.held ≡ self.old.held }
         ensures room { self.new.room ≡ self.old.room }
-        ensures kept { OnOk result (AreKeptInOrder self.old.held.types self.old.held.places pieces.now self.old.pieces self.new.pieces) }
-        ensures refused { OnErr result ((count : ℕ) × AreKeptInOrder self.old.held.types self.old.held.places (take count pieces.now) self.old.pieces self.new.pieces) }
+        ensures kept { OnOk result (AreKeptInOrder self.old.held.types self.old.held.places rows.now self.old.pieces self.new.pieces) }
+        ensures refused { OnErr result ((count : ℕ) × AreKeptInOrder self.old.held.types self.old.held.places (take count rows.now) self.old.pieces self.new.pieces) }
         ensures memory { most_pieces self.old ≤ most_pieces self.new }
+        ensures ready { (self.new.ready ≡ self.old.ready) × (self.new.ready_room ≡ self.old.ready_room) }
     {
-        for entry in pieces {
-            let piece = entry.1.clone()?;
-            self.keep(entry.0, piece)?;
+        for entry in rows {
+            self.keep_row(entry.0, &entry.1)?;
         }
         Ok(())
     }
 
-    // Whether a piece was found from the declarations and from the unit that is held at a name.
-    fn fits(&self, name: &Name, piece: &Shared<Piece>) -> bool
-        ensures { IsTrue result ↔ IsPieceFor self.now.held.types (unit_of (at_name self.now.held.places name.now)) piece.now }
+    // Keeps a piece that was found from the declarations that are held, where it was found from the unit at its name.
+    fn keep_row(&mut self, name: Name, piece: &Shared<Piece>) -> Result<(), AllocError>
+        requires { piece.now.types ≡ self.old.held.types }
+        ensures held { self.new.held ≡ self.old.held }
+        ensures room { self.new.room ≡ self.old.room }
+        ensures kept { OnOk result (AreKeptInOrder self.old.held.types self.old.held.places ((name, piece.now) ∷ []) self.old.pieces self.new.pieces) }
+        ensures refused { OnErr result (self.new.pieces ≡ self.old.pieces) }
+        ensures memory { most_pieces self.old ≤ most_pieces self.new }
+        ensures ready { (self.new.ready ≡ self.old.ready) × (self.new.ready_room ≡ self.old.ready_room) }
+    {
+        if self.has_unit_of(&name, piece) {
+            let piece = piece.clone()?;
+            self.pieces.keep(name, piece)?;
+        }
+        Ok(())
+    }
+
+    /// All that is held, and the pieces that are kept of it, as further owners. Answers `AllocError` only where an owner or memory was
+    /// refused. (Own.)
+    pub fn copy(&self, alloc: Global) -> Result<Shelf, AllocError>
+        ensures held { IfOk result (λ copy. copy.held ≡ self.now.held) }
+        ensures pieces { IfOk result (λ copy. copy.pieces ≡ self.now.pieces) }
+    {
+        Ok(Shelf {
+            types: self.types.clone()?,
+            types_revision: self.types_revision(),
+            places: copies(alloc, &self.places)?,
+            pieces: self.pieces.copy(alloc)?,
+            ready: Vec::new(alloc),
+        })
+    }
+
+    /// The names without segments that are held, in their order. Answers `AllocError` only where memory was refused. (Own.)
+    pub fn roots(&self, alloc: Global) -> Result<Vec<Name>, AllocError>
+        ensures { IfOk result (λ names. names.items ≡ roots_in self.now.held.places) }
+    {
+        roots(alloc, &self.places)
+    }
+
+    // Whether a piece was found from the unit that is held at a name.
+    fn has_unit_of(&self, name: &Name, piece: &Shared<Piece>) -> bool
+        ensures { IsTrue result ↔ (unit_of (at_name self.now.held.places name.now) ≡ Some piece.now.unit) }
     {
         match find(&self.places, name) {
-            Ok(place) => piece.get().is_over(&self.types, &self.places[place].1.unit),
+            Ok(place) => *piece.get().unit() == self.places[place].1.unit,
             Err(_) => false,
         }
     }
+}
+
+// Puts one more owner of each outcome behind what is ready.
+fn own_again(
+    ready: &mut Vec<(Name, Shared<Outcome>)>,
+    rows: &[(Name, Shared<Outcome>)],
+) -> Result<(), AllocError>
+    ensures rows { OnOk result (ready.new.items ≡ ready.old.items ++ rows.now) }
+    ensures memory { vec_capacity ready.old ≤ vec_capacity ready.new }
+{
+    ready.reserve(rows.len())?;
+    for row in rows {
+        let outcome = row.1.clone()?;
+        ready.push((row.0, outcome))?;
+    }
+    Ok(())
+}
+
+// The places, as further owners of their units and answers.
+fn copies(alloc: Global, places: &[(Name, Place)]) -> Result<Vec<(Name, Place)>, AllocError>
+    ensures { IfOk result (λ copies. copies.items ≡ places.now) }
+{
+    let mut copies = Vec::with_capacity(alloc, places.len())?;
+    for row in places {
+        copies.push((row.0, row.1.copy()?))?;
+    }
+    Ok(copies)
+}
+
+// The names of places that have no segments, in their order.
+fn roots(alloc: Global, places: &[(Name, Place)]) -> Result<Vec<Name>, AllocError>
+    ensures { IfOk result (λ names. names.items ≡ roots_in places.now) }
+{
+    let mut names = Vec::new(alloc);
+    for row in places {
+        if row.0.depth() == 0 {
+            names.push(row.0)?;
+        }
+    }
+    Ok(names)
 }
 
 // The units of places, under their names, and their revisions.
@@ -311,6 +427,19 @@ fn set_answer(places: &mut Vec<(Name, Place)>, name: &Name, answer: Option<Share
 {
     if let Ok(place) = find(places, name) {
         places[place].1.answer = answer;
+    }
+}
+
+// Moves the outcomes that are ready to the places of their names, so that the first of a name is the one that it keeps.
+fn set_answers(places: &mut Vec<(Name, Place)>, ready: &mut Vec<(Name, Shared<Outcome>)>)
+    requires { AreOrdered places.old.items }
+    ensures places { places.new.items ≡ marked (Answers ready.old.items) places.old.items }
+    ensures ready { ready.new.items ≡ [] }
+    ensures memory { (vec_capacity places.new ≡ vec_capacity places.old) × (vec_capacity ready.new ≡ vec_capacity ready.old) }
+{
+    while let Some(row) = ready.pop() {
+        let name = row.0;
+        set_answer(places, &name, Some(row.1));
     }
 }
 

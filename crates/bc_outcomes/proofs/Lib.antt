@@ -7,3 +7,4 @@ pub mod Gathering
 pub mod Walking
 pub mod Folding
 pub mod Faults
+pub mod Over

@@ -2,13 +2,14 @@
 ghost use Rattle.std.specs.Prelude.{◌≡◌, [], None, Some, IfOk, IfSome};
 ghost use Rattle.bc_prov.specs.Outcome.{IsOutcomeAfter, IsOutcomeIn, IsOutcomeOf, fault_at};
 ghost use Rattle.bc_outcomes.specs.Reported.{AreAmongPiecesOf, ArePiecesOf};
+ghost use Rattle.bc_prov.specs.Pieces.{rows_of};
 ghost use Rattle.bc_prov.specs.State.{AreSuited, at_name, state_of};
 ghost use Rattle.bc_outcomes.specs.Visits.{state_in};
 
 use crate::held::Held;
 use crate::verdicts::errors_of;
 use crate::walk::walk;
-use bc_prov::{Check, Outcome, Pieces, Providers, Shared, Snapshot, share};
+use bc_prov::{Check, Outcome, PieceSet, Pieces, Providers, Shared, Snapshot, share};
 use bc_syntax::{Sequence, Unit};
 use std::alloc::{AllocError, Global};
 
@@ -117,18 +118,18 @@ pub fn report(
 #[derive(Drop)]
 pub struct Found {
     pub outcome: Shared<Outcome>,
-    pub pieces: Pieces,
+    pub pieces: Option<PieceSet>,
 }
 
 impl Found {
     /// An outcome for which no piece was made. It takes no memory. (Own.)
-    pub fn without_pieces(alloc: Global, outcome: Shared<Outcome>) -> Found
+    pub fn without_pieces(outcome: Shared<Outcome>) -> Found
         ensures outcome { result.outcome ≡ outcome }
-        ensures pieces { result.pieces.items ≡ [] }
+        ensures pieces { result.pieces ≡ None }
     {
         Found {
             outcome,
-            pieces: Vec::new(alloc),
+            pieces: None,
         }
     }
 }
@@ -142,15 +143,33 @@ pub fn find_outcome(
     snapshot: &Snapshot,
 ) -> Result<Found, AllocError>
     ensures outcome { IfOk result (λ found. IsOutcomeIn (state_of snapshot.now.types snapshot.now.units) snapshot.now.root found.outcome) }
-    ensures pieces { IfOk result (λ found. AreAmongPiecesOf (state_of snapshot.now.types snapshot.now.units) snapshot.now.root snapshot.now.carried found.outcome found.pieces.items) }
-    ensures carried { IfSome snapshot.now.carried (λ outcome. IfOk result (λ found. (found.outcome ≡ outcome) × (found.pieces.items ≡ []))) }
+    ensures pieces { IfOk result (λ found. AreAmongPiecesOf (state_of snapshot.now.types snapshot.now.units) snapshot.now.root snapshot.now.carried found.outcome (rows_of found.pieces)) }
+    ensures over { IfOk result (λ found. IfSome found.pieces (λ set. set.types ≡ snapshot.now.types)) }
+    ensures carried { IfSome snapshot.now.carried (λ outcome. IfOk result (λ found. (found.outcome ≡ outcome) × (found.pieces ≡ None))) }
 {
-    if let Some(outcome) = snapshot.carried() {
-        return Ok(Found::without_pieces(alloc, outcome.clone()?));
+    match snapshot.carried() {
+        Some(outcome) => Ok(Found::without_pieces(outcome.clone()?)),
+        None => found_anew(alloc, providers, snapshot),
     }
-    let (outcome, pieces) = report_pieces(alloc, providers, snapshot)?;
+}
+
+/// The outcome of the root of a snapshot that carries none, with the pieces that were made for it.
+fn found_anew(
+    alloc: Global,
+    providers: &Providers,
+    snapshot: &Snapshot,
+) -> Result<Found, AllocError>
+    requires { snapshot.now.carried ≡ None }
+    ensures outcome { IfOk result (λ found. IsOutcomeIn (state_of snapshot.now.types snapshot.now.units) snapshot.now.root found.outcome) }
+    ensures pieces { IfOk result (λ found. AreAmongPiecesOf (state_of snapshot.now.types snapshot.now.units) snapshot.now.root None found.outcome (rows_of found.pieces)) }
+    ensures over { IfOk result (λ found. IfSome found.pieces (λ set. set.types ≡ snapshot.now.types)) }
+{
+    let (outcome, pieces) = worked_out(alloc, providers, snapshot)?;
+    let outcome = share(alloc, outcome)?;
+    let types = snapshot.types().clone()?;
+    let rows = snapshot.without_kept(pieces);
     Ok(Found {
-        outcome: share(alloc, outcome)?,
-        pieces: snapshot.without_kept(pieces),
+        outcome,
+        pieces: Some(PieceSet::of(types, rows)),
     })
 }

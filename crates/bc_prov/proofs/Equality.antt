@@ -1,16 +1,19 @@
 -- `==` on outcomes decides `≡`.
-use Rattle.std.proofs.Common.{◌≡◌, List, refl, ap}
+use Rattle.std.proofs.Common.{◌≡◌, ◌&&◌, List, refl, ap}
 use Rattle.std.specs.Bool.{Decides}
+use Rattle.std.specs.Cmp.Lexicographic.{pointwise}
 use Rattle.std.proofs.lemmas.Bool.Decides.{Decides-and, Decides-like, Decides-eqb}
 use Rattle.std.proofs.lemmas.Slice.Eq.{slice_eq-Decides}
 use Rattle.bc_syntax.proofs.Equality.{apart, declaration, region}
 use Rattle.bc_text.proofs.Equality.{name}
+use Rattle.bc_text.specs.Names.{NameParts, is_same_name}
 use Rattle.bc_syntax.specs.declared.syntax.Declaration.{Declaration}
 use Rattle.bc_mir.specs.declared.mir.Point.{Point}
 use Rattle.bc_mir.specs.declared.typed.Where.{Where}
 use Rattle.bc_mir.specs.declared.typed.Where.TheVariants as wheres
 use Rattle.bc_judge.specs.declared.error.BorrowError.{BorrowError}
 use Rattle.bc_judge.specs.declared.error.BorrowError.TheVariants as errors
+use Rattle.bc_prov.specs.Outcome.{OutcomeRows}
 use Rattle.bc_prov.specs.declared.outcome.BodyErrors.{BodyErrors}
 use Rattle.bc_prov.specs.declared.outcome.Outcome.{Outcome}
 use Rattle.bc_prov.specs.declared.outcome.Outcome.TheVariants as outcomes
@@ -71,6 +74,12 @@ outcome (outcomes.Report x) (outcomes.Missing y) = apart (λ e. absurd (cc))
 outcome (outcomes.Report x) (outcomes.BadTypes y) = apart (λ e. absurd (cc))
 outcome (outcomes.Report x) (outcomes.Ill y0 y1) = apart (λ e. absurd (cc))
 outcome (outcomes.Report x) (outcomes.Report y) = Decides-like _ (λ p i. outcomes.Report (p i)) (λ e. cc) (slice_eq-Decides body x y _ refl)
+
+pub row : (a b : NameParts × Outcome) → Decides (is_same_name a.0 b.0 && (outcome_impl.ghosts).eq a.1 b.1) (a ≡ b)
+row a b = Decides-like _ (λ p i. (p.0 i, p.1 i)) (λ e. (ap (λ (r : NameParts × Outcome). r.0) e, ap (λ (r : NameParts × Outcome). r.1) e)) (Decides-and _ _ (name a.0 b.0) (outcome a.1 b.1))
+
+pub listing : (a b : OutcomeRows) → Decides (pointwise (λ (x y : NameParts × Outcome). is_same_name x.0 y.0 && (outcome_impl.ghosts).eq x.1 y.1) a b) (a ≡ b)
+listing a b = slice_eq-Decides row a b _ refl
 
 pub declared : (a b : List Declaration) → Decides ((declared_impl.ghosts).eq a b) (a ≡ b)
 declared a b = slice_eq-Decides declaration a b _ refl

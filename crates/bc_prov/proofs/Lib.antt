@@ -2,3 +2,4 @@ pub mod Equality
 pub mod Starts
 pub mod Numbers
 pub mod Lookup
+pub mod Sets

@@ -14,6 +14,10 @@ use Rattle.bc_prov.specs.declared.outcome.Outcome.TheVariants.{NoBody, Missing, 
 use Rattle.bc_prov.specs.State.{State, child, levels_from, mir_at}
 use Rattle.bc_prov.specs.Verdicts.{IsVerdictAt}
 
+-- outcomes of names
+abbrev pub OutcomeRows : Type 0
+OutcomeRows = List (NameParts × Outcome)
+
 -- the first of these closures of a name that is absent
 abbrev pub absent_among : State → NameParts → List ℕ → Option NameParts
 absent_among state name numbers = find (λ (n : NameParts). is_none (state.bodies n)) (map (child name) numbers)

@@ -1,5 +1,5 @@
 -- The verdict on one body, with all that it was found from.
-use Rattle.std.specs.Prelude.{◌≡◌, ℕ, Bool, List, map, Option, Some, None}
+use Rattle.std.specs.Prelude.{◌≡◌, ℕ, Bool, List, [], map, Option, Some, None}
 use Rattle.std.specs.List.{AllByRecursion, items_where_true}
 use Rattle.bc_syntax.specs.declared.syntax.Declaration.{Declaration}
 use Rattle.bc_syntax.specs.declared.syntax.Body.{Body}
@@ -49,6 +49,20 @@ pub record IsPieceFor (held_types : List Declaration) (held : Option Body) (piec
 -- each piece is of the body that a list has at its name, over these declarations
 abbrev pub ArePieces : List Declaration → List (NameParts × Body) → List (NameParts × PieceView) → Type 0
 ArePieces types units pieces = AllByRecursion (λ (p : NameParts × PieceView). IsPieceFor types (at_name units p.0) p.1) pieces
+
+-- each piece was found from these declarations
+abbrev pub AreOver : List Declaration → List (NameParts × PieceView) → Type 0
+AreOver types pieces = AllByRecursion (λ (p : NameParts × PieceView). p.1.types ≡ types) pieces
+
+-- pieces that were found from the same declarations, with these
+pub record PieceSetView : Type 0 where
+  pub types : List Declaration
+  pub rows : List (NameParts × PieceView)
+
+-- the pieces of a set, if there is one
+abbrev pub rows_of : Option PieceSetView → List (NameParts × PieceView)
+rows_of None = []
+rows_of (Some set) = set.rows
 
 -- some of these pieces are left, in their order
 abbrev pub AreSomeOf : List (NameParts × PieceView) → List (NameParts × PieceView) → Type 0

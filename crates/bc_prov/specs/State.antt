@@ -1,5 +1,5 @@
 -- Declarations and a map from names to bodies, and what a body is there.
-use Rattle.std.specs.Prelude.{◌≡◌, ◌≢◌, ◌⊎◌, ◌<◌, ℕ, ◌-◌, List, [], ◌∷◌, ◌++◌, length, Option, Some}
+use Rattle.std.specs.Prelude.{◌≡◌, ◌≢◌, ◌==◌, ◌⊎◌, ◌<◌, ℕ, ◌-◌, Bool, List, [], ◌∷◌, ◌++◌, length, Option, Some}
 use Rattle.std.specs.Option.{option_map}
 use Rattle.std.specs.List.{filter_map}
 use Rattle.std.specs.Map.{lookup}
@@ -29,6 +29,10 @@ at_name entries name = lookup (is_at (name_order name)) entries
 -- declarations, and the bodies that a list has under their names: a name that is not in it is absent
 abbrev pub state_of : List Declaration → List (NameParts × Body) → State
 state_of types units = record { types = types; bodies = at_name units }
+
+-- a name without segments, as a function has
+abbrev pub is_root : NameParts → Bool
+is_root name = length name.segments == 0
 
 -- the name of the closure of this number
 abbrev pub child : NameParts → ℕ → NameParts

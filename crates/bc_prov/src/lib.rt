@@ -11,8 +11,8 @@ mod shared;
 mod snapshot;
 
 pub use declared::{Check, Declared};
-pub use outcome::{BodyErrors, Outcome};
-pub use pieces::{Piece, Pieces, piece_of, share_pieces};
+pub use outcome::{BodyErrors, Listing, Outcome};
+pub use pieces::{Piece, PieceSet, Pieces, piece_of, share_pieces};
 pub use providers::{Liveness, Providers, Scoping, Solver};
 pub use shared::{Shared, share};
 pub use snapshot::Snapshot;

@@ -25,3 +25,6 @@ pub enum Outcome {
     Ill(Name, Where),
     Report(Sequence<BodyErrors>),
 }
+
+/// Names with their outcomes, each outcome shared. A contract sees a list of names and outcomes. (Own.)
+pub type Listing = Sequence<(Name, Shared<Outcome>)>;

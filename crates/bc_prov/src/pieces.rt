@@ -1,9 +1,9 @@
 //! What is found of one body, with all that it was found from.
-ghost use Rattle.std.specs.Prelude.{◌≡◌, ◌↔◌, true, nat_le, IfOk, IsTrue};
+ghost use Rattle.std.specs.Prelude.{◌≡◌, ◌↔◌, ◌++◌, true, nat_le, IfOk, IsTrue, OnErr, OnOk};
 ghost use Rattle.std.specs.List.{list_all};
 ghost use Rattle.bc_syntax.specs.Children.{children_of};
 ghost use Rattle.bc_cons.specs.Requirements.{AreOfChildren};
-ghost use Rattle.bc_prov.specs.Pieces.{IsFitted, IsFoundFrom, IsPiece};
+ghost use Rattle.bc_prov.specs.Pieces.{AreOver, IsFitted, IsFoundFrom, IsPiece};
 
 use crate::body::verdict_on;
 use crate::declared::Declared;
@@ -34,7 +34,14 @@ pub struct Piece {
     requirements: Requirements,
 }
 
-/// The same pieces, as one more owner of each. Answers `AllocError` only where memory was refused. (Own.)
+/// Pieces of bodies that were found from the same declarations, with these, so that whoever takes them compares the declarations once.
+/// (Own.)
+pub struct PieceSet {
+    types: Shared<Declared>,
+    rows: Pieces,
+}
+
+/// One more owner of each of these pieces, in their order. Answers `AllocError` only where memory was refused. (Own.)
 pub fn share_pieces(alloc: Global, pieces: &[(Name, Shared<Piece>)]) -> Result<Pieces, AllocError>
     ensures { IfOk result (λ shares. shares.items ≡ pieces.now) }
 {
@@ -68,6 +75,78 @@ impl Model for Piece {
     ghost view = { λ p. record { types = p.types; unit = p.unit; mir = p.typed; kids = p.kids.items; verdict = record { errors = p.errors; requirements = p.requirements } } };
 
     ghost invariant = { λ p. IsPiece (record { types = p.types; unit = p.unit; mir = p.typed; kids = p.kids.items; verdict = record { errors = p.errors; requirements = p.requirements } }) };
+}
+
+// Written out: the crates above call this, and prove nothing of its parts again.
+impl Drop for PieceSet {
+    fn drop(self) {
+        let Self { types: _, rows: _ } = self;
+    }
+}
+
+impl Model for PieceSet {
+    ghost use Rattle.bc_prov.specs.Pieces.{AreOver, PieceSetView};
+
+    ghost Value = { PieceSetView };
+
+    ghost view = { λ s. record { types = s.types; rows = s.rows.items } };
+
+    ghost invariant = { λ s. AreOver s.types s.rows.items };
+}
+
+impl PieceSet {
+    /// These pieces, with the declarations that each of them was found from, which it asks of its caller. It takes no memory. (Own.)
+    pub fn of(types: Shared<Declared>, rows: Pieces) -> PieceSet
+        requires { AreOver types rows.items }
+        ensures { result ≡ record { types = types; rows = rows.items } }
+    {
+        PieceSet { types, rows }
+    }
+
+    /// Whether the pieces were found from these declarations, which are compared as values. It takes no memory. (Own.)
+    pub fn is_over(&self, types: &Shared<Declared>) -> bool
+        ensures { IsTrue result ↔ (self.now.types ≡ types.now) }
+    {
+        self.types == *types
+    }
+
+    /// The pieces, each under its body's name. (Own.)
+    pub fn rows(&self) -> &[(Name, Shared<Piece>)]
+        ensures rows { result.now ≡ self.now.rows }
+        ensures over { AreOver self.now.types self.now.rows }
+    {
+        &self.rows
+    }
+
+    /// The pieces, taken out. It takes no memory. (Own.)
+    pub fn into_rows(self) -> Pieces
+        ensures rows { result.items ≡ self.rows }
+        ensures over { AreOver self.types self.rows }
+    {
+        let PieceSet { types: _, rows } = self;
+        rows
+    }
+
+    /// Puts the pieces of another set, over the same declarations, which it asks of its caller, behind its own. Answers `AllocError` only
+    /// where memory was refused, and then has what it had. (Own.)
+    pub fn append(&mut self, other: PieceSet) -> Result<(), AllocError>
+        requires { other.types ≡ self.old.types }
+        ensures taken { OnOk result (self.new ≡ record { types = self.old.types; rows = self.old.rows ++ other.rows }) }
+        ensures refused { OnErr result (self.new ≡ self.old) }
+    {
+        let mut rows = other.into_rows();
+        self.rows.append(&mut rows)?;
+        Ok(())
+    }
+
+    /// One more owner of the declarations and of each piece. Answers `AllocError` only where memory was refused. (Own.)
+    pub fn copy(&self, alloc: Global) -> Result<PieceSet, AllocError>
+        ensures { IfOk result (λ copy. copy ≡ self.now) }
+    {
+        let types = self.types.clone()?;
+        let rows = share_pieces(alloc, &self.rows)?;
+        Ok(PieceSet { types, rows })
+    }
 }
 
 impl Piece {

@@ -10,7 +10,7 @@ ghost use Rattle.bc_prov.specs.State.{AreSuited, at_name, child, state_of};
 
 use crate::declared::Declared;
 use crate::outcome::Outcome;
-use crate::pieces::{Piece, Pieces};
+use crate::pieces::{Piece, PieceSet, Pieces};
 use crate::shared::Shared;
 use bc_syntax::Unit;
 use bc_text::Name;
@@ -125,6 +125,27 @@ impl Snapshot {
         ensures { result ≡ self }
     {
         let pieces = self.fitting(pieces);
+        self.with_offered(pieces)
+    }
+
+    /// The snapshot with the pieces of a set, which a report takes where all that they were found from is there, before any that are kept.
+    /// It takes no memory, and asks nothing of its caller: of a set over other declarations none is taken, and of one over its own those
+    /// that were found from the unit at their name. One is found again where their names ascend. (Own.)
+    pub fn offer(self, set: PieceSet) -> Snapshot
+        ensures { result ≡ self }
+    {
+        if !set.is_over(&self.types) {
+            return self;
+        }
+        let pieces = self.of_units(set);
+        self.with_offered(pieces)
+    }
+
+    /// The snapshot with these pieces of its bodies before any that are kept.
+    fn with_offered(self, pieces: Pieces) -> Snapshot
+        requires { ArePieces self.types self.units pieces.items }
+        ensures { result ≡ self }
+    {
         let Snapshot {
             types,
             root,
@@ -158,6 +179,26 @@ impl Snapshot {
     {
         match self.unit(&entry.0) {
             Some(unit) => entry.1.get().is_over(&self.types, unit),
+            None => false,
+        }
+    }
+
+    /// Those pieces of a set over its declarations that were found from the unit at their name.
+    fn of_units(&self, set: PieceSet) -> Pieces
+        requires { set.types ≡ self.now.types }
+        ensures { ArePieces self.now.types self.now.units result.items }
+    {
+        let mut pieces = set.into_rows();
+        pieces.retain(|entry| self.has_unit(entry));
+        pieces
+    }
+
+    /// Whether a piece was found from the unit at its name.
+    fn has_unit(&self, entry: &(Name, Shared<Piece>)) -> bool
+        ensures { IsTrue result → at_name self.now.units entry.now.0 ≡ Some entry.now.1.unit }
+    {
+        match self.unit(&entry.0) {
+            Some(unit) => entry.1.get().unit() == unit,
             None => false,
         }
     }

@@ -1,5 +1,5 @@
 -- Header lines that ask no session for anything.
-use Rattle.std.proofs.Common.{◌≡◌, ℕ, ◌+◌, List, ◌++◌, Option, Some, None, sym, ◌∙◌, append_assoc}
+use Rattle.std.proofs.Common.{◌≡◌, ℕ, List, ◌++◌, Option, Some, None, sym, ◌∙◌, append_assoc}
 use Rattle.std.specs.Prelude.{IfNone, codes}
 use Rattle.std.proofs.lemmas.List.{append_cancel_left}
 use Rattle.bc_check.specs.declared.heading.Heading.{Heading}

@@ -1,9 +1,11 @@
 -- What is printed of a history, and of sessions that did not end.
-use Rattle.std.specs.Prelude.{ℕ, ◌+◌, List, [], ◌∷◌, ◌++◌, codes, decimal}
-use Rattle.bc_text.specs.Names.{name_text}
+use Rattle.std.specs.Prelude.{ℕ, ◌+◌, List, [], ◌∷◌, ◌++◌, length, codes, decimal}
+use Rattle.std.specs.List.{flat_map}
+use Rattle.bc_text.specs.Names.{NameParts, name_text}
+use Rattle.bc_prov.specs.declared.outcome.Outcome.{Outcome}
 use Rattle.bc_calls.specs.declared.call.Entry.{Entry}
 use Rattle.bc_calls.specs.declared.call.Event.{Event}
-use Rattle.bc_calls.specs.declared.call.Event.TheVariants.{Types, Put, Remove, Ask}
+use Rattle.bc_calls.specs.declared.call.Event.TheVariants.{Types, Put, Remove, Ask, All as EveryRoot}
 use Rattle.bc_calls.specs.declared.call.PutReply.{PutReply}
 use Rattle.bc_calls.specs.declared.call.PutReply.TheVariants.{Added, Replaced, Full, WrongKind}
 use Rattle.bc_calls.specs.declared.call.RemoveReply.{RemoveReply}
@@ -33,17 +35,23 @@ event_text (Types types) = codes "types stored"
 event_text (Put name body reply) = codes "put " ++ name_text name ++ codes " " ++ put_word reply
 event_text (Remove name reply) = codes "remove " ++ name_text name ++ codes " " ++ remove_word reply
 event_text (Ask name outcome) = codes "ask " ++ name_text name
+event_text (EveryRoot rows) = codes "askall " ++ decimal (length rows)
 
 -- the line of an entry: the session, how many calls it had made before, and the call
 abbrev pub entry_line : Entry → List ℕ
 entry_line entry = decimal entry.session ++ codes " " ++ decimal entry.number ++ codes " " ++ line (event_text entry.event)
 
--- the report of an Ask
+-- the lines of a root that an Ask for all lists: its name, and its report
+abbrev pub root_lines : NameParts × Outcome → List ℕ
+root_lines row = line (codes "root " ++ name_text row.0) ++ report row.1
+
+-- the report of an Ask, and the lines of the roots of an Ask for all
 abbrev pub outcome_lines : Event → List ℕ
 outcome_lines (Types types) = []
 outcome_lines (Put name body reply) = []
 outcome_lines (Remove name reply) = []
 outcome_lines (Ask name outcome) = report outcome
+outcome_lines (EveryRoot rows) = flat_map root_lines rows
 
 -- the lines of an entry
 abbrev pub entry_lines : Entry → List ℕ

@@ -89,7 +89,7 @@ fn ends_status(ends: &[End]) -> u8
 }
 
 /// Reads the whole input, has each of so many sessions make its calls on a thread of its own, and prints the history: a line for each
-/// entry, and the report behind the line of an Ask. Then it tells of each session that did not end. The greatest status of the calls,
+/// entry, the report behind the line of an Ask, and each root with its report behind that of an Ask for all. Then it tells of each session that did not end. The greatest status of the calls,
 /// and 3 where a session did not end. A buffer that held nothing holds nothing then, but where the writer behind it failed. It asks for
 /// 1 to 16 sessions. (Own.)
 ///

@@ -74,6 +74,16 @@ fn read_ask(section: &Section<'_>, name: Name) -> Result<Call, Stop>
     Ok(Call::Ask(name))
 }
 
+/// The call that asks for all, of a section without a text.
+fn read_all(section: &Section<'_>) -> Result<Call, Stop>
+    ensures { GivesText Heading.All (part_of section.now) result }
+{
+    if !is_blank(section.text) {
+        return Err(stop_at(section, FaultKind::TextAfterCall));
+    }
+    Ok(Call::All)
+}
+
 /// The call that the text of a section gives behind this heading.
 fn read_text(alloc: Global, section: &Section<'_>, heading: Heading) -> Result<Call, Stop>
     ensures { GivesText heading (part_of section.now) result }
@@ -83,6 +93,7 @@ fn read_text(alloc: Global, section: &Section<'_>, heading: Heading) -> Result<C
         Heading::Put(name) => read_put(alloc, section, name),
         Heading::Remove(name) => read_remove(section, name),
         Heading::Ask(name) => read_ask(section, name),
+        Heading::All => read_all(section),
     }
 }
 

@@ -4,12 +4,14 @@ ghost use Rattle.std.specs.List.{flat_map};
 ghost use Rattle.std.specs.Io.KnownBytes.{Appends};
 ghost use Rattle.bc_report.specs.Text.{line};
 ghost use Rattle.bc_run.specs.Runs.{end_status, greatest_end};
-ghost use Rattle.bc_run.specs.Print.{put_word, remove_word, event_text, entry_line, outcome_lines, refusal_text, entry_lines, stopped_line, stopped_lines};
+ghost use Rattle.bc_run.specs.Print.{put_word, remove_word, event_text, entry_line, root_lines, outcome_lines, refusal_text, entry_lines, stopped_line, stopped_lines};
 
 use bc_book::Refusal;
 use bc_calls::{Entry, Event, PutReply, RemoveReply};
+use bc_prov::{Outcome, Shared};
 use bc_report::write_report;
 use bc_scripts::End;
+use bc_text::Name;
 use std::io;
 use std::io::Write;
 
@@ -50,6 +52,10 @@ fn write_event<O: Write>(event: &Event, out: &mut O) -> io::Result<()>
             writeln!(out, "remove {name} {word}")
         }
         Event::Ask(name, _) => writeln!(out, "ask {name}"),
+        Event::All(listing) => {
+            let count = listing.get().len();
+            writeln!(out, "askall {count}")
+        }
     }
 }
 
@@ -63,17 +69,37 @@ fn write_line<O: Write>(entry: &Entry, out: &mut O) -> io::Result<()>
     write_event(&entry.event, out)
 }
 
-/// Writes the report of an Ask, and nothing of another call.
+/// Writes a root with its report.
+fn write_root<O: Write>(row: &(Name, Shared<Outcome>), out: &mut O) -> io::Result<()>
+    ensures { OnOk result (Appends (O.contents out.old) (O.contents out.new) (root_lines row.now)) }
+{
+    let name = &row.0;
+    writeln!(out, "root {name}")?;
+    write_report(row.1.get(), out)
+}
+
+/// Writes roots with their reports, in their order.
+fn write_roots<O: Write>(rows: &[(Name, Shared<Outcome>)], out: &mut O) -> io::Result<()>
+    ensures { OnOk result (Appends (O.contents out.old) (O.contents out.new) (flat_map root_lines rows.now)) }
+{
+    for row in rows {
+        write_root(row, out)?;
+    }
+    Ok(())
+}
+
+/// Writes the report of an Ask, and the roots of an Ask for all with their reports; nothing of another call.
 fn write_outcome<O: Write>(event: &Event, out: &mut O) -> io::Result<()>
     ensures { OnOk result (Appends (O.contents out.old) (O.contents out.new) (outcome_lines event.now)) }
 {
     match event {
         Event::Types(_) | Event::Put(_, _, _) | Event::Remove(_, _) => Ok(()),
         Event::Ask(_, outcome) => write_report(outcome.get(), out),
+        Event::All(listing) => write_roots(listing.get().as_slice(), out),
     }
 }
 
-/// Writes the line of an entry, and behind the line of an Ask its report.
+/// Writes the line of an entry, and behind the line of an Ask what it answers.
 fn write_entry<O: Write>(entry: &Entry, out: &mut O) -> io::Result<()>
     ensures { OnOk result (Appends (O.contents out.old) (O.contents out.new) (entry_lines entry.now)) }
 {

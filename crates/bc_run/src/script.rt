@@ -16,6 +16,7 @@ fn copy_of(call: &Call) -> Result<Call, AllocError>
         Call::Put(name, unit) => Ok(Call::Put(*name, unit.clone()?)),
         Call::Remove(name) => Ok(Call::Remove(*name)),
         Call::Ask(name) => Ok(Call::Ask(*name)),
+        Call::All => Ok(Call::All),
     }
 }
 

@@ -1,6 +1,6 @@
 -- What scripts leave, call by call.
-use Rattle.std.proofs.Common.{◌≡◌, ℕ, ◌+◌, List, [], ◌∷◌, ◌++◌, length, take, drop, append_assoc, refl, sym, ap, ◌∙◌, subst, Result, Ok, Err, arith}
-use Rattle.std.specs.Prelude.{OnErr, map}
+use Rattle.std.proofs.Common.{◌≡◌, ℕ, List, [], ◌∷◌, ◌++◌, length, take, drop, append_assoc, refl, sym, ap, ◌∙◌, subst, arith}
+use Rattle.std.specs.Prelude.{map}
 use Rattle.std.proofs.lemmas.List.{append-nil, drop_all, length-map, take_all}
 use Rattle.bc_calls.specs.declared.call.Call.{Call}
 use Rattle.bc_share.specs.Sessions.{SessionView, IsSame, Stays}
@@ -8,10 +8,6 @@ use Rattle.bc_scripts.specs.declared.run.End.{End}
 use Rattle.bc_scripts.specs.declared.run.End.TheVariants.{Done}
 use Rattle.bc_scripts.specs.Runs.{AreRuns, seats}
 use Rattle.bc_share.proofs.Noting.{stays_again}
-
-pub on_err : {T E : Type 0} (r : Result T E) (P : Type 0) → P → OnErr r P
-on_err (Ok t) P p = tt
-on_err (Err e) P p = p
 
 -- what stays is the same session
 pub same_of : (old new : SessionView) → Stays old new → IsSame old new

@@ -8,7 +8,7 @@ ghost use Rattle.bc_share.specs.Sessions.{IsSame, Makes};
 use bc_book::Refusal;
 use bc_calls::Call;
 use bc_prov::Providers;
-use bc_share::{Db, Session};
+use bc_share::{Db, Session, work_all};
 use bc_text::Name;
 use bc_versions::Ending;
 use std::alloc::Global;
@@ -17,7 +17,7 @@ use std::sync::Wait;
 use std::thread;
 use std::thread::Threads;
 
-/// Where an Ask of a script pauses: once it has begun, and once its work is done. Nothing is held then. (Own.)
+/// Where an Ask of a script, of one name or for all, pauses: once it has begun, and once its work is done. Nothing is held then. (Own.)
 #[derive(Clone, Copy, Debug, PartialEq, Eq)]
 pub enum Stage {
     Begun,
@@ -181,6 +181,7 @@ fn make_call<R: Wait, E: Ending, G: Gate>(
             session.remove(rt, *name)?;
         }
         Call::Ask(name) => ask_pausing(rt, alloc, session, name, providers, gate)?,
+        Call::All => ask_all_pausing(rt, alloc, session, providers, gate)?,
     }
     Ok(())
 }
@@ -202,5 +203,24 @@ fn ask_pausing<R: Wait, E: Ending, G: Gate>(
     let work = begun.work(alloc, providers)?;
     gate.pause(session.number(), Stage::Worked);
     session.settle(rt, work, providers)?;
+    Ok(())
+}
+
+// Asks for all, and pauses once all are begun, and once the work on all is done.
+fn ask_all_pausing<R: Wait, E: Ending, G: Gate>(
+    rt: &R,
+    alloc: Global,
+    session: &mut Session<E>,
+    providers: &Providers,
+    gate: &G,
+) -> Result<(), Refusal>
+    ensures made { OnOk result (Makes session.old session.new calls.All) }
+    ensures refused { OnErr result (IsSame session.old session.new) }
+{
+    let begun = session.begin_all()?;
+    gate.pause(session.number(), Stage::Begun);
+    let works = work_all(alloc, begun, providers)?;
+    gate.pause(session.number(), Stage::Worked);
+    session.settle_all(rt, works, providers)?;
     Ok(())
 }

@@ -23,11 +23,12 @@ use std::test::Fail;
 use std::thread::Threads;
 use std::time::Clock;
 
-/// A call of a script: a put of a unit under a name, or an Ask of a name.
+/// A call of a script: a put of a unit under a name, an Ask of a name, or an Ask for all.
 #[derive(Clone, Copy)]
 enum Step {
     Put(&'static [u8], &'static [u8]),
     Ask(&'static [u8]),
+    All,
 }
 
 /// Puts a body, and asks for it.
@@ -38,6 +39,20 @@ const REPLACES: [Step; 3] = [
     Step::Ask(b"g"),
     Step::Put(b"f", WRITES_WHILE_BORROWED),
     Step::Ask(b"g"),
+];
+
+/// Puts two bodies, of which the second has an error, and asks for all.
+const ASKS_ALL: [Step; 3] = [
+    Step::Put(b"f", WRITES_LAST),
+    Step::Put(b"g", WRITES_WHILE_BORROWED),
+    Step::All,
+];
+
+/// Puts another one in the place of the second, between two Asks of an absent name.
+const REPLACES_ONE: [Step; 3] = [
+    Step::Ask(b"h"),
+    Step::Put(b"g", WRITES_LAST),
+    Step::Ask(b"h"),
 ];
 
 /// A gate that nobody is held up at.
@@ -151,6 +166,7 @@ fn call_of(alloc: Global, step: Step) -> Result<Call, Fail> {
     match step {
         Step::Put(put, unit) => Ok(Call::Put(name(put)?, Shared::new(shared_unit(alloc, unit)?))),
         Step::Ask(asked) => Ok(Call::Ask(name(asked)?)),
+        Step::All => Ok(Call::All),
     }
 }
 
@@ -347,10 +363,27 @@ pub(crate) fn found_at(entries: &[Entry], place: usize) -> Found {
     match entries.get(place) {
         Some(entry) => match &entry.event {
             Event::Ask(_, outcome) => found_by(outcome.get()),
-            Event::Types(_) | Event::Put(_, _, _) | Event::Remove(_, _) => Found::Other,
+            Event::Types(_) | Event::Put(_, _, _) | Event::Remove(_, _) | Event::All(_) =>
+                Found::Other,
         },
         None => Found::Other,
     }
+}
+
+/// Whether the entry at a place is an Ask for all that lists `f` and `g`, in this order, and of neither an error.
+fn lists_both_clean(entries: &[Entry], place: usize) -> Result<bool, Fail> {
+    let Some(entry) = entries.get(place) else {
+        return Ok(false);
+    };
+    let Event::All(listing) = &entry.event else {
+        return Ok(false);
+    };
+    let [(first, found), (second, also_found)] = listing.get().as_slice() else {
+        return Ok(false);
+    };
+    let is_clean = found_by(found.get()) == Found::Errors(0)
+        && found_by(also_found.get()) == Found::Errors(0);
+    Ok(is_clean && *first == name(b"f")? && *second == name(b"g")?)
 }
 
 /// Whether all scripts were made whole.
@@ -425,6 +458,59 @@ fn an_ask_has_read_before_its_first_stage(rt: HostRuntime) -> Result<(), Fail> {
     assert!(rt; are_done(&ends), "all calls are made");
     assert!(rt; gate.patience.is_kept(), "nobody waits too long");
     assert!(rt; solved.load(SeqCst) == 2, "both bodies are solved");
+    Ok(())
+}
+
+/// A body is replaced while another session has worked on all: its Ask for all stands behind that put, and lists what the put left.
+#[test]
+fn a_body_is_replaced_while_another_session_works_on_all(rt: HostRuntime) -> Result<(), Fail> {
+    let first = script_of(rt.alloc(), &ASKS_ALL, 1)?;
+    let second = script_of(rt.alloc(), &REPLACES_ONE, 1)?;
+    let gate = Turnstile::new(&rt, Stage::Worked);
+    let (ends, history) = run_both(&rt, rt.alloc(), 6, first, second, &gate)?;
+    assert!(rt; are_done(&ends), "all calls are made");
+    assert!(rt; gate.patience.is_kept(), "nobody waits too long");
+    let entries = history.entries();
+    let put = place_of(entries, 1, 1);
+    let all = place_of(entries, 0, 2);
+    assert!(rt; is_replaced(entries, put), "session 1 replaces the body");
+    assert!(rt; put < all, "the Ask for all stands behind that put");
+    assert!(rt; lists_both_clean(entries, all)?, "and lists what it left");
+    Ok(())
+}
+
+/// Catches the stages of an Ask for all swapped or left out, and a stage on the other side of its work.
+#[test]
+fn an_ask_for_all_has_begun_before_its_work_is_done(rt: HostRuntime) -> Result<(), Fail> {
+    let solved = none_solved(rt.alloc())?;
+    let watch = Watch::new(&solved);
+    let script = script_of(rt.alloc(), &ASKS_ALL, 1)?;
+    let none = Script::new(Vec::new(rt.alloc()));
+    let ends = run_counting(&rt, rt.alloc(), script, none, &watch, &solved, 0)?;
+    assert!(rt; are_done(&ends), "all calls are made");
+    assert!(rt;
+        watch.at_begun.load(SeqCst) == 0,
+        "nothing is solved where the Ask for all has begun"
+    );
+    assert!(rt;
+        watch.at_worked.load(SeqCst) == 2,
+        "both bodies are solved where its work is done"
+    );
+    Ok(())
+}
+
+/// Catches roots that are begun one reading each, as late as the work on them: session 1 replaces a body while session 0 is held up where it
+/// has begun all, so that session 0 works on both bodies that it has begun and, as it settles them, on the one that is there then.
+#[test]
+fn an_ask_for_all_has_read_before_its_first_stage(rt: HostRuntime) -> Result<(), Fail> {
+    let solved = none_solved(rt.alloc())?;
+    let gate = Turnstile::new(&rt, Stage::Begun);
+    let first = script_of(rt.alloc(), &ASKS_ALL, 1)?;
+    let second = script_of(rt.alloc(), &REPLACES_ONE, 1)?;
+    let ends = run_counting(&rt, rt.alloc(), first, second, &gate, &solved, 0)?;
+    assert!(rt; are_done(&ends), "all calls are made");
+    assert!(rt; gate.patience.is_kept(), "nobody waits too long");
+    assert!(rt; solved.load(SeqCst) == 3, "all three bodies are solved");
     Ok(())
 }
 

@@ -1,3 +1,4 @@
 pub mod Noting
 pub mod Audits
 pub mod Closings
+pub mod Working

@@ -81,6 +81,16 @@ pub told_again : {T E : Type 0} (r : Result T E) (event event' : T → Event) (o
 told_again (Ok t) event event' old mid new stays same told = stays_answered (event' t) old mid new stays (subst (λ (e : Event). IsAnswered e mid new) (same t) told)
 told_again (Err e) event event' old mid new stays same told = tt
 
+-- what was asked for, and answered to a session that stayed before it
+pub asked_again : {E : Type 0} (Is : Event → Type 0) (r : Result Event E) (old mid new : SessionView) → Stays old mid → IfOk r (λ e. Is e × IsAnswered e mid new) → IfOk r (λ e. Is e × IsAnswered e old new)
+asked_again Is (Ok e) old mid new stays told = (told.0, stays_answered e old mid new stays told.1)
+asked_again Is (Err e) old mid new stays told = tt
+
+-- of what was refused holds what holds anyway
+pub on_err : {T E : Type 0} (r : Result T E) (P : Type 0) → P → OnErr r P
+on_err (Ok t) P p = tt
+on_err (Err e) P p = p
+
 -- a refused call whose session stayed before it
 pub refused_again : {T E : Type 0} (r : Result T E) (old mid new : SessionView) → Stays old mid → OnErr r (Stays mid new) → OnErr r (Stays old new)
 refused_again (Ok t) old mid new stays refused = tt

@@ -7,6 +7,8 @@ mod db;
 mod desk;
 mod notes;
 mod session;
+mod works;
 
 pub use db::{CloseFault, Db, History, MOST_ENTRIES, OpenFault};
 pub use session::Session;
+pub use works::work_all;

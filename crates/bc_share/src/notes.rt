@@ -3,6 +3,7 @@ ghost use Rattle.std.specs.Prelude.{◌≡◌, ◌↔◌, ◌<◌, IfOk, IsTrue,
 ghost use Rattle.bc_book.specs.declared.ledger.TheConstants.{MOST_SESSIONS};
 ghost use Rattle.bc_prov.specs.Snapshots.{IsPartOf};
 ghost use Rattle.bc_calls.specs.Answers.{IsAnswer};
+ghost use Rattle.bc_calls.specs.Beginnings.{AreAllBegun};
 ghost use Rattle.bc_calls.specs.Calls.{after, calls};
 ghost use Rattle.bc_share.specs.Sessions.{IsAnswered, Stays, new_session};
 
@@ -75,6 +76,15 @@ impl Notes {
         ensures answer { IfOk result (λ begun. IsAnswer self.new.session.seen name.now begun.carried) }
     {
         self.front.begin(alloc, name)
+    }
+
+    /// The parts of all held names without segments, in the order of the names, as one reading finds them. `AllocError` only where memory
+    /// or the reading was refused.
+    pub(crate) fn begin_all(&mut self, alloc: Global) -> Result<Vec<Begun>, AllocError>
+        ensures kept { Stays self.old.session self.new.session }
+        ensures parts { IfOk result (λ begun. AreAllBegun self.new.session.seen begun.items) }
+    {
+        self.front.begin_all(alloc)
     }
 
     /// The answer that is published for a name. `AllocError` only where an owner or the reading was refused.

@@ -1,19 +1,22 @@
 //! What one session does, and its own list of that.
-ghost use Rattle.std.specs.Prelude.{◌≡◌, ◌↔◌, ◌<◌, [], IfOk, IsTrue, OnOk, OnErr};
+ghost use Rattle.std.specs.Prelude.{◌≡◌, ◌↔◌, ◌<◌, [], IfOk, IsSome, IsTrue, OnOk, OnErr};
 ghost use Rattle.std.specs.Arc.{arc_value};
 ghost use Rattle.std.specs.Option.{option_map};
 ghost use Rattle.bc_prov.specs.Snapshots.{IsPartOf};
 ghost use Rattle.bc_calls.specs.declared.call.Event.TheVariants as events;
 ghost use Rattle.bc_calls.specs.Answers.{IsAnswer};
+ghost use Rattle.bc_calls.specs.Beginnings.{AreAllBegun};
 ghost use Rattle.bc_calls.specs.Calls.{after, calls};
 ghost use Rattle.bc_book.specs.declared.ledger.TheConstants.{MOST_SESSIONS};
+ghost use Rattle.bc_book.specs.Asked.{IsCallOf, NeedsWork};
 ghost use Rattle.bc_share.specs.Sessions.{IsAnswered, Stays, new_session};
 
 use crate::desk::Desk;
 use crate::notes::Notes;
-use bc_book::Refusal;
-use bc_calls::{Begun, Entry, PutReply, RemoveReply, Work, checked};
-use bc_prov::{Outcome, Providers, Shared};
+use crate::works::work_all;
+use bc_book::{Asked, Refusal};
+use bc_calls::{Begun, Entry, Event, PutReply, RemoveReply, Work, checked};
+use bc_prov::{Listing, Outcome, Providers, Shared};
 use bc_syntax::{Types, Unit};
 use bc_text::Name;
 use bc_versions::{Ending, Front};
@@ -72,7 +75,7 @@ impl<E: Ending> Session<E> {
     /// Stores declarations, which each Ask from now on is answered by, in place of those before (own). They may be bad:
     /// an Ask tells so.
     ///
-    /// Room in the session's own list is made first, and the declarations are checked before the lock is taken. It answers once the
+    /// The declarations are checked, and room in the session's own list is made, before the lock is taken. It answers once the
     /// session has read its own entry. Refused with `HistoryFull` only where the history has as many entries as it may have, where no
     /// call is taken, or the database is closed, and with `NoMemory` only where memory was refused; the session's own list and the
     /// history are then as they were.
@@ -82,8 +85,8 @@ impl<E: Ending> Session<E> {
     {
         self.notes.reserve()?;
         let types = checked(self.alloc, Shared::new(types))?;
-        let mine = types.clone()?;
-        self.desk.put_types(rt, &mut self.notes, types, mine)
+        self.enter(rt, Asked::Types(types), None)?;
+        Ok(())
     }
 
     /// Stores a unit under a name.
@@ -100,11 +103,11 @@ impl<E: Ending> Session<E> {
         ensures told { IfOk result (λ reply. IsAnswered (events.Put name (arc_value unit) reply) self.old self.new) }
         ensures refused { OnErr result (Stays self.old self.new) }
     {
-        self.notes.reserve()?;
-        let unit = Shared::new(unit);
-        let mine = unit.clone()?;
-        self.desk
-            .put(rt, self.alloc, &mut self.notes, name, unit, mine)
+        match self.enter(rt, Asked::Put(name, Shared::new(unit)), None)? {
+            Event::Put(_, _, reply) => Ok(reply),
+            Event::Types(_) | Event::Remove(_, _) | Event::Ask(_, _) | Event::All(_) =>
+                unreachable!(),
+        }
     }
 
     /// Takes the unit of a name away: `Removed`, or `Absent` where none is held (own). Room in the session's own list is
@@ -113,8 +116,11 @@ impl<E: Ending> Session<E> {
         ensures told { IfOk result (λ reply. IsAnswered (events.Remove name reply) self.old self.new) }
         ensures refused { OnErr result (Stays self.old self.new) }
     {
-        self.notes.reserve()?;
-        self.desk.remove(rt, &mut self.notes, name)
+        match self.enter(rt, Asked::Remove(name), None)? {
+            Event::Remove(_, reply) => Ok(reply),
+            Event::Types(_) | Event::Put(_, _, _) | Event::Ask(_, _) | Event::All(_) =>
+                unreachable!(),
+        }
     }
 
     /// The part of what is published that the outcome of a name rests on, to be worked on and settled later; it carries the name's
@@ -126,6 +132,17 @@ impl<E: Ending> Session<E> {
         ensures answer { IfOk result (λ begun. IsAnswer self.new.seen name.now begun.carried) }
     {
         self.notes.begin(self.alloc, name)
+    }
+
+    /// The part of each name without segments that is held in what is published, in the order of the names, to be worked on and settled
+    /// later; each carries its name's answer if one is published. All are parts of what one reading found. It is no call: the session's
+    /// own list stays. It waits for nobody. `AllocError` only where memory or the reading was refused, as it is once the database is
+    /// closed. (Own.)
+    pub fn begin_all(&mut self) -> Result<Vec<Begun>, AllocError>
+        ensures kept { Stays self.old self.new }
+        ensures parts { IfOk result (λ begun. AreAllBegun self.new.seen begun.items) }
+    {
+        self.notes.begin_all(self.alloc)
     }
 
     /// The answer that is published for a name: the outcome of what is held, where the name is held and was asked for since declarations
@@ -157,11 +174,11 @@ impl<E: Ending> Session<E> {
         ensures told { IfOk result (λ outcome. IsAnswered (events.Ask work.snapshot.root (arc_value outcome)) self.old self.new) }
         ensures refused { OnErr result (Stays self.old self.new) }
     {
-        self.notes.reserve()?;
-        let answer = self
-            .desk
-            .settle(rt, self.alloc, &mut self.notes, work, providers)?;
-        Ok(answer.into_arc())
+        match self.enter(rt, Asked::Settle(work), Some(providers))? {
+            Event::Ask(_, outcome) => Ok(outcome.into_arc()),
+            Event::Types(_) | Event::Put(_, _, _) | Event::Remove(_, _) | Event::All(_) =>
+                unreachable!(),
+        }
     }
 
     /// Whether the body under a name is borrow-correct now: the outcome of what the name holds, under the declarations
@@ -182,6 +199,64 @@ impl<E: Ending> Session<E> {
         let begun = self.begin(name)?;
         let work = begun.work(self.alloc, providers)?;
         self.settle(rt, work, providers)
+    }
+
+    /// Asks for all, with works of a session: the outcome of each name without segments that is held, in the order of the names. Each is the
+    /// one that `settle` would give to an Ask of that name, with the work on it where there is one (its errors by RFC 2094, "Borrow checker
+    /// phase 2" and "Named lifetimes"; the rest is own). A work that comes out of the order of the names, a second one of a name, or one of
+    /// a name that is not listed is let go; it may be another database's.
+    ///
+    /// It is one call, and answers each name that it lists, as an Ask of that name does. Room in the session's own list is made first.
+    /// Refused as `settle` is; the works are then gone.
+    pub fn settle_all<R: Wait>(
+        &mut self,
+        rt: &R,
+        works: Vec<Work>,
+        providers: &Providers,
+    ) -> Result<Arc<Listing, Global>, Refusal>
+        ensures told { IfOk result (λ listing. IsAnswered (events.All (arc_value listing)) self.old self.new) }
+        ensures refused { OnErr result (Stays self.old self.new) }
+    {
+        match self.enter(rt, Asked::All(works), Some(providers))? {
+            Event::All(listing) => Ok(listing.into_arc()),
+            Event::Types(_) | Event::Put(_, _, _) | Event::Remove(_, _) | Event::Ask(_, _) =>
+                unreachable!(),
+        }
+    }
+
+    /// Which bodies are borrow-correct now: the outcome of each name without segments that is held, in the order of the names, each as `ask`
+    /// answers it. What is published is begun by one reading and worked on with nothing held, and settled then; roots that were written
+    /// meanwhile, and new ones, are worked on under the lock. (Own.)
+    ///
+    /// Refused as `settle_all` is, and with `NoMemory` where the reading is refused, as it is once the database is closed.
+    pub fn ask_all<R: Wait>(
+        &mut self,
+        rt: &R,
+        providers: &Providers,
+    ) -> Result<Arc<Listing, Global>, Refusal>
+        ensures told { IfOk result (λ listing. IsAnswered (events.All (arc_value listing)) self.old self.new) }
+        ensures refused { OnErr result (Stays self.old self.new) }
+    {
+        let begun = self.begin_all()?;
+        let works = work_all(self.alloc, begun, providers)?;
+        self.settle_all(rt, works, providers)
+    }
+
+    // Enters what is asked for, once there is room for it in the session's own list, and answers the call with its reply. It asks for
+    // providers where an outcome is asked for.
+    fn enter<R: Wait>(
+        &mut self,
+        rt: &R,
+        asked: Asked,
+        providers: Option<&Providers>,
+    ) -> Result<Event, Refusal>
+        requires { NeedsWork asked → IsSome providers }
+        ensures told { IfOk result (λ event. IsCallOf asked event × IsAnswered event self.old self.new) }
+        ensures refused { OnErr result (Stays self.old self.new) }
+    {
+        self.notes.reserve()?;
+        self.desk
+            .enter(rt, self.alloc, &mut self.notes, asked, providers)
     }
 
     /// The tag of its database. Own.

@@ -1,6 +1,7 @@
 -- The table of a history, after the next entry, is the table of the longer history; and what is read of a table.
 use Rattle.std.proofs.Common.{◌≡◌, ◌∙◌, List, [], ◌∷◌, ◌++◌, ap, refl, sym, subst, Option, Some, None}
 use Rattle.std.specs.Prelude.{IfSome}
+use Rattle.std.specs.List.{AllZip}
 use Rattle.std.specs.Option.{option_or}
 use Rattle.bc_text.specs.Names.{NameParts}
 use Rattle.bc_prov.specs.declared.outcome.Outcome.{Outcome}
@@ -28,6 +29,13 @@ pub carried_answer : (s : ShelfView) (h : List Entry) (n : NameParts) (v : Snaps
 carried_answer s h n v None of types root units is = tt
 carried_answer s h n v (Some o) of types root units is =
     outcome_part v n (after h) o (copied_part s h n v of types root units) (subst (IsAnswer h n) (sym is) (of.answers n)).1
+
+-- two lists with one more element each
+pub zip_more : {A B : Type 0} (R : A → B → Type 0) (xs : List A) (ys : List B) (x : A) (y : B) → AllZip R xs ys → R x y → AllZip R (xs ++ x ∷ []) (ys ++ y ∷ [])
+zip_more R [] [] x y all one = (one, tt)
+zip_more R [] (b ∷ bs) x y all one = absurd all
+zip_more R (a ∷ as') [] x y all one = absurd all
+zip_more R (a ∷ as') (b ∷ bs) x y all one = (all.0, zip_more R as' bs x y all.1 one)
 
 or_none : (a : Option Outcome) → option_or a None ≡ a
 or_none None = refl

@@ -3,11 +3,14 @@ ghost use Rattle.std.specs.Prelude.{◌≡◌, [], Some, IfOk, IfSome, IsTrue};
 ghost use Rattle.left_right.specs.Sides.{view};
 ghost use Rattle.bc_prov.specs.Snapshots.{IsPartOf};
 ghost use Rattle.bc_calls.specs.Calls.{IsLegal, StartsWith, after, last_of};
-ghost use Rattle.bc_calls.specs.Answers.{IsAnswer};
+ghost use Rattle.bc_calls.specs.Answers.{IsAnswer, IsShelfOf};
+ghost use Rattle.bc_calls.specs.Beginnings.{AreAllBegun};
 
+use crate::roots::begin_roots;
 use crate::rule::{Look, Published, Seen, TableReader};
 use crate::table::Table;
 use bc_calls::{Begun, Event};
+use bc_memo::Shelf;
 use bc_prov::{Outcome, Shared};
 use bc_text::Name;
 use core::mem::replace_with;
@@ -98,6 +101,20 @@ impl Front {
         replace_with(&mut self.reader, (alloc, *name), read_part).ok_or(AllocError)
     }
 
+    /// The parts of all held names without segments, in the order of the names, each as `begin` gives it. They are parts of what one
+    /// reading found, which copies it and is over before they are made. What was seen only grows. Answers `AllocError` where memory or
+    /// the reading is refused, as once the writer is gone. It waits for nobody. (Own.)
+    pub fn begin_all(&mut self, alloc: Global) -> Result<Vec<Begun>, AllocError>
+        ensures later { StartsWith self.new self.old }
+        ensures legal { IsLegal self.new }
+        ensures parts { IfOk result (λ begun. AreAllBegun self.new begun.items) }
+    {
+        match replace_with(&mut self.reader, alloc, read_held) {
+            Some(held) => begin_roots(alloc, &held),
+            None => Err(AllocError),
+        }
+    }
+
     /// Reads until the last entry that is published is this event, of this session, which had so many entries before it. What was seen
     /// only grows. It takes no memory. (Own.)
     pub fn reach<R: Wait>(&mut self, rt: &R, session: u8, number: usize, event: &Event)
@@ -146,6 +163,21 @@ fn read_part(reader: TableReader, of: (Global, Name)) -> (TableReader, Option<Be
                 Ok(part) => (reader, Some(Begun::carrying(part, answer))),
                 Err(_) => (reader, None),
             }
+        }
+        Err(reader) => (reader, None),
+    }
+}
+
+// Copies what is held. There is none to be had where the writer is gone, or memory is refused.
+fn read_held(reader: TableReader, alloc: Global) -> (TableReader, Option<Shelf>)
+    ensures later { StartsWith (view result.0.place) (view reader.place) }
+    ensures legal { IsLegal (view reader.place) → IsLegal (view result.0.place) }
+    ensures held { IfSome result.1 (λ shelf. IsShelfOf shelf.held (view result.0.place)) }
+{
+    match reader.enter_as::<Look>() {
+        Ok(reading) => {
+            let held = reading.get().copy_held(alloc).ok();
+            (reading.leave(), held)
         }
         Err(reader) => (reader, None),
     }

@@ -6,6 +6,7 @@ mod ending;
 mod front;
 mod laws;
 mod press;
+mod roots;
 mod rule;
 mod table;
 

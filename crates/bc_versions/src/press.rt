@@ -12,7 +12,7 @@ use crate::rule::{Add, TableWriter};
 use crate::table::{Table, Update};
 use bc_calls::{Entry, MOST_BODIES};
 use bc_memo::Shelf;
-use bc_prov::{Declared, Pieces, Shared};
+use bc_prov::{Declared, PieceSet, Shared};
 use core::mem::replace_with;
 use std::alloc::{AllocError, Global};
 use std::marker::Model;
@@ -80,7 +80,7 @@ impl<E: Ending> Press<E> {
         rt: &R,
         entry: Entry,
         revision: u32,
-        pieces: Option<Pieces>,
+        pieces: Option<PieceSet>,
     ) -> Result<(), AllocError>
         requires { MayComeNext self.old.entries entry }
         ensures { MatchResult result (λ _. self.new ≡ pressed self.old (record { entry = entry; revision = revision })) (λ _. self.new ≡ self.old) }

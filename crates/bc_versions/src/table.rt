@@ -1,6 +1,6 @@
 //! What is published: the last entry, and what is held after it.
 ghost use Rattle.std.specs.Prelude.{◌≡◌, ◌<◌, ◌≤◌, [], IfOk, IsOk, None, OnErr, OnOk, Some, length};
-ghost use Rattle.bc_memo.specs.Places.{MayChange, answer_of, changed, empty_shelf, revisions_in, units_in};
+ghost use Rattle.bc_memo.specs.Places.{IsReady, MayChange, answer_of, changed, empty_shelf, most_pieces, most_places, most_ready, revisions_in, units_in};
 ghost use Rattle.bc_prov.specs.State.{at_name};
 ghost use Rattle.bc_calls.specs.Calls.{most_bodies};
 ghost use Rattle.bc_calls.specs.Changes.{change_of};
@@ -8,7 +8,7 @@ ghost use Rattle.bc_versions.specs.Tables.{empty_table, updated};
 
 use bc_calls::Entry;
 use bc_memo::{Change, Part, Shelf};
-use bc_prov::{Outcome, Pieces, Shared};
+use bc_prov::{Outcome, PieceSet, Shared};
 use bc_text::Name;
 use left_right::Absorb;
 use std::alloc::{AllocError, Global};
@@ -20,7 +20,7 @@ use std::marker::Model;
 pub struct Update {
     entry: Entry,
     revision: u32,
-    pieces: Option<Pieces>,
+    pieces: Option<PieceSet>,
 }
 
 impl Model for Update {
@@ -38,7 +38,7 @@ impl Model for Update {
 impl Update {
     /// An entry, where a unit that it puts suits its name, with a revision, and with pieces that were made for an Ask, if it is one. It
     /// takes no memory.
-    pub(crate) fn new(entry: Entry, revision: u32, pieces: Option<Pieces>) -> Update
+    pub(crate) fn new(entry: Entry, revision: u32, pieces: Option<PieceSet>) -> Update
         requires { MayChange (change_of entry.event) }
         ensures { result ≡ record { entry = entry; revision = revision } }
     {
@@ -50,8 +50,8 @@ impl Update {
     }
 }
 
-/// The last entry, and what is held after it with its answers. Contracts see both. There is memory for all places and one to spare, and
-/// for a piece of each and one more: the type keeps it. (Own.)
+/// The last entry, and what is held after it with its answers. Contracts see both. There is memory for all places and one to spare, for
+/// a piece of each and one more, and for as many answers that a change brings at once: the type keeps it. (Own.)
 #[derive(Drop)]
 pub struct Table {
     last: Option<Entry>,
@@ -61,23 +61,24 @@ pub struct Table {
 impl Model for Table {
     ghost use Rattle.std.specs.Prelude.{◌<◌};
     ghost use Rattle.bc_calls.specs.Calls.{most_bodies};
-    ghost use Rattle.bc_memo.specs.Places.{most_pieces, most_places};
+    ghost use Rattle.bc_memo.specs.Places.{most_pieces, most_places, most_ready};
     ghost use Rattle.bc_versions.specs.Tables.{TableView};
 
     ghost Value = { TableView };
 
     ghost view = { λ t. record { last = t.last; shelf = t.shelf.held } };
 
-    ghost invariant = { λ t. (most_bodies < most_places t.shelf) × (most_bodies < most_pieces t.shelf) };
+    ghost invariant = { λ t. (most_bodies < most_places t.shelf) × (most_bodies < most_pieces t.shelf) × (most_bodies < most_ready t.shelf) };
 }
 
 impl Table {
-    /// A table before any entry, of a shelf that holds no declaration and no unit. It asks for memory for all places and one to spare, and
-    /// for a piece of each. It takes no memory.
+    /// A table before any entry, of a shelf that holds no declaration and no unit. It asks for memory for all places and one to spare, for
+    /// a piece of each, and for the answers of all. It takes no memory.
     pub(crate) fn new(shelf: Shelf) -> Table
         requires empty { shelf.held ≡ empty_shelf [] }
         requires room { most_bodies < shelf.room }
         requires piece_room { most_bodies < shelf.piece_room }
+        requires ready_room { most_bodies < shelf.ready_room }
         ensures { result ≡ empty_table }
     {
         Table { last: None, shelf }
@@ -94,10 +95,7 @@ impl Table {
     pub(crate) fn answer(&self, name: &Name) -> Result<Option<Shared<Outcome>>, AllocError>
         ensures { IfOk result (λ answer. answer ≡ answer_of (at_name self.now.shelf.places name.now)) }
     {
-        match self.shelf.answer(name) {
-            Some(outcome) => Ok(Some(outcome.clone()?)),
-            None => Ok(None),
-        }
+        answer_in(&self.shelf, name)
     }
 
     /// A name's part. `AllocError` only where memory was refused.
@@ -108,33 +106,54 @@ impl Table {
         self.shelf.part(alloc, root)
     }
 
-    /// Takes in an entry: all of it, or nothing where an owner is refused. A piece that is left out is only made again.
+    /// A copy of what is held. `AllocError` only where memory was refused.
+    pub(crate) fn copy_held(&self, alloc: Global) -> Result<Shelf, AllocError>
+        ensures { IfOk result (λ copy. copy.held ≡ self.now.shelf) }
+    {
+        self.shelf.copy(alloc)
+    }
+
+    /// Takes in an entry: all of it, or nothing where an owner is refused, also one of the answers of many names. A piece that is left
+    /// out is only made again.
     pub(crate) fn update(&mut self, update: &Update) -> Result<(), AllocError>
         ensures taken { OnOk result (self.new ≡ updated self.old update.now) }
         ensures refused { OnErr result (self.new ≡ self.old) }
     {
         let last = update.entry.copy()?;
         let change = update.entry.event.change()?;
-        self.take_in(last, change, update.revision)?;
+        self.shelf.prepare(&change)?;
+        take_in(&mut self.shelf, change, update.revision)?;
+        self.last = Some(last);
         if let Some(pieces) = &update.pieces {
             let _kept = self.shelf.keep_all(pieces);
         }
         Ok(())
     }
+}
 
-    // Takes in the last entry, and what it changes: all of it, or nothing where memory is refused, which it is not where no more units are
-    // held than a legal history leaves.
-    fn take_in(&mut self, last: Entry, change: Change, revision: u32) -> Result<(), AllocError>
-        requires { MayChange change }
-        ensures taken { OnOk result (self.new ≡ record { last = Some last; shelf = changed self.old.shelf change revision }) }
-        ensures refused { OnErr result (self.new ≡ self.old) }
-        ensures granted { length self.old.shelf.places ≤ most_bodies → IsOk result }
-    {
-        self.shelf.reserve()?;
-        self.shelf.change(change, revision);
-        self.last = Some(last);
-        Ok(())
+/// One more owner of the answer of a name in what is held, if it has one. `AllocError` only where that is refused.
+pub(crate) fn answer_in(held: &Shelf, name: &Name) -> Result<Option<Shared<Outcome>>, AllocError>
+    ensures { IfOk result (λ answer. answer ≡ answer_of (at_name held.now.held.places name.now)) }
+{
+    match held.answer(name) {
+        Some(outcome) => Ok(Some(outcome.clone()?)),
+        None => Ok(None),
     }
+}
+
+// Changes what is held, where the shelf is ready for it, or nothing where memory for a place is refused, which it is not where no more
+// units are held than a legal history leaves.
+fn take_in(shelf: &mut Shelf, change: Change, revision: u32) -> Result<(), AllocError>
+    requires suited { MayChange change }
+    requires ready { IsReady change shelf.old.ready }
+    ensures taken { OnOk result (shelf.new.held ≡ changed shelf.old.held change revision) }
+    ensures refused { OnErr result (shelf.new.held ≡ shelf.old.held) }
+    ensures granted { most_bodies < most_places shelf.old → length shelf.old.held.places ≤ most_bodies → IsOk result }
+    ensures memory { (most_places shelf.old ≤ most_places shelf.new) × (most_pieces shelf.new ≡ most_pieces shelf.old) × (most_ready shelf.new ≡ most_ready shelf.old) }
+{
+    shelf.reserve()?;
+    shelf.change(change, revision);
+    Ok(())
 }
 
 impl Absorb<Update> for Table {

@@ -1,9 +1,12 @@
 //! Has a session glance at names, begin their parts and put units, alone and beside others that put on threads of their own, and do so with a book
-//! under a lock. How many answers were wrong goes to standard output, the same at each run; how fast each session was goes to standard error.
+//! under a lock; then asks for all of as many bodies as may be held. How many answers were wrong goes to standard output, the same at each run;
+//! how fast each session was, and how long each Ask for all took, goes to standard error.
 #![tactic(auto)]
 
+mod all;
 mod seats;
 
+use crate::all::show_all;
 use crate::seats::{Act, Answered, Seat, act_all, show};
 use anyhow::{Result, bail};
 use bc_analyses::providers;
@@ -189,5 +192,5 @@ fn main(rt: HostRuntime) -> Result<()> {
             bench.measure(row, *count)?;
         }
     }
-    Ok(())
+    show_all(&rt, &unit, &providers)
 }

@@ -1,7 +1,7 @@
 //! Sessions that each do one thing again and again, on threads of their own.
 use anyhow::{Result, bail};
 use bc_book::Book;
-use bc_calls::PutReply;
+use bc_calls::{Event, PutReply};
 use bc_prov::{Outcome, Shared};
 use bc_share::Session;
 use bc_syntax::Unit;
@@ -87,7 +87,10 @@ impl<R: AllocGlobal + Clock + Wait, E: Ending> Seat<'_, R, E> {
             .book
             .lock(rt)
             .put(rt, alloc, 0, *name, Shared::new(unit));
-        matches!(reply, Ok(PutReply::Replaced))
+        match reply {
+            Ok(told) => matches!(told.into_owners().0, Event::Put(_, _, PutReply::Replaced)),
+            Err(_) => false,
+        }
     }
 
     /// Takes a name. Gives whether the answer is right.

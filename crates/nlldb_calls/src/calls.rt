@@ -4,8 +4,9 @@ use crate::rows::{Context, halves};
 use anyhow::{Result, bail};
 use bc_calls::{PutReply, RemoveReply, Work};
 use bc_fixtures::{name, shared_types, shared_unit};
+use bc_prov::Listing;
 use bc_report::write_report;
-use bc_share::Session;
+use bc_share::{Session, work_all};
 use bc_versions::Ending;
 use std::io::Write;
 use std::sync::Wait;
@@ -79,6 +80,29 @@ impl<R: AllocGlobal + Wait> Context<'_, R> {
         Ok(())
     }
 
+    /// Asks for all, and writes the listing.
+    fn ask_all<E: Ending>(&self, session: &mut Session<E>, out: &mut Vec<u8>) -> Result<()> {
+        let listing = session.ask_all(self.rt, self.providers)?;
+        write_listing(&listing, out)
+    }
+
+    /// Begins all roots, and works on each; fails where a provider wants memory.
+    fn work_on_all<E: Ending>(&self, session: &mut Session<E>) -> Result<Vec<Work>> {
+        let begun = session.begin_all()?;
+        Ok(work_all(self.rt.alloc(), begun, self.providers)?)
+    }
+
+    /// Settles works as an Ask for all, and writes the listing.
+    fn settle_all<E: Ending>(
+        &self,
+        session: &mut Session<E>,
+        works: Vec<Work>,
+        out: &mut Vec<u8>,
+    ) -> Result<()> {
+        let listing = session.settle_all(self.rt, works, self.providers)?;
+        write_listing(&listing, out)
+    }
+
     /// Has a session do what a row says, and writes what it is answered.
     pub fn act<E: Ending>(
         &self,
@@ -94,10 +118,22 @@ impl<R: AllocGlobal + Wait> Context<'_, R> {
             "remove" => out.extend_from_slice(self.remove(case.session(who)?, rest)?)?,
             "ask" => self.ask(case.session(who)?, rest, out)?,
             "glance" => glance(case.session(who)?, rest, out)?,
-            "work" => case.work = Some(self.work(case.session(who)?, rest, out)?),
+            "askall" => self.ask_all(case.session(who)?, out)?,
+            "work" => {
+                let work = self.work(case.session(who)?, rest, out)?;
+                case.works.push(work)?;
+            }
+            "workall" => {
+                let mut works = self.work_on_all(case.session(who)?)?;
+                case.works.append(&mut works)?;
+            }
             "settle" => {
-                let work = case.work.take();
+                let work = case.works.pop();
                 self.settle(case.session(who)?, work, out)?;
+            }
+            "settleall" => {
+                let works = case.take_works(self.rt.alloc());
+                self.settle_all(case.session(who)?, works, out)?;
             }
             _ => bail!("no session does this"),
         }
@@ -110,6 +146,18 @@ fn glance<E: Ending>(session: &mut Session<E>, text: &str, out: &mut Vec<u8>) ->
     match session.glance(&name(text.as_bytes())?)? {
         Some(outcome) => write_report(&outcome, out)?,
         None => out.extend_from_slice(b"no answer\n")?,
+    }
+    Ok(())
+}
+
+/// Writes how many roots are listed, and of each its name and its report.
+fn write_listing(listing: &Listing, out: &mut Vec<u8>) -> Result<()> {
+    let count = listing.len();
+    writeln!(out, "{count} roots")?;
+    for row in listing.as_slice() {
+        let name = row.0;
+        writeln!(out, "root {name}")?;
+        write_report(row.1.get(), out)?;
     }
     Ok(())
 }

@@ -13,11 +13,11 @@ struct Opened<E: Ending> {
     sessions: Vec<Session<E>>,
 }
 
-/// What the rows of a case have opened, and the work that was done last, until it is settled.
+/// What the rows of a case have opened, and the works that were done and not settled yet.
 #[derive(Drop)]
 pub struct Case<E: Ending> {
     opened: Vec<Opened<E>>,
-    pub work: Option<Work>,
+    pub works: Vec<Work>,
 }
 
 impl<E: Ending> Case<E> {
@@ -25,7 +25,7 @@ impl<E: Ending> Case<E> {
     pub fn new(alloc: Global) -> Case<E> {
         Case {
             opened: Vec::new(alloc),
-            work: None,
+            works: Vec::new(alloc),
         }
     }
 
@@ -56,6 +56,11 @@ impl<E: Ending> Case<E> {
             Some(session) => Ok(session),
             None => bail!("no session has this number"),
         }
+    }
+
+    /// Takes the works that were done and not settled yet, in the order in which they were done.
+    pub fn take_works(&mut self, alloc: Global) -> Vec<Work> {
+        mem::replace(&mut self.works, Vec::new(alloc))
     }
 
     /// Takes the database of a letter; fails where it was closed before.

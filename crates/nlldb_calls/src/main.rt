@@ -7,6 +7,8 @@
 //!   empty one by none.
 //! - `a0 glance NAME` reads the answer that is published. `a0 work NAME` begins a name and works on it. `a0 settle` settles the work that
 //!   was done last, whichever session did it.
+//! - `a0 askall` asks for all. `a0 workall` begins all roots and works on each. `a0 settleall` settles the works that were done and not settled
+//!   yet, in the order in which they were done, whichever sessions did them, as an Ask for all.
 //! - `close a b` closes `a` with the sessions that `b` has left, and `close a` with none. The answer is how many entries the history has.
 //! - `refuse live`, `solve`, `scopes`, `all` or `none` says which providers want memory from then on.
 //! - `count` is answered by how often each provider was called since the last `count` or `refuse`.

@@ -21,20 +21,20 @@ const SESSIONS: u8 = 16;
 
 /// A round that is measured: of the names of its functions and of their closures more are put than may be held.
 const LONG: Shape = Shape {
-    functions: 110,
+    functions: 440,
     turns: 10_000,
 };
 
 /// A round whose history is nearly as long as one may be: five of eight turns are calls.
 const FULL: Shape = Shape {
-    functions: 110,
+    functions: 440,
     turns: 99_000,
 };
 
 /// A round over more names than may be held that is only compared.
 const WIDE: Shape = Shape {
-    functions: 66,
-    turns: 250,
+    functions: 700,
+    turns: 1_000,
 };
 
 /// A round in which all sessions write the four names of one function.
@@ -262,9 +262,13 @@ impl<'a, E: Ending> Seat<'a, E> {
         match self.draw(256) {
             0 => self.declare(rt)?,
             1..=79 => self.put(rt, name, number)?,
-            80..=95 => {
+            80..=94 => {
                 self.note(Deed::Remove(number))?;
                 self.session.remove(rt, *name)?;
+            }
+            95 => {
+                self.note(Deed::All)?;
+                self.session.ask_all(rt, providers)?;
             }
             96..=159 => {
                 self.note(Deed::Ask(number))?;

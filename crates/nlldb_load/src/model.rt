@@ -2,6 +2,7 @@
 //! memo. It is compared with the history of a database, entry by entry, and each session's readings with the beginnings of that history.
 use bc_calls::{Entry, Event, MOST_BODIES, PutReply, RemoveReply};
 use bc_fixtures::Sight;
+use bc_prov::{Outcome, Shared};
 use bc_text::Name;
 use std::alloc::{AllocError, Global};
 
@@ -19,13 +20,14 @@ pub(crate) enum Kind {
     Creator([bool; CLOSURES]),
 }
 
-/// A call that a session made, by the number of the name, with what is known of the unit that it put.
+/// A call that a session made, by the number of the name where it is of one, with what is known of the unit that it put.
 #[derive(Clone, Copy)]
 pub(crate) enum Deed {
     Types,
     Put(usize, Kind),
     Remove(usize),
     Ask(usize),
+    All,
 }
 
 /// What a session saw of a name without a call: the answer that a glance shows, or what its own work finds outside the lock.
@@ -48,6 +50,30 @@ pub(crate) struct Reading {
 pub(crate) struct Log {
     pub(crate) calls: Vec<Deed>,
     pub(crate) readings: Vec<Reading>,
+}
+
+/// What is listed of a name.
+fn seen_in(rows: &[(Name, Shared<Outcome>)], name: &Name) -> Option<Sight> {
+    for (at, outcome) in rows {
+        if at == name {
+            return Some(Sight::of(outcome.get()));
+        }
+    }
+    None
+}
+
+/// Whether the names of rows ascend.
+fn ascend(rows: &[(Name, Shared<Outcome>)]) -> bool {
+    let mut last: Option<&Name> = None;
+    for (at, _) in rows {
+        if let Some(before) = last {
+            if before >= at {
+                return false;
+            }
+        }
+        last = Some(at);
+    }
+    true
 }
 
 /// What is held under each name, and the answer of each.
@@ -159,6 +185,21 @@ impl Map {
         found
     }
 
+    /// Asks for all, and answers whether these rows are what is found: the held functions, ascending, each with what is found of it.
+    fn ask_all(&mut self, names: &[Name], rows: &[(Name, Shared<Outcome>)]) -> bool {
+        let mut count: usize = 0;
+        for (number, name) in names.iter().enumerate() {
+            if number % FAMILY != 0 || self.held(number).is_none() {
+                continue;
+            }
+            if seen_in(rows, name) != Some(self.ask(names, number)) {
+                return false;
+            }
+            count = count.saturating_add(1);
+        }
+        count == rows.len() && ascend(rows)
+    }
+
     /// Makes a call, and answers whether the event is that call with that reply.
     fn take(&mut self, names: &[Name], deed: Deed, event: &Event) -> bool {
         match (deed, event) {
@@ -175,7 +216,9 @@ impl Map {
             (Deed::Ask(name), Event::Ask(at, outcome)) => {
                 names.get(name) == Some(at) && self.ask(names, name) == Sight::of(outcome.get())
             }
-            (Deed::Types | Deed::Put(_, _) | Deed::Remove(_) | Deed::Ask(_), _) => false,
+            (Deed::All, Event::All(listing)) => self.ask_all(names, listing.get().as_slice()),
+            (Deed::Types | Deed::Put(_, _) | Deed::Remove(_) | Deed::Ask(_) | Deed::All, _) =>
+                false,
         }
     }
 

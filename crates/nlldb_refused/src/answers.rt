@@ -15,10 +15,10 @@ use bc_live::live;
 use bc_loans::loans;
 use bc_memo::Shelf;
 use bc_mir::{Instruction, KidHeader, Typed};
-use bc_outcomes::{piece, report, report_pieces};
+use bc_outcomes::{Found, find_outcome, piece, report, report_pieces};
 use bc_points::accesses;
 use bc_print::{print_types, print_unit};
-use bc_prov::{Check, Piece, Pieces, Providers, Snapshot, share};
+use bc_prov::{Check, Piece, PieceSet, Providers, Snapshot, share};
 use bc_solve::{Values, solve_plain};
 use bc_syntax::{Base, Sequence, Statement, Unit, UnitKind};
 use bc_text::{Name, read_types, read_unit};
@@ -184,13 +184,19 @@ pub(crate) fn pieces_of(
     providers: &Providers,
     shelf: &Shelf,
     names: &[Name],
-) -> Result<Pieces> {
+) -> Result<PieceSet> {
     let [at, ..] = names else {
         bail!("no name");
     };
     let part = shelf.part(alloc, at)?;
-    let (_outcome, pieces) = report_pieces(alloc, providers, &part.snapshot)?;
-    Ok(pieces)
+    let Found {
+        outcome: _outcome,
+        pieces,
+    } = find_outcome(alloc, providers, &part.snapshot)?;
+    let Some(set) = pieces else {
+        bail!("no piece is made");
+    };
+    Ok(set)
 }
 
 /// Writes the report of a snapshot as JSON, and of each piece how many errors it has, and how much it requires.

@@ -85,25 +85,18 @@ fn keep(memo: &mut PieceMemo, piece: &Shared<Piece>, names: &[Name]) -> Result<(
 }
 
 impl<R: AllocGlobal> Caller<'_, R> {
-    /// Shows how many pieces a memo keeps of a name, which keeps its piece for these names, and whether a shelf keeps that.
+    /// Shows how many pieces a memo keeps of a name, which keeps its piece for these names; a shelf keeps all pieces that were found.
     fn show_kept(&self, shelf: &mut Shelf, names: &[Name], out: &mut impl Write) -> Result<()> {
         let alloc = self.rt.alloc();
-        let pieces = again(|| pieces_of(alloc, self.providers, shelf, names))?;
-        let [(at, piece), ..] = pieces.as_slice() else {
+        let set = again(|| pieces_of(alloc, self.providers, shelf, names))?;
+        let [(at, piece), ..] = set.rows() else {
             bail!("no piece is found");
         };
         let mut memo = again(|| Ok(PieceMemo::new(alloc, 0)?))?;
         keep(&mut memo, piece, names)?;
         let count = again(|| Ok(memo.part(alloc, at)?.len()))?;
-        let held = again_on(
-            shelf,
-            |_| true,
-            |shelf| Ok(shelf.keep(*at, piece.clone()?)?),
-        )?;
-        writeln!(
-            out,
-            "{count} pieces are kept of {at}, and by a shelf: {held}"
-        )?;
+        again_on(shelf, |_| true, |shelf| Ok(shelf.keep_all(&set)?))?;
+        writeln!(out, "{count} pieces are kept of {at}")?;
         Ok(())
     }
 

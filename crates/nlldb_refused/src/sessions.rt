@@ -21,6 +21,7 @@ pub(crate) fn call_of(alloc: Global, word: &str, at: Name, text: &str) -> Result
         "put" => Ok(Call::Put(at, Shared::new(shared_unit(alloc, text.as_bytes())?))),
         "remove" => Ok(Call::Remove(at)),
         "ask" | "work" | "settle" => Ok(Call::Ask(at)),
+        "askall" => Ok(Call::All),
         _ => bail!("nothing is called {word}"),
     }
 }
@@ -36,7 +37,7 @@ fn glance<E: Ending>(
     }
 }
 
-/// Writes an entry of a history, and behind an Ask its report.
+/// Writes an entry of a history, and behind an Ask its report, or its roots with their reports.
 fn show_entry(entry: &Entry, out: &mut impl Write) -> io::Result<()> {
     let (session, number) = (entry.session, entry.number);
     match &entry.event {
@@ -47,7 +48,21 @@ fn show_entry(entry: &Entry, out: &mut impl Write) -> io::Result<()> {
             writeln!(out, "{session} {number} ask {at}")?;
             write_report(outcome.get(), out)
         }
+        Event::All(listing) => {
+            let rows = listing.get().as_slice();
+            writeln!(out, "{session} {number} askall {}", rows.len())?;
+            show_roots(rows, out)
+        }
     }
+}
+
+/// Writes roots with their reports.
+fn show_roots(rows: &[(Name, Shared<Outcome>)], out: &mut impl Write) -> io::Result<()> {
+    for (at, outcome) in rows {
+        writeln!(out, "root {at}")?;
+        write_report(outcome.get(), out)?;
+    }
+    Ok(())
 }
 
 /// Writes the entries of a session.
@@ -116,6 +131,9 @@ impl<R: AllocGlobal + Wait> Caller<'_, R> {
                 session.remove(self.rt, *at)?;
             }
             Call::Ask(at) => self.ask(session, late, word, at)?,
+            Call::All => {
+                session.ask_all(self.rt, self.providers)?;
+            }
         }
         Ok(())
     }

@@ -1,4 +1,5 @@
-use Rattle.bc_scripts.proofs.Running.{on_err, same_again}
+use Rattle.bc_share.proofs.Noting.{on_err}
+use Rattle.bc_scripts.proofs.Running.{same_again}
 use Rattle.bc_scripts.proofs.run.ask_pausing.Goals as goal
 
 pub returns-in_err-settle-clause-refused : goal.returns-in_err-settle-clause-refused

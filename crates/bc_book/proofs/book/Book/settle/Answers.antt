@@ -1,34 +1,65 @@
-use Rattle.std.proofs.Common.{◌≡◌, List, ap, rules, sym, ◌∙◌}
+use Rattle.std.proofs.Common.{◌≡◌, ◌++◌, List, ap, sym, ◌∙◌, subst}
+use Rattle.std.specs.Prelude.{IfOk, OnOk, None}
 use Rattle.bc_text.specs.Names.{NameParts}
 use Rattle.bc_prov.specs.State.{at_name}
+use Rattle.bc_prov.specs.declared.outcome.Outcome.{Outcome}
 use Rattle.bc_memo.specs.declared.memo.Remembered.{Remembered}
-use Rattle.bc_calls.specs.declared.call.Event.TheVariants.{Ask}
+use Rattle.bc_calls.specs.declared.call.Event.TheVariants as events
 use Rattle.bc_calls.specs.Changes.{change_of}
-use Rattle.bc_book.specs.Ledgers.{Appends, BookView, Recalls, kept_rows, remembering}
-use Rattle.bc_book.proofs.Recalling.{others_kept_by, recalled_by}
+use Rattle.bc_book.specs.Ledgers.{Appends, AreRows, BookView, KeepsOthers, Remembers, kept_rows, remembering, row_list}
+use Rattle.bc_book.proofs.Settling.{rows_of_row, settled_absent, settled_others, settled_step}
 use Rattle.bc_book.proofs.book.Book.settle.Goals as goal
 
-pub append-requires-clause-row : goal.append-requires-clause-row
-append-requires-clause-row g c = λ x is. (c.in_ok-row.ensures.row x (sym c.in_ok-findings.ensures ∙ is)).1
+pub append-requires-clause-rows : goal.append-requires-clause-rows
+append-requires-clause-rows g c =
+    let row = c.in_ok-row.row in
+    let rows : c.in_ok-findings.findings.rows.items ≡ row_list row = c.in_ok-findings.ensures ∙ c.in_ok-push_row.ensures ∙ ap (λ (l : List (NameParts × Remembered)). l ++ row_list row) c.new-rows.ensures.items in
+    subst (λ (v : BookView). AreRows v.shelf v.entries c.in_ok-findings.findings.rows.items) c.self.view_is
+    (subst (λ (l : List (NameParts × Remembered)). AreRows c.self.inside.ledger.shelf c.self.inside.ledger.entries l) (sym rows)
+    (rows_of_row c.self.inside.ledger.shelf c.self.inside.ledger.entries c.name.result.now row c.in_ok-row.ensures.row))
 
-pub returns-clause-answers : goal.returns-clause-answers
-returns-clause-answers g c =
-    let l = c.reserve.new.self in
+pub returns-clause-step : goal.returns-clause-step
+returns-clause-step g c =
+    let l = c.self.inside.ledger in
     let old : BookView = record { capacity = l.capacity; entries = l.entries; shelf = l.shelf; answers = l.answers } in
-    let event = Ask c.name.result.now c.in_ok-outcome.outcome in
-    let step : Appends c.args.session event old c.append.new.self = search rules in
-    let answers : c.append.new.self.answers ≡ kept_rows (change_of event) (remembering c.in_ok-row.row old.answers) = search rules in
-    let mine : c.in_ok-told.told.0 ≡ c.in_ok-outcome.outcome = search rules in
-    let recalls : Recalls old.shelf old.answers c.name.result.now c.in_ok-outcome.outcome c.in_ok-row.row = search rules in
-    recalled_by _ _ _ _ _ old _ _ step answers c.name.ensures mine recalls c.in_ok-row.ensures.row
+    let new : BookView = c.append.new.self in
+    let row = c.in_ok-row.row in
+    let k : NameParts = c.name.result.now in
+    let n : NameParts = c.args.work.snapshot.root in
+    let x : Outcome = c.in_ok-outcome.field-0.outcome in
+    let rows : c.in_ok-findings.findings.rows.items ≡ row_list row = c.in_ok-findings.ensures ∙ c.in_ok-push_row.ensures ∙ ap (λ (l : List (NameParts × Remembered)). l ++ row_list row) c.new-rows.ensures.items in
+    let step : OnOk c.append.result (Appends c.args.session (events.Ask k x) old new) = subst (λ (v : BookView). OnOk c.append.result (Appends c.args.session (events.Ask k x) v new)) (sym c.self.view_is) c.append.ensures.step in
+    let answers : OnOk c.append.result (new.answers ≡ kept_rows (change_of (events.Ask k x)) (remembering (row_list row) old.answers)) =
+    subst (λ (y : List (NameParts × Remembered) × BookView). OnOk c.append.result (new.answers ≡ kept_rows (change_of (events.Ask k x)) (remembering y.0 y.1.answers))) (λ i. (rows i, sym c.self.view_is i)) c.append.ensures.answers in
+    subst (λ (v : BookView). IfOk c.append.result (λ told. (outcome : Outcome) × (told ≡ events.Ask n outcome) × Appends c.args.session told v new × Remembers n outcome new)) c.self.view_is
+    (settled_step c.append.result c.args.session k n x old new row c.append.ensures.told step answers c.name.ensures c.in_ok-row.ensures.recalls c.in_ok-row.ensures.row)
 
 pub returns-clause-others : goal.returns-clause-others
 returns-clause-others g c =
-    let l = c.reserve.new.self in
+    let l = c.self.inside.ledger in
     let old : BookView = record { capacity = l.capacity; entries = l.entries; shelf = l.shelf; answers = l.answers } in
-    let event = Ask c.name.result.now c.in_ok-outcome.outcome in
-    let answers : c.append.new.self.answers ≡ kept_rows (change_of event) (remembering c.in_ok-row.row old.answers) = search rules in
-    let same : l.answers ≡ c.args.self.now.answers = search rules in
-    λ other apart.
-    others_kept_by c.name.result.now c.args.work.snapshot.root c.in_ok-outcome.outcome old c.append.new.self c.in_ok-row.row answers c.name.ensures c.in_ok-row.ensures.row other apart
-    ∙ ap (λ (rows : List (NameParts × Remembered)). at_name rows other) same
+    let new : BookView = c.append.new.self in
+    let row = c.in_ok-row.row in
+    let k : NameParts = c.name.result.now in
+    let n : NameParts = c.args.work.snapshot.root in
+    let x : Outcome = c.in_ok-outcome.field-0.outcome in
+    let rows : c.in_ok-findings.findings.rows.items ≡ row_list row = c.in_ok-findings.ensures ∙ c.in_ok-push_row.ensures ∙ ap (λ (l : List (NameParts × Remembered)). l ++ row_list row) c.new-rows.ensures.items in
+    let answers : OnOk c.append.result (new.answers ≡ kept_rows (change_of (events.Ask k x)) (remembering (row_list row) old.answers)) =
+    subst (λ (y : List (NameParts × Remembered) × BookView). OnOk c.append.result (new.answers ≡ kept_rows (change_of (events.Ask k x)) (remembering y.0 y.1.answers))) (λ i. (rows i, sym c.self.view_is i)) c.append.ensures.answers in
+    subst (λ (v : BookView). OnOk c.append.result (KeepsOthers n v new)) c.self.view_is
+    (settled_others c.append.result k n x old new row answers c.name.ensures c.in_ok-row.ensures.row)
+
+pub returns-clause-absent : goal.returns-clause-absent
+returns-clause-absent g c =
+    let l = c.self.inside.ledger in
+    let old : BookView = record { capacity = l.capacity; entries = l.entries; shelf = l.shelf; answers = l.answers } in
+    let new : BookView = c.append.new.self in
+    let row = c.in_ok-row.row in
+    let k : NameParts = c.name.result.now in
+    let n : NameParts = c.args.work.snapshot.root in
+    let x : Outcome = c.in_ok-outcome.field-0.outcome in
+    let rows : c.in_ok-findings.findings.rows.items ≡ row_list row = c.in_ok-findings.ensures ∙ c.in_ok-push_row.ensures ∙ ap (λ (l : List (NameParts × Remembered)). l ++ row_list row) c.new-rows.ensures.items in
+    let answers : OnOk c.append.result (new.answers ≡ kept_rows (change_of (events.Ask k x)) (remembering (row_list row) old.answers)) =
+    subst (λ (y : List (NameParts × Remembered) × BookView). OnOk c.append.result (new.answers ≡ kept_rows (change_of (events.Ask k x)) (remembering y.0 y.1.answers))) (λ i. (rows i, sym c.self.view_is i)) c.append.ensures.answers in
+    subst (λ (v : BookView). OnOk c.append.result (at_name v.shelf.places n ≡ None → new.answers ≡ v.answers)) c.self.view_is
+    (settled_absent c.append.result k n x old new row answers c.name.ensures c.in_ok-row.ensures.row)

@@ -1,4 +1,4 @@
-use Rattle.std.proofs.Common.{Option, sym, subst}
+use Rattle.std.proofs.Common.{Option, ap, sym, subst, ◌∙◌}
 use Rattle.bc_prov.specs.Outcome.{IsOutcomeIn}
 use Rattle.bc_prov.specs.Snapshots.{IsPartOf}
 use Rattle.bc_prov.specs.State.{state_of}
@@ -34,3 +34,6 @@ returns-clause-remembered c =
     let a = c.in_ok-answer.answer in
     let same = carried_as a c.in_ok-part.part.snapshot.carried c.carrying.result.carried c.in_ok-part.ensures.bare c.carrying.ensures.carried in
     subst (λ (o : Option Outcome). IsRemembered c.args.self.now.shelf c.args.self.now.answers c.args.name.now o) (sym same) c.in_ok-answer.ensures.remembered
+
+pub returns-clause-types : goal.returns-clause-types
+returns-clause-types c = c.carrying.ensures.part.0 ∙ c.in_ok-part.ensures.snapshot.0 ∙ ap (λ (v : LedgerView). v.shelf.types) c.self.view_is

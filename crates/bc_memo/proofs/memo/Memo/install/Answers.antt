@@ -10,5 +10,5 @@ returns-clause-installed c =
     let r = c.in_ok-row.row in (
       r,
       subst (λ (l : List NameParts). IsRowOf c.args.shelf.now.held l c.args.outcome r) (c.deref.ensures.value ∙ c.in_ok-used.ensures) c.in_ok-row.ensures,
-      c.put.ensures ∙ ap (λ (rows : List (NameParts × Remembered)). insert_entry name_order rows c.args.name r) c.in_ok-reserve.ensures.same,
+      c.put.ensures.rows ∙ ap (λ (rows : List (NameParts × Remembered)). insert_entry name_order rows c.args.name r) c.in_ok-reserve.ensures.same,
     )

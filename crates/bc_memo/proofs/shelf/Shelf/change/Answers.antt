@@ -1,14 +1,15 @@
-use Rattle.std.proofs.Common.{◌≡◌, ap, sym, subst, ◌∙◌, None, Some}
+use Rattle.std.proofs.Common.{◌≡◌, arith, ap, sym, subst, ◌∙◌, None, Some}
 use Rattle.std.specs.BTreeMap.{is_at}
 use Rattle.bc_text.specs.Names.{name_order}
 use Rattle.bc_prov.specs.State.{Suits, at_name}
 use Rattle.bc_memo.specs.declared.change.Change.{Change}
-use Rattle.bc_memo.specs.declared.change.Change.TheVariants.{Types, Put, Remove, Answer}
-use Rattle.bc_memo.specs.Places.{Places, PieceRows, ShelfRoom, ShelfView, AreOrdered, IsShelf, MayChange, answer_of, changed, cleared, pieces_after, unanswered, written}
+use Rattle.bc_memo.specs.declared.change.Change.TheVariants.{Types, Put, Remove, Answer, Answers}
+use Rattle.bc_memo.specs.Places.{Places, PieceRows, ShelfRoom, ShelfView, AreOrdered, IsReady, IsShelf, MayChange, answer_of, changed, cleared, marked, pieces_after, unanswered, written}
+use Rattle.bc_prov.specs.Outcome.{OutcomeRows}
 use Rattle.bc_prov.specs.Pieces.{PieceView}
 use Rattle.bc_memo.proofs.Places.{no_order, ordered-put, ordered-take}
-use Rattle.bc_memo.proofs.Found.{found_none, found-answered, found-put, found-take}
-use Rattle.bc_memo.proofs.Marking.{bare_put, bare_take, changed_nothing, kept-answered, kept-cleared, kept-put, kept-take, kept-unanswered, marked_answer, marked_put, marked_remove}
+use Rattle.bc_memo.proofs.Found.{found_none, found-answered, found-marked, found-put, found-take}
+use Rattle.bc_memo.proofs.Marking.{bare_put, bare_take, changed_nothing, kept-answered, kept-cleared, kept-marked, kept-put, kept-take, kept-unanswered, marked_answer, marked_put, marked_remove}
 use Rattle.bc_memo.proofs.shelf.Shelf.change.Goals as goal
 
 pub invariant_of-self : goal.invariant_of-self
@@ -65,6 +66,16 @@ invariant_of-self-in-Answer c =
       found = found-answered c.self.inside.types ps c.self.inside.pieces.rows c.in-Answer.name (Some c.in-Answer.outcome) c.self.invariant.found;
     })
 
+pub invariant_of-self-in-Answers : goal.invariant_of-self-in-Answers
+invariant_of-self-in-Answers c =
+    let ps = c.self.inside.places.items in
+    let rows : OutcomeRows = c.self.inside.ready.items in
+    subst (λ (qs : Places). IsShelf c.self.inside.types qs c.self.inside.pieces.rows) (sym c.set_answers.ensures.places) (record {
+      kept = kept-marked (Answers rows) ps c.self.invariant.kept;
+      sorted = c.self.invariant.sorted;
+      found = found-marked c.self.inside.types ps c.self.inside.pieces.rows (Answers rows) c.self.invariant.found;
+    })
+
 pub returns-in-Types-clause-held : goal.returns-in-Types-clause-held
 returns-in-Types-clause-held c =
     let F : Places → ShelfView = λ ps. record { types = c.in-Types.types; types_revision = c.args.revision; places = ps } in
@@ -96,8 +107,18 @@ returns-in-Answer-clause-held c =
     ∙ ap (λ (s : ShelfRoom). changed s.held (Answer c.in-Answer.name c.in-Answer.outcome) c.args.revision) c.self.view_is
     ∙ ap (λ (ch : Change). changed c.args.self.now.held ch c.args.revision) (sym c.in-Answer.is)
 
-pub returns-in-Nothing-clause-held : goal.returns-in-Nothing-clause-held
-returns-in-Nothing-clause-held c = changed_nothing c.args.self.now.held c.args.revision ∙ ap (λ (ch : Change). changed c.args.self.now.held ch c.args.revision) (sym c.in-Nothing.is)
+pub returns-in-Answers-clause-held : goal.returns-in-Answers-clause-held
+returns-in-Answers-clause-held c =
+    let i = c.self.inside in
+    let F : Places → ShelfView = λ ps. record { types = i.types; types_revision = i.types_revision; places = ps } in
+    let ready : c.args.self.now.ready ≡ c.in-Answers.field-0 = subst (λ (ch : Change). IsReady ch c.args.self.now.ready) c.in-Answers.is c.requires.ready in
+    let same : i.ready.items ≡ c.in-Answers.field-0 = ap (λ (s : ShelfRoom). s.ready) c.self.view_is ∙ ready in
+    ap F (c.set_answers.ensures.places ∙ ap (λ (rows : OutcomeRows). marked (Answers rows) i.places.items) same)
+    ∙ ap (λ (s : ShelfRoom). changed s.held (Answers c.in-Answers.field-0) c.args.revision) c.self.view_is
+    ∙ ap (λ (ch : Change). changed c.args.self.now.held ch c.args.revision) (sym c.in-Answers.is)
+
+pub returns-clause-held : goal.returns-clause-held
+returns-clause-held c = changed_nothing c.args.self.now.held c.args.revision ∙ ap (λ (ch : Change). changed c.args.self.now.held ch c.args.revision) (sym c.in-Nothing.is)
 
 pub returns-in-Types-clause-pieces : goal.returns-in-Types-clause-pieces
 returns-in-Types-clause-pieces c = c.forget_all.ensures.rows ∙ ap (λ (ch : Change). pieces_after ch c.args.self.now.pieces) (sym c.in-Types.is)
@@ -113,5 +134,16 @@ returns-in-Remove-clause-pieces c =
 pub returns-in-Answer-clause-pieces : goal.returns-in-Answer-clause-pieces
 returns-in-Answer-clause-pieces c = ap (λ (s : ShelfRoom). s.pieces) c.self.view_is ∙ ap (λ (ch : Change). pieces_after ch c.args.self.now.pieces) (sym c.in-Answer.is)
 
-pub returns-in-Nothing-clause-pieces : goal.returns-in-Nothing-clause-pieces
-returns-in-Nothing-clause-pieces c = ap (λ (ch : Change). pieces_after ch c.args.self.now.pieces) (sym c.in-Nothing.is)
+pub returns-in-Answers-clause-pieces : goal.returns-in-Answers-clause-pieces
+returns-in-Answers-clause-pieces c = ap (λ (s : ShelfRoom). s.pieces) c.self.view_is ∙ ap (λ (ch : Change). pieces_after ch c.args.self.now.pieces) (sym c.in-Answers.is)
+
+pub returns-clause-pieces : goal.returns-clause-pieces
+returns-clause-pieces c = ap (λ (ch : Change). pieces_after ch c.args.self.now.pieces) (sym c.in-Nothing.is)
+
+pub returns-in-Put-clause-memory : goal.returns-in-Put-clause-memory
+returns-in-Put-clause-memory c =
+    let new = c.clear.new.places in
+    let old = c.self.inside.places in (
+      rw (← c.self.view_is) (omega (arith, new.ok.0, new.ok.1, old.ok.0, old.ok.1, c.clear.ensures.memory, c.put.ensures.memory)),
+      rw (← c.self.view_is) c.forget.ensures.memory,
+    )

@@ -1,11 +1,7 @@
-use Rattle.std.proofs.Common.{◌≡◌, ap, subst, rules}
-use Rattle.std.specs.Arc.{arc_value}
-use Rattle.bc_calls.specs.declared.call.Event.TheVariants.{Types}
+use Rattle.std.proofs.Common.{subst}
 use Rattle.bc_share.specs.Sessions.{SessionView, Stays}
-use Rattle.bc_share.proofs.Noting.{told_again}
+use Rattle.bc_share.proofs.Noting.{on_err, stays_again}
 use Rattle.bc_share.proofs.session.Session.put_types.Goals as goal
 
-pub returns-clause-told : goal.returns-clause-told
-returns-clause-told g c =
-    let same : c.in_ok-mine.mine ≡ arc_value c.args.types = search rules in
-    told_again c.put_types.result (λ _. Types c.in_ok-mine.mine) (λ _. Types (arc_value c.args.types)) _ _ _ (subst (λ (s : SessionView). Stays s c.reserve.new.self.session) c.self.view_is c.reserve.ensures.kept) (λ _. ap Types same) c.put_types.ensures.told
+pub returns-in_err-enter-clause-refused : goal.returns-in_err-enter-clause-refused
+returns-in_err-enter-clause-refused g c = on_err _ _ (stays_again _ _ _ (subst (λ (s : SessionView). Stays s c.reserve.new.self.session) c.self.view_is c.reserve.ensures.kept) c.in_err-enter.ensures.refused)

@@ -1,0 +1,9 @@
+use Rattle.std.proofs.Common.{subst}
+use Rattle.bc_syntax.specs.declared.syntax.Body.{Body}
+use Rattle.bc_calls.specs.Calls.{IsPutReply, after}
+use Rattle.bc_book.specs.Ledgers.{BookView}
+use Rattle.bc_book.proofs.book.Book.put.Goals as goal
+
+pub append-requires-clause-reply : goal.append-requires-clause-reply
+append-requires-clause-reply g c =
+    subst (λ (x : BookView × Body). IsPutReply (after x.0.entries).bodies c.args.name x.1 c.in_ok-reply.reply) (λ i. (c.self.view_is i, c.get.ensures i)) c.in_ok-reply.ensures.reply

@@ -1,0 +1,43 @@
+use Rattle.std.proofs.Common.{◌≡◌, List, rules, sym, subst}
+use Rattle.std.specs.Prelude.{IfOk, OnOk}
+use Rattle.bc_text.specs.Names.{NameParts}
+use Rattle.bc_prov.specs.declared.outcome.Outcome.{Outcome}
+use Rattle.bc_memo.specs.declared.memo.Remembered.{Remembered}
+use Rattle.bc_calls.specs.declared.call.Event.TheVariants as events
+use Rattle.bc_calls.specs.Changes.{change_of}
+use Rattle.bc_book.specs.Ledgers.{Appends, BookView, IsFoundAll, KeepsUnasked, RemembersEach, kept_rows, remembering}
+use Rattle.bc_book.proofs.Settling.{settled_all, settled_unasked}
+use Rattle.bc_book.proofs.book.Book.settle_all.Goals as goal
+
+pub returns-clause-step : goal.returns-clause-step
+returns-clause-step g c =
+    let l = c.self.inside.ledger in
+    let old : BookView = record { capacity = l.capacity; entries = l.entries; shelf = l.shelf; answers = l.answers } in
+    let new : BookView = c.append.new.self in
+    let listing : List (NameParts × Outcome) = c.in_ok-listing-2.listing in
+    let rows : List (NameParts × Remembered) = c.in_ok-findings.findings.rows.items in
+    let same : listing ≡ c.in_ok-listing.field-0.listing.items = search rules in
+    let added : rows ≡ c.in_ok-listing.field-0.rows.items = search rules in
+    let found : IsFoundAll old.shelf old.entries old.answers listing rows =
+    subst (λ (x : List (NameParts × Outcome) × List (NameParts × Remembered)). IsFoundAll old.shelf old.entries old.answers x.0 x.1) (λ i. (sym same i, sym added i)) c.in_ok-listing.ensures.found in
+    let answers : OnOk c.append.result (new.answers ≡ kept_rows (change_of (events.All listing)) (remembering rows old.answers)) =
+    subst (λ (v : BookView). OnOk c.append.result (new.answers ≡ kept_rows (change_of (events.All listing)) (remembering rows v.answers))) (sym c.self.view_is) c.append.ensures.answers in
+    let step : OnOk c.append.result (Appends c.args.session (events.All listing) old new) = subst (λ (v : BookView). OnOk c.append.result (Appends c.args.session (events.All listing) v new)) (sym c.self.view_is) c.append.ensures.step in
+    subst (λ (v : BookView). IfOk c.append.result (λ told. (x : List (NameParts × Outcome)) × (told ≡ events.All x) × Appends c.args.session told v new × RemembersEach new.shelf new.answers x)) c.self.view_is
+    (settled_all c.append.result c.args.session listing old new rows c.append.ensures.told step answers found)
+
+pub returns-clause-others : goal.returns-clause-others
+returns-clause-others g c =
+    let l = c.self.inside.ledger in
+    let old : BookView = record { capacity = l.capacity; entries = l.entries; shelf = l.shelf; answers = l.answers } in
+    let new : BookView = c.append.new.self in
+    let listing : List (NameParts × Outcome) = c.in_ok-listing-2.listing in
+    let rows : List (NameParts × Remembered) = c.in_ok-findings.findings.rows.items in
+    let same : listing ≡ c.in_ok-listing.field-0.listing.items = search rules in
+    let added : rows ≡ c.in_ok-listing.field-0.rows.items = search rules in
+    let found : IsFoundAll old.shelf old.entries old.answers listing rows =
+    subst (λ (x : List (NameParts × Outcome) × List (NameParts × Remembered)). IsFoundAll old.shelf old.entries old.answers x.0 x.1) (λ i. (sym same i, sym added i)) c.in_ok-listing.ensures.found in
+    let answers : OnOk c.append.result (new.answers ≡ kept_rows (change_of (events.All listing)) (remembering rows old.answers)) =
+    subst (λ (v : BookView). OnOk c.append.result (new.answers ≡ kept_rows (change_of (events.All listing)) (remembering rows v.answers))) (sym c.self.view_is) c.append.ensures.answers in
+    subst (λ (v : BookView). IfOk c.append.result (λ told. KeepsUnasked told v new)) c.self.view_is
+    (settled_unasked c.append.result listing old new rows c.append.ensures.told answers found)

@@ -1,0 +1,26 @@
+use Rattle.std.proofs.Common.{◌≡◌, ap, sym, subst, ◌∙◌}
+use Rattle.std.specs.Prelude.{IfSome}
+use Rattle.bc_prov.specs.Outcome.{IsOutcomeIn}
+use Rattle.bc_prov.specs.Snapshots.{SnapshotView, IsPartOf}
+use Rattle.bc_prov.specs.State.{state_of}
+use Rattle.bc_outcomes.specs.declared.reporting.Found.{Found}
+use Rattle.bc_calls.specs.Calls.{after}
+use Rattle.bc_calls.proofs.Parts.{ok_map, part_outcome}
+use Rattle.bc_book.proofs.Keeping.{some_map}
+use Rattle.bc_book.proofs.ledger.Ledger.found_anew.Goals as goal
+
+pub returns-clause-outcome : goal.returns-clause-outcome
+returns-clause-outcome g c =
+    let v = c.offer-with_pieces.result in
+    let n = c.args.name.now in
+    let s = after c.args.self.now.entries in
+    let part : IsPartOf v n s = subst (λ (w : SnapshotView). IsPartOf w n s) (sym c.offer-with_pieces.ensures) c.in_ok-begun.ensures.part in
+    ok_map c.find.result (λ (f : Found). IsOutcomeIn (state_of v.types v.units) v.root f.outcome) (λ (f : Found). IsOutcomeIn s n f.outcome) (λ f is. part_outcome v n s f.outcome part is) c.find.ensures.outcome
+
+pub returns-clause-over : goal.returns-clause-over
+returns-clause-over g c =
+    let v = c.offer-with_pieces.result in
+    let held = c.args.self.now.shelf.types in
+    let types : v.types ≡ held = ap (λ (w : SnapshotView). w.types) c.offer-with_pieces.ensures ∙ c.in_ok-begun.ensures.types in
+    ok_map c.find.result (λ (f : Found). IfSome f.pieces (λ set. set.types ≡ v.types)) (λ (f : Found). IfSome f.pieces (λ set. set.types ≡ held))
+    (λ f is. some_map f.pieces (λ set. set.types ≡ v.types) (λ set. set.types ≡ held) (λ set same. same ∙ types) is) c.find.ensures.over

@@ -1,0 +1,29 @@
+use Rattle.std.proofs.Common.{◌≡◌, List, sym, subst, ◌∙◌}
+use Rattle.std.specs.Prelude.{IsSome}
+use Rattle.std.proofs.lemmas.List.{take_all}
+use Rattle.bc_text.specs.Names.{NameParts}
+use Rattle.bc_prov.specs.State.{at_name}
+use Rattle.bc_memo.specs.Places.{ShelfView, roots_in}
+use Rattle.bc_calls.specs.Calls.{IsListing, after}
+use Rattle.bc_book.specs.Ledgers.{IsFoundAll, LedgerView}
+use Rattle.bc_book.proofs.Listing.{listing_of, root_held}
+use Rattle.bc_book.proofs.ledger.Ledger.outcomes.Goals as goal
+
+pub push_outcome-requires-clause-held : goal.push_outcome-requires-clause-held
+push_outcome-requires-clause-held g c =
+    let s : ShelfView = c.self.inside.shelf.held in
+    let names : List NameParts = c.deref-name-items.result.now in
+    let n : NameParts = c.name-item.result in
+    let roots : names ≡ roots_in s.places = c.deref-name-items.ensures.value ∙ c.in_ok-roots.ensures in
+    subst (λ (v : LedgerView). IsSome (at_name v.shelf.places n)) c.self.view_is
+    (root_held s c.self.inside.history.items names n c.self.invariant.shelf_of roots (c.loop-name.name-index, c.loop-name-test.true, sym c.name-item.is))
+
+pub returns-clause-listing : goal.returns-clause-listing
+returns-clause-listing g c =
+    let s : ShelfView = c.self.inside.shelf.held in
+    let names : List NameParts = c.deref-name-items.result.now in
+    let roots : names ≡ roots_in s.places = c.deref-name-items.ensures.value ∙ c.in_ok-roots.ensures in
+    let all = take_all c.loop-name.name-index names c.loop-name-test.false in
+    let found = subst (λ (v : LedgerView). IsFoundAll v.shelf v.entries v.answers c.loop-name.found.listing.items c.loop-name.found.rows.items) (sym c.self.view_is) c.loop-name.invariant.found in
+    subst (λ (v : LedgerView). IsListing (after v.entries) c.loop-name.found.listing.items) c.self.view_is
+    (listing_of s c.self.inside.history.items c.loop-name.found.listing.items c.self.invariant.shelf_of (c.loop-name.invariant.names ∙ all ∙ roots) found.right)

@@ -1,0 +1,21 @@
+use Rattle.std.proofs.Common.{◌≡◌, ◌++◌, ◌∷◌, [], List, rules, sym, subst}
+use Rattle.bc_text.specs.Names.{NameParts}
+use Rattle.bc_prov.specs.declared.outcome.Outcome.{Outcome}
+use Rattle.bc_prov.specs.Outcome.{IsOutcomeIn}
+use Rattle.bc_memo.specs.declared.memo.Remembered.{Remembered}
+use Rattle.bc_calls.specs.Calls.{after}
+use Rattle.bc_book.specs.Ledgers.{IsFoundAll, row_list}
+use Rattle.bc_book.proofs.Listing.{found_more}
+use Rattle.bc_book.proofs.ledger.Ledger.push_outcome.Goals as goal
+
+pub returns-clause-found : goal.returns-clause-found
+returns-clause-found g c =
+    let l = c.args.self.now in
+    let n : NameParts = c.args.name.now in
+    let o : Outcome = c.in_ok-outcome.field-0.outcome in
+    let listing = c.args.found.now.listing.items in
+    let rows = c.args.found.now.rows.items in
+    let right : IsOutcomeIn (after l.entries) n o = search rules in
+    let longer : c.push.new.self.items ≡ listing ++ (n, o) ∷ [] = search rules in
+    subst (λ (x : List (NameParts × Outcome) × List (NameParts × Remembered)). IsFoundAll l.shelf l.entries l.answers x.0 x.1) (λ i. (sym longer i, sym c.in_ok-push_row.ensures i))
+    (found_more l.shelf l.entries l.answers listing rows n o c.in_ok-row.row c.requires.held right c.in_ok-row.ensures.recalls c.in_ok-row.ensures.row c.requires.found)

@@ -1,0 +1,16 @@
+//! What sessions ask a book for.
+use bc_calls::Work;
+use bc_prov::{Declared, Shared};
+use bc_syntax::Unit;
+use bc_text::Name;
+
+/// What a session asks for: to store declarations, which were checked before; to put a unit under a name; to take the unit of a name away;
+/// the outcome of the name of a work; or those of all held roots, on some of which works were done. (Own.)
+#[derive(Drop)]
+pub enum Asked {
+    Types(Shared<Declared>),
+    Put(Name, Shared<Unit>),
+    Remove(Name),
+    Settle(Work),
+    All(Vec<Work>),
+}

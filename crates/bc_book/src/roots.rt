@@ -1,0 +1,77 @@
+//! What is found for all held roots.
+ghost use Rattle.std.specs.Prelude.{◌≡◌, ◌++◌, [], IfSome, OnOk};
+ghost use Rattle.bc_book.specs.Ledgers.{row_list};
+
+use bc_calls::Work;
+use bc_memo::Remembered;
+use bc_prov::{Declared, Outcome, PieceSet, Shared};
+use bc_text::Name;
+use std::alloc::{AllocError, Global};
+use std::cmp::Ordering;
+
+/// The outcomes of held roots, in the order of their names, with those that are to be remembered, and the pieces that are not kept yet.
+#[derive(Drop)]
+pub(crate) struct FoundAll {
+    pub(crate) listing: Vec<(Name, Shared<Outcome>)>,
+    pub(crate) rows: Vec<(Name, Remembered)>,
+    pub(crate) pieces: PieceSet,
+}
+
+impl FoundAll {
+    /// Nothing is found yet, over these declarations. It takes no memory.
+    pub(crate) fn none(alloc: Global, types: Shared<Declared>) -> FoundAll
+        ensures listing { result.listing.items ≡ [] }
+        ensures rows { result.rows.items ≡ [] }
+        ensures pieces { result.pieces ≡ record { types = types; rows = [] } }
+    {
+        FoundAll {
+            listing: Vec::new(alloc),
+            rows: Vec::new(alloc),
+            pieces: PieceSet::of(types, Vec::new(alloc)),
+        }
+    }
+}
+
+/// Puts a row, if there is one, behind others. `AllocError` only where memory was refused.
+pub(crate) fn push_row(
+    rows: &mut Vec<(Name, Remembered)>,
+    row: Option<(Name, Remembered)>,
+) -> Result<(), AllocError>
+    ensures { OnOk result (rows.new.items ≡ rows.old.items ++ row_list row) }
+{
+    match row {
+        Some(row) => {
+            rows.push(row)?;
+            Ok(())
+        }
+        None => Ok(()),
+    }
+}
+
+/// Puts the pieces of a set over the same declarations, if there is one, behind others. `AllocError` only where memory was refused.
+pub(crate) fn push_pieces(pieces: &mut PieceSet, more: Option<PieceSet>) -> Result<(), AllocError>
+    requires { IfSome more (λ set. set.types ≡ pieces.old.types) }
+    ensures { pieces.new.types ≡ pieces.old.types }
+{
+    match more {
+        Some(set) => pieces.append(set),
+        None => Ok(()),
+    }
+}
+
+/// The work of a name among works that lie in reverse, if it is the next of them; those before it, of lesser names, are let go.
+pub(crate) fn take_work(works: &mut Vec<Work>, name: &Name) -> Option<Work>
+    ensures { IfSome result (λ work. work.snapshot.root ≡ name.now) }
+{
+    while let Some(work) = works.pop() {
+        match work.name().cmp(name) {
+            Ordering::Less => {}
+            Ordering::Equal => return Some(work),
+            Ordering::Greater => {
+                works.push_reserved(work);
+                return None;
+            }
+        }
+    }
+    None
+}

@@ -1,0 +1,44 @@
+//! What is answered to a call that was entered.
+ghost use Rattle.std.specs.Prelude.{◌≡◌, IfOk};
+
+use crate::call::Event;
+use std::alloc::AllocError;
+use std::marker::Model;
+
+/// A call that was entered, with its reply, twice: for the list of the session that made it, and for who called the session. Contracts see
+/// one event, since the type keeps that both are the same. (Own.)
+#[derive(Drop)]
+pub struct Told {
+    listed: Event,
+    answered: Event,
+}
+
+impl Model for Told {
+    ghost use Rattle.std.specs.Prelude.{◌≡◌};
+    ghost use Rattle.bc_calls.specs.declared.call.Event.{Event};
+
+    ghost Value = { Event };
+
+    ghost view = { λ t. t.listed };
+
+    ghost invariant = { λ t. t.answered ≡ t.listed };
+}
+
+impl Told {
+    /// Two more owners of an event. Answers `AllocError` only where memory was refused. (Own.)
+    pub fn of(event: &Event) -> Result<Told, AllocError>
+        ensures { IfOk result (λ told. told ≡ event.now) }
+    {
+        let listed = event.copy()?;
+        let answered = event.copy()?;
+        Ok(Told { listed, answered })
+    }
+
+    /// Both owners of the event: for the session's list, and for its caller. It takes no memory. (Own.)
+    pub fn into_owners(self) -> (Event, Event)
+        ensures listed { result.0 ≡ self }
+        ensures answered { result.1 ≡ self }
+    {
+        (self.listed, self.answered)
+    }
+}

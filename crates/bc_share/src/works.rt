@@ -1,0 +1,24 @@
+//! Work on all that was begun.
+ghost use Rattle.std.specs.Prelude.{IfOk};
+ghost use Rattle.std.specs.List.{AllZip};
+ghost use Rattle.bc_share.specs.Works.{IsWorkOn};
+
+use bc_calls::{Begun, Work};
+use bc_prov::Providers;
+use std::alloc::{AllocError, Global};
+
+/// Works on each of what was begun, in order: one work for each, with the outcome of its name. Nothing is held meanwhile, and nobody is
+/// waited for. `AllocError` only where memory was refused, as a provider may answer too. (Own.)
+pub fn work_all(
+    alloc: Global,
+    begun: Vec<Begun>,
+    providers: &Providers,
+) -> Result<Vec<Work>, AllocError>
+    ensures { IfOk result (λ works. AllZip IsWorkOn begun.items works.items) }
+{
+    let mut works = Vec::with_capacity(alloc, begun.len())?;
+    for one in begun {
+        works.push(one.work(alloc, providers)?)?;
+    }
+    Ok(works)
+}
