@@ -14,7 +14,7 @@ mod words;
 
 pub use command::{check, check_and_tell, check_over, find_capacity};
 pub use fault::{FaultKind, FileFault};
-pub use file::{Change, read_body, read_declarations, stop_at, text_stop};
+pub use file::{Change, read_body, read_changes, read_declarations, stop_at, text_stop};
 pub use heading::{Heading, behind, read_heading};
 pub use input::read_whole;
 pub use section::{Section, Sections};

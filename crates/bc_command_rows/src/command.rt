@@ -37,6 +37,7 @@ pub fn leave_with<R: AllocGlobal + Threads + Wait + Sync>(
     let status = match line {
         Line::Check(_) => check_over(rt, alloc, providers, &line, &mut input, &mut out, &mut err),
         Line::Run(_) => run_over(rt, alloc, providers, &line, &mut input, &mut out, &mut err),
+        Line::Serve(_) | Line::Print(_) => return Err(ErrorKind::Other.into()),
     };
     let (out, _unwritten) = out.into_parts();
     Ok(Left::of(status, &input, out, err))

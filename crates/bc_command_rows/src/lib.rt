@@ -1,4 +1,4 @@
-//! Tests of both commands over readers and writers in memory, also such as fail at one call, and of their limits.
+//! Tests of both commands and of the whole program over readers and writers in memory, also such as fail at one call, and of their limits.
 #![tactic(auto)]
 
 #[cfg(test)]
@@ -9,5 +9,7 @@ mod command;
 mod failing;
 #[cfg(test)]
 mod limits;
+#[cfg(test)]
+mod programs;
 #[cfg(test)]
 mod runs;

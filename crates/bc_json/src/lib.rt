@@ -5,4 +5,5 @@ mod errors;
 mod outcomes;
 mod report;
 
+pub use outcomes::outcome_value;
 pub use report::json_report;

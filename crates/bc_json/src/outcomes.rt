@@ -77,8 +77,9 @@ fn report_value(alloc: Global, bodies: &[BodyErrors]) -> Result<Value, AllocErro
     Ok(value)
 }
 
-/// The value of an outcome.
-pub(crate) fn outcome_value(alloc: Global, outcome: &Outcome) -> Result<Value, AllocError>
+/// The JSON value of an outcome, the object that `json_report` writes behind `"outcome":`: it has no float, and its compact text is
+/// exactly these bytes. Answers `AllocError` only where memory was refused. (RFC 8259 for the text of JSON; the objects are own.)
+pub fn outcome_value(alloc: Global, outcome: &Outcome) -> Result<Value, AllocError>
     ensures { IfOk result (λ value. HasText value (outcome_json outcome.now)) }
 {
     match outcome {

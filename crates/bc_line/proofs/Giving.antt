@@ -14,18 +14,18 @@ use Rattle.clap.specs.declared.error.kind.ErrorKind.{ErrorKind}
 use Rattle.clap.specs.declared.error.kind.ErrorKind.TheVariants as kinds
 use Rattle.clap.proofs.OnLiterals.{clap_on_literals}
 use Rattle.bc_line.specs.declared.fault.LineFault.{LineFault}
-use Rattle.bc_line.specs.declared.fault.LineFault.TheVariants.{Help, WrongUse, NoMemory}
+use Rattle.bc_line.specs.declared.fault.LineFault.TheVariants.{Help, Version, WrongUse, NoMemory}
 use Rattle.bc_line.specs.declared.line.Line.{Line}
 use Rattle.bc_line.specs.Faults.{fault_of_kind}
-use Rattle.bc_line.specs.Commands.{IsCommand, check_app, nlldb, program, run_app}
+use Rattle.bc_line.specs.Commands.{IsCommand, check_app, nlldb, program, print_app, run_app, serve_app}
 use Rattle.bc_line.specs.Written.{GivesLine, GivesParts, command_of, faults_of, line_entered, line_given, line_written}
 
 free : is_simple_and_free nlldb ≡ true
-unfolding clap_on_literals nlldb program check_app run_app
+unfolding clap_on_literals nlldb program check_app run_app serve_app print_app
 free = refl
 
 simple : is_simple nlldb ≡ true
-unfolding clap_on_literals nlldb program check_app run_app
+unfolding clap_on_literals nlldb program check_app run_app serve_app print_app
 simple = refl
 
 -- the parser found no fault
@@ -58,33 +58,38 @@ none_among words k among = go (faults_of words) among
     go [] h = absurd h
     go (x ∷ xs) h = refl
 
-wrong : (words : List Text) (k : ErrorKind) → (k ≡ kinds.DisplayHelp → ⊥) → IsAmong k (faults_of words) → GivesLine words (Err WrongUse)
-wrong words k other among = (
+only_one : (words : List Text) (k one : ErrorKind) → (k ≡ one → ⊥) → IsAmong k (faults_of words) → faults_of words ≡ one ∷ [] → ⊥
+only_one words k one other among only = elim (subst (IsAmong k) only among) [
+  | inl is ↦ other is
+  | inr never ↦ never
+]
+
+wrong : (words : List Text) (k : ErrorKind) → (k ≡ kinds.DisplayHelp → ⊥) → (k ≡ kinds.DisplayVersion → ⊥) → IsAmong k (faults_of words)
+    → GivesLine words (Err WrongUse)
+wrong words k no_help no_version among = (
   none_among words k among,
-  λ only. elim (subst (IsAmong k) only among) [
-    | inl help ↦ other help
-    | inr never ↦ never
-  ],
+  only_one words k kinds.DisplayHelp no_help among,
+  only_one words k kinds.DisplayVersion no_version among,
 )
 
 of_kind : (words : List Text) (k : ErrorKind) → IsAmong k (faults_of words) → GivesLine words (Err (fault_of_kind k))
 of_kind words kinds.DisplayHelp h = h
+of_kind words kinds.DisplayVersion h = h
 of_kind words kinds.OutOfMemory h = tt
-of_kind words kinds.InvalidValue h = wrong words kinds.InvalidValue (λ e. absurd cc) h
-of_kind words kinds.UnknownArgument h = wrong words kinds.UnknownArgument (λ e. absurd cc) h
-of_kind words kinds.InvalidSubcommand h = wrong words kinds.InvalidSubcommand (λ e. absurd cc) h
-of_kind words kinds.NoEquals h = wrong words kinds.NoEquals (λ e. absurd cc) h
-of_kind words kinds.ValueValidation h = wrong words kinds.ValueValidation (λ e. absurd cc) h
-of_kind words kinds.TooManyValues h = wrong words kinds.TooManyValues (λ e. absurd cc) h
-of_kind words kinds.TooFewValues h = wrong words kinds.TooFewValues (λ e. absurd cc) h
-of_kind words kinds.WrongNumberOfValues h = wrong words kinds.WrongNumberOfValues (λ e. absurd cc) h
-of_kind words kinds.ArgumentConflict h = wrong words kinds.ArgumentConflict (λ e. absurd cc) h
-of_kind words kinds.MissingRequiredArgument h = wrong words kinds.MissingRequiredArgument (λ e. absurd cc) h
-of_kind words kinds.MissingSubcommand h = wrong words kinds.MissingSubcommand (λ e. absurd cc) h
-of_kind words kinds.DisplayHelpOnMissingArgumentOrSubcommand h = wrong words kinds.DisplayHelpOnMissingArgumentOrSubcommand (λ e. absurd cc) h
-of_kind words kinds.DisplayVersion h = wrong words kinds.DisplayVersion (λ e. absurd cc) h
-of_kind words kinds.Io h = wrong words kinds.Io (λ e. absurd cc) h
-of_kind words kinds.Format h = wrong words kinds.Format (λ e. absurd cc) h
+of_kind words kinds.InvalidValue h = wrong words kinds.InvalidValue (λ e. absurd cc) (λ e. absurd cc) h
+of_kind words kinds.UnknownArgument h = wrong words kinds.UnknownArgument (λ e. absurd cc) (λ e. absurd cc) h
+of_kind words kinds.InvalidSubcommand h = wrong words kinds.InvalidSubcommand (λ e. absurd cc) (λ e. absurd cc) h
+of_kind words kinds.NoEquals h = wrong words kinds.NoEquals (λ e. absurd cc) (λ e. absurd cc) h
+of_kind words kinds.ValueValidation h = wrong words kinds.ValueValidation (λ e. absurd cc) (λ e. absurd cc) h
+of_kind words kinds.TooManyValues h = wrong words kinds.TooManyValues (λ e. absurd cc) (λ e. absurd cc) h
+of_kind words kinds.TooFewValues h = wrong words kinds.TooFewValues (λ e. absurd cc) (λ e. absurd cc) h
+of_kind words kinds.WrongNumberOfValues h = wrong words kinds.WrongNumberOfValues (λ e. absurd cc) (λ e. absurd cc) h
+of_kind words kinds.ArgumentConflict h = wrong words kinds.ArgumentConflict (λ e. absurd cc) (λ e. absurd cc) h
+of_kind words kinds.MissingRequiredArgument h = wrong words kinds.MissingRequiredArgument (λ e. absurd cc) (λ e. absurd cc) h
+of_kind words kinds.MissingSubcommand h = wrong words kinds.MissingSubcommand (λ e. absurd cc) (λ e. absurd cc) h
+of_kind words kinds.DisplayHelpOnMissingArgumentOrSubcommand h = wrong words kinds.DisplayHelpOnMissingArgumentOrSubcommand (λ e. absurd cc) (λ e. absurd cc) h
+of_kind words kinds.Io h = wrong words kinds.Io (λ e. absurd cc) (λ e. absurd cc) h
+of_kind words kinds.Format h = wrong words kinds.Format (λ e. absurd cc) (λ e. absurd cc) h
 
 -- the parse refused the words
 pub refused : (words : List Text) (k : ErrorKind) (r : Result Line LineFault) → (k ≡ kinds.OutOfMemory) ⊎ IsAmong k (faults_of words)
@@ -101,14 +106,15 @@ pub given : (words : List Text) (entered : Text × List Row) (r : Result Line Li
     → GivesParts (line_given entered) r → GivesLine words r
 unfolding line_written
 given words entered (Ok line) clean is h = ap₂ line_entered clean (sym is) ∙ h
-given words entered (Err WrongUse) clean is h = (ap₂ line_entered clean (sym is) ∙ h, λ only. absurd cc)
+given words entered (Err WrongUse) clean is h = (ap₂ line_entered clean (sym is) ∙ h, (λ only. absurd cc), (λ only. absurd cc))
 given words entered (Err Help) clean is h = absurd h
+given words entered (Err Version) clean is h = absurd h
 given words entered (Err NoMemory) clean is h = tt
 
 -- no command was entered
 pub not_given : (words : List Text) → faults_of words ≡ [] → None ≡ command_of words → GivesLine words (Err WrongUse)
 unfolding line_written
-not_given words clean is = (ap₂ line_entered clean (sym is), λ only. absurd cc)
+not_given words clean is = (ap₂ line_entered clean (sym is), (λ only. absurd cc), (λ only. absurd cc))
 
 module _ {Z : Type 0} where
   -- a command that was entered, by its name and its arguments

@@ -1,6 +1,7 @@
 -- What the parser is told of the commands.
-use Rattle.std.proofs.Common.{◌≡◌, ◌∙◌, ap, ap₂, codes, true, false}
+use Rattle.std.proofs.Common.{◌≡◌, ◌∙◌, ℕ, List, Some, ap, ap₂, codes, true, false}
 use Rattle.std.specs.Prelude.{◌||◌}
+use Rattle.std.specs.Borrow.{Bor}
 use Rattle.clap.specs.Walk.{Rule, rule_of}
 use Rattle.clap.specs.Simple.{App, app_of_fields, new_app, with_rule, with_subcommand}
 use Rattle.clap.specs.Built.{AddsArg, AddsSubcommand}
@@ -25,17 +26,20 @@ command_told old sub new app below is sub_is added = (
 )
 
 -- the program, before it has commands
-pub program_told : (start a b c : Command) → IsCommand (new_app (codes "nlldb")) start
+pub program_told : (start a b c d : Command) (text : Bor (List ℕ)) → IsCommand (new_app (codes "nlldb")) start
     → out-Command a ≡ record (out-Command start) { no_binary_name = true }
     → out-Command b ≡ record (out-Command a) { subcommand_required = true }
     → out-Command c ≡ record (out-Command b) { disable_help_subcommand = true }
-    → IsCommand program c
+    → out-Command d ≡ record (out-Command c) { version = Some text }
+    → IsCommand program d
 unfolding program
-program_told start a b c is named needed plain = (
-  ap app_of_fields plain
-      ∙ (ap (λ (f : Command-F Command). app_of_fields (record f { disable_help_subcommand = true })) needed
-      ∙ (ap (λ (f : Command-F Command). app_of_fields (record (record f { subcommand_required = true }) { disable_help_subcommand = true })) named
-      ∙ ap (λ (s : App). record s { top = record s.top { no_binary_name = true; subcommand_required = true; disable_help_subcommand = true } }) is.0)),
-  ap (λ (f : Command-F Command). f.has_globals) plain
-      ∙ (ap (λ (f : Command-F Command). f.has_globals) needed ∙ (ap (λ (f : Command-F Command). f.has_globals) named ∙ is.1)),
+program_told start a b c d text is named needed plain dated = (
+  ap app_of_fields dated
+      ∙ (ap (λ (f : Command-F Command). app_of_fields (record f { version = Some text })) plain
+      ∙ (ap (λ (f : Command-F Command). app_of_fields (record (record f { disable_help_subcommand = true }) { version = Some text })) needed
+      ∙ (ap (λ (f : Command-F Command). app_of_fields (record (record (record f { subcommand_required = true }) { disable_help_subcommand = true }) { version = Some text })) named
+      ∙ ap (λ (s : App). record s { top = record s.top { no_binary_name = true; subcommand_required = true; disable_help_subcommand = true; has_version = true } }) is.0))),
+  ap (λ (f : Command-F Command). f.has_globals) dated
+      ∙ (ap (λ (f : Command-F Command). f.has_globals) plain
+      ∙ (ap (λ (f : Command-F Command). f.has_globals) needed ∙ (ap (λ (f : Command-F Command). f.has_globals) named ∙ is.1))),
 )

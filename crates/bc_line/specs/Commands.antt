@@ -1,4 +1,4 @@
--- The command line as the parser sees it: two commands, with their arguments.
+-- The command line as the parser sees it: four commands, with their arguments.
 use Rattle.std.specs.Prelude.{◌≡◌, [], ◌∷◌, Some, true, false, codes}
 use Rattle.clap.specs.Walk.{Rule}
 use Rattle.clap.specs.Simple.{App, app_of, new_app, new_rule, with_rule, with_subcommand}
@@ -22,6 +22,10 @@ sessions_rule = record (new_rule (codes "sessions")) { long = Some (codes "sessi
 abbrev pub solver_rule : Rule
 solver_rule = record (new_rule (codes "solver")) { long = Some (codes "solver"); defaults = codes "components" ∷ [] }
 
+-- `--capacity C`, 1000000 where it does not stand
+abbrev pub capacity_rule : Rule
+capacity_rule = record (new_rule (codes "capacity")) { long = Some (codes "capacity"); defaults = codes "1000000" ∷ [] }
+
 -- `check FILE [--json] [--solver S]`
 unfoldable pub check_app : App
 check_app = with_rule (with_rule (with_rule (new_app (codes "check")) file_rule) json_rule) solver_rule
@@ -30,15 +34,24 @@ check_app = with_rule (with_rule (with_rule (new_app (codes "check")) file_rule)
 unfoldable pub run_app : App
 run_app = with_rule (with_rule (with_rule (new_app (codes "run")) file_rule) sessions_rule) solver_rule
 
--- the program, before it has commands: its name is not among the words, one of its commands must stand, and `help` is none
+-- `serve [--sessions N] [--capacity C] [--solver S]`
+unfoldable pub serve_app : App
+serve_app = with_rule (with_rule (with_rule (new_app (codes "serve")) sessions_rule) capacity_rule) solver_rule
+
+-- `print FILE`
+unfoldable pub print_app : App
+print_app = with_rule (new_app (codes "print")) file_rule
+
+-- the program, before it has commands: its name is not among the words, one of its commands must stand, `help` is none, and it has a
+-- version, which its commands have not
 unfoldable pub program : App
 program =
     let named = new_app (codes "nlldb") in
-    record named { top = record named.top { no_binary_name = true; subcommand_required = true; disable_help_subcommand = true } }
+    record named { top = record named.top { no_binary_name = true; subcommand_required = true; disable_help_subcommand = true; has_version = true } }
 
 -- the program with its commands
 unfoldable pub nlldb : App
-nlldb = with_subcommand (with_subcommand program check_app.top) run_app.top
+nlldb = with_subcommand (with_subcommand (with_subcommand (with_subcommand program check_app.top) run_app.top) serve_app.top) print_app.top
 
 -- a command that the parser sees so, with no argument that is handed down
 abbrev pub IsCommand : App → Command → Type 0

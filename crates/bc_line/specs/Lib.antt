@@ -4,3 +4,4 @@ pub mod Faults
 pub mod Lines
 pub mod Commands
 pub mod Written
+pub mod Usage

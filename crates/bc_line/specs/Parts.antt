@@ -13,3 +13,13 @@ pub record RunParts : Type 0 where
   pub file : List ℕ
   pub sessions : ℕ
   pub solver : Solver
+
+-- the parts of a line of `print`
+pub record PrintParts : Type 0 where
+  pub file : List ℕ
+
+-- the parts of a line of `serve`
+pub record ServeParts : Type 0 where
+  pub sessions : ℕ
+  pub capacity : ℕ
+  pub solver : Solver

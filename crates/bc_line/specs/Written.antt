@@ -6,14 +6,14 @@ use Rattle.clap.specs.Walk.{Row, Text, first_of}
 use Rattle.clap.specs.Simple.{subcommand_of}
 use Rattle.clap.specs.Kinds.{IsAmong, Kinds}
 use Rattle.clap.specs.Faults.{fault_of}
-use Rattle.clap.specs.declared.error.kind.ErrorKind.TheVariants.{DisplayHelp}
+use Rattle.clap.specs.declared.error.kind.ErrorKind.TheVariants.{DisplayHelp, DisplayVersion}
 use Rattle.bc_line.specs.declared.solver.Solver.{Solver}
 use Rattle.bc_line.specs.declared.fault.LineFault.{LineFault}
-use Rattle.bc_line.specs.declared.fault.LineFault.TheVariants.{Help, WrongUse, NoMemory}
+use Rattle.bc_line.specs.declared.fault.LineFault.TheVariants.{Help, Version, WrongUse, NoMemory}
 use Rattle.bc_line.specs.declared.line.Line.{Line}
-use Rattle.bc_line.specs.declared.line.Line.TheVariants.{Check, Run}
-use Rattle.bc_line.specs.Parts.{CheckParts, RunParts}
-use Rattle.bc_line.specs.Values.{solver_named, sessions_named}
+use Rattle.bc_line.specs.declared.line.Line.TheVariants.{Check, Run, Serve, Print}
+use Rattle.bc_line.specs.Parts.{CheckParts, PrintParts, RunParts, ServeParts}
+use Rattle.bc_line.specs.Values.{capacity_named, solver_named, sessions_named}
 use Rattle.bc_line.specs.Commands.{nlldb}
 
 -- a flag stands
@@ -28,6 +28,10 @@ solver_given rows = option_and_then solver_named (first_of (codes "solver") rows
 abbrev pub sessions_given : List Row → Option ℕ
 sessions_given rows = option_and_then sessions_named (first_of (codes "sessions") rows)
 
+-- the capacity that they name
+abbrev pub capacity_given : List Row → Option ℕ
+capacity_given rows = option_and_then capacity_named (first_of (codes "capacity") rows)
+
 -- the line of `check` with these arguments
 unfoldable pub check_given : List Row → Option CheckParts
 check_given rows = option_and_then (λ file. option_map (λ solver.
@@ -40,11 +44,23 @@ run_given rows = option_and_then (λ file. option_and_then (λ sessions. option_
     record { file = file; sessions = sessions; solver = solver })
     (solver_given rows)) (sessions_given rows)) (first_of (codes "FILE") rows)
 
+-- the line of `serve` with these arguments
+unfoldable pub serve_given : List Row → Option ServeParts
+serve_given rows = option_and_then (λ sessions. option_and_then (λ capacity. option_map (λ solver.
+    record { sessions = sessions; capacity = capacity; solver = solver })
+    (solver_given rows)) (capacity_given rows)) (sessions_given rows)
+
+-- the line of `print` with these arguments
+unfoldable pub print_given : List Row → Option PrintParts
+print_given rows = option_map (λ file. record { file = file }) (first_of (codes "FILE") rows)
+
 -- the line of the command of this name with these arguments
 abbrev pub line_given : Text × List Row → Option Line
 line_given (name, rows) =
     if bytes_eq name (codes "check") then option_map Check (check_given rows)
     else if bytes_eq name (codes "run") then option_map Run (run_given rows)
+    else if bytes_eq name (codes "serve") then option_map Serve (serve_given rows)
+    else if bytes_eq name (codes "print") then option_map Print (print_given rows)
     else None
 
 -- the line of the command that the parser entered, where it found no fault
@@ -69,12 +85,14 @@ abbrev pub GivesParts : {X : Type 0} → Option X → Result X LineFault → Typ
 GivesParts parts (Ok given) = parts ≡ Some given
 GivesParts parts (Err WrongUse) = parts ≡ None
 GivesParts parts (Err Help) = ⊥
+GivesParts parts (Err Version) = ⊥
 GivesParts parts (Err NoMemory) = Unit {0}
 
--- What is returned: the line that the words write, or that they write none and do not just ask for help, or that the
--- parser finds that they ask for help. Want of memory says nothing.
+-- What is returned: the line that the words write, or that they write none and do not just ask for help or for the version, or that
+-- the parser finds that they ask for it. Want of memory says nothing.
 abbrev pub GivesLine : List Text → Result Line LineFault → Type 0
 GivesLine words (Ok line) = line_written words ≡ Some line
-GivesLine words (Err WrongUse) = (line_written words ≡ None) × ¬ (faults_of words ≡ DisplayHelp ∷ [])
+GivesLine words (Err WrongUse) = (line_written words ≡ None) × ¬ (faults_of words ≡ DisplayHelp ∷ []) × ¬ (faults_of words ≡ DisplayVersion ∷ [])
 GivesLine words (Err Help) = IsAmong DisplayHelp (faults_of words)
+GivesLine words (Err Version) = IsAmong DisplayVersion (faults_of words)
 GivesLine words (Err NoMemory) = Unit {0}

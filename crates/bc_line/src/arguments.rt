@@ -1,9 +1,10 @@
 //! The commands and their arguments, as the parser is told of them.
 ghost use Rattle.std.specs.Prelude.{◌≡◌, IfOk, false};
 ghost use Rattle.clap.specs.Words.{rule_of};
-ghost use Rattle.bc_line.specs.Commands.{IsCommand, check_app, file_rule, json_rule, nlldb, program};
-ghost use Rattle.bc_line.specs.Commands.{run_app, sessions_rule, solver_rule};
+ghost use Rattle.bc_line.specs.Commands.{IsCommand, capacity_rule, check_app, file_rule, json_rule, nlldb, program};
+ghost use Rattle.bc_line.specs.Commands.{print_app, run_app, serve_app, sessions_rule, solver_rule};
 
+use crate::usage::VERSION;
 use clap::{Arg, ArgAction, Command};
 use std::alloc::{AllocError, Global};
 
@@ -45,6 +46,16 @@ fn solver_option<'a>(alloc: Global) -> Arg<'a>
         .default_value("components")
 }
 
+// `--capacity C`.
+fn capacity_option<'a>(alloc: Global) -> Arg<'a>
+    ensures rule { rule_of result ≡ capacity_rule }
+    ensures local { result.global ≡ false }
+{
+    Arg::new(alloc, "capacity")
+        .long("capacity")
+        .default_value("1000000")
+}
+
 // `check FILE [--json] [--solver S]`.
 fn check_command<'a>(alloc: Global) -> Result<Command<'a>, AllocError>
     ensures { IfOk result (IsCommand check_app) }
@@ -65,6 +76,23 @@ fn run_command<'a>(alloc: Global) -> Result<Command<'a>, AllocError>
         .arg(solver_option(alloc))
 }
 
+// `serve [--sessions N] [--capacity C] [--solver S]`.
+fn serve_command<'a>(alloc: Global) -> Result<Command<'a>, AllocError>
+    ensures { IfOk result (IsCommand serve_app) }
+{
+    Command::new(alloc, "serve")
+        .arg(sessions_option(alloc))?
+        .arg(capacity_option(alloc))?
+        .arg(solver_option(alloc))
+}
+
+// `print FILE`.
+fn print_command<'a>(alloc: Global) -> Result<Command<'a>, AllocError>
+    ensures { IfOk result (IsCommand print_app) }
+{
+    Command::new(alloc, "print").arg(file_argument(alloc))
+}
+
 // The program, before it has its commands.
 fn program<'a>(alloc: Global) -> Command<'a>
     ensures { IsCommand program result }
@@ -73,6 +101,7 @@ fn program<'a>(alloc: Global) -> Command<'a>
         .no_binary_name(true)
         .subcommand_required(true)
         .disable_help_subcommand(true)
+        .version(VERSION)
 }
 
 /// The program's command, whose words are those behind its own name. `AllocError` only where memory was refused. (Own.)
@@ -81,5 +110,7 @@ pub(crate) fn nlldb_command<'a>(alloc: Global) -> Result<Command<'a>, AllocError
 {
     program(alloc)
         .subcommand(check_command(alloc)?)?
-        .subcommand(run_command(alloc)?)
+        .subcommand(run_command(alloc)?)?
+        .subcommand(serve_command(alloc)?)?
+        .subcommand(print_command(alloc)?)
 }

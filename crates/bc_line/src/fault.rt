@@ -7,11 +7,13 @@ use clap::error::ErrorKind;
 use std::alloc::{AllocError, AllocFailed};
 use thiserror::Error;
 
-/// Why words are no line: they ask for help, they are none of a command, or memory was refused. (Own.)
+/// Why words are no line: they ask for help or for the version, they are none of a command, or memory was refused. (Own.)
 #[derive(Clone, Copy, Debug, PartialEq, Eq, Error)]
 pub enum LineFault {
     #[error("help")]
     Help,
+    #[error("version")]
+    Version,
     #[error("wrong use")]
     WrongUse,
     #[error("no memory")]
@@ -44,6 +46,7 @@ impl From<clap::Error> for LineFault {
     fn from(error: clap::Error) -> Self {
         match error.kind() {
             ErrorKind::DisplayHelp => LineFault::Help,
+            ErrorKind::DisplayVersion => LineFault::Version,
             ErrorKind::OutOfMemory => LineFault::NoMemory,
             ErrorKind::InvalidValue
             | ErrorKind::UnknownArgument
@@ -57,7 +60,6 @@ impl From<clap::Error> for LineFault {
             | ErrorKind::MissingRequiredArgument
             | ErrorKind::MissingSubcommand
             | ErrorKind::DisplayHelpOnMissingArgumentOrSubcommand
-            | ErrorKind::DisplayVersion
             | ErrorKind::Io
             | ErrorKind::Format => LineFault::WrongUse,
         }

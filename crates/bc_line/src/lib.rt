@@ -9,7 +9,7 @@ mod solver;
 mod usage;
 
 pub use fault::LineFault;
-pub use line::{CheckLine, Line, MOST_SESSIONS, RunLine};
+pub use line::{CheckLine, Line, MOST_CAPACITY, MOST_SESSIONS, PrintLine, RunLine, ServeLine};
 pub use reading::read_line;
 pub use solver::Solver;
-pub use usage::{USAGE, write_usage};
+pub use usage::{USAGE, VERSION, write_usage, write_version};

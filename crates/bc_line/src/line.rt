@@ -1,12 +1,15 @@
-//! A line: a command with its file and options.
+//! A line: a command with its options, and the file that it names.
 ghost use Rattle.std.specs.Prelude.{◌≡◌, ◌≤◌, string_bytes};
-ghost use Rattle.bc_line.specs.Lines.{file_of, solver_of};
+ghost use Rattle.bc_line.specs.Lines.{solver_of};
 
 use crate::Solver;
 use std::marker::Model;
 
-/// How many sessions a run may have at most (own).
+/// How many sessions there may be at most (own).
 pub const MOST_SESSIONS: u8 = 16;
+
+/// How many entries the history of a conversation may have at most (own).
+pub const MOST_CAPACITY: u32 = 1_000_000;
 
 /// A line of `check`. Contracts see it as its parts. (Own.)
 #[derive(Drop)]
@@ -38,7 +41,7 @@ impl CheckLine {
         CheckLine { file, json, solver }
     }
 
-    /// The name of the file, which may be any text. (Own.)
+    /// The name of the file, which may be any text; `-` stands for standard input. (Own.)
     pub fn file(&self) -> &str
         ensures { result.now ≡ self.now.file }
     {
@@ -98,7 +101,7 @@ impl RunLine {
         }
     }
 
-    /// The name of the file, which may be any text. (Own.)
+    /// The name of the file, which may be any text; `-` stands for standard input. (Own.)
     pub fn file(&self) -> &str
         ensures { result.now ≡ self.now.file }
     {
@@ -122,7 +125,105 @@ impl RunLine {
     }
 }
 
-/// A line: of `check` or of `run`. (Own.)
+/// A line of `serve`. Contracts see it as its parts. It has 1 to 16 sessions, and a capacity of 1 to 1,000,000. (Own.)
+#[derive(Drop)]
+#[derive_where(Debug)]
+pub struct ServeLine {
+    sessions: u8,
+    capacity: u32,
+    solver: Solver,
+}
+
+impl Model for ServeLine {
+    ghost use Rattle.std.specs.Prelude.{◌≤◌};
+    ghost use Rattle.bc_line.specs.Parts.{ServeParts};
+
+    ghost Value = { ServeParts };
+
+    ghost view = { λ line. record {
+      sessions = line.sessions;
+      capacity = line.capacity;
+      solver = line.solver;
+    } };
+
+    ghost invariant = { λ line. ((1 ≤ line.sessions) × (line.sessions ≤ 16)) × ((1 ≤ line.capacity) × (line.capacity ≤ 1000000)) };
+}
+
+impl ServeLine {
+    /// The line of these parts. (Own.)
+    pub(crate) fn new(sessions: u8, capacity: u32, solver: Solver) -> Self
+        requires least { 1 ≤ sessions }
+        requires most { sessions ≤ 16 }
+        requires least_capacity { 1 ≤ capacity }
+        requires most_capacity { capacity ≤ 1000000 }
+        ensures { result ≡ record { sessions = sessions; capacity = capacity; solver = solver } }
+    {
+        ServeLine {
+            sessions,
+            capacity,
+            solver,
+        }
+    }
+
+    /// How many sessions there are, 1 to 16: what `--sessions` says, or else 1. (Own.)
+    pub fn sessions(&self) -> u8
+        ensures value { result ≡ self.now.sessions }
+        ensures least { 1 ≤ result }
+        ensures most { result ≤ 16 }
+    {
+        self.sessions
+    }
+
+    /// How many entries the history may have, 1 to 1,000,000: what `--capacity` says, or else 1,000,000. (Own.)
+    pub fn capacity(&self) -> u32
+        ensures value { result ≡ self.now.capacity }
+        ensures least { 1 ≤ result }
+        ensures most { result ≤ 1000000 }
+    {
+        self.capacity
+    }
+
+    /// The solver: what `--solver` names, or else the one by components. (Own.)
+    pub fn solver(&self) -> Solver
+        ensures { result ≡ self.now.solver }
+    {
+        self.solver
+    }
+}
+
+/// A line of `print`. Contracts see it as its parts. (Own.)
+#[derive(Drop)]
+#[derive_where(Debug)]
+pub struct PrintLine {
+    file: String,
+}
+
+impl Model for PrintLine {
+    ghost use Rattle.std.specs.Prelude.{string_bytes};
+    ghost use Rattle.bc_line.specs.Parts.{PrintParts};
+
+    ghost Value = { PrintParts };
+
+    ghost view = { λ line. record { file = string_bytes line.file } };
+}
+
+impl PrintLine {
+    /// The line of this part. (Own.)
+    pub(crate) fn new(file: String) -> Self
+        ensures { result ≡ record { file = string_bytes file } }
+    {
+        PrintLine { file }
+    }
+
+    /// The name of the file, which may be any text; `-` stands for standard input. (Own.)
+    pub fn file(&self) -> &str
+        ensures { result.now ≡ self.now.file }
+    {
+        self.file.as_str()
+    }
+}
+
+/// A line: of `check`, of `run`, of `serve` or of `print`. (Own.)
 #[derive(Drop)]
 #[derive_where(Debug)]
 pub enum Line {
@@ -130,26 +231,22 @@ pub enum Line {
     Check(CheckLine),
     /// Of `run`.
     Run(RunLine),
+    /// Of `serve`.
+    Serve(ServeLine),
+    /// Of `print`.
+    Print(PrintLine),
 }
 
 impl Line {
-    /// The name of the file. (Own.)
-    pub fn file(&self) -> &str
-        ensures { result.now ≡ file_of self.now }
-    {
-        match self {
-            Line::Check(check) => check.file(),
-            Line::Run(run) => run.file(),
-        }
-    }
-
-    /// The solver. (Own.)
+    /// The solver; by components for a line of `print`, which solves nothing. (Own.)
     pub fn solver(&self) -> Solver
         ensures { result ≡ solver_of self.now }
     {
         match self {
             Line::Check(check) => check.solver(),
             Line::Run(run) => run.solver(),
+            Line::Serve(serve) => serve.solver(),
+            Line::Print(_) => Solver::Components,
         }
     }
 }

@@ -1,10 +1,14 @@
-//! The text of `--help`.
+//! The texts of `--help` and of `--version`.
 ghost use Rattle.std.specs.Prelude.{OnOk};
 ghost use Rattle.std.specs.Io.KnownBytes.{Appends};
 ghost use Rattle.bc_line.specs.declared.usage.TheConstants.{USAGE};
+ghost use Rattle.bc_line.specs.Usage.{version_line};
 
 use std::io;
 use std::io::Write;
+
+/// The version of the program, by Semantic Versioning 2.0.0.
+pub const VERSION: &str = "0.1.0";
 
 /// What `--help` prints. (Own.)
 pub const USAGE: &str = "nlldb checks the borrows of functions and closures in a textual MIR.
@@ -12,7 +16,10 @@ pub const USAGE: &str = "nlldb checks the borrows of functions and closures in a
 Usage:
   nlldb check FILE [--json] [--solver S]
   nlldb run FILE [--sessions N] [--solver S]
+  nlldb serve [--sessions N] [--solver S] [--capacity C]
+  nlldb print FILE
   nlldb --help
+  nlldb --version
 
 Commands:
   check    Stores what FILE puts, then asks each root name that it puts, and
@@ -22,21 +29,36 @@ Commands:
            they answer. A section begins with '@K types', '@K put NAME',
            '@K remove NAME', '@K ask NAME' or '@K askall' (each root name that
            is held), where K is the session, from 0.
+  serve    Answers requests until standard input ends. Each is one line with a
+           JSON object, and so is its reply. A request has the members 'call'
+           ('types', 'put', 'remove', 'ask', 'askall' or 'glance'), 'name' and
+           'text' where the call needs them, 'session' (from 0; default: 0)
+           and 'id' (any value, which the reply repeats). docs/LANGUAGE.md has
+           all requests and replies.
+  print    Prints each section of FILE, a file of 'check', with its text in its
+           one spelling.
+
+FILE may be '-', for standard input.
 
 Options:
   --json         (check) Print the reports as JSON. Default: as plain text.
-  --sessions N   (run) How many sessions there are, 1 to 16. Default: 1.
+  --sessions N   (run, serve) How many sessions there are, 1 to 16. Default: 1.
   --solver S     'plain' or 'components': how the regions are solved, which
                  changes no report. Default: components.
+  --capacity C   (serve) How many calls the history may have, 1 to 1000000.
+                 Default: 1000000.
   -h, --help     Print this text.
+  -V, --version  Print the version.
 
 Exit status, the greatest that applies:
-  0   No error.
+  0   No error. Of 'serve': standard input ended.
   1   A report has an error.
   2   A text or the form of FILE was refused, a put replied 'full' or
       'wrongkind', or an outcome is no report.
   3   Wrong use, a file that cannot be read, too many calls, a failed output,
       want of memory, a refused call or close, or a session that did not end.
+      Of 'serve': standard input, standard output, memory, a thread or the
+      close failed.
 
 Example: conflict.nll writes _1 while a borrow of it is used later.
   @put f
@@ -60,4 +82,11 @@ pub fn write_usage<W: Write>(out: &mut W) -> io::Result<()>
     ensures { OnOk result (Appends (W.contents out.old) (W.contents out.new) USAGE.now) }
 {
     out.write_all(USAGE.as_bytes())
+}
+
+/// Writes the line of `--version`, `nlldb` and the version (own), or answers the writer's fault. It takes no memory.
+pub fn write_version<W: Write>(out: &mut W) -> io::Result<()>
+    ensures { OnOk result (Appends (W.contents out.old) (W.contents out.new) version_line) }
+{
+    writeln!(out, "nlldb {VERSION}")
 }

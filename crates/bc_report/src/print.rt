@@ -1,29 +1,75 @@
 //! The text form of an outcome.
-ghost use Rattle.std.specs.Prelude.{OnOk};
+ghost use Rattle.std.specs.Prelude.{◌≤◌, ◌++◌, length, OnOk};
 ghost use Rattle.std.specs.Io.KnownBytes.{Appends};
+ghost use Rattle.bc_judge.specs.Lines.{next_region};
 ghost use Rattle.bc_report.specs.Report.{error_line, chain_line, error_lines, body_lines, report};
 
-use bc_judge::{BorrowError, PrintedChain};
+use crate::line::put;
+use crate::texts::{put_error, put_region, put_regions};
+use bc_judge::BorrowError;
 use bc_prov::{BodyErrors, Outcome};
 use bc_syntax::Region;
 use std::io;
 use std::io::Write;
+
+/// How many bytes the line of an error has at most.
+const ERROR: usize = 134;
+
+/// How many bytes are kept for a region of a chain: 3 before its number, and 20 digits.
+const REGION: usize = 23;
+
+/// How many regions a chain may have to be written together with its error.
+const TOGETHER: usize = 8;
+
+/// How many bytes an error and such a chain have at most, with the 10 between them.
+const LINES: usize = ERROR + 10 + 8 * TOGETHER;
+
+/// Writes the line of an error and that of its chain, which has at most eight regions, by one call of the writer.
+#[tactic(auto, unfolding(crate::specs::Report::error_line, crate::specs::Report::chain_line))]
+fn write_together<W: Write>(error: &BorrowError, chain: &[Region], out: &mut W) -> io::Result<()>
+    requires { length chain.now ≤ 8 }
+    ensures { OnOk result (Appends (W.contents out.old) (W.contents out.new) (error_line error.now ++ chain_line chain.now)) }
+{
+    let mut lines = [0; LINES];
+    let end = put(b"\n", &mut lines, LINES);
+    let end = put_regions(chain, &mut lines, end);
+    let end = put(b"\n    chain", &mut lines, end);
+    let end = put_error(error, &mut lines, end);
+    let start = put(b"  ", &mut lines, end);
+    out.write_all(&lines[start..])
+}
 
 /// Writes the line of an error.
 #[tactic(auto, unfolding(crate::specs::Report::error_line))]
 fn write_error<W: Write>(error: &BorrowError, out: &mut W) -> io::Result<()>
     ensures { OnOk result (Appends (W.contents out.old) (W.contents out.new) (error_line error.now)) }
 {
-    writeln!(out, "  {error}")
+    let mut line = [0; ERROR];
+    let end = put(b"\n", &mut line, ERROR);
+    let end = put_error(error, &mut line, end);
+    let start = put(b"  ", &mut line, end);
+    out.write_all(&line[start..])
 }
 
-/// Writes the line of a chain.
+/// Writes a region of a chain, and a space before it.
+fn write_region<W: Write>(region: Region, out: &mut W) -> io::Result<()>
+    ensures { OnOk result (Appends (W.contents out.old) (W.contents out.new) (next_region region)) }
+{
+    let mut line = [0; REGION];
+    let start = put_region(region, &mut line, REGION);
+    out.write_all(&line[start..])
+}
+
+/// Writes the line of a chain, of any length, region by region.
 #[tactic(auto, unfolding(crate::specs::Report::chain_line))]
 fn write_chain<W: Write>(regions: &[Region], out: &mut W) -> io::Result<()>
     ensures { OnOk result (Appends (W.contents out.old) (W.contents out.new) (chain_line regions.now)) }
 {
-    let chain = PrintedChain { regions };
-    writeln!(out, "    {chain}")
+    out.write_all(b"    chain")?;
+    for region in regions {
+        write_region(*region, out)?;
+    }
+    out.write_all(b"\n")
 }
 
 /// Writes the line of an error, and behind it that of its chain.
@@ -31,8 +77,12 @@ fn write_chain<W: Write>(regions: &[Region], out: &mut W) -> io::Result<()>
 fn write_explained<W: Write>(error: &BorrowError, out: &mut W) -> io::Result<()>
     ensures { OnOk result (Appends (W.contents out.old) (W.contents out.new) (error_lines error.now)) }
 {
+    let chain = error.chain();
+    if chain.len() <= TOGETHER {
+        return write_together(error, chain, out);
+    }
     write_error(error, out)?;
-    write_chain(error.chain(), out)
+    write_chain(chain, out)
 }
 
 /// Writes the line of a body, and the lines of each of its errors.

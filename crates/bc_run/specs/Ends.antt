@@ -6,7 +6,7 @@ use Rattle.bc_calls.specs.declared.call.Entry.{Entry}
 use Rattle.bc_share.specs.declared.db.TheConstants.{MOST_ENTRIES}
 use Rattle.bc_scripts.specs.declared.run.End.{End}
 use Rattle.bc_line.specs.declared.line.Line.{Line}
-use Rattle.bc_line.specs.declared.line.Line.TheVariants.{Check, Run}
+use Rattle.bc_line.specs.declared.line.Line.TheVariants.{Check, Run, Serve, Print}
 use Rattle.bc_check.specs.declared.stop.Stop.{Stop}
 use Rattle.bc_check.specs.declared.stop.Stop.TheVariants.{WrongUse, CannotRead, CannotWrite, CannotTell, NoMemory, File, TooManyCalls, HistoryFull, Foreign, Audit}
 use Rattle.bc_check.specs.Parts.{sections_of}
@@ -76,3 +76,5 @@ IsEnd sessions name known exit out out' err err' =
 abbrev pub IsEndOf : Line → Option (List ℕ) → ℕ → Option (List ℕ) → Option (List ℕ) → Option (List ℕ) → Option (List ℕ) → Type 0
 IsEndOf (Check line) known exit out out' err err' = ⊥
 IsEndOf (Run line) known exit out out' err err' = IsEnd line.sessions line.file known exit out out' err err'
+IsEndOf (Serve line) known exit out out' err err' = ⊥
+IsEndOf (Print line) known exit out out' err err' = ⊥

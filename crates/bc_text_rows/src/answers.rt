@@ -1,8 +1,9 @@
 //! A row is a line: a word for what is asked, a blank, and a text (behind the word alone, the empty one). `unit`, `types` and
-//! `name` ask how the text is read, `print-unit` and `print-types` how that is printed which is read of it. Lines that begin
-//! with `#`, and empty ones, are no rows.
+//! `name` ask how the text is read, `print-unit` and `print-types` how that is printed which is read of it, `points` where the
+//! points begin of the unit that is read of it. Lines that begin with `#`, and empty ones, are no rows.
 use crate::spelled::text_of;
 use anyhow::bail;
+use bc_places::point_places;
 use bc_print::{print_types, print_unit};
 use bc_text::{Name, ReadFault, read_types, read_unit};
 use std::alloc::Global;
@@ -55,6 +56,21 @@ fn write_printed_types<W: Write>(alloc: Global, text: &[u8], out: &mut W) -> io:
     }
 }
 
+fn write_places<W: Write>(places: &[usize], out: &mut W) -> io::Result<()> {
+    write!(out, "begin at")?;
+    for place in places {
+        write!(out, " {place}")?;
+    }
+    writeln!(out)
+}
+
+fn write_points<W: Write>(alloc: Global, text: &[u8], out: &mut W) -> io::Result<()> {
+    match point_places(alloc, text) {
+        Ok(places) => write_places(&places, out),
+        Err(fault) => write_fault(&fault, out),
+    }
+}
+
 /// Writes a line, and below a row its answer.
 pub fn show_line<W: Write>(alloc: Global, line: &str, out: &mut W) -> anyhow::Result<()> {
     writeln!(out, "{line}")?;
@@ -70,6 +86,7 @@ pub fn show_line<W: Write>(alloc: Global, line: &str, out: &mut W) -> anyhow::Re
         "name" => write_name(&text, out)?,
         "print-unit" => write_printed_unit(alloc, &text, out)?,
         "print-types" => write_printed_types(alloc, &text, out)?,
+        "points" => write_points(alloc, &text, out)?,
         _ => bail!("nothing is called {question}"),
     }
     Ok(())

@@ -33,7 +33,7 @@ pub(crate) struct Solvers {
 fn check_line(alloc: Global, file: &str) -> io::Result<CheckLine> {
     match read_line(alloc, &["check", file]) {
         Ok(Line::Check(line)) => Ok(line),
-        Ok(Line::Run(_)) | Err(_) => Err(ErrorKind::Other.into()),
+        Ok(Line::Run(_) | Line::Serve(_) | Line::Print(_)) | Err(_) => Err(ErrorKind::Other.into()),
     }
 }
 
@@ -125,6 +125,6 @@ fn main(rt: HostRuntime) -> io::Result<()> {
         show_file(&rt, &solvers, &name, &mut out)?;
     }
     show_limits(&rt, &solvers, &mut out)?;
-    show_examples(&rt, &solvers, &mut out)?;
+    show_examples(&rt, &mut out)?;
     out.flush()
 }

@@ -1,0 +1,2 @@
+pub mod OneLine
+pub mod Roots

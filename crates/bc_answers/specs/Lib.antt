@@ -1,0 +1,3 @@
+pub mod Feeds
+pub mod Words
+pub mod Answers

@@ -1,0 +1,4 @@
+pub mod Ending
+pub mod Quiet
+pub mod Starts
+pub mod Counts

@@ -1,0 +1,26 @@
+//! The places of the points of a text.
+ghost use Rattle.std.specs.Prelude.{◌≡◌, ◌≢◌, IfOk, IfErr, Ok, Err, length};
+ghost use Rattle.bc_syntax.specs.declared.syntax.Body.{Body};
+ghost use Rattle.bc_syntax.specs.Fits.{point_count};
+ghost use Rattle.bc_text.specs.Reading.{read};
+ghost use Rattle.bc_places.specs.Places.{places_of};
+
+use crate::walk::noted_places;
+use bc_text::{ReadFault, read_unit};
+use std::alloc::Global;
+
+/// Where the points of the unit begin that a text spells: for each the byte at which its first token begins, counted from 0, block by
+/// block, the statements of a block in their order and its terminator behind them. The fault of `read_unit` where the text is refused,
+/// and `NoMemory` also where there is no room for the places. (Own: a textual form of the MIR of the rustc-dev-guide, "The MIR".)
+pub fn point_places(alloc: Global, text: &[u8]) -> Result<Vec<usize>, ReadFault>
+    ensures found { IfOk result (λ places. (u : Body) × (read text.now ≡ Ok u) × (places.items ≡ places_of text.now u)) }
+    // One place for each point.
+    ensures each { IfOk result (λ places. (u : Body) → read text.now ≡ Ok u → length places.items ≡ point_count u.blocks) }
+    ensures fault { IfErr result (λ fault. fault ≢ ReadFault.NoMemory → read text.now ≡ Err fault) }
+{
+    let _unit = read_unit(alloc, text)?;
+    match noted_places(alloc, text) {
+        Ok(places) => Ok(places),
+        Err(_) => Err(ReadFault::NoMemory),
+    }
+}

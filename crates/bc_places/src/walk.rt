@@ -1,0 +1,64 @@
+//! One walk over the tokens of a text, which notes where points begin by the tokens that stand in front of them.
+ghost use Rattle.std.specs.Prelude.{◌≡◌, ◌<◌, ◌^◌, [], false, length, OnOk, IfOk};
+ghost use Rattle.bc_tokens.specs.Parser.{first, is_end};
+ghost use Rattle.bc_tokens.specs.Token.{tokens};
+ghost use Rattle.bc_places.specs.Walk.{opens_points, begins_point, note, noted};
+
+use bc_syntax::{Numbering, Symbol};
+use bc_tokens::Cursor;
+use std::alloc::{AllocError, Global};
+
+/// Whether no token comes but the end.
+#[tactic(auto, unfolding(bc_tokens::specs::Parser::at_end))]
+fn is_end(cursor: &Cursor<'_>) -> bool
+    ensures { result ≡ is_end (first cursor.now).token }
+{
+    match cursor.at_end() {
+        Ok(()) => true,
+        Err(_) => false,
+    }
+}
+
+/// Whether a point may begin behind the next token.
+#[tactic(auto, unfolding(bc_tokens::specs::Parser::sees))]
+fn opens_points(cursor: &Cursor<'_>) -> bool
+    ensures { result ≡ opens_points (first cursor.now).token }
+{
+    cursor.sees(Symbol::Semicolon) || cursor.sees(Symbol::OpenBrace)
+}
+
+/// Whether the next token begins a point, where one may begin.
+#[tactic(auto, unfolding(bc_tokens::specs::Parser::sees, bc_tokens::specs::Parser::sees_numbered))]
+fn begins_point(cursor: &Cursor<'_>) -> bool
+    ensures { result ≡ begins_point (first cursor.now).token }
+{
+    !(cursor.sees(Symbol::Let)
+        || cursor.sees(Symbol::CloseBrace)
+        || cursor.sees_numbered(Numbering::Label))
+}
+
+/// Puts the place of the next token behind the others, if it begins a point.
+fn note(cursor: &Cursor<'_>, opened: bool, places: &mut Vec<usize>) -> Result<(), AllocError>
+    ensures { OnOk result (places.new.items ≡ note opened (first cursor.now) places.old.items) }
+{
+    if opened && begins_point(cursor) {
+        places.push(cursor.position())?;
+    }
+    Ok(())
+}
+
+/// The places of the tokens that begin points, by the tokens in front of them, in one walk over the text.
+pub fn noted_places(alloc: Global, text: &[u8]) -> Result<Vec<usize>, AllocError>
+    requires { length text.now < 2 ^ 64 }
+    ensures { IfOk result (λ places. places.items ≡ noted false [] (tokens 0 0 text.now)) }
+{
+    let mut cursor = Cursor::new(text, 0);
+    let mut places = Vec::new(alloc);
+    let mut opened = false;
+    while !is_end(&cursor) {
+        note(&cursor, opened, &mut places)?;
+        opened = opens_points(&cursor);
+        cursor.take();
+    }
+    Ok(places)
+}

@@ -1,0 +1,21 @@
+-- The line and the column of a byte.
+use Rattle.std.specs.Prelude.{ℕ, ◌+◌, ◌==◌, Bool, not, List, length, reverse, take, count_by, take_while}
+use Rattle.bc_position.specs.declared.position.Position.{Position}
+
+abbrev pub is_line_feed : ℕ → Bool
+is_line_feed b = b == 10
+
+abbrev pub is_no_line_feed : ℕ → Bool
+is_no_line_feed b = not (b == 10)
+
+-- the bytes behind the last line feed, last byte first; all of them where there is no line feed
+abbrev pub last_line : List ℕ → List ℕ
+last_line bytes = take_while is_no_line_feed (reverse bytes)
+
+-- the line and the column behind some bytes
+abbrev pub position_behind : List ℕ → Position
+position_behind front = record { line = 1 + count_by is_line_feed front; column = 1 + length (last_line front) }
+
+-- the line and the column of the byte that has so many bytes of the text in front of it, or of the text's end
+abbrev pub position_in : List ℕ → ℕ → Position
+position_in text at = position_behind (take at text)

@@ -1,0 +1,3 @@
+pub mod Ink
+pub mod Cutting
+pub mod Again

@@ -1,0 +1,6 @@
+pub mod Ids
+pub mod Lines
+pub mod Sessions
+pub mod Asking
+pub mod Faults
+pub mod Requests

@@ -1,0 +1,18 @@
+//! Requests: what a line of JSON asks a session for.
+#![tactic(auto)]
+
+mod fault;
+mod id;
+mod line;
+mod member;
+mod read;
+mod request;
+mod session;
+mod text;
+mod verb;
+
+pub use fault::{RequestFault, TextFault, TextFaultKind};
+pub use id::Id;
+pub use read::read_request;
+pub use request::{MOST_REQUEST_BYTES, Request, Wanted};
+pub use session::find_session;

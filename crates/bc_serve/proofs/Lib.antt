@@ -1,0 +1,4 @@
+pub mod Wholes
+pub mod Opening
+pub mod Joining
+pub mod Closing

@@ -1,0 +1,3 @@
+pub mod Stops
+pub mod Talked
+pub mod Served

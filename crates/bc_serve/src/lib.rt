@@ -1,0 +1,13 @@
+//! The command `serve`: sessions of a new database answer requests, one line each, on threads of their own, until the input ends; then
+//! the database is closed.
+#![tactic(auto)]
+
+mod command;
+mod ends;
+mod output;
+mod stop;
+mod talk;
+mod worker;
+
+pub use command::{serve, serve_and_tell, serve_over};
+pub use stop::ServeStop;

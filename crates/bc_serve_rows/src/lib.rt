@@ -1,0 +1,9 @@
+//! Tests of the command `serve` over readers and writers in memory, also such as fail at one call.
+#![tactic(auto)]
+
+#[cfg(test)]
+mod command;
+#[cfg(test)]
+mod failing;
+#[cfg(test)]
+mod talks;

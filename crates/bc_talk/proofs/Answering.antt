@@ -1,0 +1,91 @@
+-- Lines of a session that are answered one after another.
+use Rattle.std.proofs.Common.{◌≡◌, ℕ, ◌+◌, List, [], ◌∷◌, ◌++◌, length, length-append, Option, Some, None, refl, ap, sym, subst, ◌∙◌, append_assoc, append-nil, inl, inr}
+use Rattle.std.specs.List.{slice_get}
+use Rattle.bc_share.specs.Sessions.{SessionView}
+use Rattle.bc_requests.specs.Sessions.{lines_for}
+use Rattle.bc_talk.specs.Wires.{Takes}
+use Rattle.bc_talk.specs.Turns.{IsTurn, StopsIn, Turns}
+use Rattle.bc_talk.specs.Talks.{AreFirst, IsLineOf, HasAnswered, HasStopped}
+use Rattle.bc_talk.proofs.Flows.{takes_none, takes_one, takes_more}
+
+turns_more : (sessions : ℕ) (lines : List (List ℕ)) (line : List ℕ) (old mid new : SessionView) (texts : List (List ℕ)) (text : List ℕ) → Turns sessions lines old mid texts → IsTurn sessions line mid new text → Turns sessions (lines ++ line ∷ []) old new (texts ++ text ∷ [])
+turns_more sessions [] line old mid new texts text h turn = (
+  new,
+  text,
+  [],
+  subst (λ (from : SessionView). IsTurn sessions line from new text) h.0 turn,
+  (refl, refl),
+  ap (λ (t : List (List ℕ)). t ++ text ∷ []) h.1,
+)
+turns_more sessions (l ∷ lines) line old mid new texts text (between, first, rest, here, later, cut) turn = (
+  between,
+  first,
+  rest ++ text ∷ [],
+  here,
+  turns_more sessions lines line between mid new rest text later turn,
+  ap (λ (t : List (List ℕ)). t ++ text ∷ []) cut,
+)
+
+-- what stands behind some lines
+behind : (xs rest : List (List ℕ)) (line : List ℕ) → slice_get (xs ++ rest) (length xs) ≡ Some line → (more : List (List ℕ)) × (rest ≡ line ∷ more)
+behind [] [] line h = absurd cc
+behind [] (x ∷ rest) line h = let e : x ≡ line = cc in (rest, ap (λ (l : List ℕ). l ∷ rest) e)
+behind (x ∷ xs) rest line h = behind xs rest line h
+
+-- one line more
+first_more : (sessions session n : ℕ) (known : Option (List (List ℕ))) (front : List (List ℕ)) (line : List ℕ) → AreFirst sessions session known front → length front ≡ n → IsLineOf sessions session n line known → AreFirst sessions session known (front ++ line ∷ [])
+first_more sessions session n None front line first sized is = tt
+first_more sessions session n (Some lines) front line first sized is =
+    let here : slice_get (front ++ first.0) (length front) ≡ Some line =
+    ap (λ (i : ℕ). slice_get (front ++ first.0) i) sized ∙ ap (λ (ls : List (List ℕ)). slice_get ls n) (sym first.1) ∙ is in
+    let next = behind front first.0 line here in
+    (next.0, first.1 ∙ ap (λ (ls : List (List ℕ)). front ++ ls) next.1 ∙ sym (append_assoc front (line ∷ []) next.0))
+
+first_none : (sessions session : ℕ) (known : Option (List (List ℕ))) → AreFirst sessions session known []
+first_none sessions session None = tt
+first_none sessions session (Some lines) = (lines_for sessions session lines, refl)
+
+pub begins : (sessions session : ℕ) (known : Option (List (List ℕ))) (own : SessionView) (given : Option (List (List ℕ))) → HasAnswered sessions session 0 known own own given given
+begins sessions session known own given = record { lines = []; sized = refl; first = first_none sessions session known; texts = []; turns = (refl, refl); told = takes_none given }
+
+pub goes_on : (sessions session n : ℕ) (known : Option (List (List ℕ))) (old mid new : SessionView) (given given' given'' : Option (List (List ℕ))) (line : List ℕ) → HasAnswered sessions session n known old mid given given' → IsLineOf sessions session n line known
+    → (text : List ℕ) × IsTurn sessions line mid new text × Takes given' given'' text → HasAnswered sessions session (n + 1) known old new given given''
+goes_on sessions session n known old mid new given given' given'' line h is (text, turn, told) = record {
+  lines = h.lines ++ line ∷ [];
+  sized = length-append h.lines (line ∷ []) ∙ ap (λ (i : ℕ). i + 1) h.sized;
+  first = first_more sessions session n known h.lines line h.first h.sized is;
+  texts = h.texts ++ text ∷ [];
+  turns = turns_more sessions h.lines line old mid new h.texts text h.turns turn;
+  told = takes_more given given' given'' h.texts (text ∷ []) h.told (takes_one given' given'' text told);
+}
+
+-- no line more was answered
+pub stops : (sessions session n : ℕ) (known : Option (List (List ℕ))) (old new : SessionView) (given given' : Option (List (List ℕ))) → HasAnswered sessions session n known old new given given' → HasStopped sessions session known old new
+stops sessions session n known old new given given' h = record {
+  lines = h.lines;
+  last = [];
+  first = subst (AreFirst sessions session known) (sym (append-nil h.lines)) h.first;
+  texts = h.texts;
+  between = new;
+  turns = h.turns;
+  left = inl (refl, refl);
+}
+
+-- the next line was answered at most, and its answer not given
+pub stops_in : (sessions session n : ℕ) (known : Option (List (List ℕ))) (old mid new : SessionView) (given given' : Option (List (List ℕ))) (line : List ℕ) → HasAnswered sessions session n known old mid given given' → IsLineOf sessions session n line known
+    → StopsIn sessions line mid new → HasStopped sessions session known old new
+stops_in sessions session n known old mid new given given' line h is (inl same) =
+    stops sessions session n known old new given given' (subst (λ (s : SessionView). HasAnswered sessions session n known old s given given') (sym same) h)
+stops_in sessions session n known old mid new given given' line h is (inr made) = record {
+  lines = h.lines;
+  last = line ∷ [];
+  first = first_more sessions session n known h.lines line h.first h.sized is;
+  texts = h.texts;
+  between = mid;
+  turns = h.turns;
+  left = inr (line, made.0, refl, made.1);
+}
+
+pub same_place : (a s j k m n : ℕ) (line : List ℕ) (known : Option (List (List ℕ))) → s ≡ a → j ≡ k → m ≡ n → IsLineOf a j m line known → IsLineOf s k n line known
+same_place a s j k m n line known es ek en h =
+    subst (λ (x : ℕ). IsLineOf x k n line known) (sym es) (subst (λ (x : ℕ). IsLineOf a x n line known) ek (subst (λ (x : ℕ). IsLineOf a j x line known) en h))

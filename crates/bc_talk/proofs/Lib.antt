@@ -1,0 +1,5 @@
+pub mod Flows
+pub mod Answering
+pub mod Counting
+pub mod Staying
+pub mod Routing

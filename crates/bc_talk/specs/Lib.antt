@@ -1,0 +1,5 @@
+pub mod Wires
+pub mod Turns
+pub mod Talks
+pub mod Counted
+pub mod Routed

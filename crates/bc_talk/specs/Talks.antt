@@ -1,0 +1,36 @@
+-- What a worker did of the lines of its session.
+use Rattle.std.specs.Prelude.{◌≡◌, ◌⊎◌, ℕ, List, [], ◌∷◌, ◌++◌, length, Option, Some, None, option_and_then, option_map, ⊤}
+use Rattle.std.specs.List.{slice_get}
+use Rattle.bc_share.specs.Sessions.{SessionView}
+use Rattle.bc_requests.specs.Sessions.{lines_for}
+use Rattle.bc_talk.specs.declared.answer.Answered.{Answered}
+use Rattle.bc_talk.specs.Wires.{TakesAll}
+use Rattle.bc_talk.specs.Turns.{IsLineAnswered, Turns}
+
+-- this line is the one of this number of those that name a session, where the lines of the input are known
+abbrev pub IsLineOf : ℕ → ℕ → ℕ → List ℕ → Option (List (List ℕ)) → Type 0
+IsLineOf sessions session number line known = option_and_then (λ lines. slice_get (lines_for sessions session lines) number) known ≡ option_map (λ _. line) known
+
+-- these are the first lines of those that name a session, where the lines of the input are known
+abbrev pub AreFirst : ℕ → ℕ → Option (List (List ℕ)) → List (List ℕ) → Type 0
+AreFirst sessions session None front = ⊤
+AreFirst sessions session (Some lines) front = (rest : List (List ℕ)) × (lines_for sessions session lines ≡ front ++ rest)
+
+-- the first lines of a session were answered, so many, in order, and the answers were given
+pub record HasAnswered (sessions session number : ℕ) (known : Option (List (List ℕ))) (old new : SessionView) (given given' : Option (List (List ℕ))) : Type 0 where
+  pub lines : List (List ℕ)
+  pub sized : length lines ≡ number
+  pub first : AreFirst sessions session known lines
+  pub texts : List (List ℕ)
+  pub turns : Turns sessions lines old new texts
+  pub told : TakesAll given given' texts
+
+-- the first lines of a session were answered, in order, and perhaps one line more, whose answer was not given
+pub record HasStopped (sessions session : ℕ) (known : Option (List (List ℕ))) (old new : SessionView) : Type 0 where
+  pub lines : List (List ℕ)
+  pub last : List (List ℕ)
+  pub first : AreFirst sessions session known (lines ++ last)
+  pub texts : List (List ℕ)
+  pub between : SessionView
+  pub turns : Turns sessions lines old between texts
+  pub left : ((last ≡ []) × (new ≡ between)) ⊎ ((line : List ℕ) × (answered : Answered) × (last ≡ line ∷ []) × IsLineAnswered sessions line answered between new)

@@ -1,0 +1,18 @@
+//! The conversation of one session: its worker answers each line that names the session by one line, in order. The router numbers the
+//! lines for their sessions, so that what a worker did of the input is known whatever lies between the two.
+#![tactic(auto)]
+
+mod answer;
+mod counted;
+mod fault;
+mod message;
+mod replies;
+mod router;
+mod worker;
+
+pub use counted::CountedSession;
+pub use fault::TalkFault;
+pub use message::{Message, Messages, Talk};
+pub use replies::{Closed, Replies};
+pub use router::{no_counts, route_line};
+pub use worker::serve_messages;
