@@ -1,2 +1,2 @@
 pub mod OneLine
-pub mod Roots
+pub mod Placing

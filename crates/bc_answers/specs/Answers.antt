@@ -1,21 +1,17 @@
 -- The line that answers a request: an object of JSON, its keys in byte order.
 use Rattle.std.specs.Prelude.{◌≡◌, ℕ, ◌≤◌, List, codes, false, Option, Some, None, option_map}
 use Rattle.std.specs.Arc.{arc_value}
-use Rattle.std.specs.List.{AllZip}
-use Rattle.serde_json.specs.Data.{Data, null, string, number, unsigned, array, object, member, no_members, depth}
-use Rattle.serde_json.specs.View.{items_of}
+use Rattle.serde_json.specs.Data.{Data, null, string, number, unsigned, object, member, no_members, depth}
 use Rattle.serde_json.specs.Read.{read, max_depth}
 use Rattle.serde_json.specs.Written.{has_float, compact_text}
-use Rattle.bc_text.specs.Names.{NameParts, name_text}
 use Rattle.bc_prov.specs.declared.outcome.Outcome.{Outcome}
 use Rattle.bc_calls.specs.declared.call.Event.{Event}
-use Rattle.bc_calls.specs.declared.call.Event.TheVariants as events
-use Rattle.bc_json.specs.Json.{outcome_json}
+use Rattle.bc_entries.specs.Replies.{IsOutcomeData, IsReplyData, reply_key}
 use Rattle.bc_requests.specs.declared.fault.RequestFault.{RequestFault}
 use Rattle.bc_requests.specs.declared.fault.RequestFault.TheVariants.{NotJson, TooLong, BadSession, BadCall, BadName, BadText, Text}
 use Rattle.bc_requests.specs.declared.fault.TextFault.{TextFault}
 use Rattle.bc_answers.specs.Feeds.{IsOneLine}
-use Rattle.bc_answers.specs.Words.{put_word, remove_word, refusal_word, kind_word}
+use Rattle.bc_answers.specs.Words.{refusal_word, kind_word}
 use Rattle.bc_answers.specs.declared.answer.Answer.{Answer}
 use Rattle.bc_answers.specs.declared.answer.Answer.TheVariants.{Entered, Glanced, Refused, Wrong}
 
@@ -24,16 +20,6 @@ abbrev pub session_data : Option ℕ → Data
 session_data None = null
 session_data (Some session) = number (unsigned session)
 
--- the object that `check --json` prints of an outcome
-abbrev pub IsOutcomeData : Outcome → Data → Type 0
-IsOutcomeData outcome value = (has_float value ≡ false) × (compact_text value ≡ outcome_json outcome)
-
--- the object of a root's name and its outcome
-abbrev pub IsRoot : NameParts × Outcome → Data → Type 0
-IsRoot row value =
-    (outcome : Data) × IsOutcomeData row.1 outcome
-    × (value ≡ object (member (codes "name") (string (name_text row.0)) (member (codes "outcome") outcome no_members)))
-
 -- the object of a call that was made: how many calls its session had made before it, and what it was answered, by this key
 abbrev pub entry_data : Data → Option ℕ → ℕ → List ℕ → Data → Data
 entry_data id session before key reply =
@@ -41,13 +27,8 @@ entry_data id session before key reply =
 
 -- the object of a call with its reply
 abbrev pub IsEntryOf : Data → Option ℕ → ℕ → Event → Data → Type 0
-IsEntryOf id session before (events.Types types) value = value ≡ entry_data id session before (codes "reply") (string (codes "stored"))
-IsEntryOf id session before (events.Put name body reply) value = value ≡ entry_data id session before (codes "reply") (string (put_word reply))
-IsEntryOf id session before (events.Remove name reply) value = value ≡ entry_data id session before (codes "reply") (string (remove_word reply))
-IsEntryOf id session before (events.Ask name outcome) value =
-    (reply : Data) × IsOutcomeData outcome reply × (value ≡ entry_data id session before (codes "outcome") reply)
-IsEntryOf id session before (events.All rows) value =
-    (roots : List Data) × AllZip IsRoot rows roots × (value ≡ entry_data id session before (codes "roots") (array (items_of roots)))
+IsEntryOf id session before event value =
+    (reply : Data) × IsReplyData event reply × (value ≡ entry_data id session before (reply_key event) reply)
 
 -- the answer that is published for a name, or null
 abbrev pub IsPublished : Option Outcome → Data → Type 0

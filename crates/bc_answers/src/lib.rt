@@ -7,7 +7,6 @@ mod faults;
 mod glances;
 mod line;
 mod members;
-mod values;
 mod words;
 
 pub use answer::Answer;

@@ -1,14 +1,23 @@
 //! The members of an object.
 ghost use Rattle.std.specs.Prelude.{◌≡◌, codes, IfOk, OnOk};
 ghost use Rattle.serde_json.specs.Data.{number, unsigned, string, member, no_members, put as with_member};
-ghost use Rattle.serde_json.specs.View.{members_view};
+ghost use Rattle.serde_json.specs.View.{members_view, view as data_of};
 ghost use Rattle.bc_requests.specs.Ids.{told};
 ghost use Rattle.bc_answers.specs.Answers.{session_data};
 
-use crate::values::session_value;
 use bc_requests::Id;
 use serde_json::{Map, ToValue, Value, put};
 use std::alloc::{AllocError, Global};
+
+/// The value of a session.
+fn session_value(session: Option<u8>) -> Value
+    ensures { data_of result ≡ session_data session }
+{
+    match session {
+        Some(session) => Value::from(session),
+        None => Value::Null,
+    }
+}
 
 /// Puts a number into an object.
 pub(crate) fn put_number(

@@ -1,5 +1,5 @@
 -- How the command ends.
-use Rattle.std.proofs.Common.{◌≡◌, ℕ, Bool, ◌≤◌, ◌+◌, max, List, [], ◌∷◌, ◌++◌, Option, Some, None, inl, inr, get_or, length, map, refl, sym, ap, ◌∙◌, subst, append_assoc, append-nil, arith}
+use Rattle.std.proofs.Common.{◌≡◌, ℕ, ◌≤◌, ◌+◌, max, List, [], ◌∷◌, ◌++◌, Option, Some, None, inl, inr, get_or, length, map, refl, sym, ap, ◌∙◌, subst, append_assoc, append-nil, arith}
 use Rattle.std.specs.Prelude.{◌⊎◌, true, Result, Ok, Err, IfOk, IfErr, IfSome, IsErrOf}
 use Rattle.std.specs.List.{flat_map}
 use Rattle.std.specs.Io.KnownBytes.{Appends, Keeps}
@@ -18,6 +18,7 @@ use Rattle.bc_share.specs.declared.db.TheConstants.{MOST_ENTRIES}
 use Rattle.bc_check.specs.declared.stop.Stop.{Stop}
 use Rattle.bc_check.specs.declared.stop.Stop.TheVariants.{CannotWrite, CannotTell, NoMemory, HistoryFull}
 use Rattle.bc_check.specs.declared.file.Change.{Change}
+use Rattle.bc_check.specs.declared.form.Form.{Form}
 use Rattle.bc_check.specs.declared.file.Change.TheVariants as changes
 use Rattle.bc_check.specs.Changes.{seen}
 use Rattle.bc_check.specs.Stops.{is_refused}
@@ -44,21 +45,21 @@ told_asks (name ∷ names) (e ∷ events) ahead h =
     ap (λ (text : List ℕ). text ++ flat_map told events) (told_ask e name one) ∙ told_asks names events ahead rest
 
 -- nothing is shown of a change
-shown_change : (json : Bool) (e : Event) (change : Change) → call_of e ≡ seen change → shown json e ≡ []
-shown_change json (Types types) change is = refl
-shown_change json (Put name body reply) change is = refl
-shown_change json (Remove name reply) change is = refl
-shown_change json (Ask name outcome) (changes.Types types) is = absurd cc
-shown_change json (Ask name outcome) (changes.Put other unit) is = absurd cc
-shown_change json (EveryRoot rows) change is = refl
+shown_change : (form : Form) (e : Event) (change : Change) → call_of e ≡ seen change → shown form e ≡ []
+shown_change form (Types types) change is = refl
+shown_change form (Put name body reply) change is = refl
+shown_change form (Remove name reply) change is = refl
+shown_change form (Ask name outcome) (changes.Types types) is = absurd cc
+shown_change form (Ask name outcome) (changes.Put other unit) is = absurd cc
+shown_change form (EveryRoot rows) change is = refl
 
-shown_changes : (json : Bool) (list : List Change) (events : List Event) (ahead : List Call) → map call_of events ++ ahead ≡ map seen list → flat_map (shown json) events ≡ []
-shown_changes json list [] ahead h = refl
-shown_changes json [] (e ∷ events) ahead h = absurd cc
-shown_changes json (change ∷ list) (e ∷ events) ahead h =
+shown_changes : (form : Form) (list : List Change) (events : List Event) (ahead : List Call) → map call_of events ++ ahead ≡ map seen list → flat_map (shown form) events ≡ []
+shown_changes form list [] ahead h = refl
+shown_changes form [] (e ∷ events) ahead h = absurd cc
+shown_changes form (change ∷ list) (e ∷ events) ahead h =
     let one : call_of e ≡ seen change = cc in
     let rest : map call_of events ++ ahead ≡ map seen list = cc in
-    ap (λ (text : List ℕ). text ++ flat_map (shown json) events) (shown_change json e change one) ∙ shown_changes json list events ahead rest
+    ap (λ (text : List ℕ). text ++ flat_map (shown form) events) (shown_change form e change one) ∙ shown_changes form list events ahead rest
 
 greatest-append : (a b : List Event) → greatest (a ++ b) ≡ max (greatest a) (greatest b)
 greatest-append [] b = omega arith
@@ -101,12 +102,12 @@ replied_of events s t is adds =
     }
 
 -- all changes and all Asks
-pub served_all : (json : Bool) (list : List Change) (names : List NameParts) (m n : ℕ) (s0 s1 s2 : SessionView) (o0 o1 e0 e1 : Option (List ℕ)) → Served (map seen list) told m s0 s1 e0 e1 → Served (map calls_made.Ask names) (shown json) n s1 s2 o0 o1 → ServedAll json (map seen list) names (max m n) s0 s2 o0 o1 e0 e1
-served_all json list names m n s0 s1 s2 o0 o1 e0 e1 p a =
+pub served_all : (form : Form) (list : List Change) (names : List NameParts) (m n : ℕ) (s0 s1 s2 : SessionView) (o0 o1 e0 e1 : Option (List ℕ)) → Served (map seen list) told m s0 s1 e0 e1 → Served (map calls_made.Ask names) (shown form) n s1 s2 o0 o1 → ServedAll form (map seen list) names (max m n) s0 s2 o0 o1 e0 e1
+served_all form list names m n s0 s1 s2 o0 o1 e0 e1 p a =
     let silent : flat_map told p.events ≡ flat_map told (p.events ++ a.events) =
     sym (flat_map-append told p.events a.events ∙ ap (λ (t : List ℕ). flat_map told p.events ++ t) (told_asks names a.events [] (append-nil _ ∙ a.made)) ∙ append-nil _) in
-    let hidden : flat_map (shown json) a.events ≡ flat_map (shown json) (p.events ++ a.events) =
-    sym (flat_map-append (shown json) p.events a.events ∙ ap (λ (t : List ℕ). t ++ flat_map (shown json) a.events) (shown_changes json list p.events [] (append-nil _ ∙ p.made))) in
+    let hidden : flat_map (shown form) a.events ≡ flat_map (shown form) (p.events ++ a.events) =
+    sym (flat_map-append (shown form) p.events a.events ∙ ap (λ (t : List ℕ). t ++ flat_map (shown form) a.events) (shown_changes form list p.events [] (append-nil _ ∙ p.made))) in
     record {
       events = p.events ++ a.events;
       made = map-append call_of p.events a.events ∙ ap (λ (cs : List Call). cs ++ map call_of a.events) p.made ∙ ap (λ (cs : List Call). map seen list ++ cs) a.made;
@@ -117,8 +118,8 @@ served_all json list names m n s0 s1 s2 o0 o1 e0 e1 p a =
     }
 
 -- some of the changes
-pub first_changes : (json : Bool) (list : List Change) (names : List NameParts) (s0 s1 : SessionView) (o e0 e1 : Option (List ℕ)) → ServedPart (map seen list) told s0 s1 e0 e1 → ServedFirst json (map seen list) names s0 s1 o o e0 e1
-first_changes json list names s0 s1 o e0 e1 h =
+pub first_changes : (form : Form) (list : List Change) (names : List NameParts) (s0 s1 : SessionView) (o e0 e1 : Option (List ℕ)) → ServedPart (map seen list) told s0 s1 e0 e1 → ServedFirst form (map seen list) names s0 s1 o o e0 e1
+first_changes form list names s0 s1 o e0 e1 h =
     let cut : map call_of h.served.events ++ h.ahead ≡ map seen list = ap (λ (cs : List Call). cs ++ h.ahead) h.served.made ∙ h.cut in
     record {
       events = h.served.events;
@@ -127,19 +128,19 @@ first_changes json list names s0 s1 o e0 e1 h =
       between = h.between;
       adds = h.served.adds;
       last = h.last;
-      output = subst (λ (t : List ℕ). Appends o o t) (sym (shown_changes json list h.served.events h.ahead cut)) (nothing_added o);
+      output = subst (λ (t : List ℕ). Appends o o t) (sym (shown_changes form list h.served.events h.ahead cut)) (nothing_added o);
       errors = h.served.printed;
     }
 
 -- all changes and some of the Asks
-pub first_asks : (json : Bool) (list : List Change) (names : List NameParts) (m : ℕ) (s0 s1 s2 : SessionView) (o0 o1 e0 e1 : Option (List ℕ)) → Served (map seen list) told m s0 s1 e0 e1 → ServedPart (map calls_made.Ask names) (shown json) s1 s2 o0 o1 → ServedFirst json (map seen list) names s0 s2 o0 o1 e0 e1
-first_asks json list names m s0 s1 s2 o0 o1 e0 e1 p h =
+pub first_asks : (form : Form) (list : List Change) (names : List NameParts) (m : ℕ) (s0 s1 s2 : SessionView) (o0 o1 e0 e1 : Option (List ℕ)) → Served (map seen list) told m s0 s1 e0 e1 → ServedPart (map calls_made.Ask names) (shown form) s1 s2 o0 o1 → ServedFirst form (map seen list) names s0 s2 o0 o1 e0 e1
+first_asks form list names m s0 s1 s2 o0 o1 e0 e1 p h =
     let asks : List Event = h.served.events in
     let cut : map call_of asks ++ h.ahead ≡ map calls_made.Ask names = ap (λ (cs : List Call). cs ++ h.ahead) h.served.made ∙ h.cut in
     let silent : flat_map told p.events ≡ flat_map told (p.events ++ asks) =
     sym (flat_map-append told p.events asks ∙ ap (λ (t : List ℕ). flat_map told p.events ++ t) (told_asks names asks h.ahead cut) ∙ append-nil _) in
-    let hidden : flat_map (shown json) asks ≡ flat_map (shown json) (p.events ++ asks) =
-    sym (flat_map-append (shown json) p.events asks ∙ ap (λ (t : List ℕ). t ++ flat_map (shown json) asks) (shown_changes json list p.events [] (append-nil _ ∙ p.made))) in
+    let hidden : flat_map (shown form) asks ≡ flat_map (shown form) (p.events ++ asks) =
+    sym (flat_map-append (shown form) p.events asks ∙ ap (λ (t : List ℕ). t ++ flat_map (shown form) asks) (shown_changes form list p.events [] (append-nil _ ∙ p.made))) in
     record {
       events = p.events ++ asks;
       ahead = h.ahead;
@@ -160,8 +161,8 @@ closed_with opened left handed s t h new popped pushed one =
     (last.1, subst (λ (ss : List SessionView). IsOneHistory ss h) (pushed ∙ ap (λ (ss : List SessionView). ss ++ t ∷ []) last.0) one)
 
 -- the database closed well behind the calls that a new session made
-pub runs_of : (json : Bool) (first : List Call) (names : List NameParts) (s t : SessionView) (o o' e e' : Option (List ℕ)) (h : List Entry) (r : Result ℕ Stop) → s ≡ new_session 0 0 → length first + length names ≤ MOST_ENTRIES → IsOneHistory (t ∷ []) h → IfOk r (λ exit. ServedAll json first names exit s t o o' e e') → IfOk r (λ exit. Runs json first names exit o o' e e')
-runs_of json first names s t o o' e e' h (Ok exit) is few one all = record {
+pub runs_of : (form : Form) (first : List Call) (names : List NameParts) (s t : SessionView) (o o' e e' : Option (List ℕ)) (h : List Entry) (r : Result ℕ Stop) → s ≡ new_session 0 0 → length first + length names ≤ MOST_ENTRIES → IsOneHistory (t ∷ []) h → IfOk r (λ exit. ServedAll form first names exit s t o o' e e') → IfOk r (λ exit. Runs form first names exit o o' e e')
+runs_of form first names s t o o' e e' h (Ok exit) is few one all = record {
   events = all.events;
   made = all.made;
   few = few;
@@ -170,10 +171,10 @@ runs_of json first names s t o o' e e' h (Ok exit) is few one all = record {
   errors = all.errors;
   status = all.status;
 }
-runs_of json first names s t o o' e e' h (Err stop) is few one all = tt
+runs_of form first names s t o o' e e' h (Err stop) is few one all = tt
 
-pub begins_of : (json : Bool) (first : List Call) (names : List NameParts) (s t : SessionView) (o o' e e' : Option (List ℕ)) (h : List Entry) → s ≡ new_session 0 0 → IsOneHistory (t ∷ []) h → ServedFirst json first names s t o o' e e' → Begins AreLegal json first names o o' e e'
-begins_of json first names s t o o' e e' h is one some = record {
+pub begins_of : (form : Form) (first : List Call) (names : List NameParts) (s t : SessionView) (o o' e e' : Option (List ℕ)) (h : List Entry) → s ≡ new_session 0 0 → IsOneHistory (t ∷ []) h → ServedFirst form first names s t o o' e e' → Begins AreLegal form first names o o' e e'
+begins_of form first names s t o o' e e' h is one some = record {
   events = some.events;
   ahead = some.ahead;
   made = some.made;
@@ -199,8 +200,8 @@ owed_of P Q list f h = record { events = h.events; last = h.last; ahead = h.ahea
 pub legal_adds : (s t : SessionView) (h : List Entry) → s ≡ new_session 0 0 → IsOneHistory (t ∷ []) h → (events : List Event) → Adds events s t → AreLegal events
 legal_adds s t h is one events adds = legal_added events s t h is adds.number adds.own one
 
-shown_all : (json : Bool) (first : List Call) (names : List NameParts) (exit : ℕ) (s t : SessionView) (o o' e e' : Option (List ℕ)) → s ≡ new_session 0 0 → ServedAll json first names exit s t o o' e e' → Begins AreReplied json first names o o' e e'
-shown_all json first names exit s t o o' e e' is all = record {
+shown_all : (form : Form) (first : List Call) (names : List NameParts) (exit : ℕ) (s t : SessionView) (o o' e e' : Option (List ℕ)) → s ≡ new_session 0 0 → ServedAll form first names exit s t o o' e e' → Begins AreReplied form first names o o' e e'
+shown_all form first names exit s t o o' e e' is all = record {
   events = all.events;
   ahead = [];
   made = append-nil _ ∙ all.made;
@@ -209,8 +210,8 @@ shown_all json first names exit s t o o' e e' is all = record {
   errors = all.errors;
 }
 
-shown_first : (json : Bool) (first : List Call) (names : List NameParts) (s t : SessionView) (o o' e e' : Option (List ℕ)) → s ≡ new_session 0 0 → ServedFirst json first names s t o o' e e' → Begins AreReplied json first names o o' e e'
-shown_first json first names s t o o' e e' is some = record {
+shown_first : (form : Form) (first : List Call) (names : List NameParts) (s t : SessionView) (o o' e e' : Option (List ℕ)) → s ≡ new_session 0 0 → ServedFirst form first names s t o o' e e' → Begins AreReplied form first names o o' e e'
+shown_first form first names s t o o' e e' is some = record {
   events = some.events;
   ahead = some.ahead;
   made = some.made;
@@ -220,20 +221,20 @@ shown_first json first names s t o o' e e' is some = record {
 }
 
 -- where standard output has not failed: what was printed, or that a line was not told
-pub shown_of : (json : Bool) (first : List Call) (names : List NameParts) (s t : SessionView) (o o' e e' : Option (List ℕ)) (r : Result ℕ Stop) → s ≡ new_session 0 0
-    → IfOk r (λ exit. ServedAll json first names exit s t o o' e e')
-    → IfErr r (λ stop. is_refused stop ≡ true → ServedFirst json first names s t o o' e e')
+pub shown_of : (form : Form) (first : List Call) (names : List NameParts) (s t : SessionView) (o o' e e' : Option (List ℕ)) (r : Result ℕ Stop) → s ≡ new_session 0 0
+    → IfOk r (λ exit. ServedAll form first names exit s t o o' e e')
+    → IfErr r (λ stop. is_refused stop ≡ true → ServedFirst form first names s t o o' e e')
     → (IsErrOf r CannotTell → OwesLast (λ events. Adds events s t) first)
     → (IsErrOf r CannotTell → Keeps o o')
     → IfErr r (λ stop. (stop ≡ CannotTell) ⊎ (stop ≡ CannotWrite) ⊎ (stop ≡ NoMemory) ⊎ (stop ≡ HistoryFull))
     → (IsErrOf r CannotWrite → ⊥)
-    → Begins AreReplied json first names o o' e e' ⊎ (OwesLast AreReplied first × Keeps o o')
-shown_of json first names s t o o' e e' (Ok n) is all some untold silent stop well = inl (shown_all json first names n s t o o' e e' is all)
-shown_of json first names s t o o' e e' (Err x) is all some untold silent stop well = elim stop [
+    → Begins AreReplied form first names o o' e e' ⊎ (OwesLast AreReplied first × Keeps o o')
+shown_of form first names s t o o' e e' (Ok n) is all some untold silent stop well = inl (shown_all form first names n s t o o' e e' is all)
+shown_of form first names s t o o' e e' (Err x) is all some untold silent stop well = elim stop [
   | inl tell ↦ inr (owed_of (λ events. Adds events s t) AreReplied first (λ events adds. replied_of events s t is adds) (untold (ap Err tell)), silent (ap Err tell))
   | inr more ↦ elim more [
     | inl write ↦ absurd (well (ap Err write))
-    | inr refused ↦ inl (shown_first json first names s t o o' e e' is (some (elim refused [
+    | inr refused ↦ inl (shown_first form first names s t o o' e e' is (some (elim refused [
       | inl memory ↦ ap is_refused memory
       | inr full ↦ ap is_refused full
     ])))
@@ -241,8 +242,8 @@ shown_of json first names s t o o' e e' (Err x) is all some untold silent stop w
 ]
 
 -- no call was made
-pub begins_none : (json : Bool) (first : List Call) (names : List NameParts) (o e : Option (List ℕ)) → Begins AreLegal json first names o o e e
-begins_none json first names o e = record {
+pub begins_none : (form : Form) (first : List Call) (names : List NameParts) (o e : Option (List ℕ)) → Begins AreLegal form first names o o e e
+begins_none form first names o e = record {
   events = [];
   ahead = calls_of first names;
   made = refl;

@@ -10,8 +10,9 @@ use Rattle.bc_check.specs.declared.fault.FileFault.{FileFault}
 use Rattle.bc_check.specs.declared.file.Change.{Change}
 use Rattle.bc_check.specs.declared.file.Change.TheVariants as changes
 use Rattle.bc_check.specs.declared.stop.Stop.{Stop}
-use Rattle.bc_check.specs.Parts.{Part}
+use Rattle.bc_check.specs.Parts.{Part, sections_of}
 use Rattle.bc_check.specs.Headings.{IsHeader, heading_of}
+use Rattle.bc_check.specs.Located.{IsLocated}
 use Rattle.bc_check.specs.Sections as sections
 
 -- what asks for a change: `types` and `put`
@@ -52,3 +53,11 @@ GivesChange section result =
 -- the same of all sections
 abbrev pub GivesChanges : List Part → Result (Vec Change Global) Stop → Type 0
 GivesChanges parts result = sections.Answers (λ list. MakeAll parts (map seen list.items)) (IsFirstFault parts) result
+
+-- the first fault of a file, with its position where positions are asked for
+abbrev pub IsToldFault : Bool → List ℕ → FileFault → Type 0
+IsToldFault positions file fault = IsFirstFault (sections_of file) fault × IsLocated positions file fault
+
+-- what was returned says which calls a file makes, or which fault of it is told
+abbrev pub GivesTold : Bool → List ℕ → Result (Vec Change Global) Stop → Type 0
+GivesTold positions file result = sections.Answers (λ list. MakeAll (sections_of file) (map seen list.items)) (IsToldFault positions file) result

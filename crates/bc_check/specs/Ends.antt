@@ -1,30 +1,32 @@
 -- How the command ends, and what it leaves where it stops.
-use Rattle.std.specs.Prelude.{◌≡◌, ◌⊎◌, ℕ, Bool, ◌+◌, ◌<◌, ◌≤◌, Option, List, IfSome, length}
+use Rattle.std.specs.Prelude.{◌≡◌, ◌⊎◌, ℕ, ◌+◌, ◌<◌, ◌≤◌, Option, List, IfSome, length}
 use Rattle.std.specs.Io.KnownBytes.{Appends, Keeps}
 use Rattle.bc_text.specs.Names.{NameParts}
 use Rattle.bc_calls.specs.declared.call.Call.{Call}
 use Rattle.bc_calls.specs.declared.call.Event.{Event}
 use Rattle.bc_share.specs.declared.db.TheConstants.{MOST_ENTRIES}
+use Rattle.bc_line.specs.Parts.{CheckParts}
 use Rattle.bc_line.specs.declared.line.Line.{Line}
 use Rattle.bc_line.specs.declared.line.Line.TheVariants.{Check, Run, Serve, Print}
 use Rattle.bc_check.specs.declared.stop.Stop.{Stop}
 use Rattle.bc_check.specs.declared.stop.Stop.TheVariants.{WrongUse, CannotRead, CannotWrite, CannotTell, NoMemory, File, TooManyCalls, HistoryFull, Foreign, Audit}
 use Rattle.bc_check.specs.Files.{most_bytes}
 use Rattle.bc_check.specs.Parts.{sections_of}
-use Rattle.bc_check.specs.Changes.{MakeAll, IsFirstFault}
+use Rattle.bc_check.specs.Changes.{MakeAll, IsToldFault}
 use Rattle.bc_check.specs.Asked.{AreAsked}
+use Rattle.bc_check.specs.Forms.{form_of}
 use Rattle.bc_check.specs.Stops.{last_line, stop_status}
 use Rattle.bc_check.specs.Run.{told, AreLegal, AreReplied}
 use Rattle.bc_check.specs.Served.{Runs, Begins, OwesLast, Prints}
 
 -- each section made its call, each root name under which one put a body was asked, and what belongs to these calls was
 -- printed
-pub record Checked (json : Bool) (file : List ℕ) (exit : ℕ) (out out' err err' : Option (List ℕ)) : Type 0 where
+pub record Checked (line : CheckParts) (file : List ℕ) (exit : ℕ) (out out' err err' : Option (List ℕ)) : Type 0 where
   pub made : List Call
   pub names : List NameParts
   pub good : MakeAll (sections_of file) made
   pub asked : AreAsked made names
-  pub runs : Runs json made names exit out out' err err'
+  pub runs : Runs (form_of line (sections_of file) made) made names exit out out' err err'
 
 -- a file without a fault that makes more calls than a history may have
 pub record HasTooManyCalls (file : List ℕ) : Type 0 where
@@ -35,13 +37,13 @@ pub record HasTooManyCalls (file : List ℕ) : Type 0 where
   pub many : MOST_ENTRIES < length made + length names
 
 -- a file without a fault, of a beginning of whose calls was printed what belongs to them, and this holds of their replies
-pub record HasBegun (Holds : List Event → Type 0) (json : Bool) (file : List ℕ) (out out' err err' : Option (List ℕ)) : Type 0 where
+pub record HasBegun (Holds : List Event → Type 0) (line : CheckParts) (file : List ℕ) (out out' err err' : Option (List ℕ)) : Type 0 where
   pub made : List Call
   pub names : List NameParts
   pub good : MakeAll (sections_of file) made
   pub asked : AreAsked made names
   pub few : length made + length names ≤ MOST_ENTRIES
-  pub begins : Begins Holds json made names out out' err err'
+  pub begins : Begins Holds (form_of line (sections_of file) made) made names out out' err err'
 
 -- a file without a fault, of whose sections standard error has what belongs to their calls
 pub record HasTold (file : List ℕ) (err err' : Option (List ℕ)) : Type 0 where
@@ -71,17 +73,17 @@ IsSilent out out' err err' = Keeps out out' × Keeps err err'
 
 -- What the command finds and leaves where it stops, but for the line that says so. What a writer that failed took is
 -- not known.
-abbrev pub Leaves : Bool → Stop → Option (List ℕ) → Option (List ℕ) → Option (List ℕ) → Option (List ℕ) → Option (List ℕ) → Type 0
-Leaves json WrongUse known out out' err err' = ⊥
-Leaves json CannotRead known out out' err err' = IsSilent out out' err err'
-Leaves json CannotWrite known out out' err err' = OfFile known (λ file. HasTold file err err')
-Leaves json CannotTell known out out' err err' = OfFile known (HasUntold AreLegal) × Keeps out out'
-Leaves json NoMemory known out out' err err' = IsSilent out out' err err' ⊎ OfFile known (λ file. HasBegun AreLegal json file out out' err err')
-Leaves json (File fault) known out out' err err' = OfFile known (λ file. IsFirstFault (sections_of file) fault) × IsSilent out out' err err'
-Leaves json TooManyCalls known out out' err err' = OfFile known HasTooManyCalls × IsSilent out out' err err'
-Leaves json HistoryFull known out out' err err' = OfFile known (λ file. HasBegun AreLegal json file out out' err err')
-Leaves json Foreign known out out' err err' = ⊥
-Leaves json Audit known out out' err err' = OfFile known (λ file. HasBegun AreReplied json file out out' err err') ⊎ (OfFile known (HasUntold AreReplied) × Keeps out out')
+abbrev pub Leaves : CheckParts → Stop → Option (List ℕ) → Option (List ℕ) → Option (List ℕ) → Option (List ℕ) → Option (List ℕ) → Type 0
+Leaves line WrongUse known out out' err err' = ⊥
+Leaves line CannotRead known out out' err err' = IsSilent out out' err err'
+Leaves line CannotWrite known out out' err err' = OfFile known (λ file. HasTold file err err')
+Leaves line CannotTell known out out' err err' = OfFile known (HasUntold AreLegal) × Keeps out out'
+Leaves line NoMemory known out out' err err' = IsSilent out out' err err' ⊎ OfFile known (λ file. HasBegun AreLegal line file out out' err err')
+Leaves line (File fault) known out out' err err' = OfFile known (λ file. IsToldFault line.positions file fault) × IsSilent out out' err err'
+Leaves line TooManyCalls known out out' err err' = OfFile known HasTooManyCalls × IsSilent out out' err err'
+Leaves line HistoryFull known out out' err err' = OfFile known (λ file. HasBegun AreLegal line file out out' err err')
+Leaves line Foreign known out out' err err' = ⊥
+Leaves line Audit known out out' err err' = OfFile known (λ file. HasBegun AreReplied line file out out' err err') ⊎ (OfFile known (HasUntold AreReplied) × Keeps out out')
 
 -- the command stopped with this status: its line is written behind all else, of which this holds
 pub record StopsWith (Left : Stop → Option (List ℕ) → Type 0) (name : List ℕ) (exit : ℕ) (err : Option (List ℕ)) : Type 0 where
@@ -91,13 +93,13 @@ pub record StopsWith (Left : Stop → Option (List ℕ) → Type 0) (name : List
   pub said : Appends told err (last_line name stop)
   pub status : exit ≡ stop_status stop
 
--- the command on the file of this name ended with this status: at its end, or where it stopped
-abbrev pub IsEnd : Bool → List ℕ → Option (List ℕ) → ℕ → Option (List ℕ) → Option (List ℕ) → Option (List ℕ) → Option (List ℕ) → Type 0
-IsEnd json name known exit out out' err err' = OfFile known (λ file. Checked json file exit out out' err err') ⊎ StopsWith (λ stop told. Leaves json stop known out out' err told) name exit err'
+-- the command on the file that its line names ended with this status: at its end, or where it stopped
+abbrev pub IsEnd : CheckParts → Option (List ℕ) → ℕ → Option (List ℕ) → Option (List ℕ) → Option (List ℕ) → Option (List ℕ) → Type 0
+IsEnd line known exit out out' err err' = OfFile known (λ file. Checked line file exit out out' err err') ⊎ StopsWith (λ stop told. Leaves line stop known out out' err told) line.file exit err'
 
 -- the same, of a line of `check`
 abbrev pub IsEndOf : Line → Option (List ℕ) → ℕ → Option (List ℕ) → Option (List ℕ) → Option (List ℕ) → Option (List ℕ) → Type 0
-IsEndOf (Check line) known exit out out' err err' = IsEnd line.json line.file known exit out out' err err'
+IsEndOf (Check line) known exit out out' err err' = IsEnd line known exit out out' err err'
 IsEndOf (Run line) known exit out out' err err' = ⊥
 IsEndOf (Serve line) known exit out out' err err' = ⊥
 IsEndOf (Print line) known exit out out' err err' = ⊥

@@ -1,5 +1,6 @@
 -- How faults of a file are printed.
-use Rattle.std.specs.Prelude.{ℕ, List, ◌++◌, decimal, codes}
+use Rattle.std.specs.Prelude.{ℕ, List, [], ◌++◌, Option, Some, None, decimal, codes}
+use Rattle.bc_position.specs.declared.position.Position.{Position}
 use Rattle.bc_check.specs.declared.fault.FaultKind.{FaultKind}
 use Rattle.bc_check.specs.declared.fault.FaultKind.TheVariants.{BadHeader, TextAfterCall, TooLong, NotAscii, Token, Grammar, Limit}
 use Rattle.bc_check.specs.declared.fault.FileFault.{FileFault}
@@ -14,6 +15,11 @@ kind_text (Token at) = codes "token at " ++ decimal at
 kind_text (Grammar at) = codes "grammar at " ++ decimal at
 kind_text (Limit at) = codes "limit at " ++ decimal at
 
+-- where the byte of a fault is, if that is known
+abbrev pub position_text : Option Position → List ℕ
+position_text None = []
+position_text (Some position) = codes " (line " ++ decimal position.line ++ codes ", column " ++ decimal position.column ++ codes ")"
+
 -- the line of a fault, without its end
 abbrev pub message : FileFault → List ℕ
-message fault = codes "line " ++ decimal fault.line ++ codes ": " ++ kind_text fault.kind
+message fault = codes "line " ++ decimal fault.line ++ codes ": " ++ kind_text fault.kind ++ position_text fault.position

@@ -13,9 +13,12 @@ use Rattle.bc_calls.specs.declared.call.Event.{Event}
 use Rattle.bc_calls.specs.declared.call.Event.TheVariants.{Types, Put, Remove, Ask, All as EveryRoot}
 use Rattle.bc_calls.specs.declared.call.Entry.{Entry}
 use Rattle.bc_calls.specs.Calls.{IsLegal, calls}
+use Rattle.bc_check.specs.declared.form.Form.{Form}
+use Rattle.bc_check.specs.declared.form.Form.TheVariants.{Text, Json, Sourced}
 use Rattle.bc_report.specs.Text.{line}
 use Rattle.bc_report.specs.Report.{report}
 use Rattle.bc_json.specs.Json.{json_line}
+use Rattle.bc_source.specs.Report.{sourced_report}
 
 -- the calls of a file: those of its sections, then an Ask of each of its names
 abbrev pub calls_of : List Call → List NameParts → List Call
@@ -28,10 +31,11 @@ refused_line name Replaced = []
 refused_line name Full = line (codes "put " ++ name_text name ++ codes " full")
 refused_line name WrongKind = line (codes "put " ++ name_text name ++ codes " wrongkind")
 
--- an Ask: its line and its report, or where JSON is wanted one line that has both
-abbrev pub answer_lines : Bool → NameParts → Outcome → List ℕ
-answer_lines json name outcome =
-    if json then line (json_line name outcome) else line (codes "ask " ++ name_text name) ++ report outcome
+-- an Ask: its line and its report, which may have the texts that explain its errors; or where JSON is wanted one line that has both
+abbrev pub answer_lines : Form → NameParts → Outcome → List ℕ
+answer_lines Text name outcome = line (codes "ask " ++ name_text name) ++ report outcome
+answer_lines Json name outcome = line (json_line name outcome)
+answer_lines (Sourced sources) name outcome = line (codes "ask " ++ name_text name) ++ sourced_report sources outcome
 
 -- what is printed of a call on standard error
 abbrev pub told : Event → List ℕ
@@ -42,12 +46,12 @@ told (Ask name outcome) = []
 told (EveryRoot rows) = []
 
 -- what is printed of a call on standard output; no file of `check` asks for all
-abbrev pub shown : Bool → Event → List ℕ
-shown json (Types types) = []
-shown json (Put name body reply) = []
-shown json (Remove name reply) = []
-shown json (Ask name outcome) = answer_lines json name outcome
-shown json (EveryRoot rows) = []
+abbrev pub shown : Form → Event → List ℕ
+shown form (Types types) = []
+shown form (Put name body reply) = []
+shown form (Remove name reply) = []
+shown form (Ask name outcome) = answer_lines form name outcome
+shown form (EveryRoot rows) = []
 
 -- 2 for a put that stored nothing
 abbrev pub put_status : PutReply → ℕ

@@ -81,9 +81,9 @@ Answers Good Bad (Err Audit) = ⊥
 
 -- why the section at this line gives no call, where its text cannot be read
 abbrev pub stop_of : ℕ → ReadFault → Stop
-stop_of line read_faults.TooLong = File (record { line = line; kind = TooLong })
-stop_of line (read_faults.NotAscii at) = File (record { line = line; kind = NotAscii at })
-stop_of line (read_faults.Token at) = File (record { line = line; kind = Token at })
-stop_of line (read_faults.Grammar at) = File (record { line = line; kind = Grammar at })
-stop_of line (read_faults.Limit at) = File (record { line = line; kind = Limit at })
+stop_of line read_faults.TooLong = File (record { line = line; kind = TooLong; position = None })
+stop_of line (read_faults.NotAscii at) = File (record { line = line; kind = NotAscii at; position = None })
+stop_of line (read_faults.Token at) = File (record { line = line; kind = Token at; position = None })
+stop_of line (read_faults.Grammar at) = File (record { line = line; kind = Grammar at; position = None })
+stop_of line (read_faults.Limit at) = File (record { line = line; kind = Limit at; position = None })
 stop_of line read_faults.NoMemory = NoMemory

@@ -1,5 +1,5 @@
 -- Calls that a session answered, and what was printed of them.
-use Rattle.std.specs.Prelude.{◌≡◌, ◌≢◌, ◌⊎◌, ℕ, Bool, ◌+◌, ◌≤◌, Option, List, [], ◌∷◌, ◌++◌, map, flat_map, length}
+use Rattle.std.specs.Prelude.{◌≡◌, ◌≢◌, ◌⊎◌, ℕ, ◌+◌, ◌≤◌, Option, List, [], ◌∷◌, ◌++◌, map, flat_map, length}
 use Rattle.std.specs.Io.KnownBytes.{Appends}
 use Rattle.bc_text.specs.Names.{NameParts}
 use Rattle.bc_calls.specs.declared.call.Call.{Call}
@@ -7,6 +7,7 @@ use Rattle.bc_calls.specs.declared.call.Event.{Event}
 use Rattle.bc_calls.specs.Calls.{IsLegal, call_of, calls}
 use Rattle.bc_share.specs.Sessions.{SessionView, IsAnswered, IsSame}
 use Rattle.bc_share.specs.declared.db.TheConstants.{MOST_ENTRIES}
+use Rattle.bc_check.specs.declared.form.Form.{Form}
 use Rattle.bc_check.specs.Run.{event_status, greatest, calls_of, shown, told, AreLegal, AreReplied}
 
 -- one call was answered and printed; its status
@@ -82,41 +83,41 @@ pub record ServedThen (list : List Call) (text : Event → List ℕ) (old : Sess
 
 -- the calls of the sections were answered and the names asked; of each call was printed what belongs to it, and the status is the
 -- greatest of theirs
-pub record ServedAll (json : Bool) (first : List Call) (names : List NameParts) (exit : ℕ) (old new : SessionView) (out out' err err' : Option (List ℕ)) : Type 0 where
+pub record ServedAll (form : Form) (first : List Call) (names : List NameParts) (exit : ℕ) (old new : SessionView) (out out' err err' : Option (List ℕ)) : Type 0 where
   pub events : List Event
   pub made : map call_of events ≡ calls_of first names
   pub adds : Adds events old new
-  pub output : Appends out out' (flat_map (shown json) events)
+  pub output : Appends out out' (flat_map (shown form) events)
   pub errors : Appends err err' (flat_map told events)
   pub status : exit ≡ greatest events
 
 -- the same, where only a beginning of the calls was answered and printed, and at most one call more was answered
-pub record ServedFirst (json : Bool) (first : List Call) (names : List NameParts) (old new : SessionView) (out out' err err' : Option (List ℕ)) : Type 0 where
+pub record ServedFirst (form : Form) (first : List Call) (names : List NameParts) (old new : SessionView) (out out' err err' : Option (List ℕ)) : Type 0 where
   pub events : List Event
   pub ahead : List Call
   pub made : map call_of events ++ ahead ≡ calls_of first names
   pub between : SessionView
   pub adds : Adds events old between
   pub last : IsAtMostOneMore between new
-  pub output : Appends out out' (flat_map (shown json) events)
+  pub output : Appends out out' (flat_map (shown form) events)
   pub errors : Appends err err' (flat_map told events)
 
 -- The calls of the sections were made and the names asked, at most as many as a history may have, as one session's legal history; of
 -- each call was printed what belongs to it, and the status is the greatest of theirs.
-pub record Runs (json : Bool) (first : List Call) (names : List NameParts) (exit : ℕ) (out out' err err' : Option (List ℕ)) : Type 0 where
+pub record Runs (form : Form) (first : List Call) (names : List NameParts) (exit : ℕ) (out out' err err' : Option (List ℕ)) : Type 0 where
   pub events : List Event
   pub made : map call_of events ≡ calls_of first names
   pub few : length first + length names ≤ MOST_ENTRIES
   pub legal : AreLegal events
-  pub output : Appends out out' (flat_map (shown json) events)
+  pub output : Appends out out' (flat_map (shown form) events)
   pub errors : Appends err err' (flat_map told events)
   pub status : exit ≡ greatest events
 
 -- The same, where only of a beginning of the calls was printed what belongs to it, and this holds of their replies.
-pub record Begins (Holds : List Event → Type 0) (json : Bool) (first : List Call) (names : List NameParts) (out out' err err' : Option (List ℕ)) : Type 0 where
+pub record Begins (Holds : List Event → Type 0) (form : Form) (first : List Call) (names : List NameParts) (out out' err err' : Option (List ℕ)) : Type 0 where
   pub events : List Event
   pub ahead : List Call
   pub made : map call_of events ++ ahead ≡ calls_of first names
   pub holds : Holds events
-  pub output : Appends out out' (flat_map (shown json) events)
+  pub output : Appends out out' (flat_map (shown form) events)
   pub errors : Appends err err' (flat_map told events)

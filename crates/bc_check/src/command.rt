@@ -1,8 +1,11 @@
 //! The calls of a file, and what is printed of them.
-ghost use Rattle.std.specs.Prelude.{◌≡◌, ◌≢◌, ◌↔◌, ◌≤◌, ◌<◌, ◌+◌, ◌⊎◌, [], true, false, Err, OnOk, OnErr, IfOk, IfErr, IsErrOf, IsTrue, length, map, max};
+ghost use Rattle.std.specs.Prelude.{◌≡◌, ◌≢◌, ◌↔◌, ◌≤◌, ◌<◌, ◌+◌, ◌⊎◌, ◌++◌, [], true, Err, OnOk, OnErr, IfOk, IfErr, IsErrOf, IsTrue, codes, length, map, max};
 ghost use Rattle.std.specs.Io.Buffered.{writer_buffer, writer_contents};
 ghost use Rattle.std.specs.Io.KnownBytes.{Appends, Keeps};
+ghost use Rattle.bc_text.specs.Names.{name_text};
 ghost use Rattle.bc_calls.specs.declared.call.Call.TheVariants as calls;
+ghost use Rattle.bc_report.specs.Text.{line as ended};
+ghost use Rattle.bc_source.specs.Report.{report_with};
 ghost use Rattle.bc_share.specs.Sessions.{Makes};
 ghost use Rattle.bc_check.specs.Changes.{seen};
 ghost use Rattle.bc_check.specs.Stops.{is_of_calls, is_refused};
@@ -12,7 +15,8 @@ ghost use Rattle.bc_check.specs.Served.{Serves, Served, ServedPart, ServedAll, S
 ghost use Rattle.bc_line.specs.Lines.{is_check};
 
 use crate::asked::find_asked;
-use crate::file::{Change, read_changes};
+use crate::file::{Change, read_told_changes};
+use crate::form::{Form, find_form};
 use crate::input::read_whole;
 use crate::status::{outcome_status, put_status};
 use crate::stop::{Stop, stop_with};
@@ -22,6 +26,7 @@ use bc_line::{CheckLine, Line};
 use bc_prov::{Outcome, Providers};
 use bc_report::write_report;
 use bc_share::{Db, MOST_ENTRIES, Session};
+use bc_source::{SourcedBody, Sources, find_bodies, write_sourced_report};
 use bc_text::Name;
 use bc_versions::{Ending, Waiting};
 use std::alloc::Global;
@@ -44,10 +49,45 @@ fn write_refusal<E: Write>(name: &Name, reply: PutReply, err: &mut E) -> io::Res
 
 /// Writes the line of an Ask, and its report.
 fn write_text<O: Write>(name: &Name, outcome: &Outcome, out: &mut O) -> io::Result<()>
-    ensures { OnOk result (Appends (O.contents out.old) (O.contents out.new) (answer_lines false name.now outcome.now)) }
+    ensures { OnOk result (Appends (O.contents out.old) (O.contents out.new) (answer_lines Form.Text name.now outcome.now)) }
 {
     writeln!(out, "ask {name}")?;
     write_report(outcome, out)
+}
+
+/// Writes the line of an Ask, and its report with the texts that explain its errors.
+fn write_sourced_text<O: Write>(
+    name: &Name,
+    outcome: &Outcome,
+    bodies: &[SourcedBody<'_>],
+    out: &mut O,
+) -> io::Result<()>
+    ensures { OnOk result (Appends (O.contents out.old) (O.contents out.new) (ended (codes "ask " ++ name_text name.now) ++ report_with bodies.now outcome.now)) }
+{
+    writeln!(out, "ask {name}")?;
+    write_sourced_report(outcome, bodies, out)
+}
+
+/// Writes the line of an Ask, and its report with the texts that explain its errors. `NoMemory`, with nothing written, where there is no
+/// room for what they are found by.
+fn write_sourced<O: Write>(
+    alloc: Global,
+    sources: &Sources<'_>,
+    name: &Name,
+    outcome: &Outcome,
+    out: &mut O,
+) -> Result<(), Stop>
+    ensures written { OnOk result (Appends (O.contents out.old) (O.contents out.new) (answer_lines (Form.Sourced sources.now) name.now outcome.now)) }
+    ensures no_memory { IsErrOf result Stop.NoMemory → Keeps (O.contents out.old) (O.contents out.new) }
+    ensures stop { IfErr result (λ stop. (stop ≡ Stop.CannotWrite) ⊎ (stop ≡ Stop.NoMemory)) }
+{
+    let Ok(bodies) = find_bodies(alloc, outcome, sources) else {
+        return Err(Stop::NoMemory);
+    };
+    if write_sourced_text(name, outcome, &bodies, out).is_err() {
+        return Err(Stop::CannotWrite);
+    }
+    Ok(())
 }
 
 /// Writes the JSON line of an Ask. `NoMemory`, with nothing written, where there is no room for it.
@@ -57,7 +97,7 @@ fn write_json<O: Write>(
     outcome: &Outcome,
     out: &mut O,
 ) -> Result<(), Stop>
-    ensures written { OnOk result (Appends (O.contents out.old) (O.contents out.new) (answer_lines true name.now outcome.now)) }
+    ensures written { OnOk result (Appends (O.contents out.old) (O.contents out.new) (answer_lines Form.Json name.now outcome.now)) }
     ensures no_memory { IsErrOf result Stop.NoMemory → Keeps (O.contents out.old) (O.contents out.new) }
     ensures stop { IfErr result (λ stop. (stop ≡ Stop.CannotWrite) ⊎ (stop ≡ Stop.NoMemory)) }
 {
@@ -70,25 +110,28 @@ fn write_json<O: Write>(
     Ok(())
 }
 
-/// Writes an Ask with its outcome, as text or as JSON. `NoMemory`, with nothing written, where there is no room for it.
+/// Writes an Ask with its outcome, in this form. `NoMemory`, with nothing written, where there is no room for it.
 fn write_answer<O: Write>(
     alloc: Global,
-    json: bool,
+    form: &Form<'_>,
     name: &Name,
     outcome: &Outcome,
     out: &mut O,
 ) -> Result<(), Stop>
-    ensures written { OnOk result (Appends (O.contents out.old) (O.contents out.new) (answer_lines json name.now outcome.now)) }
+    ensures written { OnOk result (Appends (O.contents out.old) (O.contents out.new) (answer_lines form.now name.now outcome.now)) }
     ensures no_memory { IsErrOf result Stop.NoMemory → Keeps (O.contents out.old) (O.contents out.new) }
     ensures stop { IfErr result (λ stop. (stop ≡ Stop.CannotWrite) ⊎ (stop ≡ Stop.NoMemory)) }
 {
-    if json {
-        return write_json(alloc, name, outcome, out);
+    match form {
+        Form::Text => {
+            if write_text(name, outcome, out).is_err() {
+                return Err(Stop::CannotWrite);
+            }
+            Ok(())
+        }
+        Form::Json => write_json(alloc, name, outcome, out),
+        Form::Sourced(sources) => write_sourced(alloc, sources, name, outcome, out),
     }
-    if write_text(name, outcome, out).is_err() {
-        return Err(Stop::CannotWrite);
-    }
-    Ok(())
 }
 
 /// Makes a change, and tells of a body that is not stored. The status of the call.
@@ -120,25 +163,25 @@ fn make_change<R: Wait, N: Ending, E: Write>(
     }
 }
 
-/// Asks a name, and prints its report, or its JSON line. The status of the outcome.
+/// Asks a name, and prints its report in this form. The status of the outcome.
 fn make_ask<R: Wait, N: Ending, O: Write>(
     rt: &R,
     alloc: Global,
     session: &mut Session<N>,
     providers: &Providers,
-    json: bool,
+    form: &Form<'_>,
     name: &Name,
     out: &mut O,
 ) -> Result<u8, Stop>
     ensures still { IsStill session.old session.new }
     ensures refused { IfErr result (λ stop. is_refused stop ≡ true → IsAtMostOneMore session.old session.new × Keeps (O.contents out.old) (O.contents out.new)) }
     ensures unwritten { IsErrOf result Stop.CannotWrite → Makes session.old session.new (calls.Ask name.now) }
-    ensures served { IfOk result (λ status. Serves (calls.Ask name.now) (shown json) status session.old session.new (O.contents out.old) (O.contents out.new)) }
+    ensures served { IfOk result (λ status. Serves (calls.Ask name.now) (shown form.now) status session.old session.new (O.contents out.old) (O.contents out.new)) }
     ensures range { IfOk result (λ status. status ≤ 2) }
     ensures stop { IfErr result (λ stop. (stop ≡ Stop.CannotWrite) ⊎ (stop ≡ Stop.NoMemory) ⊎ (stop ≡ Stop.HistoryFull)) }
 {
     let outcome = session.ask(rt, name, providers)?;
-    write_answer(alloc, json, name, &outcome, out)?;
+    write_answer(alloc, form, name, &outcome, out)?;
     Ok(outcome_status(&outcome))
 }
 
@@ -169,19 +212,19 @@ fn make_asks<R: Wait, N: Ending, O: Write>(
     alloc: Global,
     session: &mut Session<N>,
     providers: &Providers,
-    json: bool,
+    form: &Form<'_>,
     names: &BTreeSet<Name>,
     out: &mut O,
 ) -> Result<u8, Stop>
-    ensures served { IfOk result (λ status. Served (map calls.Ask names.now.keys) (shown json) status session.old session.new (O.contents out.old) (O.contents out.new)) }
+    ensures served { IfOk result (λ status. Served (map calls.Ask names.now.keys) (shown form.now) status session.old session.new (O.contents out.old) (O.contents out.new)) }
     ensures still { IsStill session.old session.new }
-    ensures refused { IfErr result (λ stop. is_refused stop ≡ true → ServedPart (map calls.Ask names.now.keys) (shown json) session.old session.new (O.contents out.old) (O.contents out.new)) }
+    ensures refused { IfErr result (λ stop. is_refused stop ≡ true → ServedPart (map calls.Ask names.now.keys) (shown form.now) session.old session.new (O.contents out.old) (O.contents out.new)) }
     ensures range { IfOk result (λ status. status ≤ 2) }
     ensures stop { IfErr result (λ stop. (stop ≡ Stop.CannotWrite) ⊎ (stop ≡ Stop.NoMemory) ⊎ (stop ≡ Stop.HistoryFull)) }
 {
     let mut status: u8 = 0;
     for name in names {
-        status = status.max(make_ask(rt, alloc, session, providers, json, name, out)?);
+        status = status.max(make_ask(rt, alloc, session, providers, form, name, out)?);
     }
     Ok(status)
 }
@@ -230,18 +273,18 @@ fn answer_all<R: Wait, N: Ending, O: Write + Drop>(
     alloc: Global,
     session: &mut Session<N>,
     providers: &Providers,
-    json: bool,
+    form: &Form<'_>,
     names: &BTreeSet<Name>,
     out: &mut BufWriter<O>,
 ) -> Result<u8, Stop>
-    ensures served { IfOk result (λ status. Served (map calls.Ask names.now.keys) (shown json) status session.old session.new (writer_contents O.contents out.old) (writer_contents O.contents out.new)) }
+    ensures served { IfOk result (λ status. Served (map calls.Ask names.now.keys) (shown form.now) status session.old session.new (writer_contents O.contents out.old) (writer_contents O.contents out.new)) }
     ensures still { IsStill session.old session.new }
-    ensures refused { IfErr result (λ stop. is_refused stop ≡ true → ServedPart (map calls.Ask names.now.keys) (shown json) session.old session.new (writer_contents O.contents out.old) (writer_contents O.contents out.new)) }
+    ensures refused { IfErr result (λ stop. is_refused stop ≡ true → ServedPart (map calls.Ask names.now.keys) (shown form.now) session.old session.new (writer_contents O.contents out.old) (writer_contents O.contents out.new)) }
     ensures range { IfOk result (λ status. status ≤ 2) }
     ensures stop { IfErr result (λ stop. (stop ≡ Stop.CannotWrite) ⊎ (stop ≡ Stop.NoMemory) ⊎ (stop ≡ Stop.HistoryFull)) }
     ensures handed_on { (result ≡ Err Stop.CannotWrite) ⊎ (writer_buffer out.new ≡ []) }
 {
-    let asked = make_asks(rt, alloc, session, providers, json, names, out);
+    let asked = make_asks(rt, alloc, session, providers, form, names, out);
     hand_on(asked, out)
 }
 
@@ -252,15 +295,15 @@ fn make_all<R: Wait, N: Ending, O: Write + Drop, E: Write>(
     alloc: Global,
     session: &mut Session<N>,
     providers: &Providers,
-    json: bool,
+    form: &Form<'_>,
     changes: Vec<Change>,
     names: &BTreeSet<Name>,
     out: &mut BufWriter<O>,
     err: &mut E,
 ) -> Result<u8, Stop>
-    ensures served { IfOk result (λ status. ServedAll json (map seen changes.items) names.now.keys status session.old session.new (writer_contents O.contents out.old) (writer_contents O.contents out.new) (E.contents err.old) (E.contents err.new)) }
+    ensures served { IfOk result (λ status. ServedAll form.now (map seen changes.items) names.now.keys status session.old session.new (writer_contents O.contents out.old) (writer_contents O.contents out.new) (E.contents err.old) (E.contents err.new)) }
     ensures still { IsStill session.old session.new }
-    ensures refused { IfErr result (λ stop. is_refused stop ≡ true → ServedFirst json (map seen changes.items) names.now.keys session.old session.new (writer_contents O.contents out.old) (writer_contents O.contents out.new) (E.contents err.old) (E.contents err.new)) }
+    ensures refused { IfErr result (λ stop. is_refused stop ≡ true → ServedFirst form.now (map seen changes.items) names.now.keys session.old session.new (writer_contents O.contents out.old) (writer_contents O.contents out.new) (E.contents err.old) (E.contents err.new)) }
     ensures untold { IsErrOf result Stop.CannotTell → OwesLast (λ events. Adds events session.old session.new) (map seen changes.items) }
     ensures silent { IsErrOf result Stop.CannotTell → Keeps (writer_contents O.contents out.old) (writer_contents O.contents out.new) }
     ensures unwritten { IsErrOf result Stop.CannotWrite → ServedThen (map seen changes.items) told session.old (E.contents err.old) (E.contents err.new) }
@@ -269,7 +312,7 @@ fn make_all<R: Wait, N: Ending, O: Write + Drop, E: Write>(
     ensures handed_on { writer_buffer out.old ≡ [] → (result ≡ Err Stop.CannotWrite) ⊎ (writer_buffer out.new ≡ []) }
 {
     let changed = make_changes(rt, session, changes, err)?;
-    let asked = answer_all(rt, alloc, session, providers, json, names, out)?;
+    let asked = answer_all(rt, alloc, session, providers, form, names, out)?;
     Ok(changed.max(asked))
 }
 
@@ -295,21 +338,21 @@ fn serve<R: Wait, O: Write + Drop, E: Write>(
     rt: &R,
     alloc: Global,
     providers: &Providers,
-    json: bool,
+    form: &Form<'_>,
     changes: Vec<Change>,
     names: &BTreeSet<Name>,
     out: &mut BufWriter<O>,
     err: &mut E,
 ) -> Result<u8, Stop>
-    ensures done { IfOk result (λ status. Runs json (map seen changes.items) names.now.keys status (writer_contents O.contents out.old) (writer_contents O.contents out.new) (E.contents err.old) (E.contents err.new)) }
+    ensures done { IfOk result (λ status. Runs form.now (map seen changes.items) names.now.keys status (writer_contents O.contents out.old) (writer_contents O.contents out.new) (E.contents err.old) (E.contents err.new)) }
     ensures range { IfOk result (λ status. status ≤ 2) }
     ensures too_many { IsErrOf result Stop.TooManyCalls → (MOST_ENTRIES < length changes.items + length names.now.keys) × Keeps (writer_contents O.contents out.old) (writer_contents O.contents out.new) × Keeps (E.contents err.old) (E.contents err.new) }
     ensures few { (result ≡ Err Stop.TooManyCalls) ⊎ (length changes.items + length names.now.keys ≤ MOST_ENTRIES) }
-    ensures refused { IfErr result (λ stop. is_refused stop ≡ true → Begins AreLegal json (map seen changes.items) names.now.keys (writer_contents O.contents out.old) (writer_contents O.contents out.new) (E.contents err.old) (E.contents err.new)) }
+    ensures refused { IfErr result (λ stop. is_refused stop ≡ true → Begins AreLegal form.now (map seen changes.items) names.now.keys (writer_contents O.contents out.old) (writer_contents O.contents out.new) (E.contents err.old) (E.contents err.new)) }
     ensures untold { IsErrOf result Stop.CannotTell → OwesLast AreLegal (map seen changes.items) }
     ensures silent { IsErrOf result Stop.CannotTell → Keeps (writer_contents O.contents out.old) (writer_contents O.contents out.new) }
     ensures unwritten { IsErrOf result Stop.CannotWrite → Prints (map seen changes.items) told (E.contents err.old) (E.contents err.new) }
-    ensures audited { IsErrOf result Stop.Audit → Begins AreReplied json (map seen changes.items) names.now.keys (writer_contents O.contents out.old) (writer_contents O.contents out.new) (E.contents err.old) (E.contents err.new) ⊎ (OwesLast AreReplied (map seen changes.items) × Keeps (writer_contents O.contents out.old) (writer_contents O.contents out.new)) }
+    ensures audited { IsErrOf result Stop.Audit → Begins AreReplied form.now (map seen changes.items) names.now.keys (writer_contents O.contents out.old) (writer_contents O.contents out.new) (E.contents err.old) (E.contents err.new) ⊎ (OwesLast AreReplied (map seen changes.items) × Keeps (writer_contents O.contents out.old) (writer_contents O.contents out.new)) }
     ensures other { IfErr result (λ stop. is_of_calls stop ≡ true) }
     ensures handed_on { writer_buffer out.old ≡ [] → (result ≡ Err Stop.CannotWrite) ⊎ (writer_buffer out.new ≡ []) }
 {
@@ -323,7 +366,7 @@ fn serve<R: Wait, O: Write + Drop, E: Write>(
         alloc,
         &mut session,
         providers,
-        json,
+        form,
         changes,
         names,
         out,
@@ -339,7 +382,7 @@ fn serve<R: Wait, O: Write + Drop, E: Write>(
 }
 
 /// Reads the whole input, makes its changes and asks its names, and prints what belongs to each call: of an Ask its line and its
-/// report, or with `json` one line that has both. The greatest status of the calls. A buffer that held nothing holds nothing then, but
+/// report, or one line that has both where the line asks for JSON. The greatest status of the calls. A buffer that held nothing holds nothing then, but
 /// where the writer behind it failed. (Own.)
 ///
 /// Stops with `CannotRead` where the input cannot be read or is over 16 MiB; with `File` at its first fault; with
@@ -350,20 +393,21 @@ pub fn check<R: Wait, I: Read, O: Write + Drop, E: Write>(
     rt: &R,
     alloc: Global,
     providers: &Providers,
-    json: bool,
+    line: &CheckLine,
     input: &mut I,
     out: &mut BufWriter<O>,
     err: &mut E,
 ) -> Result<u8, Stop>
-    ensures done { IfOk result (λ status. OfFile (I.remaining input.old) (λ file. Checked json file status (writer_contents O.contents out.old) (writer_contents O.contents out.new) (E.contents err.old) (E.contents err.new))) }
+    ensures done { IfOk result (λ status. OfFile (I.remaining input.old) (λ file. Checked line.now file status (writer_contents O.contents out.old) (writer_contents O.contents out.new) (E.contents err.old) (E.contents err.new))) }
     ensures range { IfOk result (λ status. status ≤ 2) }
-    ensures stopped { IfErr result (λ stop. Leaves json stop (I.remaining input.old) (writer_contents O.contents out.old) (writer_contents O.contents out.new) (E.contents err.old) (E.contents err.new)) }
+    ensures stopped { IfErr result (λ stop. Leaves line.now stop (I.remaining input.old) (writer_contents O.contents out.old) (writer_contents O.contents out.new) (E.contents err.old) (E.contents err.new)) }
     ensures handed_on { writer_buffer out.old ≡ [] → (result ≡ Err Stop.CannotWrite) ⊎ (writer_buffer out.new ≡ []) }
 {
     let file = read_whole(alloc, input)?;
-    let changes = read_changes(alloc, &file)?;
+    let changes = read_told_changes(alloc, line.positions(), &file)?;
     let names = find_asked(alloc, &changes)?;
-    serve(rt, alloc, providers, json, changes, &names, out, err)
+    let form = find_form(alloc, line, &file, &changes)?;
+    serve(rt, alloc, providers, &form, changes, &names, out, err)
 }
 
 /// The whole command `check` on the input of the file that the line names: writes reports on
@@ -383,10 +427,10 @@ pub fn check_and_tell<R: Wait, I: Read, O: Write + Drop, E: Write>(
     err: &mut E,
 ) -> io::Result<u8>
     ensures range { IfOk result (λ status. status ≤ 3) }
-    ensures ended { IfOk result (λ status. IsEnd line.now.json line.now.file (I.remaining input.old) status (writer_contents O.contents out.old) (writer_contents O.contents out.new) (E.contents err.old) (E.contents err.new)) }
+    ensures ended { IfOk result (λ status. IsEnd line.now (I.remaining input.old) status (writer_contents O.contents out.old) (writer_contents O.contents out.new) (E.contents err.old) (E.contents err.new)) }
     ensures handed_on { writer_buffer out.old ≡ [] → IfOk result (λ status. status < 3 → writer_buffer out.new ≡ []) }
 {
-    match check(rt, alloc, providers, line.json(), input, out, err) {
+    match check(rt, alloc, providers, line, input, out, err) {
         Ok(status) => Ok(status),
         Err(stop) => stop_with(line.file(), &stop, err),
     }

@@ -2,6 +2,7 @@
 ghost use Rattle.std.specs.Prelude.{Some};
 ghost use Rattle.bc_check.specs.Faults.{kind_text, message};
 
+use bc_position::Position;
 use std::fmt;
 
 /// What is wrong with a section: its header line is none of the command's; it removes or asks a name, and its text is more than spaces
@@ -18,11 +19,13 @@ pub enum FaultKind {
     Limit { at: usize },
 }
 
-/// A fault of a file: the number of the section's header line, from 1, and what is wrong with the section. (Own.)
+/// A fault of a file: the number of the section's header line, from 1, and what is wrong with the section; with the position in the file of
+/// the byte that this counts to, where it is known. (Own.)
 #[derive(Clone, Copy, Debug, PartialEq, Eq)]
 pub struct FileFault {
     pub line: usize,
     pub kind: FaultKind,
+    pub position: Option<Position>,
 }
 
 impl fmt::Display for FaultKind {
@@ -45,7 +48,15 @@ impl fmt::Display for FileFault {
     ghost output = { λ fault. Some (message fault) };
 
     fn fmt<W: fmt::Write>(&self, f: &mut fmt::Formatter<W>) -> fmt::Result {
-        let FileFault { line, kind } = *self;
-        write!(f, "line {line}: {kind}")
+        let FileFault {
+            line,
+            kind,
+            position,
+        } = *self;
+        write!(f, "line {line}: {kind}")?;
+        match position {
+            None => Ok(()),
+            Some(Position { line, column }) => write!(f, " (line {line}, column {column})"),
+        }
     }
 }

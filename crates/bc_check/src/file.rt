@@ -6,10 +6,11 @@ ghost use Rattle.bc_check.specs.Parts.{sections_of};
 ghost use Rattle.bc_check.specs.Left.{part_of};
 ghost use Rattle.bc_check.specs.Headings.{IsHeader};
 ghost use Rattle.bc_check.specs.Sections.{IsBlank, stop_of};
-ghost use Rattle.bc_check.specs.Changes.{GivesChange, GivesChanges};
+ghost use Rattle.bc_check.specs.Changes.{GivesChange, GivesChanges, GivesTold};
 
 use crate::fault::{FaultKind, FileFault};
 use crate::heading::{Heading, behind, read_heading};
+use crate::location::locate;
 use crate::section::{Section, Sections};
 use crate::stop::Stop;
 use bc_prov::Shared;
@@ -61,15 +62,23 @@ pub fn text_stop(line: usize, fault: ReadFault) -> Stop
         ReadFault::Limit { at } => FaultKind::Limit { at },
         ReadFault::NoMemory => return Stop::NoMemory,
     };
-    Stop::File(FileFault { line, kind })
+    Stop::File(FileFault {
+        line,
+        kind,
+        position: None,
+    })
 }
 
 /// Why a section makes no call, where it has this fault: the fault of the file at the section's line. (Own.)
 pub fn stop_at(section: &Section<'_>, kind: FaultKind) -> Stop
-    ensures { result ≡ Stop.File (record { line = section.now.line; kind = kind }) }
+    ensures { result ≡ Stop.File (record { line = section.now.line; kind = kind; position = None }) }
 {
     let line = section.line;
-    Stop::File(FileFault { line, kind })
+    Stop::File(FileFault {
+        line,
+        kind,
+        position: None,
+    })
 }
 
 /// What a header line asks for that names no session, or `None` exactly where it asks for nothing.
@@ -136,4 +145,15 @@ pub fn read_changes(alloc: Global, file: &[u8]) -> Result<Vec<Change>, Stop>
         changes.push(read_change(alloc, &section)?)?;
     }
     Ok(changes)
+}
+
+/// The changes that a file makes, in the order of its sections; `File` with its first fault where it has one, and with the position of
+/// this in the file where positions are asked for; `NoMemory` where there is no room.
+pub fn read_told_changes(alloc: Global, positions: bool, file: &[u8]) -> Result<Vec<Change>, Stop>
+    ensures { GivesTold positions file.now result }
+{
+    match read_changes(alloc, file) {
+        Ok(changes) => Ok(changes),
+        Err(stop) => Err(locate(positions, file, stop)),
+    }
 }

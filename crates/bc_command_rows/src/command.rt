@@ -1,5 +1,4 @@
 //! What a command leaves over readers and writers in memory.
-use bc_analyses::providers;
 use bc_check::check_over;
 use bc_devices::{Devices, Input, Left, Output};
 use bc_line::{Line, read_line};
@@ -41,14 +40,4 @@ pub fn leave_with<R: AllocGlobal + Threads + Wait + Sync>(
     };
     let (out, _unwritten) = out.into_parts();
     Ok(Left::of(status, &input, out, err))
-}
-
-/// The same with the providers of the program.
-pub fn leave<R: AllocGlobal + Threads + Wait + Sync>(
-    rt: &R,
-    words: &[&str],
-    file: &[u8],
-    devices: Devices,
-) -> io::Result<Left> {
-    leave_with(rt, &providers!(rt.alloc()), words, file, devices)
 }

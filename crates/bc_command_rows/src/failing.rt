@@ -101,8 +101,9 @@ const CHECKS: [Case<'static>; 9] = [
     },
 ];
 
-/// Of `run`: files without an error, with one, with a fault and with nothing, and one whose session does not end.
-const RUNS: [Case<'static>; 5] = [
+/// Of `run`: files without an error, with one, with a fault and with nothing, and one whose session does not end, some with the history
+/// as text and as JSON.
+const RUNS: [Case<'static>; 7] = [
     Case {
         words: runs::ONE,
         file: runs::FILE,
@@ -144,6 +145,24 @@ const RUNS: [Case<'static>; 5] = [
         file: runs::FILE,
         status: 3,
         out: b"0 0 put f added\n",
+        err: b"session 0 stopped: no memory\n",
+        unwritten: b"cannot write\n",
+        wants_memory: true,
+    },
+    Case {
+        words: runs::ONE_JSON,
+        file: runs::FILE,
+        status: 0,
+        out: runs::JSON_HISTORY,
+        err: b"",
+        unwritten: b"cannot write\n",
+        wants_memory: false,
+    },
+    Case {
+        words: runs::ONE_JSON,
+        file: runs::FILE,
+        status: 3,
+        out: b"{\"number\":0,\"reply\":\"added\",\"session\":0}\n",
         err: b"session 0 stopped: no memory\n",
         unwritten: b"cannot write\n",
         wants_memory: true,

@@ -5,7 +5,7 @@ use bc_devices::{
     Case, Devices, Input, Left, Output, SOUND, stops_at_each_tell, stops_at_each_write,
 };
 use bc_fixtures::want_memory;
-use bc_line::{USAGE, read_line};
+use bc_line::{PRINT_USAGE, SERVE_USAGE, USAGE, read_line};
 use bc_program::{Inputs, obey_line, run_program};
 use std::io;
 use std::io::{BufWriter, ErrorKind};
@@ -88,7 +88,7 @@ fn leave<R: AllocGlobal + Threads + Wait + Sync>(
 }
 
 /// Words, and what the program leaves of them where standard input has `CONFLICT`: its status, and what it prints and tells.
-const ENDS: [(&[&str], u8, &str, &str); 14] = [
+const ENDS: [(&[&str], u8, &str, &str); 18] = [
     (&["check", "good"], 0, GOOD_REPORT, ""),
     (&["check", "conflict"], 1, CONFLICT_REPORT, ""),
     (
@@ -111,8 +111,17 @@ const ENDS: [(&[&str], u8, &str, &str); 14] = [
     ),
     (&["run", "-"], 2, "", "line 1: bad header\n"),
     (&["--help"], 0, USAGE, ""),
+    (&["serve", "--help"], 0, SERVE_USAGE, ""),
+    (&["print", "none", "-h"], 0, PRINT_USAGE, ""),
     (&["-V"], 0, "nlldb 0.1.0\n", ""),
     (&["good"], 3, "", "wrong use\n"),
+    (
+        &["check", "good", "--json", "--source"],
+        3,
+        "",
+        "wrong use\n",
+    ),
+    (&["run", "calls", "--source"], 3, "", "wrong use\n"),
 ];
 
 #[test]

@@ -26,5 +26,5 @@ pub const CLOSURE_WRITES: &[u8] =
 /// A bad declaration. (Own.)
 pub const INVARIANT_BUT_MARKED_COVARIANT: &[u8] = b"struct H<+'a> { &'static mut &'a int; }";
 
-/// The same declaration with the right mark. (Own.)
+/// A good declaration: the bad one above with the right mark. (Own.)
 pub const MARKED_INVARIANT: &[u8] = b"struct H<='a> { &'static mut &'a int; }";

@@ -5,6 +5,8 @@ use Rattle.clap.specs.declared.error.kind.ErrorKind.TheVariants.{DisplayHelp, Di
 use Rattle.bc_line.specs.declared.solver.Solver.TheVariants.{Plain, Components}
 use Rattle.bc_line.specs.declared.line.Line.TheVariants.{Check, Run, Serve, Print}
 use Rattle.bc_line.specs.Commands.{check_app, nlldb, program, print_app, run_app, serve_app}
+use Rattle.bc_line.specs.declared.topic.Topic.TheVariants as topics
+use Rattle.bc_line.specs.Topics.{topic_of}
 use Rattle.bc_line.specs.Written.{check_given, command_of, faults_of, line_written, print_given, run_given, serve_given}
 
 -- what is unfolded to compute them
@@ -12,19 +14,19 @@ unfoldable on_words : Unit {0}
 unfolding clap_on_literals nlldb program check_app run_app serve_app print_app check_given run_given serve_given print_given command_of faults_of line_written
 on_words = tt
 
-check_by_default : line_written (codes "check" ∷ codes "a.nll" ∷ []) ≡ Some (Check (record { file = codes "a.nll"; json = false; solver = Components }))
+check_by_default : line_written (codes "check" ∷ codes "a.nll" ∷ []) ≡ Some (Check (record { file = codes "a.nll"; json = false; source = false; positions = false; solver = Components }))
 unfolding on_words
 check_by_default = refl
 
-check_with_options : line_written (codes "check" ∷ codes "--json" ∷ codes "--solver=plain" ∷ codes "a.nll" ∷ []) ≡ Some (Check (record { file = codes "a.nll"; json = true; solver = Plain }))
+check_with_options : line_written (codes "check" ∷ codes "--json" ∷ codes "--solver=plain" ∷ codes "a.nll" ∷ []) ≡ Some (Check (record { file = codes "a.nll"; json = true; source = false; positions = false; solver = Plain }))
 unfolding on_words
 check_with_options = refl
 
-run_by_default : line_written (codes "run" ∷ codes "a.nll" ∷ []) ≡ Some (Run (record { file = codes "a.nll"; sessions = 1; solver = Components }))
+run_by_default : line_written (codes "run" ∷ codes "a.nll" ∷ []) ≡ Some (Run (record { file = codes "a.nll"; json = false; positions = false; sessions = 1; solver = Components }))
 unfolding on_words
 run_by_default = refl
 
-run_of_sixteen : line_written (codes "run" ∷ codes "a.nll" ∷ codes "--sessions" ∷ codes "16" ∷ []) ≡ Some (Run (record { file = codes "a.nll"; sessions = 16; solver = Components }))
+run_of_sixteen : line_written (codes "run" ∷ codes "a.nll" ∷ codes "--sessions" ∷ codes "16" ∷ []) ≡ Some (Run (record { file = codes "a.nll"; json = false; positions = false; sessions = 16; solver = Components }))
 unfolding on_words
 run_of_sixteen = refl
 
@@ -56,7 +58,7 @@ file_of_a_conversation : line_written (codes "serve" ∷ codes "a.nll" ∷ []) �
 unfolding on_words
 file_of_a_conversation = refl
 
-print_a_file : line_written (codes "print" ∷ codes "a.nll" ∷ []) ≡ Some (Print (record { file = codes "a.nll" }))
+print_a_file : line_written (codes "print" ∷ codes "a.nll" ∷ []) ≡ Some (Print (record { file = codes "a.nll"; positions = false }))
 unfolding on_words
 print_a_file = refl
 
@@ -72,13 +74,39 @@ no_file : line_written (codes "check" ∷ []) ≡ None
 unfolding on_words
 no_file = refl
 
-json_of_a_run : line_written (codes "run" ∷ codes "--json" ∷ codes "a.nll" ∷ []) ≡ None
+json_and_positions_of_a_run : line_written (codes "run" ∷ codes "--json" ∷ codes "a.nll" ∷ codes "--positions" ∷ []) ≡ Some (Run (record { file = codes "a.nll"; json = true; positions = true; sessions = 1; solver = Components }))
 unfolding on_words
-json_of_a_run = refl
+json_and_positions_of_a_run = refl
+
+source_of_a_run : line_written (codes "run" ∷ codes "--source" ∷ codes "a.nll" ∷ []) ≡ None
+unfolding on_words
+source_of_a_run = refl
+
+source_of_a_check : line_written (codes "check" ∷ codes "a.nll" ∷ codes "--source" ∷ []) ≡ Some (Check (record { file = codes "a.nll"; json = false; source = true; positions = false; solver = Components }))
+unfolding on_words
+source_of_a_check = refl
+
+json_beside_source : line_written (codes "check" ∷ codes "--json" ∷ codes "a.nll" ∷ codes "--source" ∷ []) ≡ None
+unfolding on_words
+json_beside_source = refl
+
+positions_of_a_print : line_written (codes "print" ∷ codes "--positions" ∷ codes "a.nll" ∷ []) ≡ Some (Print (record { file = codes "a.nll"; positions = true }))
+unfolding on_words
+positions_of_a_print = refl
+
+positions_of_a_conversation : line_written (codes "serve" ∷ codes "--positions" ∷ []) ≡ None
+unfolding on_words
+positions_of_a_conversation = refl
 
 help_behind_a_command : faults_of (codes "check" ∷ codes "--help" ∷ []) ≡ DisplayHelp ∷ []
 unfolding on_words
 help_behind_a_command = refl
+
+help_on_a_command : topic_of (codes "check" ∷ codes "--help" ∷ []) ≡ topics.Check
+help_on_a_command = refl
+
+help_on_the_program : topic_of (codes "--help" ∷ codes "check" ∷ []) ≡ topics.Program
+help_on_the_program = refl
 
 version_alone : faults_of (codes "--version" ∷ []) ≡ DisplayVersion ∷ []
 unfolding on_words

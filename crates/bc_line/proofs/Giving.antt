@@ -1,8 +1,7 @@
 -- What is returned of the words.
 use Rattle.std.proofs.Common.{◌≡◌, ◌∙◌, List, [], ◌∷◌, Option, Some, None, Result, Ok, Err, ap, ap₂, refl, sym, subst, true, false, inl, inr}
-use Rattle.std.specs.Prelude.{◌⊎◌, IsErrAnd, is_some, option_map, Box}
+use Rattle.std.specs.Prelude.{◌⊎◌, is_some, option_map, Box}
 use Rattle.std.specs.Box.{box_value}
-use Rattle.std.proofs.lemmas.Result.{err_from_is_err_and}
 use Rattle.clap.specs.Walk.{Row, Text}
 use Rattle.clap.specs.Simple.{App, app_of, is_simple, subcommand_of, subcommand_rows}
 use Rattle.clap.specs.Kinds.{IsAmong, Kinds}
@@ -16,9 +15,11 @@ use Rattle.clap.proofs.OnLiterals.{clap_on_literals}
 use Rattle.bc_line.specs.declared.fault.LineFault.{LineFault}
 use Rattle.bc_line.specs.declared.fault.LineFault.TheVariants.{Help, Version, WrongUse, NoMemory}
 use Rattle.bc_line.specs.declared.line.Line.{Line}
+use Rattle.bc_line.specs.declared.topic.Topic.{Topic}
 use Rattle.bc_line.specs.Faults.{fault_of_kind}
 use Rattle.bc_line.specs.Commands.{IsCommand, check_app, nlldb, program, print_app, run_app, serve_app}
 use Rattle.bc_line.specs.Written.{GivesLine, GivesParts, command_of, faults_of, line_entered, line_given, line_written}
+use Rattle.bc_line.specs.Topics.{topic_of}
 
 free : is_simple_and_free nlldb ≡ true
 unfolding clap_on_literals nlldb program check_app run_app serve_app print_app
@@ -72,34 +73,34 @@ wrong words k no_help no_version among = (
   only_one words k kinds.DisplayVersion no_version among,
 )
 
-of_kind : (words : List Text) (k : ErrorKind) → IsAmong k (faults_of words) → GivesLine words (Err (fault_of_kind k))
-of_kind words kinds.DisplayHelp h = h
-of_kind words kinds.DisplayVersion h = h
-of_kind words kinds.OutOfMemory h = tt
-of_kind words kinds.InvalidValue h = wrong words kinds.InvalidValue (λ e. absurd cc) (λ e. absurd cc) h
-of_kind words kinds.UnknownArgument h = wrong words kinds.UnknownArgument (λ e. absurd cc) (λ e. absurd cc) h
-of_kind words kinds.InvalidSubcommand h = wrong words kinds.InvalidSubcommand (λ e. absurd cc) (λ e. absurd cc) h
-of_kind words kinds.NoEquals h = wrong words kinds.NoEquals (λ e. absurd cc) (λ e. absurd cc) h
-of_kind words kinds.ValueValidation h = wrong words kinds.ValueValidation (λ e. absurd cc) (λ e. absurd cc) h
-of_kind words kinds.TooManyValues h = wrong words kinds.TooManyValues (λ e. absurd cc) (λ e. absurd cc) h
-of_kind words kinds.TooFewValues h = wrong words kinds.TooFewValues (λ e. absurd cc) (λ e. absurd cc) h
-of_kind words kinds.WrongNumberOfValues h = wrong words kinds.WrongNumberOfValues (λ e. absurd cc) (λ e. absurd cc) h
-of_kind words kinds.ArgumentConflict h = wrong words kinds.ArgumentConflict (λ e. absurd cc) (λ e. absurd cc) h
-of_kind words kinds.MissingRequiredArgument h = wrong words kinds.MissingRequiredArgument (λ e. absurd cc) (λ e. absurd cc) h
-of_kind words kinds.MissingSubcommand h = wrong words kinds.MissingSubcommand (λ e. absurd cc) (λ e. absurd cc) h
-of_kind words kinds.DisplayHelpOnMissingArgumentOrSubcommand h = wrong words kinds.DisplayHelpOnMissingArgumentOrSubcommand (λ e. absurd cc) (λ e. absurd cc) h
-of_kind words kinds.Io h = wrong words kinds.Io (λ e. absurd cc) (λ e. absurd cc) h
-of_kind words kinds.Format h = wrong words kinds.Format (λ e. absurd cc) (λ e. absurd cc) h
+of_kind : (words : List Text) (topic : Topic) (k : ErrorKind) → topic ≡ topic_of words → IsAmong k (faults_of words)
+    → GivesLine words (Err (fault_of_kind topic k))
+of_kind words topic kinds.DisplayHelp is h = (h, is)
+of_kind words topic kinds.DisplayVersion is h = h
+of_kind words topic kinds.OutOfMemory is h = tt
+of_kind words topic kinds.InvalidValue is h = wrong words kinds.InvalidValue (λ e. absurd cc) (λ e. absurd cc) h
+of_kind words topic kinds.UnknownArgument is h = wrong words kinds.UnknownArgument (λ e. absurd cc) (λ e. absurd cc) h
+of_kind words topic kinds.InvalidSubcommand is h = wrong words kinds.InvalidSubcommand (λ e. absurd cc) (λ e. absurd cc) h
+of_kind words topic kinds.NoEquals is h = wrong words kinds.NoEquals (λ e. absurd cc) (λ e. absurd cc) h
+of_kind words topic kinds.ValueValidation is h = wrong words kinds.ValueValidation (λ e. absurd cc) (λ e. absurd cc) h
+of_kind words topic kinds.TooManyValues is h = wrong words kinds.TooManyValues (λ e. absurd cc) (λ e. absurd cc) h
+of_kind words topic kinds.TooFewValues is h = wrong words kinds.TooFewValues (λ e. absurd cc) (λ e. absurd cc) h
+of_kind words topic kinds.WrongNumberOfValues is h = wrong words kinds.WrongNumberOfValues (λ e. absurd cc) (λ e. absurd cc) h
+of_kind words topic kinds.ArgumentConflict is h = wrong words kinds.ArgumentConflict (λ e. absurd cc) (λ e. absurd cc) h
+of_kind words topic kinds.MissingRequiredArgument is h = wrong words kinds.MissingRequiredArgument (λ e. absurd cc) (λ e. absurd cc) h
+of_kind words topic kinds.MissingSubcommand is h = wrong words kinds.MissingSubcommand (λ e. absurd cc) (λ e. absurd cc) h
+of_kind words topic kinds.DisplayHelpOnMissingArgumentOrSubcommand is h = wrong words kinds.DisplayHelpOnMissingArgumentOrSubcommand (λ e. absurd cc) (λ e. absurd cc) h
+of_kind words topic kinds.Io is h = wrong words kinds.Io (λ e. absurd cc) (λ e. absurd cc) h
+of_kind words topic kinds.Format is h = wrong words kinds.Format (λ e. absurd cc) (λ e. absurd cc) h
 
 -- the parse refused the words
-pub refused : (words : List Text) (k : ErrorKind) (r : Result Line LineFault) → (k ≡ kinds.OutOfMemory) ⊎ IsAmong k (faults_of words)
-    → IsErrAnd r (λ fault. fault ≡ fault_of_kind k) → GivesLine words r
-refused words k r why is =
-    let p = err_from_is_err_and r is in
-    subst (GivesLine words) (sym p.1) (subst (λ (fault : LineFault). GivesLine words (Err fault)) (sym p.2) (elim why [
-      | inl e ↦ subst (λ (kind : ErrorKind). GivesLine words (Err (fault_of_kind kind))) (sym e) tt
-      | inr h ↦ of_kind words k h
-    ]))
+pub refused : (words : List Text) (topic : Topic) (k : ErrorKind) (fault : LineFault) → (k ≡ kinds.OutOfMemory) ⊎ IsAmong k (faults_of words)
+    → topic ≡ topic_of words → fault ≡ fault_of_kind topic k → GivesLine words (Err fault)
+refused words topic k fault why on is =
+    subst (λ (fault : LineFault). GivesLine words (Err fault)) (sym is) (elim why [
+      | inl e ↦ subst (λ (kind : ErrorKind). GivesLine words (Err (fault_of_kind topic kind))) (sym e) tt
+      | inr h ↦ of_kind words topic k on h
+    ])
 
 -- the command that was entered is read
 pub given : (words : List Text) (entered : Text × List Row) (r : Result Line LineFault) → faults_of words ≡ [] → Some entered ≡ command_of words
@@ -107,7 +108,7 @@ pub given : (words : List Text) (entered : Text × List Row) (r : Result Line Li
 unfolding line_written
 given words entered (Ok line) clean is h = ap₂ line_entered clean (sym is) ∙ h
 given words entered (Err WrongUse) clean is h = (ap₂ line_entered clean (sym is) ∙ h, (λ only. absurd cc), (λ only. absurd cc))
-given words entered (Err Help) clean is h = absurd h
+given words entered (Err (Help topic)) clean is h = absurd h
 given words entered (Err Version) clean is h = absurd h
 given words entered (Err NoMemory) clean is h = tt
 

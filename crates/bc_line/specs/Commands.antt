@@ -14,6 +14,14 @@ file_rule = record (new_rule (codes "FILE")) { required = true }
 abbrev pub json_rule : Rule
 json_rule = record (new_rule (codes "json")) { long = Some (codes "json"); action = Some SetTrue }
 
+-- `--source`, which takes no value
+abbrev pub source_rule : Rule
+source_rule = record (new_rule (codes "source")) { long = Some (codes "source"); action = Some SetTrue }
+
+-- `--positions`, which takes no value
+abbrev pub positions_rule : Rule
+positions_rule = record (new_rule (codes "positions")) { long = Some (codes "positions"); action = Some SetTrue }
+
 -- `--sessions N`, 1 where it does not stand
 abbrev pub sessions_rule : Rule
 sessions_rule = record (new_rule (codes "sessions")) { long = Some (codes "sessions"); defaults = codes "1" ∷ [] }
@@ -26,21 +34,21 @@ solver_rule = record (new_rule (codes "solver")) { long = Some (codes "solver");
 abbrev pub capacity_rule : Rule
 capacity_rule = record (new_rule (codes "capacity")) { long = Some (codes "capacity"); defaults = codes "1000000" ∷ [] }
 
--- `check FILE [--json] [--solver S]`
+-- `check FILE [--json] [--source] [--positions] [--solver S]`
 unfoldable pub check_app : App
-check_app = with_rule (with_rule (with_rule (new_app (codes "check")) file_rule) json_rule) solver_rule
+check_app = with_rule (with_rule (with_rule (with_rule (with_rule (new_app (codes "check")) file_rule) json_rule) source_rule) positions_rule) solver_rule
 
--- `run FILE [--sessions N] [--solver S]`
+-- `run FILE [--json] [--positions] [--sessions N] [--solver S]`
 unfoldable pub run_app : App
-run_app = with_rule (with_rule (with_rule (new_app (codes "run")) file_rule) sessions_rule) solver_rule
+run_app = with_rule (with_rule (with_rule (with_rule (with_rule (new_app (codes "run")) file_rule) json_rule) positions_rule) sessions_rule) solver_rule
 
 -- `serve [--sessions N] [--capacity C] [--solver S]`
 unfoldable pub serve_app : App
 serve_app = with_rule (with_rule (with_rule (new_app (codes "serve")) sessions_rule) capacity_rule) solver_rule
 
--- `print FILE`
+-- `print FILE [--positions]`
 unfoldable pub print_app : App
-print_app = with_rule (new_app (codes "print")) file_rule
+print_app = with_rule (with_rule (new_app (codes "print")) file_rule) positions_rule
 
 -- the program, before it has commands: its name is not among the words, one of its commands must stand, `help` is none, and it has a
 -- version, which its commands have not

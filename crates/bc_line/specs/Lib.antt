@@ -1,5 +1,6 @@
 pub mod Parts
 pub mod Values
+pub mod Topics
 pub mod Faults
 pub mod Lines
 pub mod Commands

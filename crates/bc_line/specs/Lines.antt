@@ -1,5 +1,5 @@
 -- The parts of a line.
-use Rattle.std.specs.Prelude.{◌≤◌, Bool, true, false}
+use Rattle.std.specs.Prelude.{◌≡◌, ◌≤◌, ◌&&◌, Bool, true, false}
 use Rattle.bc_line.specs.declared.solver.Solver.{Solver}
 use Rattle.bc_line.specs.declared.solver.Solver.TheVariants.{Components}
 use Rattle.bc_line.specs.declared.line.Line.{Line}
@@ -26,9 +26,10 @@ solver_of (Run run) = run.solver
 solver_of (Serve serve) = serve.solver
 solver_of (Print print) = Components
 
--- a line of `run` or `serve` has 1 to 16 sessions, and the history of one of `serve` 1 to 1,000,000 entries
+-- in a line of `check` `--json` and `--source` do not both stand; one of `run` or `serve` has 1 to 16 sessions, and the history of one of
+-- `serve` 1 to 1,000,000 entries
 abbrev pub IsInRange : Line → Type 0
-IsInRange (Check check) = Unit {0}
+IsInRange (Check check) = (check.json && check.source) ≡ false
 IsInRange (Run run) = (1 ≤ run.sessions) × (run.sessions ≤ 16)
 IsInRange (Serve serve) = ((1 ≤ serve.sessions) × (serve.sessions ≤ 16)) × ((1 ≤ serve.capacity) × (serve.capacity ≤ 1000000))
 IsInRange (Print print) = Unit {0}

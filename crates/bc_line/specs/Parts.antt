@@ -6,17 +6,22 @@ use Rattle.bc_line.specs.declared.solver.Solver.{Solver}
 pub record CheckParts : Type 0 where
   pub file : List ℕ
   pub json : Bool
+  pub source : Bool
+  pub positions : Bool
   pub solver : Solver
 
 -- the parts of a line of `run`
 pub record RunParts : Type 0 where
   pub file : List ℕ
+  pub json : Bool
+  pub positions : Bool
   pub sessions : ℕ
   pub solver : Solver
 
 -- the parts of a line of `print`
 pub record PrintParts : Type 0 where
   pub file : List ℕ
+  pub positions : Bool
 
 -- the parts of a line of `serve`
 pub record ServeParts : Type 0 where

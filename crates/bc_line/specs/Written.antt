@@ -1,5 +1,5 @@
 -- Which line the words write.
-use Rattle.std.specs.Prelude.{◌≡◌, ℕ, Bool, false, List, [], ◌∷◌, Option, Some, None, Result, Ok, Err, codes, option_map, option_and_then, if◌then◌else◌}
+use Rattle.std.specs.Prelude.{◌≡◌, ◌&&◌, ℕ, Bool, false, List, [], ◌∷◌, Option, Some, None, Result, Ok, Err, codes, option_map, option_and_then, if◌then◌else◌}
 use Rattle.std.specs.Option.{option_map_or}
 use Rattle.std.specs.Str.{bytes_eq}
 use Rattle.clap.specs.Walk.{Row, Text, first_of}
@@ -15,6 +15,7 @@ use Rattle.bc_line.specs.declared.line.Line.TheVariants.{Check, Run, Serve, Prin
 use Rattle.bc_line.specs.Parts.{CheckParts, PrintParts, RunParts, ServeParts}
 use Rattle.bc_line.specs.Values.{capacity_named, solver_named, sessions_named}
 use Rattle.bc_line.specs.Commands.{nlldb}
+use Rattle.bc_line.specs.Topics.{topic_of}
 
 -- a flag stands
 abbrev pub is_set : Text → List Row → Bool
@@ -32,16 +33,20 @@ sessions_given rows = option_and_then sessions_named (first_of (codes "sessions"
 abbrev pub capacity_given : List Row → Option ℕ
 capacity_given rows = option_and_then capacity_named (first_of (codes "capacity") rows)
 
+-- they ask for JSON and for sources, which no line does
+abbrev pub asks_for_both : List Row → Bool
+asks_for_both rows = is_set (codes "json") rows && is_set (codes "source") rows
+
 -- the line of `check` with these arguments
 unfoldable pub check_given : List Row → Option CheckParts
-check_given rows = option_and_then (λ file. option_map (λ solver.
-    record { file = file; json = is_set (codes "json") rows; solver = solver })
+check_given rows = option_and_then (λ file. option_and_then (λ solver. if asks_for_both rows then None else
+    Some (record { file = file; json = is_set (codes "json") rows; source = is_set (codes "source") rows; positions = is_set (codes "positions") rows; solver = solver }))
     (solver_given rows)) (first_of (codes "FILE") rows)
 
 -- the line of `run` with these arguments
 unfoldable pub run_given : List Row → Option RunParts
 run_given rows = option_and_then (λ file. option_and_then (λ sessions. option_map (λ solver.
-    record { file = file; sessions = sessions; solver = solver })
+    record { file = file; json = is_set (codes "json") rows; positions = is_set (codes "positions") rows; sessions = sessions; solver = solver })
     (solver_given rows)) (sessions_given rows)) (first_of (codes "FILE") rows)
 
 -- the line of `serve` with these arguments
@@ -52,7 +57,7 @@ serve_given rows = option_and_then (λ sessions. option_and_then (λ capacity. o
 
 -- the line of `print` with these arguments
 unfoldable pub print_given : List Row → Option PrintParts
-print_given rows = option_map (λ file. record { file = file }) (first_of (codes "FILE") rows)
+print_given rows = option_map (λ file. record { file = file; positions = is_set (codes "positions") rows }) (first_of (codes "FILE") rows)
 
 -- the line of the command of this name with these arguments
 abbrev pub line_given : Text × List Row → Option Line
@@ -84,15 +89,15 @@ line_written words = line_entered (faults_of words) (command_of words)
 abbrev pub GivesParts : {X : Type 0} → Option X → Result X LineFault → Type 0
 GivesParts parts (Ok given) = parts ≡ Some given
 GivesParts parts (Err WrongUse) = parts ≡ None
-GivesParts parts (Err Help) = ⊥
+GivesParts parts (Err (Help topic)) = ⊥
 GivesParts parts (Err Version) = ⊥
 GivesParts parts (Err NoMemory) = Unit {0}
 
 -- What is returned: the line that the words write, or that they write none and do not just ask for help or for the version, or that
--- the parser finds that they ask for it. Want of memory says nothing.
+-- the parser finds that they ask for it, and on what they ask for help. Want of memory says nothing.
 abbrev pub GivesLine : List Text → Result Line LineFault → Type 0
 GivesLine words (Ok line) = line_written words ≡ Some line
 GivesLine words (Err WrongUse) = (line_written words ≡ None) × ¬ (faults_of words ≡ DisplayHelp ∷ []) × ¬ (faults_of words ≡ DisplayVersion ∷ [])
-GivesLine words (Err Help) = IsAmong DisplayHelp (faults_of words)
+GivesLine words (Err (Help topic)) = IsAmong DisplayHelp (faults_of words) × (topic ≡ topic_of words)
 GivesLine words (Err Version) = IsAmong DisplayVersion (faults_of words)
 GivesLine words (Err NoMemory) = Unit {0}

@@ -2,7 +2,7 @@
 ghost use Rattle.std.specs.Prelude.{◌≡◌, IfOk, false};
 ghost use Rattle.clap.specs.Words.{rule_of};
 ghost use Rattle.bc_line.specs.Commands.{IsCommand, capacity_rule, check_app, file_rule, json_rule, nlldb, program};
-ghost use Rattle.bc_line.specs.Commands.{print_app, run_app, serve_app, sessions_rule, solver_rule};
+ghost use Rattle.bc_line.specs.Commands.{positions_rule, print_app, run_app, serve_app, sessions_rule, solver_rule, source_rule};
 
 use crate::usage::VERSION;
 use clap::{Arg, ArgAction, Command};
@@ -23,6 +23,26 @@ fn json_option<'a>(alloc: Global) -> Arg<'a>
 {
     Arg::new(alloc, "json")
         .long("json")
+        .action(ArgAction::SetTrue)
+}
+
+// `--source`.
+fn source_option<'a>(alloc: Global) -> Arg<'a>
+    ensures rule { rule_of result ≡ source_rule }
+    ensures local { result.global ≡ false }
+{
+    Arg::new(alloc, "source")
+        .long("source")
+        .action(ArgAction::SetTrue)
+}
+
+// `--positions`.
+fn positions_option<'a>(alloc: Global) -> Arg<'a>
+    ensures rule { rule_of result ≡ positions_rule }
+    ensures local { result.global ≡ false }
+{
+    Arg::new(alloc, "positions")
+        .long("positions")
         .action(ArgAction::SetTrue)
 }
 
@@ -56,22 +76,26 @@ fn capacity_option<'a>(alloc: Global) -> Arg<'a>
         .default_value("1000000")
 }
 
-// `check FILE [--json] [--solver S]`.
+// `check FILE [--json] [--source] [--positions] [--solver S]`. That `--json` and `--source` do not both stand is looked at behind the parser.
 fn check_command<'a>(alloc: Global) -> Result<Command<'a>, AllocError>
     ensures { IfOk result (IsCommand check_app) }
 {
     Command::new(alloc, "check")
         .arg(file_argument(alloc))?
         .arg(json_option(alloc))?
+        .arg(source_option(alloc))?
+        .arg(positions_option(alloc))?
         .arg(solver_option(alloc))
 }
 
-// `run FILE [--sessions N] [--solver S]`.
+// `run FILE [--json] [--positions] [--sessions N] [--solver S]`.
 fn run_command<'a>(alloc: Global) -> Result<Command<'a>, AllocError>
     ensures { IfOk result (IsCommand run_app) }
 {
     Command::new(alloc, "run")
         .arg(file_argument(alloc))?
+        .arg(json_option(alloc))?
+        .arg(positions_option(alloc))?
         .arg(sessions_option(alloc))?
         .arg(solver_option(alloc))
 }
@@ -86,11 +110,13 @@ fn serve_command<'a>(alloc: Global) -> Result<Command<'a>, AllocError>
         .arg(solver_option(alloc))
 }
 
-// `print FILE`.
+// `print FILE [--positions]`.
 fn print_command<'a>(alloc: Global) -> Result<Command<'a>, AllocError>
     ensures { IfOk result (IsCommand print_app) }
 {
-    Command::new(alloc, "print").arg(file_argument(alloc))
+    Command::new(alloc, "print")
+        .arg(file_argument(alloc))?
+        .arg(positions_option(alloc))
 }
 
 // The program, before it has its commands.

@@ -3,15 +3,16 @@ ghost use Rattle.std.specs.Prelude.{◌≡◌};
 ghost use Rattle.bc_line.specs.Faults.{fault_of_kind};
 ghost use Rattle.clap.specs.Words.{kind_of};
 
+use crate::Topic;
 use clap::error::ErrorKind;
 use std::alloc::{AllocError, AllocFailed};
 use thiserror::Error;
 
-/// Why words are no line: they ask for help or for the version, they are none of a command, or memory was refused. (Own.)
+/// Why words are no line: they ask for help on a topic or for the version, they are none of a command, or memory was refused. (Own.)
 #[derive(Clone, Copy, Debug, PartialEq, Eq, Error)]
 pub enum LineFault {
     #[error("help")]
-    Help,
+    Help(Topic),
     #[error("version")]
     Version,
     #[error("wrong use")]
@@ -40,12 +41,14 @@ impl<T: Drop> From<AllocFailed<T>> for LineFault {
     }
 }
 
-impl From<clap::Error> for LineFault {
-    ghost from_gives = { λ error fault. fault ≡ fault_of_kind (kind_of error) };
-
-    fn from(error: clap::Error) -> Self {
+impl LineFault {
+    /// What a refusal of the parser means, of words that would ask for help on this topic: `Help` of the topic or `Version` where they are asked for,
+    /// `NoMemory` where memory was refused, and else `WrongUse`.
+    pub(crate) fn of_refusal(topic: Topic, error: &clap::Error) -> Self
+        ensures { result ≡ fault_of_kind topic (kind_of error.now) }
+    {
         match error.kind() {
-            ErrorKind::DisplayHelp => LineFault::Help,
+            ErrorKind::DisplayHelp => LineFault::Help(topic),
             ErrorKind::DisplayVersion => LineFault::Version,
             ErrorKind::OutOfMemory => LineFault::NoMemory,
             ErrorKind::InvalidValue

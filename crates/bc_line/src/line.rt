@@ -1,5 +1,5 @@
 //! A line: a command with its options, and the file that it names.
-ghost use Rattle.std.specs.Prelude.{◌≡◌, ◌≤◌, string_bytes};
+ghost use Rattle.std.specs.Prelude.{◌≡◌, ◌≤◌, ◌&&◌, false, string_bytes};
 ghost use Rattle.bc_line.specs.Lines.{solver_of};
 
 use crate::Solver;
@@ -11,17 +11,19 @@ pub const MOST_SESSIONS: u8 = 16;
 /// How many entries the history of a conversation may have at most (own).
 pub const MOST_CAPACITY: u32 = 1_000_000;
 
-/// A line of `check`. Contracts see it as its parts. (Own.)
+/// A line of `check`. Contracts see it as its parts. `--json` and `--source` do not both stand in it.
 #[derive(Drop)]
 #[derive_where(Debug)]
 pub struct CheckLine {
     file: String,
     json: bool,
+    source: bool,
+    positions: bool,
     solver: Solver,
 }
 
 impl Model for CheckLine {
-    ghost use Rattle.std.specs.Prelude.{string_bytes};
+    ghost use Rattle.std.specs.Prelude.{◌≡◌, ◌&&◌, false, string_bytes};
     ghost use Rattle.bc_line.specs.Parts.{CheckParts};
 
     ghost Value = { CheckParts };
@@ -29,16 +31,33 @@ impl Model for CheckLine {
     ghost view = { λ line. record {
       file = string_bytes line.file;
       json = line.json;
+      source = line.source;
+      positions = line.positions;
       solver = line.solver;
     } };
+
+    ghost invariant = { λ line. (line.json && line.source) ≡ false };
 }
 
 impl CheckLine {
     /// The line of these parts. (Own.)
-    pub(crate) fn new(file: String, json: bool, solver: Solver) -> Self
-        ensures { result ≡ record { file = string_bytes file; json = json; solver = solver } }
+    pub(crate) fn new(
+        file: String,
+        json: bool,
+        source: bool,
+        positions: bool,
+        solver: Solver,
+    ) -> Self
+        requires alone { (json && source) ≡ false }
+        ensures { result ≡ record { file = string_bytes file; json = json; source = source; positions = positions; solver = solver } }
     {
-        CheckLine { file, json, solver }
+        CheckLine {
+            file,
+            json,
+            source,
+            positions,
+            solver,
+        }
     }
 
     /// The name of the file, which may be any text; `-` stands for standard input. (Own.)
@@ -48,11 +67,27 @@ impl CheckLine {
         self.file.as_str()
     }
 
-    /// Whether `--json` stands in it. (Own.)
+    /// Whether `--json` stands in it. Then `--source` does not.
     pub fn json(&self) -> bool
-        ensures { result ≡ self.now.json }
+        ensures value { result ≡ self.now.json }
+        ensures alone { (result && self.now.source) ≡ false }
     {
         self.json
+    }
+
+    /// Whether `--source` stands in it. Then `--json` does not.
+    pub fn source(&self) -> bool
+        ensures value { result ≡ self.now.source }
+        ensures alone { (self.now.json && result) ≡ false }
+    {
+        self.source
+    }
+
+    /// Whether `--positions` stands in it.
+    pub fn positions(&self) -> bool
+        ensures { result ≡ self.now.positions }
+    {
+        self.positions
     }
 
     /// The solver: what `--solver` names, or else the one by components. (Own.)
@@ -68,6 +103,8 @@ impl CheckLine {
 #[derive_where(Debug)]
 pub struct RunLine {
     file: String,
+    json: bool,
+    positions: bool,
     sessions: u8,
     solver: Solver,
 }
@@ -80,6 +117,8 @@ impl Model for RunLine {
 
     ghost view = { λ line. record {
       file = string_bytes line.file;
+      json = line.json;
+      positions = line.positions;
       sessions = line.sessions;
       solver = line.solver;
     } };
@@ -89,13 +128,21 @@ impl Model for RunLine {
 
 impl RunLine {
     /// The line of these parts. (Own.)
-    pub(crate) fn new(file: String, sessions: u8, solver: Solver) -> Self
+    pub(crate) fn new(
+        file: String,
+        json: bool,
+        positions: bool,
+        sessions: u8,
+        solver: Solver,
+    ) -> Self
         requires least { 1 ≤ sessions }
         requires most { sessions ≤ 16 }
-        ensures { result ≡ record { file = string_bytes file; sessions = sessions; solver = solver } }
+        ensures { result ≡ record { file = string_bytes file; json = json; positions = positions; sessions = sessions; solver = solver } }
     {
         RunLine {
             file,
+            json,
+            positions,
             sessions,
             solver,
         }
@@ -106,6 +153,20 @@ impl RunLine {
         ensures { result.now ≡ self.now.file }
     {
         self.file.as_str()
+    }
+
+    /// Whether `--json` stands in it.
+    pub fn json(&self) -> bool
+        ensures { result ≡ self.now.json }
+    {
+        self.json
+    }
+
+    /// Whether `--positions` stands in it.
+    pub fn positions(&self) -> bool
+        ensures { result ≡ self.now.positions }
+    {
+        self.positions
     }
 
     /// How many sessions there are, 1 to 16: what `--sessions` says, or else 1. (Own.)
@@ -196,6 +257,7 @@ impl ServeLine {
 #[derive_where(Debug)]
 pub struct PrintLine {
     file: String,
+    positions: bool,
 }
 
 impl Model for PrintLine {
@@ -204,15 +266,18 @@ impl Model for PrintLine {
 
     ghost Value = { PrintParts };
 
-    ghost view = { λ line. record { file = string_bytes line.file } };
+    ghost view = { λ line. record {
+      file = string_bytes line.file;
+      positions = line.positions;
+    } };
 }
 
 impl PrintLine {
-    /// The line of this part. (Own.)
-    pub(crate) fn new(file: String) -> Self
-        ensures { result ≡ record { file = string_bytes file } }
+    /// The line of these parts. (Own.)
+    pub(crate) fn new(file: String, positions: bool) -> Self
+        ensures { result ≡ record { file = string_bytes file; positions = positions } }
     {
-        PrintLine { file }
+        PrintLine { file, positions }
     }
 
     /// The name of the file, which may be any text; `-` stands for standard input. (Own.)
@@ -220,6 +285,13 @@ impl PrintLine {
         ensures { result.now ≡ self.now.file }
     {
         self.file.as_str()
+    }
+
+    /// Whether `--positions` stands in it.
+    pub fn positions(&self) -> bool
+        ensures { result ≡ self.now.positions }
+    {
+        self.positions
     }
 }
 

@@ -3,11 +3,12 @@ ghost use Rattle.std.specs.Prelude.{◌≡◌, IfOk, option_map, map};
 ghost use Rattle.clap.specs.Words.{first_of, found_of, rows_of};
 ghost use Rattle.bc_line.specs.Values.{capacity_named, is_capacity, is_session_count, sessions_named};
 ghost use Rattle.bc_line.specs.Lines.{IsInRange};
-ghost use Rattle.bc_line.specs.Written.{is_set, solver_given, sessions_given, capacity_given, check_given, print_given, run_given, serve_given};
+ghost use Rattle.bc_line.specs.Written.{asks_for_both, is_set, solver_given, sessions_given, capacity_given, check_given, print_given, run_given, serve_given};
 ghost use Rattle.bc_line.specs.Written.{line_given, GivesLine, GivesParts};
 
 use crate::arguments::nlldb_command;
 use crate::solver::solver_named;
+use crate::topic::topic_of;
 use crate::{
     CheckLine, Line, LineFault, MOST_CAPACITY, MOST_SESSIONS, PrintLine, RunLine, ServeLine, Solver,
 };
@@ -90,6 +91,13 @@ fn capacity_given(matches: &ArgMatches<'_>) -> Option<u32>
     capacity_named(value_of(matches, "capacity")?)
 }
 
+// Whether the arguments ask for JSON and for sources.
+fn asks_for_both(matches: &ArgMatches<'_>) -> bool
+    ensures { result ≡ asks_for_both (rows_of (found_of matches.now)) }
+{
+    is_set(matches, "json") && is_set(matches, "source")
+}
+
 // The line of `check` with these arguments.
 fn read_check(alloc: Global, matches: &ArgMatches<'_>) -> Result<CheckLine, LineFault>
     ensures { GivesParts (check_given (rows_of (found_of matches.now))) result }
@@ -100,8 +108,14 @@ fn read_check(alloc: Global, matches: &ArgMatches<'_>) -> Result<CheckLine, Line
     let Some(solver) = solver_given(matches) else {
         return Err(LineFault::WrongUse);
     };
+    if asks_for_both(matches) {
+        return Err(LineFault::WrongUse);
+    }
+    let json = is_set(matches, "json");
+    let source = is_set(matches, "source");
+    let positions = is_set(matches, "positions");
     let file = String::from_str(alloc, file)?;
-    Ok(CheckLine::new(file, is_set(matches, "json"), solver))
+    Ok(CheckLine::new(file, json, source, positions, solver))
 }
 
 // The line of `run` with these arguments.
@@ -117,8 +131,10 @@ fn read_run(alloc: Global, matches: &ArgMatches<'_>) -> Result<RunLine, LineFaul
     let Some(solver) = solver_given(matches) else {
         return Err(LineFault::WrongUse);
     };
+    let json = is_set(matches, "json");
+    let positions = is_set(matches, "positions");
     let file = String::from_str(alloc, file)?;
-    Ok(RunLine::new(file, sessions, solver))
+    Ok(RunLine::new(file, json, positions, sessions, solver))
 }
 
 // The line of `serve` with these arguments.
@@ -144,8 +160,9 @@ fn read_print(alloc: Global, matches: &ArgMatches<'_>) -> Result<PrintLine, Line
     let Some(file) = value_of(matches, "FILE") else {
         return Err(LineFault::WrongUse);
     };
+    let positions = is_set(matches, "positions");
     let file = String::from_str(alloc, file)?;
-    Ok(PrintLine::new(file))
+    Ok(PrintLine::new(file, positions))
 }
 
 // The line of the command of this name.
@@ -166,22 +183,25 @@ fn read_command(alloc: Global, name: &str, matches: &ArgMatches<'_>) -> Result<L
     }
 }
 
-/// Reads the words of the command line, those behind the program's own name: `check FILE [--json] [--solver S]`,
-/// `run FILE [--sessions N] [--solver S]`, `serve [--sessions N] [--solver S] [--capacity C]` or `print FILE`, where S is `plain` or `components`
-/// (the default), N is 1 to 16 (1 by default) and C is 1 to 1,000,000 (which is the default).
+/// Reads the words of the command line, those behind the program's own name: `check FILE [--json | --source] [--positions] [--solver S]`,
+/// `run FILE [--json] [--positions] [--sessions N] [--solver S]`, `serve [--sessions N] [--solver S] [--capacity C]` or
+/// `print FILE [--positions]`, where S is `plain` or `components` (the default), N is 1 to 16 (1 by default) and C is 1 to 1,000,000 (which is the default).
 /// Options stand behind the command, before FILE or behind it, and take their value as the next word or behind a `=`. N and C are
 /// written in decimal digits, with leading zeros or none and a `+` before them or none. Behind a word `--` each word is FILE,
 /// so that its name may begin with `-`. (Own; how words are split into options and values is the rule of the crate `clap`.)
 ///
-/// `Help` where the words ask for it by `--help` or `-h`, also behind a command, before a word that is wrong. `Version` where they ask
-/// for it by `--version` or `-V`, which stands before a command. `NoMemory` only where memory was refused. `WrongUse` where the words
-/// write no line: no words, another command, no FILE or one too many, an option that the command does not have, that stands twice, or whose
-/// value is missing or none of those above.
+/// `Help` where the words ask for it by `--help` or `-h`, also behind a command, before a word that is wrong: on the command that the first word
+/// names, or else on the program. `Version` where they ask for it by `--version` or `-V`, which stands before a command. `NoMemory` only
+/// where memory was refused. `WrongUse` where the words write no line: no words, another command, no FILE or one too many, `--json` beside
+/// `--source`, an option that the command does not have, that stands twice, or whose value is missing or none of those above.
 pub fn read_line<'a>(alloc: Global, words: &'a [&'a str]) -> Result<Line, LineFault>
     ensures line { GivesLine (map (λ word. word.now) words.now) result }
     ensures range { IfOk result IsInRange }
 {
-    let matches = nlldb_command(alloc)?.try_get_matches_from(words)?;
+    let matches = match nlldb_command(alloc)?.try_get_matches_from(words) {
+        Ok(matches) => matches,
+        Err(error) => return Err(LineFault::of_refusal(topic_of(words), &error)),
+    };
     match matches.subcommand() {
         Some((name, matches)) => read_command(alloc, name, matches),
         None => Err(LineFault::WrongUse),

@@ -1,5 +1,6 @@
 -- The line and the column of a byte.
-use Rattle.std.specs.Prelude.{ℕ, ◌+◌, ◌==◌, Bool, not, List, length, reverse, take, count_by, take_while}
+use Rattle.std.specs.Prelude.{ℕ, zero, suc, ◌+◌, ◌==◌, Bool, not, List, [], ◌++◌, length, reverse, take, count_by, take_while}
+use Rattle.std.specs.Io.BufRead.{take_through, drop_through}
 use Rattle.bc_position.specs.declared.position.Position.{Position}
 
 abbrev pub is_line_feed : ℕ → Bool
@@ -19,3 +20,12 @@ position_behind front = record { line = 1 + count_by is_line_feed front; column 
 -- the line and the column of the byte that has so many bytes of the text in front of it, or of the text's end
 abbrev pub position_in : List ℕ → ℕ → Position
 position_in text at = position_behind (take at text)
+
+-- so many first lines of a text, each with the line feed that ends it
+abbrev pub first_lines : ℕ → List ℕ → List ℕ
+first_lines zero text = []
+first_lines (suc lines) text = take_through 10 text ++ first_lines lines (drop_through 10 text)
+
+-- the line and the column, in a text, of the byte that has so many bytes between it and the end of this line, or of the text's end
+abbrev pub position_below : List ℕ → ℕ → ℕ → Position
+position_below text line at = position_in text (length (first_lines line text) + at)

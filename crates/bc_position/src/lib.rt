@@ -3,4 +3,4 @@
 
 mod position;
 
-pub use position::{Position, position_of};
+pub use position::{Position, position_below, position_of};

@@ -9,17 +9,17 @@ ghost use Rattle.bc_print.specs.Printing.{Writes, texts, printed};
 ghost use Rattle.bc_print.specs.PrintedTypes.{comma_before, first_word, behind_word};
 ghost use Rattle.bc_syntax.specs.Spelling as spell;
 
+use crate::fault::{WriterFault, put};
 use crate::names::{write_item_name, write_ty};
 use crate::tokens::{write_named, write_symbol};
 use crate::units::write_signature;
 use bc_syntax::{
     Declaration, ExternDeclaration, RegionName, StructDeclaration, Symbol, Ty, Types, Variance,
 };
-use std::io;
 use std::io::Write;
 
 /// Writes a comma, but not before the first item.
-fn write_comma_before<W: Write>(index: usize, out: &mut W) -> io::Result<()>
+fn write_comma_before<W: Write>(index: usize, out: &mut W) -> Result<(), WriterFault>
     ensures { OnOk result (Writes (W.contents out.old) (W.contents out.new) (comma_before index)) }
 {
     if index == 0 {
@@ -28,7 +28,7 @@ fn write_comma_before<W: Write>(index: usize, out: &mut W) -> io::Result<()>
     write_symbol(Symbol::Comma, out)
 }
 
-fn write_variance<W: Write>(variance: Variance, out: &mut W) -> io::Result<()>
+fn write_variance<W: Write>(variance: Variance, out: &mut W) -> Result<(), WriterFault>
     ensures { OnOk result (Writes (W.contents out.old) (W.contents out.new) (spell.variance variance)) }
 {
     match variance {
@@ -42,7 +42,7 @@ fn write_marks<W: Write>(
     variances: &[Variance],
     names: &[RegionName],
     out: &mut W,
-) -> io::Result<()>
+) -> Result<(), WriterFault>
     requires { length variances.now ≡ length names.now }
     ensures { OnOk result (Writes (W.contents out.old) (W.contents out.new) (spell.commas spell.mark (zip variances.now names.now))) }
 {
@@ -59,7 +59,7 @@ fn write_angled_marks<W: Write>(
     variances: &[Variance],
     names: &[RegionName],
     out: &mut W,
-) -> io::Result<()>
+) -> Result<(), WriterFault>
     requires { length variances.now ≡ length names.now }
     ensures { OnOk result (Writes (W.contents out.old) (W.contents out.new) (spell.angled spell.mark (zip variances.now names.now))) }
 {
@@ -71,7 +71,7 @@ fn write_angled_marks<W: Write>(
     write_symbol(Symbol::Greater, out)
 }
 
-fn write_drop_word<W: Write>(has_drop: bool, out: &mut W) -> io::Result<()>
+fn write_drop_word<W: Write>(has_drop: bool, out: &mut W) -> Result<(), WriterFault>
     ensures { OnOk result (Writes (W.contents out.old) (W.contents out.new) (spell.drop_word has_drop)) }
 {
     if has_drop {
@@ -81,7 +81,11 @@ fn write_drop_word<W: Write>(has_drop: bool, out: &mut W) -> io::Result<()>
     }
 }
 
-fn write_fields<W: Write>(regions: &[RegionName], fields: &[Ty], out: &mut W) -> io::Result<()>
+fn write_fields<W: Write>(
+    regions: &[RegionName],
+    fields: &[Ty],
+    out: &mut W,
+) -> Result<(), WriterFault>
     ensures { OnOk result (Writes (W.contents out.old) (W.contents out.new) (flat_map (spell.field regions.now) fields.now)) }
 {
     for field in fields {
@@ -91,7 +95,10 @@ fn write_fields<W: Write>(regions: &[RegionName], fields: &[Ty], out: &mut W) ->
     Ok(())
 }
 
-fn write_braced_fields<W: Write>(declaration: &StructDeclaration, out: &mut W) -> io::Result<()>
+fn write_braced_fields<W: Write>(
+    declaration: &StructDeclaration,
+    out: &mut W,
+) -> Result<(), WriterFault>
     ensures { OnOk result (Writes (W.contents out.old) (W.contents out.new) (spell.fields declaration.now)) }
 {
     write_symbol(Symbol::OpenBrace, out)?;
@@ -104,7 +111,10 @@ fn write_braced_fields<W: Write>(declaration: &StructDeclaration, out: &mut W) -
 }
 
 /// Writes a struct behind its first word.
-fn write_struct_rest<W: Write>(declaration: &StructDeclaration, out: &mut W) -> io::Result<()>
+fn write_struct_rest<W: Write>(
+    declaration: &StructDeclaration,
+    out: &mut W,
+) -> Result<(), WriterFault>
     requires { length declaration.now.variances ≡ length declaration.now.regions }
     ensures { OnOk result (Writes (W.contents out.old) (W.contents out.new) (spell.struct_rest declaration.now)) }
 {
@@ -119,7 +129,10 @@ fn write_struct_rest<W: Write>(declaration: &StructDeclaration, out: &mut W) -> 
 }
 
 /// Writes an extern function behind its first word.
-fn write_extern_rest<W: Write>(declaration: &ExternDeclaration, out: &mut W) -> io::Result<()>
+fn write_extern_rest<W: Write>(
+    declaration: &ExternDeclaration,
+    out: &mut W,
+) -> Result<(), WriterFault>
     ensures { OnOk result (Writes (W.contents out.old) (W.contents out.new) (spell.extern_rest declaration.now)) }
 {
     write_item_name(&declaration.name, out)?;
@@ -136,7 +149,7 @@ fn first_word(declaration: &Declaration) -> Symbol
     }
 }
 
-fn write_behind_word<W: Write>(declaration: &Declaration, out: &mut W) -> io::Result<()>
+fn write_behind_word<W: Write>(declaration: &Declaration, out: &mut W) -> Result<(), WriterFault>
     requires { declaration_fits declaration.now ≡ true }
     ensures { OnOk result (Writes (W.contents out.old) (W.contents out.new) (behind_word declaration.now)) }
 {
@@ -146,7 +159,10 @@ fn write_behind_word<W: Write>(declaration: &Declaration, out: &mut W) -> io::Re
     }
 }
 
-fn write_declarations<W: Write>(declarations: &[Declaration], out: &mut W) -> io::Result<()>
+fn write_declarations<W: Write>(
+    declarations: &[Declaration],
+    out: &mut W,
+) -> Result<(), WriterFault>
     requires { list_all declaration_fits declarations.now ≡ true }
     ensures { OnOk result (Writes (W.contents out.old) (W.contents out.new) (flat_map spell.declaration declarations.now)) }
 {
@@ -158,12 +174,15 @@ fn write_declarations<W: Write>(declarations: &[Declaration], out: &mut W) -> io
 }
 
 /// Writes declarations, without a space before the first.
-fn write_all_declarations<W: Write>(declarations: &[Declaration], out: &mut W) -> io::Result<()>
+fn write_all_declarations<W: Write>(
+    declarations: &[Declaration],
+    out: &mut W,
+) -> Result<(), WriterFault>
     requires { list_all declaration_fits declarations.now ≡ true }
     ensures { OnOk result (Appends (W.contents out.old) (W.contents out.new) (texts (flat_map spell.declaration declarations.now))) }
 {
     if let Some((first, others)) = declarations.split_first() {
-        out.write_all(first_word(first).text())?;
+        put(first_word(first).text(), out)?;
         write_behind_word(first, out)?;
         write_declarations(others, out)?;
     }
@@ -171,10 +190,10 @@ fn write_all_declarations<W: Write>(declarations: &[Declaration], out: &mut W) -
 }
 
 /// Writes the text of declarations: exactly the tokens of their spelling, with one space between two and a line feed
-/// behind the last. Or it answers the writer's fault. It takes no memory. Own.
-pub fn print_types<W: Write>(types: &Types, out: &mut W) -> io::Result<()>
+/// behind the last. Answers `WriterFault` only where a write failed. It takes no memory. Own.
+pub fn print_types<W: Write>(types: &Types, out: &mut W) -> Result<(), WriterFault>
     ensures { OnOk result (Appends (W.contents out.old) (W.contents out.new) (printed (spell.types types.now))) }
 {
     write_all_declarations(types.declarations(), out)?;
-    out.write_all(b"\n")
+    put(b"\n", out)
 }

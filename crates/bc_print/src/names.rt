@@ -7,12 +7,12 @@ ghost use Rattle.bc_print.specs.Printing.{Writes};
 ghost use Rattle.bc_syntax.specs.Spelling as spell;
 ghost use Rattle.bc_syntax.specs.Universals.{universal_names};
 
+use crate::fault::WriterFault;
 use crate::tokens::{Spelled, write_angled, write_named, write_numbered, write_symbol, write_word};
 use bc_syntax::{
     Base, ClosureInstance, Instance, ItemName, Mutability, Numbering, Outlives, Reference, Region,
     RegionName, Symbol, Ty,
 };
-use std::io;
 use std::io::Write;
 
 /// The name of a universal region.
@@ -29,14 +29,22 @@ fn universal_name(regions: &[RegionName], number: u8) -> &[u8]
 }
 
 /// Writes a universal region. Own.
-pub fn write_universal<W: Write>(regions: &[RegionName], number: u8, out: &mut W) -> io::Result<()>
+pub fn write_universal<W: Write>(
+    regions: &[RegionName],
+    number: u8,
+    out: &mut W,
+) -> Result<(), WriterFault>
     ensures { OnOk result (Writes (W.contents out.old) (W.contents out.new) (spell.universal regions.now number)) }
 {
     write_named(universal_name(regions, number), out)
 }
 
 /// Writes a region. Own.
-pub fn write_region<W: Write>(regions: &[RegionName], region: Region, out: &mut W) -> io::Result<()>
+pub fn write_region<W: Write>(
+    regions: &[RegionName],
+    region: Region,
+    out: &mut W,
+) -> Result<(), WriterFault>
     ensures { OnOk result (Writes (W.contents out.old) (W.contents out.new) (spell.region regions.now region)) }
 {
     match region {
@@ -46,7 +54,7 @@ pub fn write_region<W: Write>(regions: &[RegionName], region: Region, out: &mut 
 }
 
 /// Writes the name of a struct or of an extern function. Own.
-pub fn write_item_name<W: Write>(name: &ItemName, out: &mut W) -> io::Result<()>
+pub fn write_item_name<W: Write>(name: &ItemName, out: &mut W) -> Result<(), WriterFault>
     ensures { OnOk result (Writes (W.contents out.old) (W.contents out.new) (spell.item_name name.now)) }
 {
     write_word(name.bytes.as_slice(), out)
@@ -55,7 +63,11 @@ pub fn write_item_name<W: Write>(name: &ItemName, out: &mut W) -> io::Result<()>
 impl Spelled for Region {
     ghost spelling = { spell.region };
 
-    fn write_tokens<W: Write>(&self, regions: &[RegionName], out: &mut W) -> io::Result<()> {
+    fn write_tokens<W: Write>(
+        &self,
+        regions: &[RegionName],
+        out: &mut W,
+    ) -> Result<(), WriterFault> {
         write_region(regions, *self, out)
     }
 }
@@ -63,7 +75,11 @@ impl Spelled for Region {
 impl Spelled for RegionName {
     ghost spelling = { λ _ name. spell.region_name name };
 
-    fn write_tokens<W: Write>(&self, _regions: &[RegionName], out: &mut W) -> io::Result<()> {
+    fn write_tokens<W: Write>(
+        &self,
+        _regions: &[RegionName],
+        out: &mut W,
+    ) -> Result<(), WriterFault> {
         write_named(self.bytes.as_slice(), out)
     }
 }
@@ -71,7 +87,11 @@ impl Spelled for RegionName {
 impl Spelled for Outlives {
     ghost spelling = { spell.clause };
 
-    fn write_tokens<W: Write>(&self, regions: &[RegionName], out: &mut W) -> io::Result<()> {
+    fn write_tokens<W: Write>(
+        &self,
+        regions: &[RegionName],
+        out: &mut W,
+    ) -> Result<(), WriterFault> {
         write_universal(regions, self.longer, out)?;
         write_symbol(Symbol::Colon, out)?;
         write_universal(regions, self.shorter, out)
@@ -83,7 +103,7 @@ pub fn write_instance<W: Write>(
     regions: &[RegionName],
     instance: &Instance,
     out: &mut W,
-) -> io::Result<()>
+) -> Result<(), WriterFault>
     ensures { OnOk result (Writes (W.contents out.old) (W.contents out.new) (spell.instance regions.now instance.now)) }
 {
     write_item_name(&instance.name, out)?;
@@ -95,7 +115,7 @@ fn write_closure_number<W: Write>(
     regions: &[RegionName],
     closure: &ClosureInstance,
     out: &mut W,
-) -> io::Result<()>
+) -> Result<(), WriterFault>
     ensures { OnOk result (Writes (W.contents out.old) (W.contents out.new) (spell.closure_number regions.now closure.now)) }
 {
     write_numbered(Numbering::Number, u64::from(closure.number), out)?;
@@ -107,14 +127,14 @@ pub fn write_closure_instance<W: Write>(
     regions: &[RegionName],
     closure: &ClosureInstance,
     out: &mut W,
-) -> io::Result<()>
+) -> Result<(), WriterFault>
     ensures { OnOk result (Writes (W.contents out.old) (W.contents out.new) (spell.closure_instance regions.now closure.now)) }
 {
     write_symbol(Symbol::Closure, out)?;
     write_closure_number(regions, closure, out)
 }
 
-fn write_mutability<W: Write>(mutability: Mutability, out: &mut W) -> io::Result<()>
+fn write_mutability<W: Write>(mutability: Mutability, out: &mut W) -> Result<(), WriterFault>
     ensures { OnOk result (Writes (W.contents out.old) (W.contents out.new) (spell.mutability mutability)) }
 {
     match mutability {
@@ -128,7 +148,7 @@ pub fn write_reference<W: Write>(
     regions: &[RegionName],
     reference: Reference,
     out: &mut W,
-) -> io::Result<()>
+) -> Result<(), WriterFault>
     ensures { OnOk result (Writes (W.contents out.old) (W.contents out.new) (spell.reference regions.now reference)) }
 {
     write_region(regions, reference.region, out)?;
@@ -139,7 +159,7 @@ fn write_references<W: Write>(
     regions: &[RegionName],
     references: &[Reference],
     out: &mut W,
-) -> io::Result<()>
+) -> Result<(), WriterFault>
     ensures { OnOk result (Writes (W.contents out.old) (W.contents out.new) (flat_map (spell.behind regions.now) references.now)) }
 {
     for reference in references {
@@ -149,7 +169,7 @@ fn write_references<W: Write>(
     Ok(())
 }
 
-fn write_base<W: Write>(regions: &[RegionName], base: &Base, out: &mut W) -> io::Result<()>
+fn write_base<W: Write>(regions: &[RegionName], base: &Base, out: &mut W) -> Result<(), WriterFault>
     ensures { OnOk result (Writes (W.contents out.old) (W.contents out.new) (spell.base regions.now base.now)) }
 {
     match base {
@@ -160,7 +180,7 @@ fn write_base<W: Write>(regions: &[RegionName], base: &Base, out: &mut W) -> io:
 }
 
 /// Writes a type. Own.
-pub fn write_ty<W: Write>(regions: &[RegionName], ty: &Ty, out: &mut W) -> io::Result<()>
+pub fn write_ty<W: Write>(regions: &[RegionName], ty: &Ty, out: &mut W) -> Result<(), WriterFault>
     ensures { OnOk result (Writes (W.contents out.old) (W.contents out.new) (spell.ty regions.now ty.now)) }
 {
     write_references(regions, ty.references.as_slice(), out)?;
@@ -170,7 +190,11 @@ pub fn write_ty<W: Write>(regions: &[RegionName], ty: &Ty, out: &mut W) -> io::R
 impl Spelled for Ty {
     ghost spelling = { spell.ty };
 
-    fn write_tokens<W: Write>(&self, regions: &[RegionName], out: &mut W) -> io::Result<()> {
+    fn write_tokens<W: Write>(
+        &self,
+        regions: &[RegionName],
+        out: &mut W,
+    ) -> Result<(), WriterFault> {
         write_ty(regions, self, out)
     }
 }

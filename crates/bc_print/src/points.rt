@@ -6,16 +6,16 @@ ghost use Rattle.std.specs.List.{flat_map};
 ghost use Rattle.bc_print.specs.Printing.{Writes};
 ghost use Rattle.bc_syntax.specs.Spelling as spell;
 
+use crate::fault::WriterFault;
 use crate::names::{write_closure_instance, write_instance, write_reference};
 use crate::tokens::{Spelled, write_angled, write_commas, write_numbered, write_symbol};
 use bc_syntax::{
     Aggregate, Assignment, Block, Borrow, Call, Condition, Creation, Invocation, Numbering,
     Operand, Place, Projection, RegionName, Rvalue, Statement, Symbol, Terminator,
 };
-use std::io;
 use std::io::Write;
 
-fn write_projection<W: Write>(projection: Projection, out: &mut W) -> io::Result<()>
+fn write_projection<W: Write>(projection: Projection, out: &mut W) -> Result<(), WriterFault>
     ensures { OnOk result (Writes (W.contents out.old) (W.contents out.new) (spell.projection projection)) }
 {
     match projection {
@@ -24,7 +24,7 @@ fn write_projection<W: Write>(projection: Projection, out: &mut W) -> io::Result
     }
 }
 
-fn write_projections<W: Write>(projections: &[Projection], out: &mut W) -> io::Result<()>
+fn write_projections<W: Write>(projections: &[Projection], out: &mut W) -> Result<(), WriterFault>
     ensures { OnOk result (Writes (W.contents out.old) (W.contents out.new) (flat_map spell.step projections.now)) }
 {
     for projection in projections {
@@ -34,14 +34,14 @@ fn write_projections<W: Write>(projections: &[Projection], out: &mut W) -> io::R
     Ok(())
 }
 
-fn write_place<W: Write>(place: &Place, out: &mut W) -> io::Result<()>
+fn write_place<W: Write>(place: &Place, out: &mut W) -> Result<(), WriterFault>
     ensures { OnOk result (Writes (W.contents out.old) (W.contents out.new) (spell.place place.now)) }
 {
     write_numbered(Numbering::Local, u64::from(place.local), out)?;
     write_projections(place.projections.as_slice(), out)
 }
 
-fn write_operand<W: Write>(operand: &Operand, out: &mut W) -> io::Result<()>
+fn write_operand<W: Write>(operand: &Operand, out: &mut W) -> Result<(), WriterFault>
     ensures { OnOk result (Writes (W.contents out.old) (W.contents out.new) (spell.operand operand.now)) }
 {
     match operand {
@@ -60,12 +60,16 @@ fn write_operand<W: Write>(operand: &Operand, out: &mut W) -> io::Result<()>
 impl Spelled for Operand {
     ghost spelling = { λ _ operand. spell.operand operand };
 
-    fn write_tokens<W: Write>(&self, _regions: &[RegionName], out: &mut W) -> io::Result<()> {
+    fn write_tokens<W: Write>(
+        &self,
+        _regions: &[RegionName],
+        out: &mut W,
+    ) -> Result<(), WriterFault> {
         write_operand(self, out)
     }
 }
 
-fn write_operands<W: Write>(operands: &[Operand], out: &mut W) -> io::Result<()>
+fn write_operands<W: Write>(operands: &[Operand], out: &mut W) -> Result<(), WriterFault>
     ensures { OnOk result (Writes (W.contents out.old) (W.contents out.new) (spell.operands operands.now)) }
 {
     write_symbol(Symbol::OpenParen, out)?;
@@ -73,7 +77,11 @@ fn write_operands<W: Write>(operands: &[Operand], out: &mut W) -> io::Result<()>
     write_symbol(Symbol::CloseParen, out)
 }
 
-fn write_borrow<W: Write>(regions: &[RegionName], borrow: &Borrow, out: &mut W) -> io::Result<()>
+fn write_borrow<W: Write>(
+    regions: &[RegionName],
+    borrow: &Borrow,
+    out: &mut W,
+) -> Result<(), WriterFault>
     ensures { OnOk result (Writes (W.contents out.old) (W.contents out.new) (spell.borrow regions.now borrow.now)) }
 {
     write_reference(regions, borrow.reference, out)?;
@@ -84,7 +92,7 @@ fn write_aggregate<W: Write>(
     regions: &[RegionName],
     aggregate: &Aggregate,
     out: &mut W,
-) -> io::Result<()>
+) -> Result<(), WriterFault>
     ensures { OnOk result (Writes (W.contents out.old) (W.contents out.new) (spell.aggregate regions.now aggregate.now)) }
 {
     write_instance(regions, &aggregate.instance, out)?;
@@ -95,14 +103,18 @@ fn write_creation<W: Write>(
     regions: &[RegionName],
     creation: &Creation,
     out: &mut W,
-) -> io::Result<()>
+) -> Result<(), WriterFault>
     ensures { OnOk result (Writes (W.contents out.old) (W.contents out.new) (spell.creation regions.now creation.now)) }
 {
     write_closure_instance(regions, &creation.closure, out)?;
     write_operands(creation.operands.as_slice(), out)
 }
 
-fn write_rvalue<W: Write>(regions: &[RegionName], rvalue: &Rvalue, out: &mut W) -> io::Result<()>
+fn write_rvalue<W: Write>(
+    regions: &[RegionName],
+    rvalue: &Rvalue,
+    out: &mut W,
+) -> Result<(), WriterFault>
     ensures { OnOk result (Writes (W.contents out.old) (W.contents out.new) (spell.rvalue regions.now rvalue.now)) }
 {
     match rvalue {
@@ -124,7 +136,7 @@ fn write_assignment<W: Write>(
     regions: &[RegionName],
     assignment: &Assignment,
     out: &mut W,
-) -> io::Result<()>
+) -> Result<(), WriterFault>
     ensures { OnOk result (Writes (W.contents out.old) (W.contents out.new) (spell.assignment regions.now assignment.now)) }
 {
     write_place(&assignment.target, out)?;
@@ -136,7 +148,7 @@ fn write_statement<W: Write>(
     regions: &[RegionName],
     statement: &Statement,
     out: &mut W,
-) -> io::Result<()>
+) -> Result<(), WriterFault>
     ensures { OnOk result (Writes (W.contents out.old) (W.contents out.new) (spell.statement regions.now statement.now)) }
 {
     match statement {
@@ -157,7 +169,7 @@ fn write_lines<W: Write>(
     regions: &[RegionName],
     statements: &[Statement],
     out: &mut W,
-) -> io::Result<()>
+) -> Result<(), WriterFault>
     ensures { OnOk result (Writes (W.contents out.old) (W.contents out.new) (flat_map (spell.line regions.now) statements.now)) }
 {
     for statement in statements {
@@ -167,13 +179,13 @@ fn write_lines<W: Write>(
     Ok(())
 }
 
-fn write_label<W: Write>(label: u8, out: &mut W) -> io::Result<()>
+fn write_label<W: Write>(label: u8, out: &mut W) -> Result<(), WriterFault>
     ensures { OnOk result (Writes (W.contents out.old) (W.contents out.new) (spell.label label)) }
 {
     write_numbered(Numbering::Label, u64::from(label), out)
 }
 
-fn write_condition<W: Write>(condition: &Condition, out: &mut W) -> io::Result<()>
+fn write_condition<W: Write>(condition: &Condition, out: &mut W) -> Result<(), WriterFault>
     ensures { OnOk result (Writes (W.contents out.old) (W.contents out.new) (spell.condition condition.now)) }
 {
     write_operand(&condition.operand, out)?;
@@ -182,7 +194,11 @@ fn write_condition<W: Write>(condition: &Condition, out: &mut W) -> io::Result<(
 }
 
 /// Writes what is called, and where it returns to.
-fn write_called<W: Write>(regions: &[RegionName], call: &Call, out: &mut W) -> io::Result<()>
+fn write_called<W: Write>(
+    regions: &[RegionName],
+    call: &Call,
+    out: &mut W,
+) -> Result<(), WriterFault>
     ensures { OnOk result (Writes (W.contents out.old) (W.contents out.new) (spell.called regions.now call.now)) }
 {
     write_instance(regions, &call.function, out)?;
@@ -190,7 +206,7 @@ fn write_called<W: Write>(regions: &[RegionName], call: &Call, out: &mut W) -> i
     write_label(call.target, out)
 }
 
-fn write_call<W: Write>(regions: &[RegionName], call: &Call, out: &mut W) -> io::Result<()>
+fn write_call<W: Write>(regions: &[RegionName], call: &Call, out: &mut W) -> Result<(), WriterFault>
     ensures { OnOk result (Writes (W.contents out.old) (W.contents out.new) (spell.call regions.now call.now)) }
 {
     write_place(&call.destination, out)?;
@@ -204,7 +220,7 @@ fn write_invoked<W: Write>(
     regions: &[RegionName],
     invocation: &Invocation,
     out: &mut W,
-) -> io::Result<()>
+) -> Result<(), WriterFault>
     ensures { OnOk result (Writes (W.contents out.old) (W.contents out.new) (spell.invoked regions.now invocation.now)) }
 {
     write_place(&invocation.closure, out)?;
@@ -217,7 +233,7 @@ fn write_invocation<W: Write>(
     regions: &[RegionName],
     invocation: &Invocation,
     out: &mut W,
-) -> io::Result<()>
+) -> Result<(), WriterFault>
     ensures { OnOk result (Writes (W.contents out.old) (W.contents out.new) (spell.invocation regions.now invocation.now)) }
 {
     write_place(&invocation.destination, out)?;
@@ -230,7 +246,7 @@ fn write_terminator<W: Write>(
     regions: &[RegionName],
     terminator: &Terminator,
     out: &mut W,
-) -> io::Result<()>
+) -> Result<(), WriterFault>
     ensures { OnOk result (Writes (W.contents out.old) (W.contents out.new) (spell.terminator regions.now terminator.now)) }
 {
     match terminator {
@@ -249,14 +265,22 @@ fn write_terminator<W: Write>(
     }
 }
 
-fn write_points<W: Write>(regions: &[RegionName], block: &Block, out: &mut W) -> io::Result<()>
+fn write_points<W: Write>(
+    regions: &[RegionName],
+    block: &Block,
+    out: &mut W,
+) -> Result<(), WriterFault>
     ensures { OnOk result (Writes (W.contents out.old) (W.contents out.new) (spell.points regions.now block.now)) }
 {
     write_lines(regions, block.statements.as_slice(), out)?;
     write_terminator(regions, &block.terminator, out)
 }
 
-fn write_braced<W: Write>(regions: &[RegionName], block: &Block, out: &mut W) -> io::Result<()>
+fn write_braced<W: Write>(
+    regions: &[RegionName],
+    block: &Block,
+    out: &mut W,
+) -> Result<(), WriterFault>
     ensures { OnOk result (Writes (W.contents out.old) (W.contents out.new) (spell.braced regions.now block.now)) }
 {
     write_symbol(Symbol::OpenBrace, out)?;
@@ -270,7 +294,7 @@ pub fn write_blocks<W: Write>(
     regions: &[RegionName],
     blocks: &[Block],
     out: &mut W,
-) -> io::Result<()>
+) -> Result<(), WriterFault>
     ensures { OnOk result (Writes (W.contents out.old) (W.contents out.new) (spell.blocks regions.now 0 blocks.now)) }
 {
     for (number, block) in blocks.iter().enumerate() {

@@ -1,51 +1,65 @@
 //! How tokens are written, and lists of what has a spelling.
 ghost use Rattle.std.specs.Prelude.{◌≡◌, ◌∷◌, [], OnOk};
-ghost use Rattle.bc_print.specs.Printing.{Writes};
+ghost use Rattle.bc_print.specs.Printing.{Writes, mark};
 ghost use Rattle.bc_syntax.specs.Token.{Numbered, Word, Region};
 ghost use Rattle.bc_syntax.specs.Spelling as spell;
 
+use crate::fault::{WriterFault, put};
 use bc_syntax::{Numbering, RegionName, Symbol};
-use std::io;
+use itoa::Buffer;
 use std::io::Write;
 
 /// Writes a space and a symbol. Own.
 #[tactic(auto, unfolding(crate::specs::Printing::spaced))]
-pub fn write_symbol<W: Write>(symbol: Symbol, out: &mut W) -> io::Result<()>
+pub fn write_symbol<W: Write>(symbol: Symbol, out: &mut W) -> Result<(), WriterFault>
     ensures { OnOk result (Writes (W.contents out.old) (W.contents out.new) (spell.symbol symbol)) }
 {
-    out.write_all(b" ")?;
-    out.write_all(symbol.text())
+    put(b" ", out)?;
+    put(symbol.text(), out)
+}
+
+/// A space, and what stands before a number of this kind.
+#[tactic(auto)]
+fn spaced_mark(numbering: Numbering) -> &'static [u8]
+    ensures { result.now ≡ 32 ∷ mark numbering }
+{
+    match numbering {
+        Numbering::Number => b" ",
+        Numbering::Local => b" _",
+        Numbering::Label => b" bb",
+        Numbering::Variable => b" '?",
+    }
 }
 
 /// Writes a space and a number, local, label or region variable. Own.
 #[tactic(auto, unfolding(crate::specs::Printing::spaced))]
-pub fn write_numbered<W: Write>(numbering: Numbering, number: u64, out: &mut W) -> io::Result<()>
+pub fn write_numbered<W: Write>(
+    numbering: Numbering,
+    number: u64,
+    out: &mut W,
+) -> Result<(), WriterFault>
     ensures { OnOk result (Writes (W.contents out.old) (W.contents out.new) (Numbered numbering number ∷ [])) }
 {
-    match numbering {
-        Numbering::Number => write!(out, " {number}"),
-        Numbering::Local => write!(out, " _{number}"),
-        Numbering::Label => write!(out, " bb{number}"),
-        Numbering::Variable => write!(out, " '?{number}"),
-    }
+    put(spaced_mark(numbering), out)?;
+    put(Buffer::new().format(number).as_bytes(), out)
 }
 
 /// Writes a space and a word. Own.
 #[tactic(auto, unfolding(crate::specs::Printing::spaced))]
-pub fn write_word<W: Write>(name: &[u8], out: &mut W) -> io::Result<()>
+pub fn write_word<W: Write>(name: &[u8], out: &mut W) -> Result<(), WriterFault>
     ensures { OnOk result (Writes (W.contents out.old) (W.contents out.new) (Word name.now ∷ [])) }
 {
-    out.write_all(b" ")?;
-    out.write_all(name)
+    put(b" ", out)?;
+    put(name, out)
 }
 
 /// Writes a space and a region, by its name. Own.
 #[tactic(auto, unfolding(crate::specs::Printing::spaced))]
-pub fn write_named<W: Write>(name: &[u8], out: &mut W) -> io::Result<()>
+pub fn write_named<W: Write>(name: &[u8], out: &mut W) -> Result<(), WriterFault>
     ensures { OnOk result (Writes (W.contents out.old) (W.contents out.new) (Region name.now ∷ [])) }
 {
-    out.write_all(b" '")?;
-    out.write_all(name)
+    put(b" '", out)?;
+    put(name, out)
 }
 
 /// What has a spelling where these regions are declared. Own.
@@ -57,7 +71,7 @@ pub trait Spelled {
     ghost spelling: { List RegionName → Self → List Token };
 
     /// Writes the tokens of the value, a space before each.
-    fn write_tokens<W: Write>(&self, regions: &[RegionName], out: &mut W) -> io::Result<()>
+    fn write_tokens<W: Write>(&self, regions: &[RegionName], out: &mut W) -> Result<(), WriterFault>
         ensures { OnOk result (Writes (W.contents out.old) (W.contents out.new) (spelling regions.now self.now)) };
 }
 
@@ -65,7 +79,7 @@ fn write_next<T: Spelled, W: Write>(
     regions: &[RegionName],
     items: &[T],
     out: &mut W,
-) -> io::Result<()>
+) -> Result<(), WriterFault>
     ensures { OnOk result (Writes (W.contents out.old) (W.contents out.new) (spell.behind_commas (T.spelling regions.now) items.now)) }
 {
     for item in items {
@@ -80,7 +94,7 @@ pub fn write_commas<T: Spelled, W: Write>(
     regions: &[RegionName],
     items: &[T],
     out: &mut W,
-) -> io::Result<()>
+) -> Result<(), WriterFault>
     ensures { OnOk result (Writes (W.contents out.old) (W.contents out.new) (spell.commas (T.spelling regions.now) items.now)) }
 {
     if let Some((first, others)) = items.split_first() {
@@ -95,7 +109,7 @@ pub fn write_angled<T: Spelled, W: Write>(
     regions: &[RegionName],
     items: &[T],
     out: &mut W,
-) -> io::Result<()>
+) -> Result<(), WriterFault>
     ensures { OnOk result (Writes (W.contents out.old) (W.contents out.new) (spell.angled (T.spelling regions.now) items.now)) }
 {
     if items.is_empty() {

@@ -7,13 +7,13 @@ ghost use Rattle.bc_syntax.specs.Locals.{locals_of};
 ghost use Rattle.bc_print.specs.Printing.{Writes, printed};
 ghost use Rattle.bc_syntax.specs.Spelling as spell;
 
+use crate::fault::{WriterFault, put};
 use crate::names::write_ty;
 use crate::points::write_blocks;
 use crate::tokens::{write_angled, write_commas, write_numbered, write_symbol};
 use bc_syntax::{
     Body, Header, Numbering, Outlives, RegionName, Signature, Symbol, Ty, Unit, UnitKind,
 };
-use std::io;
 use std::io::Write;
 
 /// Writes the clauses behind `where`, or nothing where there is none. Own.
@@ -21,7 +21,7 @@ pub fn write_clauses<W: Write>(
     regions: &[RegionName],
     clauses: &[Outlives],
     out: &mut W,
-) -> io::Result<()>
+) -> Result<(), WriterFault>
     ensures { OnOk result (Writes (W.contents out.old) (W.contents out.new) (spell.clauses regions.now clauses.now)) }
 {
     if clauses.is_empty() {
@@ -36,7 +36,7 @@ pub fn write_parameters<W: Write>(
     regions: &[RegionName],
     parameters: &[Ty],
     out: &mut W,
-) -> io::Result<()>
+) -> Result<(), WriterFault>
     ensures { OnOk result (Writes (W.contents out.old) (W.contents out.new) (spell.parameters regions.now parameters.now)) }
 {
     write_symbol(Symbol::OpenParen, out)?;
@@ -45,7 +45,7 @@ pub fn write_parameters<W: Write>(
 }
 
 /// Writes what a function takes and what it returns.
-fn write_function_ty<W: Write>(signature: &Signature, out: &mut W) -> io::Result<()>
+fn write_function_ty<W: Write>(signature: &Signature, out: &mut W) -> Result<(), WriterFault>
     ensures { OnOk result (Writes (W.contents out.old) (W.contents out.new) (spell.function_ty signature.now)) }
 {
     let regions = signature.regions.as_slice();
@@ -55,7 +55,7 @@ fn write_function_ty<W: Write>(signature: &Signature, out: &mut W) -> io::Result
 }
 
 /// Writes an extern function behind its name. Own.
-pub fn write_signature<W: Write>(signature: &Signature, out: &mut W) -> io::Result<()>
+pub fn write_signature<W: Write>(signature: &Signature, out: &mut W) -> Result<(), WriterFault>
     ensures { OnOk result (Writes (W.contents out.old) (W.contents out.new) (spell.signature signature.now)) }
 {
     let regions = signature.regions.as_slice();
@@ -74,7 +74,11 @@ fn kind_word(kind: UnitKind) -> Symbol
 }
 
 /// Writes the types that a closure captures, with their brackets.
-fn write_bracketed<W: Write>(regions: &[RegionName], captures: &[Ty], out: &mut W) -> io::Result<()>
+fn write_bracketed<W: Write>(
+    regions: &[RegionName],
+    captures: &[Ty],
+    out: &mut W,
+) -> Result<(), WriterFault>
     ensures { OnOk result (Writes (W.contents out.old) (W.contents out.new) (spell.bracketed regions.now captures.now)) }
 {
     write_symbol(Symbol::OpenBracket, out)?;
@@ -83,7 +87,7 @@ fn write_bracketed<W: Write>(regions: &[RegionName], captures: &[Ty], out: &mut 
 }
 
 /// Writes what a closure captures, and nothing for a function.
-fn write_captures<W: Write>(header: &Header, out: &mut W) -> io::Result<()>
+fn write_captures<W: Write>(header: &Header, out: &mut W) -> Result<(), WriterFault>
     ensures { OnOk result (Writes (W.contents out.old) (W.contents out.new) (spell.captures header.now)) }
 {
     match header.kind {
@@ -96,7 +100,7 @@ fn write_captures<W: Write>(header: &Header, out: &mut W) -> io::Result<()>
 }
 
 /// Writes what stands behind the first word of a unit, up to its body.
-fn write_header_rest<W: Write>(header: &Header, out: &mut W) -> io::Result<()>
+fn write_header_rest<W: Write>(header: &Header, out: &mut W) -> Result<(), WriterFault>
     ensures { OnOk result (Writes (W.contents out.old) (W.contents out.new) (spell.header_rest header.now)) }
 {
     let signature = &header.signature;
@@ -108,7 +112,12 @@ fn write_header_rest<W: Write>(header: &Header, out: &mut W) -> io::Result<()>
     write_function_ty(signature, out)
 }
 
-fn write_let<W: Write>(regions: &[RegionName], number: u64, ty: &Ty, out: &mut W) -> io::Result<()>
+fn write_let<W: Write>(
+    regions: &[RegionName],
+    number: u64,
+    ty: &Ty,
+    out: &mut W,
+) -> Result<(), WriterFault>
     ensures { OnOk result (Writes (W.contents out.old) (W.contents out.new) (spell.declared regions.now number ty.now)) }
 {
     write_symbol(Symbol::Let, out)?;
@@ -124,7 +133,7 @@ fn write_lets<W: Write>(
     first: usize,
     lets: &[Ty],
     out: &mut W,
-) -> io::Result<()>
+) -> Result<(), WriterFault>
     requires { first + length lets.now ≤ 256 }
     ensures { OnOk result (Writes (W.contents out.old) (W.contents out.new) (spell.lets regions.now first lets.now)) }
 {
@@ -135,7 +144,7 @@ fn write_lets<W: Write>(
 }
 
 /// Writes what stands behind a header.
-fn write_body<W: Write>(body: &Body, out: &mut W) -> io::Result<()>
+fn write_body<W: Write>(body: &Body, out: &mut W) -> Result<(), WriterFault>
     requires { length (locals_of body.now) ≤ 256 }
     ensures { OnOk result (Writes (W.contents out.old) (W.contents out.new) (spell.body body.now)) }
 {
@@ -148,13 +157,13 @@ fn write_body<W: Write>(body: &Body, out: &mut W) -> io::Result<()>
 }
 
 /// Writes the text of a unit: exactly the tokens of its spelling, with one space between two and a line feed behind
-/// the last. Or it answers the writer's fault. It takes no memory. Own.
-pub fn print_unit<W: Write>(unit: &Unit, out: &mut W) -> io::Result<()>
+/// the last. Answers `WriterFault` only where a write failed. It takes no memory. Own.
+pub fn print_unit<W: Write>(unit: &Unit, out: &mut W) -> Result<(), WriterFault>
     ensures { OnOk result (Appends (W.contents out.old) (W.contents out.new) (printed (spell.unit unit.now))) }
 {
     let body = unit.body();
-    out.write_all(kind_word(body.header.kind).text())?;
+    put(kind_word(body.header.kind).text(), out)?;
     write_header_rest(&body.header, out)?;
     write_body(body, out)?;
-    out.write_all(b"\n")
+    put(b"\n", out)
 }

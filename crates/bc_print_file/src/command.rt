@@ -5,7 +5,8 @@ ghost use Rattle.bc_check.specs.Ends.{OfFile};
 ghost use Rattle.bc_print_file.specs.Ends.{Printed, Leaves, IsEnd};
 
 use crate::sections::print_sections;
-use bc_check::{Stop, read_changes, read_whole, stop_with};
+use bc_check::{Stop, read_told_changes, read_whole, stop_with};
+use bc_line::PrintLine;
 use std::alloc::Global;
 use std::io;
 use std::io::{BufWriter, Read, Write};
@@ -18,15 +19,16 @@ use std::io::{BufWriter, Read, Write};
 /// with `NoMemory` where there is no room, and with `CannotWrite` where the writer fails.
 pub fn print<I: Read, O: Write + Drop>(
     alloc: Global,
+    line: &PrintLine,
     input: &mut I,
     out: &mut BufWriter<O>,
 ) -> Result<(), Stop>
     ensures done { OnOk result (OfFile (I.remaining input.old) (λ file. Printed file (writer_contents O.contents out.old) (writer_contents O.contents out.new))) }
-    ensures stopped { IfErr result (λ stop. Leaves stop (I.remaining input.old) (writer_contents O.contents out.old) (writer_contents O.contents out.new)) }
+    ensures stopped { IfErr result (λ stop. Leaves line.now stop (I.remaining input.old) (writer_contents O.contents out.old) (writer_contents O.contents out.new)) }
     ensures handed_on { writer_buffer out.old ≡ [] → (result ≡ Err Stop.CannotWrite) ⊎ (writer_buffer out.new ≡ []) }
 {
     let file = read_whole(alloc, input)?;
-    let changes = read_changes(alloc, &file)?;
+    let changes = read_told_changes(alloc, line.positions(), &file)?;
     if print_sections(&file, &changes, out).is_err() {
         return Err(Stop::CannotWrite);
     }
@@ -36,7 +38,7 @@ pub fn print<I: Read, O: Write + Drop>(
     }
 }
 
-/// The whole command `print` on the input of the file of this name: writes its sections on `out`, and gives the exit status (own). Before
+/// The whole command `print` on the input of the file that the line names: writes its sections on `out`, and gives the exit status (own). Before
 /// a line on `err` says why the command stops, `out` has handed on what was printed; after `cannot write` it still holds what the writer
 /// behind it did not take.
 ///
@@ -44,34 +46,34 @@ pub fn print<I: Read, O: Write + Drop>(
 /// on `err`, and its fault where that line cannot be written: then nothing more can be said.
 pub fn print_and_tell<I: Read, O: Write + Drop, E: Write>(
     alloc: Global,
-    file: &str,
+    line: &PrintLine,
     input: &mut I,
     out: &mut BufWriter<O>,
     err: &mut E,
 ) -> io::Result<u8>
     ensures range { IfOk result (λ status. status ≤ 3) }
-    ensures ended { IfOk result (λ status. IsEnd file.now (I.remaining input.old) status (writer_contents O.contents out.old) (writer_contents O.contents out.new) (E.contents err.old) (E.contents err.new)) }
+    ensures ended { IfOk result (λ status. IsEnd line.now (I.remaining input.old) status (writer_contents O.contents out.old) (writer_contents O.contents out.new) (E.contents err.old) (E.contents err.new)) }
     ensures handed_on { writer_buffer out.old ≡ [] → IfOk result (λ status. status < 3 → writer_buffer out.new ≡ []) }
 {
-    match print(alloc, input, out) {
+    match print(alloc, line, input, out) {
         Ok(()) => Ok(0),
-        Err(stop) => stop_with(file, &stop, err),
+        Err(stop) => stop_with(line.file(), &stop, err),
     }
 }
 
-/// The whole command `print` on the input of the file of this name. As `print_and_tell`, with status 3 where standard error fails (own).
+/// The whole command `print` on the input of the file that the line names. As `print_and_tell`, with status 3 where standard error fails (own).
 pub fn print_over<I: Read, O: Write + Drop, E: Write>(
     alloc: Global,
-    file: &str,
+    line: &PrintLine,
     input: &mut I,
     out: &mut BufWriter<O>,
     err: &mut E,
 ) -> u8
     ensures range { result ≤ 3 }
-    ensures ended { result < 3 → IsEnd file.now (I.remaining input.old) result (writer_contents O.contents out.old) (writer_contents O.contents out.new) (E.contents err.old) (E.contents err.new) }
+    ensures ended { result < 3 → IsEnd line.now (I.remaining input.old) result (writer_contents O.contents out.old) (writer_contents O.contents out.new) (E.contents err.old) (E.contents err.new) }
     ensures handed_on { writer_buffer out.old ≡ [] → result < 3 → writer_buffer out.new ≡ [] }
 {
-    match print_and_tell(alloc, file, input, out, err) {
+    match print_and_tell(alloc, line, input, out, err) {
         Ok(status) => status,
         Err(_) => 3,
     }

@@ -15,8 +15,8 @@ fn print_change<O: Write>(change: &Change, out: &mut O) -> io::Result<()>
     ensures { OnOk result (Appends (O.contents out.old) (O.contents out.new) (text_of (seen change.now))) }
 {
     match change {
-        Change::Types(types) => print_types(types.get(), out),
-        Change::Put(_, unit) => print_unit(unit.get(), out),
+        Change::Types(types) => Ok(print_types(types.get(), out)?),
+        Change::Put(_, unit) => Ok(print_unit(unit.get(), out)?),
     }
 }
 

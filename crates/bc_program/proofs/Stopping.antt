@@ -1,7 +1,8 @@
 -- How a command ends that stops before it has begun.
-use Rattle.std.proofs.Common.{◌≡◌, ℕ, Bool, List, [], Option, Some, None, Result, Ok, Err, inl, inr, refl, subst, sym}
+use Rattle.std.proofs.Common.{◌≡◌, ℕ, List, [], Option, Some, None, Result, Ok, Err, inl, inr, refl, subst, sym}
 use Rattle.std.specs.Prelude.{IfOk, OnOk}
 use Rattle.std.specs.Io.KnownBytes.{Appends, Keeps}
+use Rattle.bc_line.specs.Parts.{CheckParts, RunParts, PrintParts}
 use Rattle.bc_line.specs.declared.line.Line.{Line}
 use Rattle.bc_line.specs.declared.line.Line.TheVariants.{Check, Run, Serve, Print}
 use Rattle.bc_check.specs.declared.stop.Stop.TheVariants.{CannotRead, NoMemory}
@@ -20,22 +21,22 @@ silent : (o e : Option (List ℕ)) → IsSilent o o e e
 silent o e = (stays o, stays e)
 
 -- `check` whose file cannot be opened
-pub check_unopened : {E : Type 0} (json : Bool) (name : List ℕ) (known o e e' : Option (List ℕ)) (r : Result ℕ E) → IfOk r (λ status. status ≡ 3)
-    → OnOk r (Appends e e' (last_line name CannotRead)) → IfOk r (λ status. IsEndOfCheck json name known status o o e e')
-check_unopened json name known o e e' (Ok status) is said = inr (record { stop = CannotRead; told = e; left = silent o e; said = said; status = is })
-check_unopened json name known o e e' (Err fault) is said = tt
+pub check_unopened : {E : Type 0} (line : CheckParts) (known o e e' : Option (List ℕ)) (r : Result ℕ E) → IfOk r (λ status. status ≡ 3)
+    → OnOk r (Appends e e' (last_line line.file CannotRead)) → IfOk r (λ status. IsEndOfCheck line known status o o e e')
+check_unopened line known o e e' (Ok status) is said = inr (record { stop = CannotRead; told = e; left = silent o e; said = said; status = is })
+check_unopened line known o e e' (Err fault) is said = tt
 
 -- `run` whose file cannot be opened
-pub run_unopened : {E : Type 0} (sessions : ℕ) (name : List ℕ) (known o e e' : Option (List ℕ)) (r : Result ℕ E) → IfOk r (λ status. status ≡ 3)
-    → OnOk r (Appends e e' (last_line name CannotRead)) → IfOk r (λ status. IsEndOfRun sessions name known status o o e e')
-run_unopened sessions name known o e e' (Ok status) is said = inr (record { stop = CannotRead; told = e; left = silent o e; said = said; status = is })
-run_unopened sessions name known o e e' (Err fault) is said = tt
+pub run_unopened : {E : Type 0} (line : RunParts) (known o e e' : Option (List ℕ)) (r : Result ℕ E) → IfOk r (λ status. status ≡ 3)
+    → OnOk r (Appends e e' (last_line line.file CannotRead)) → IfOk r (λ status. IsEndOfRun line known status o o e e')
+run_unopened line known o e e' (Ok status) is said = inr (record { stop = CannotRead; told = e; left = silent o e; said = said; status = is })
+run_unopened line known o e e' (Err fault) is said = tt
 
 -- `print` whose file cannot be opened
-pub print_unopened : {E : Type 0} (name : List ℕ) (known o e e' : Option (List ℕ)) (r : Result ℕ E) → IfOk r (λ status. status ≡ 3)
-    → OnOk r (Appends e e' (last_line name CannotRead)) → IfOk r (λ status. IsEndOfPrint name known status o o e e')
-print_unopened name known o e e' (Ok status) is said = inr (record { stop = CannotRead; told = e; left = (stays o, stays e); said = said; status = is })
-print_unopened name known o e e' (Err fault) is said = tt
+pub print_unopened : {E : Type 0} (line : PrintParts) (known o e e' : Option (List ℕ)) (r : Result ℕ E) → IfOk r (λ status. status ≡ 3)
+    → OnOk r (Appends e e' (last_line line.file CannotRead)) → IfOk r (λ status. IsEndOfPrint line known status o o e e')
+print_unopened line known o e e' (Ok status) is said = inr (record { stop = CannotRead; told = e; left = (stays o, stays e); said = said; status = is })
+print_unopened line known o e e' (Err fault) is said = tt
 
 -- a line for which there is no memory, where nothing was done
 pub without_memory : {E : Type 0} (files : List ℕ → Option (List ℕ)) (standard : Option (List ℕ)) (line : Line) (o o' e e1 e' : Option (List ℕ)) (r : Result ℕ E)
@@ -47,7 +48,7 @@ without_memory files standard line o o' e e1 e' r same_out same_err is said =
     told : {E : Type 0} (line : Line) (r : Result ℕ E) → IfOk r (λ status. status ≡ 3) → OnOk r (Appends e e' (last_line [] NoMemory))
         → IfOk r (λ status. IsEndOfLine files standard line status o o e e')
     told (Check line) (Ok status) is said = inr (record { stop = NoMemory; told = e; left = inl (silent o e); said = said; status = is })
-    told (Run line) (Ok status) is said = inr (record { stop = NoMemory; told = e; left = silent o e; said = said; status = is })
+    told (Run line) (Ok status) is said = inr (record { stop = NoMemory; told = e; left = inl (silent o e); said = said; status = is })
     told (Serve line) (Ok status) is said = inr (stops.NoMemory, is, said)
     told (Print line) (Ok status) is said = inr (record { stop = NoMemory; told = e; left = (stays o, stays e); said = said; status = is })
     told line (Err fault) is said = tt

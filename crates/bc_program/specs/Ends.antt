@@ -24,10 +24,10 @@ input_of files standard name = if is_standard_input name then standard else file
 
 -- what the line says was done on the input that it names, and ended with this status
 abbrev pub IsEndOfLine : (List ℕ → Option (List ℕ)) → Option (List ℕ) → Line → ℕ → Option (List ℕ) → Option (List ℕ) → Option (List ℕ) → Option (List ℕ) → Type 0
-IsEndOfLine files standard (Check line) exit out out' err err' = IsEndOfCheck line.json line.file (input_of files standard line.file) exit out out' err err'
-IsEndOfLine files standard (Run line) exit out out' err err' = IsEndOfRun line.sessions line.file (input_of files standard line.file) exit out out' err err'
+IsEndOfLine files standard (Check line) exit out out' err err' = IsEndOfCheck line (input_of files standard line.file) exit out out' err err'
+IsEndOfLine files standard (Run line) exit out out' err err' = IsEndOfRun line (input_of files standard line.file) exit out out' err err'
 IsEndOfLine files standard (Serve line) exit out out' err err' = IsEndOfServe line.sessions (option_map lines_of standard) exit err err'
-IsEndOfLine files standard (Print line) exit out out' err err' = IsEndOfPrint line.file (input_of files standard line.file) exit out out' err err'
+IsEndOfLine files standard (Print line) exit out out' err err' = IsEndOfPrint line (input_of files standard line.file) exit out out' err err'
 
 -- the words were read as a line that was obeyed, or as none, which was answered
 pub record IsEndOfWords (files : List ℕ → Option (List ℕ)) (standard : Option (List ℕ)) (words : List (List ℕ)) (exit : ℕ) (out out' err err' : Option (List ℕ)) : Type 0 where

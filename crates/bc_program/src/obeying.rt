@@ -31,7 +31,7 @@ fn check_file<R: AllocGlobal + Wait, S: Inputs, O: Write + Drop, E: Write>(
     err: &mut E,
 ) -> io::Result<u8>
     ensures range { IfOk result (λ status. status ≤ 3) }
-    ensures ended { IfOk result (λ status. IsEndOfCheck check.now.json check.now.file (S.bytes_of inputs.now check.now.file) status (writer_contents O.contents out.old) (writer_contents O.contents out.new) (E.contents err.old) (E.contents err.new)) }
+    ensures ended { IfOk result (λ status. IsEndOfCheck check.now (S.bytes_of inputs.now check.now.file) status (writer_contents O.contents out.old) (writer_contents O.contents out.new) (E.contents err.old) (E.contents err.new)) }
     ensures handed_on { writer_buffer out.old ≡ [] → IfOk result (λ status. status < 3 → writer_buffer out.new ≡ []) }
 {
     match inputs.open(check.file()) {
@@ -51,7 +51,7 @@ fn obey_check<R: AllocGlobal + Wait, S: Inputs, I: BufRead, O: Write + Drop, E: 
     err: &mut E,
 ) -> io::Result<u8>
     ensures range { IfOk result (λ status. status ≤ 3) }
-    ensures ended { IfOk result (λ status. IsEndOfCheck check.now.json check.now.file (input_of (S.bytes_of inputs.now) (I.remaining standard.old) check.now.file) status (writer_contents O.contents out.old) (writer_contents O.contents out.new) (E.contents err.old) (E.contents err.new)) }
+    ensures ended { IfOk result (λ status. IsEndOfCheck check.now (input_of (S.bytes_of inputs.now) (I.remaining standard.old) check.now.file) status (writer_contents O.contents out.old) (writer_contents O.contents out.new) (E.contents err.old) (E.contents err.new)) }
     ensures handed_on { writer_buffer out.old ≡ [] → IfOk result (λ status. status < 3 → writer_buffer out.new ≡ []) }
 {
     if is_standard_input(check.file()) {
@@ -71,7 +71,7 @@ fn run_file<R: AllocGlobal + Threads + Wait + Sync, S: Inputs, O: Write + Drop, 
     err: &mut E,
 ) -> io::Result<u8>
     ensures range { IfOk result (λ status. status ≤ 3) }
-    ensures ended { IfOk result (λ status. IsEndOfRun run.now.sessions run.now.file (S.bytes_of inputs.now run.now.file) status (writer_contents O.contents out.old) (writer_contents O.contents out.new) (E.contents err.old) (E.contents err.new)) }
+    ensures ended { IfOk result (λ status. IsEndOfRun run.now (S.bytes_of inputs.now run.now.file) status (writer_contents O.contents out.old) (writer_contents O.contents out.new) (E.contents err.old) (E.contents err.new)) }
     ensures handed_on { writer_buffer out.old ≡ [] → IfOk result (λ status. status < 3 → writer_buffer out.new ≡ []) }
 {
     match inputs.open(run.file()) {
@@ -97,7 +97,7 @@ fn obey_run<
     err: &mut E,
 ) -> io::Result<u8>
     ensures range { IfOk result (λ status. status ≤ 3) }
-    ensures ended { IfOk result (λ status. IsEndOfRun run.now.sessions run.now.file (input_of (S.bytes_of inputs.now) (I.remaining standard.old) run.now.file) status (writer_contents O.contents out.old) (writer_contents O.contents out.new) (E.contents err.old) (E.contents err.new)) }
+    ensures ended { IfOk result (λ status. IsEndOfRun run.now (input_of (S.bytes_of inputs.now) (I.remaining standard.old) run.now.file) status (writer_contents O.contents out.old) (writer_contents O.contents out.new) (E.contents err.old) (E.contents err.new)) }
     ensures handed_on { writer_buffer out.old ≡ [] → IfOk result (λ status. status < 3 → writer_buffer out.new ≡ []) }
 {
     if is_standard_input(run.file()) {

@@ -21,11 +21,11 @@ fn print_file<R: AllocGlobal, S: Inputs, O: Write + Drop, E: Write>(
     err: &mut E,
 ) -> io::Result<u8>
     ensures range { IfOk result (λ status. status ≤ 3) }
-    ensures ended { IfOk result (λ status. IsEnd print.now.file (S.bytes_of inputs.now print.now.file) status (writer_contents O.contents out.old) (writer_contents O.contents out.new) (E.contents err.old) (E.contents err.new)) }
+    ensures ended { IfOk result (λ status. IsEnd print.now (S.bytes_of inputs.now print.now.file) status (writer_contents O.contents out.old) (writer_contents O.contents out.new) (E.contents err.old) (E.contents err.new)) }
     ensures handed_on { writer_buffer out.old ≡ [] → IfOk result (λ status. status < 3 → writer_buffer out.new ≡ []) }
 {
     match inputs.open(print.file()) {
-        Ok(mut input) => print_and_tell(rt.alloc(), print.file(), &mut input, out, err),
+        Ok(mut input) => print_and_tell(rt.alloc(), print, &mut input, out, err),
         Err(_) => stop_with(print.file(), &Stop::CannotRead, err),
     }
 }
@@ -40,11 +40,11 @@ pub(crate) fn obey_print<R: AllocGlobal, S: Inputs, I: BufRead, O: Write + Drop,
     err: &mut E,
 ) -> io::Result<u8>
     ensures range { IfOk result (λ status. status ≤ 3) }
-    ensures ended { IfOk result (λ status. IsEnd print.now.file (input_of (S.bytes_of inputs.now) (I.remaining standard.old) print.now.file) status (writer_contents O.contents out.old) (writer_contents O.contents out.new) (E.contents err.old) (E.contents err.new)) }
+    ensures ended { IfOk result (λ status. IsEnd print.now (input_of (S.bytes_of inputs.now) (I.remaining standard.old) print.now.file) status (writer_contents O.contents out.old) (writer_contents O.contents out.new) (E.contents err.old) (E.contents err.new)) }
     ensures handed_on { writer_buffer out.old ≡ [] → IfOk result (λ status. status < 3 → writer_buffer out.new ≡ []) }
 {
     if is_standard_input(print.file()) {
-        print_and_tell(rt.alloc(), print.file(), standard, out, err)
+        print_and_tell(rt.alloc(), print, standard, out, err)
     } else {
         print_file(rt, print, inputs, out, err)
     }

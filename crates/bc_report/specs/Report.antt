@@ -23,10 +23,13 @@ chain_line chain = line (codes "    " ++ chain_text chain)
 unfoldable pub error_lines : BorrowError → List ℕ
 error_lines error = error_line error ++ chain_line (chain_of error)
 
--- the line of a body, with the number of its errors, and the lines of each of them
+-- the line of a body, with the number of its errors
+abbrev pub body_line : BodyErrors → List ℕ
+body_line body = line (name_text body.name ++ codes " " ++ decimal (length body.errors))
+
+-- the line of a body, and the lines of each of its errors
 abbrev pub body_lines : BodyErrors → List ℕ
-body_lines body =
-    line (name_text body.name ++ codes " " ++ decimal (length body.errors)) ++ flat_map error_lines body.errors
+body_lines body = body_line body ++ flat_map error_lines body.errors
 
 -- the lines of an outcome
 abbrev pub report : Outcome → List ℕ

@@ -5,4 +5,4 @@ mod line;
 mod print;
 mod texts;
 
-pub use print::write_report;
+pub use print::{write_body_line, write_explained, write_report};

@@ -2,7 +2,7 @@
 ghost use Rattle.std.specs.Prelude.{◌≤◌, ◌++◌, length, OnOk};
 ghost use Rattle.std.specs.Io.KnownBytes.{Appends};
 ghost use Rattle.bc_judge.specs.Lines.{next_region};
-ghost use Rattle.bc_report.specs.Report.{error_line, chain_line, error_lines, body_lines, report};
+ghost use Rattle.bc_report.specs.Report.{error_line, chain_line, error_lines, body_line, body_lines, report};
 
 use crate::line::put;
 use crate::texts::{put_error, put_region, put_regions};
@@ -72,9 +72,9 @@ fn write_chain<W: Write>(regions: &[Region], out: &mut W) -> io::Result<()>
     out.write_all(b"\n")
 }
 
-/// Writes the line of an error, and behind it that of its chain.
+/// Writes the line of an error, and behind it that of its chain, or answers the writer's fault. It takes no memory.
 #[tactic(auto, unfolding(crate::specs::Report::error_lines))]
-fn write_explained<W: Write>(error: &BorrowError, out: &mut W) -> io::Result<()>
+pub fn write_explained<W: Write>(error: &BorrowError, out: &mut W) -> io::Result<()>
     ensures { OnOk result (Appends (W.contents out.old) (W.contents out.new) (error_lines error.now)) }
 {
     let chain = error.chain();
@@ -85,14 +85,22 @@ fn write_explained<W: Write>(error: &BorrowError, out: &mut W) -> io::Result<()>
     write_chain(chain, out)
 }
 
+/// Writes the line of a body, its name and the number of its errors, or answers the writer's fault. It takes no memory.
+pub fn write_body_line<W: Write>(body: &BodyErrors, out: &mut W) -> io::Result<()>
+    ensures { OnOk result (Appends (W.contents out.old) (W.contents out.new) (body_line body.now)) }
+{
+    let name = body.name;
+    let errors = body.errors.get();
+    let count = errors.len();
+    writeln!(out, "{name} {count}")
+}
+
 /// Writes the line of a body, and the lines of each of its errors.
 fn write_body<W: Write>(body: &BodyErrors, out: &mut W) -> io::Result<()>
     ensures { OnOk result (Appends (W.contents out.old) (W.contents out.new) (body_lines body.now)) }
 {
-    let name = body.name;
+    write_body_line(body, out)?;
     let errors = body.errors.get().as_slice();
-    let count = errors.len();
-    writeln!(out, "{name} {count}")?;
     for error in errors {
         write_explained(error, out)?;
     }

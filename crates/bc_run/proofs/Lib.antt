@@ -4,3 +4,4 @@ pub mod Statuses
 pub mod Parting
 pub mod Made
 pub mod Stopping
+pub mod Printing

@@ -2,14 +2,15 @@
 use Rattle.std.proofs.Common.{◌≡◌, ℕ, List, Option, inr, refl, sym, subst}
 use Rattle.std.specs.Prelude.{◌⊎◌, Result, Ok, Err, IfOk, OnOk, OnErr, IfErr}
 use Rattle.std.specs.Io.KnownBytes.{Appends}
+use Rattle.bc_line.specs.Parts.{RunParts}
 use Rattle.bc_check.specs.declared.stop.Stop.{Stop}
 use Rattle.bc_check.specs.declared.stop.Stop.TheVariants.{Audit, NoMemory, TooManyCalls}
 use Rattle.bc_check.specs.Stops.{last_line, stop_status}
 use Rattle.bc_check.proofs.Stopping.{stops, IfOk-map}
 use Rattle.bc_run.specs.Ends.{IsEnd, Leaves}
 
-pub stopped_end : {E : Type 0} (sessions : ℕ) (name : List ℕ) (known o o' e told e' : Option (List ℕ)) (stop : Stop) (r : Result ℕ E) → Leaves sessions stop known o o' e told → IfOk r (λ n. n ≡ stop_status stop) → OnOk r (Appends told e' (last_line name stop)) → IfOk r (λ n. IsEnd sessions name known n o o' e e')
-stopped_end sessions name known o o' e told e' stop r left status said = IfOk-map r (λ n h. inr h) (stops (λ s t. Leaves sessions s known o o' e t) name told e' stop r left status said)
+pub stopped_end : {E : Type 0} (line : RunParts) (known o o' e told e' : Option (List ℕ)) (stop : Stop) (r : Result ℕ E) → Leaves line stop known o o' e told → IfOk r (λ n. n ≡ stop_status stop) → OnOk r (Appends told e' (last_line line.file stop)) → IfOk r (λ n. IsEnd line known n o o' e e')
+stopped_end line known o o' e told e' stop r left status said = IfOk-map r (λ n h. inr h) (stops (λ s t. Leaves line s known o o' e t) line.file told e' stop r left status said)
 
 pub at_each_error : {A E P : Type 0} (r : Result A E) → P → OnErr r P
 at_each_error (Ok a) p = tt

@@ -1,13 +1,14 @@
 -- The calls of a file of `run`, and its first fault.
-use Rattle.std.specs.Prelude.{◌≡◌, ◌<◌, ◌==◌, ℕ, zero, suc, List, [], ◌∷◌, ◌++◌, Some, Result, Vec, if◌then◌else◌}
+use Rattle.std.specs.Prelude.{◌≡◌, ◌<◌, ◌==◌, ℕ, Bool, zero, suc, List, [], ◌∷◌, ◌++◌, Some, Result, Vec, if◌then◌else◌}
 use Rattle.std.specs.List.{AllZip, flat_map}
 use Rattle.std.specs.declared.alloc.Global.{Global}
 use Rattle.bc_calls.specs.declared.call.Call.{Call}
 use Rattle.bc_check.specs.declared.heading.Heading.{Heading}
 use Rattle.bc_check.specs.declared.fault.FileFault.{FileFault}
 use Rattle.bc_check.specs.declared.stop.Stop.{Stop}
-use Rattle.bc_check.specs.Parts.{Part}
+use Rattle.bc_check.specs.Parts.{Part, sections_of}
 use Rattle.bc_check.specs.Headings.{IsHeader, heading_of}
+use Rattle.bc_check.specs.Located.{IsLocated}
 use Rattle.bc_check.specs.Sections as sections
 use Rattle.bc_run.specs.declared.file.SessionCall.{SessionCall}
 
@@ -43,6 +44,14 @@ GivesOne sessions section result =
 -- the same of all sections
 abbrev pub GivesAll : ℕ → List Part → Result (Vec SessionCall Global) Stop → Type 0
 GivesAll sessions parts result = sections.Answers (λ list. GiveAll sessions parts list.items) (IsFirstFault sessions parts) result
+
+-- the first fault of a file, with its position where positions are asked for
+abbrev pub IsToldFault : ℕ → Bool → List ℕ → FileFault → Type 0
+IsToldFault sessions positions file fault = IsFirstFault sessions (sections_of file) fault × IsLocated positions file fault
+
+-- what was returned says which calls a file gives, or which fault of it is told
+abbrev pub GivesTold : ℕ → Bool → List ℕ → Result (Vec SessionCall Global) Stop → Type 0
+GivesTold sessions positions file result = sections.Answers (λ list. GiveAll sessions (sections_of file) list.items) (IsToldFault sessions positions file) result
 
 -- a call, where it is this session's
 abbrev pub own_call : ℕ → SessionCall → List Call

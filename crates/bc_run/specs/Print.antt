@@ -1,33 +1,20 @@
 -- What is printed of a history, and of sessions that did not end.
-use Rattle.std.specs.Prelude.{ℕ, ◌+◌, List, [], ◌∷◌, ◌++◌, length, codes, decimal}
+use Rattle.std.specs.Prelude.{◌≡◌, ℕ, ◌+◌, Bool, true, Option, List, [], ◌∷◌, ◌++◌, length, codes, decimal, if◌then◌else◌}
 use Rattle.std.specs.List.{flat_map}
+use Rattle.std.specs.Io.KnownBytes.{Appends}
 use Rattle.bc_text.specs.Names.{NameParts, name_text}
 use Rattle.bc_prov.specs.declared.outcome.Outcome.{Outcome}
 use Rattle.bc_calls.specs.declared.call.Entry.{Entry}
 use Rattle.bc_calls.specs.declared.call.Event.{Event}
 use Rattle.bc_calls.specs.declared.call.Event.TheVariants.{Types, Put, Remove, Ask, All as EveryRoot}
-use Rattle.bc_calls.specs.declared.call.PutReply.{PutReply}
-use Rattle.bc_calls.specs.declared.call.PutReply.TheVariants.{Added, Replaced, Full, WrongKind}
-use Rattle.bc_calls.specs.declared.call.RemoveReply.{RemoveReply}
-use Rattle.bc_calls.specs.declared.call.RemoveReply.TheVariants.{Removed, Absent}
 use Rattle.bc_book.specs.declared.ledger.Refusal.{Refusal}
 use Rattle.bc_book.specs.declared.ledger.Refusal.TheVariants as refusals
 use Rattle.bc_scripts.specs.declared.run.End.{End}
 use Rattle.bc_scripts.specs.declared.run.End.TheVariants.{Done, Stopped}
+use Rattle.bc_entries.specs.Words.{put_word, remove_word}
+use Rattle.bc_entries.specs.Json.{entry_json}
 use Rattle.bc_report.specs.Text.{line}
 use Rattle.bc_report.specs.Report.{report}
-
--- the word of a put's reply
-abbrev pub put_word : PutReply → List ℕ
-put_word Added = codes "added"
-put_word Replaced = codes "replaced"
-put_word Full = codes "full"
-put_word WrongKind = codes "wrongkind"
-
--- the word of a removal's reply
-abbrev pub remove_word : RemoveReply → List ℕ
-remove_word Removed = codes "removed"
-remove_word Absent = codes "absent"
 
 -- a call with its reply, in words
 abbrev pub event_text : Event → List ℕ
@@ -53,9 +40,17 @@ outcome_lines (Remove name reply) = []
 outcome_lines (Ask name outcome) = report outcome
 outcome_lines (EveryRoot rows) = flat_map root_lines rows
 
--- the lines of an entry
-abbrev pub entry_lines : Entry → List ℕ
-entry_lines entry = entry_line entry ++ outcome_lines entry.event
+-- an entry: its line and what it answers, or where JSON is wanted one line that has both
+abbrev pub entry_lines : Bool → Entry → List ℕ
+entry_lines json entry = if json then line (entry_json entry) else entry_line entry ++ outcome_lines entry.event
+
+-- a beginning of some entries is printed as JSON, without the next of them
+pub record PrintsPart (entries : List Entry) (out out' : Option (List ℕ)) : Type 0 where
+  pub front : List Entry
+  pub next : Entry
+  pub ahead : List Entry
+  pub cut : front ++ next ∷ ahead ≡ entries
+  pub printed : Appends out out' (flat_map (entry_lines true) front)
 
 -- why a call was refused
 abbrev pub refusal_text : Refusal → List ℕ

@@ -1,5 +1,5 @@
 //! The command `run`.
-ghost use Rattle.std.specs.Prelude.{◌≡◌, ◌≤◌, ◌<◌, ◌⊎◌, [], true, Err, OnOk, OnErr, IfOk, IfErr, length, max};
+ghost use Rattle.std.specs.Prelude.{◌≡◌, ◌≤◌, ◌<◌, ◌⊎◌, [], true, Err, OnOk, OnErr, IfOk, IfErr, IsErrOf, length, max};
 ghost use Rattle.std.specs.List.{flat_map};
 ghost use Rattle.std.specs.Io.Buffered.{writer_buffer, writer_contents};
 ghost use Rattle.std.specs.Io.KnownBytes.{Appends, Keeps};
@@ -7,10 +7,10 @@ ghost use Rattle.bc_line.specs.Lines.{is_run};
 ghost use Rattle.bc_check.specs.Run.{greatest};
 ghost use Rattle.bc_check.specs.Ends.{OfFile};
 ghost use Rattle.bc_run.specs.Runs.{events_of, end_status, greatest_end};
-ghost use Rattle.bc_run.specs.Print.{entry_lines, stopped_lines};
+ghost use Rattle.bc_run.specs.Print.{entry_lines, stopped_lines, PrintsPart};
 ghost use Rattle.bc_run.specs.Ends.{Ran, Leaves, IsEnd, IsEndOf};
 
-use crate::file::read_calls;
+use crate::file::read_told_calls;
 use crate::make::make_calls;
 use crate::print::{write_all_stopped, write_history};
 use bc_calls::Entry;
@@ -25,16 +25,28 @@ use std::io::{BufWriter, Read, Write};
 use std::sync::Wait;
 use std::thread::Threads;
 
-/// Prints a history, and hands on what the buffer holds of it.
-fn show<O: Write + Drop>(history: &History, out: &mut BufWriter<O>) -> Result<(), Stop>
-    ensures shown { OnOk result (Appends (writer_contents O.contents out.old) (writer_contents O.contents out.new) (flat_map entry_lines history.now)) }
-    ensures handed_on { OnOk result (writer_buffer out.new ≡ []) }
-    ensures stop { IfErr result (λ stop. stop ≡ Stop.CannotWrite) }
+/// Prints a history, as text or as JSON, and hands on what the buffer holds of it, also where there is no room for the JSON of an entry.
+fn show<O: Write + Drop>(
+    alloc: Global,
+    json: bool,
+    history: &History,
+    out: &mut BufWriter<O>,
+) -> Result<(), Stop>
+    ensures shown { OnOk result (Appends (writer_contents O.contents out.old) (writer_contents O.contents out.new) (flat_map (entry_lines json) history.now)) }
+    ensures no_memory { IsErrOf result Stop.NoMemory → (json ≡ true) × PrintsPart history.now (writer_contents O.contents out.old) (writer_contents O.contents out.new) }
+    ensures handed_on { (result ≡ Err Stop.CannotWrite) ⊎ (writer_buffer out.new ≡ []) }
+    ensures stop { IfErr result (λ stop. (stop ≡ Stop.CannotWrite) ⊎ (stop ≡ Stop.NoMemory)) }
 {
-    if write_history(history.entries(), out).is_err() || out.flush().is_err() {
+    let Ok(made) = write_history(alloc, json, history.entries(), out) else {
+        return Err(Stop::CannotWrite);
+    };
+    if out.flush().is_err() {
         return Err(Stop::CannotWrite);
     }
-    Ok(())
+    match made {
+        Ok(()) => Ok(()),
+        Err(_) => Err(Stop::NoMemory),
+    }
 }
 
 /// Tells of the sessions that did not end.
@@ -88,35 +100,34 @@ fn ends_status(ends: &[End]) -> u8
     status
 }
 
-/// Reads the whole input, has each of so many sessions make its calls on a thread of its own, and prints the history: a line for each
-/// entry, the report behind the line of an Ask, and each root with its report behind that of an Ask for all. Then it tells of each session that did not end. The greatest status of the calls,
-/// and 3 where a session did not end. A buffer that held nothing holds nothing then, but where the writer behind it failed. It asks for
-/// 1 to 16 sessions. (Own.)
+/// Reads the whole input, has each of the line's sessions make its calls on a thread of its own, and prints the history: a line for each
+/// entry, the report behind the line of an Ask, and each root with its report behind that of an Ask for all; or as JSON one object a line
+/// for each entry. Then it tells of each session that did not end. The greatest status of the calls, and 3 where a session did not end. A
+/// buffer that held nothing holds nothing then, but where the writer behind it failed. (Own.)
 ///
 /// Stops with `CannotRead` where the input cannot be read or is over 16 MiB; with `File` at its first fault; with
 /// `TooManyCalls` where it has more than 1,000,000 calls; with `CannotWrite` or `CannotTell` where a writer
 /// fails; with `NoMemory` where there is no room, and with `Audit` where the history does not agree with the sessions at the close, both
-/// before anything is printed.
+/// before anything is printed, but that as JSON a beginning of the history is printed where there is no room for the line of the next entry.
 pub fn run<R: Threads + Wait + Sync, I: Read, O: Write + Drop, E: Write>(
     rt: &R,
     alloc: Global,
     providers: &Providers,
-    sessions: u8,
+    line: &RunLine,
     input: &mut I,
     out: &mut BufWriter<O>,
     err: &mut E,
 ) -> Result<u8, Stop>
-    requires least { 1 ≤ sessions }
-    requires most { sessions ≤ 16 }
-    ensures done { IfOk result (λ status. OfFile (I.remaining input.old) (λ file. Ran sessions file status (writer_contents O.contents out.old) (writer_contents O.contents out.new) (E.contents err.old) (E.contents err.new))) }
+    ensures done { IfOk result (λ status. OfFile (I.remaining input.old) (λ file. Ran line.now.json line.now.sessions file status (writer_contents O.contents out.old) (writer_contents O.contents out.new) (E.contents err.old) (E.contents err.new))) }
     ensures range { IfOk result (λ status. status ≤ 3) }
-    ensures stopped { IfErr result (λ stop. Leaves sessions stop (I.remaining input.old) (writer_contents O.contents out.old) (writer_contents O.contents out.new) (E.contents err.old) (E.contents err.new)) }
+    ensures stopped { IfErr result (λ stop. Leaves line.now stop (I.remaining input.old) (writer_contents O.contents out.old) (writer_contents O.contents out.new) (E.contents err.old) (E.contents err.new)) }
     ensures handed_on { writer_buffer out.old ≡ [] → (result ≡ Err Stop.CannotWrite) ⊎ (writer_buffer out.new ≡ []) }
 {
     let file = read_whole(alloc, input)?;
-    let calls = read_calls(alloc, &file, sessions)?;
+    let sessions = line.sessions();
+    let calls = read_told_calls(alloc, sessions, line.positions(), &file)?;
     let made = make_calls(rt, alloc, providers, &calls, sessions)?;
-    show(&made.history, out)?;
+    show(alloc, line.json(), &made.history, out)?;
     tell(&made.ends, err)?;
     Ok(history_status(made.history.entries()).max(ends_status(&made.ends)))
 }
@@ -138,10 +149,10 @@ pub fn run_and_tell<R: Threads + Wait + Sync, I: Read, O: Write + Drop, E: Write
     err: &mut E,
 ) -> io::Result<u8>
     ensures range { IfOk result (λ status. status ≤ 3) }
-    ensures ended { IfOk result (λ status. IsEnd line.now.sessions line.now.file (I.remaining input.old) status (writer_contents O.contents out.old) (writer_contents O.contents out.new) (E.contents err.old) (E.contents err.new)) }
+    ensures ended { IfOk result (λ status. IsEnd line.now (I.remaining input.old) status (writer_contents O.contents out.old) (writer_contents O.contents out.new) (E.contents err.old) (E.contents err.new)) }
     ensures handed_on { writer_buffer out.old ≡ [] → IfOk result (λ status. status < 3 → writer_buffer out.new ≡ []) }
 {
-    match run(rt, alloc, providers, line.sessions(), input, out, err) {
+    match run(rt, alloc, providers, line, input, out, err) {
         Ok(status) => Ok(status),
         Err(stop) => stop_with(line.file(), &stop, err),
     }

@@ -3,12 +3,13 @@ ghost use Rattle.std.specs.Prelude.{◌≡◌, ◌≤◌, ◌==◌, ◌||◌};
 ghost use Rattle.bc_check.specs.Parts.{sections_of};
 ghost use Rattle.bc_check.specs.Left.{part_of};
 ghost use Rattle.std.specs.List.{list_all};
-ghost use Rattle.bc_run.specs.Calls.{GivesText, GivesOne, GivesAll};
+ghost use Rattle.bc_run.specs.Calls.{GivesText, GivesOne, GivesAll, GivesTold};
 
 use crate::header::read_header;
 use bc_calls::Call;
 use bc_check::{
-    FaultKind, Heading, Section, Sections, Stop, read_body, read_declarations, stop_at, text_stop,
+    FaultKind, Heading, Section, Sections, Stop, locate, read_body, read_declarations, stop_at,
+    text_stop,
 };
 use bc_text::Name;
 use std::alloc::Global;
@@ -120,4 +121,21 @@ pub fn read_calls(alloc: Global, file: &[u8], sessions: u8) -> Result<Vec<Sessio
         calls.push(read_call(alloc, &section, sessions)?)?;
     }
     Ok(calls)
+}
+
+/// The calls of a file of so many sessions, in the order of its sections; `File` with its first fault where it has one, and with the
+/// position of this in the file where positions are asked for; `NoMemory` where there is no room.
+pub fn read_told_calls(
+    alloc: Global,
+    sessions: u8,
+    positions: bool,
+    file: &[u8],
+) -> Result<Vec<SessionCall>, Stop>
+    requires { sessions ≤ 16 }
+    ensures { GivesTold sessions positions file.now result }
+{
+    match read_calls(alloc, file, sessions) {
+        Ok(calls) => Ok(calls),
+        Err(stop) => Err(locate(positions, file, stop)),
+    }
 }

@@ -1,41 +1,21 @@
 //! What is printed of a history, and of sessions that did not end.
-ghost use Rattle.std.specs.Prelude.{◌≡◌, ◌≤◌, OnOk, OnErr, length};
+ghost use Rattle.std.specs.Prelude.{◌≡◌, ◌≤◌, true, false, IfOk, OnOk, OnErr, length};
 ghost use Rattle.std.specs.List.{flat_map};
-ghost use Rattle.std.specs.Io.KnownBytes.{Appends};
+ghost use Rattle.std.specs.Io.KnownBytes.{Appends, Keeps};
 ghost use Rattle.bc_report.specs.Text.{line};
 ghost use Rattle.bc_run.specs.Runs.{end_status, greatest_end};
-ghost use Rattle.bc_run.specs.Print.{put_word, remove_word, event_text, entry_line, root_lines, outcome_lines, refusal_text, entry_lines, stopped_line, stopped_lines};
+ghost use Rattle.bc_run.specs.Print.{event_text, entry_line, root_lines, outcome_lines, refusal_text, entry_lines, stopped_line, stopped_lines, PrintsPart};
 
 use bc_book::Refusal;
-use bc_calls::{Entry, Event, PutReply, RemoveReply};
+use bc_calls::{Entry, Event};
+use bc_entries::{entry_line, put_word, remove_word};
 use bc_prov::{Outcome, Shared};
 use bc_report::write_report;
 use bc_scripts::End;
 use bc_text::Name;
+use std::alloc::{AllocError, Global};
 use std::io;
 use std::io::Write;
-
-/// The word of a put's reply.
-fn put_word(reply: PutReply) -> &'static str
-    ensures { result.now ≡ put_word reply }
-{
-    match reply {
-        PutReply::Added => "added",
-        PutReply::Replaced => "replaced",
-        PutReply::Full => "full",
-        PutReply::WrongKind => "wrongkind",
-    }
-}
-
-/// The word of a removal's reply.
-fn remove_word(reply: RemoveReply) -> &'static str
-    ensures { result.now ≡ remove_word reply }
-{
-    match reply {
-        RemoveReply::Removed => "removed",
-        RemoveReply::Absent => "absent",
-    }
-}
 
 /// Writes the words of a call with its reply, to the end of the line.
 fn write_event<O: Write>(event: &Event, out: &mut O) -> io::Result<()>
@@ -100,21 +80,66 @@ fn write_outcome<O: Write>(event: &Event, out: &mut O) -> io::Result<()>
 }
 
 /// Writes the line of an entry, and behind the line of an Ask what it answers.
-fn write_entry<O: Write>(entry: &Entry, out: &mut O) -> io::Result<()>
-    ensures { OnOk result (Appends (O.contents out.old) (O.contents out.new) (entry_lines entry.now)) }
+fn write_text<O: Write>(entry: &Entry, out: &mut O) -> io::Result<()>
+    ensures { OnOk result (Appends (O.contents out.old) (O.contents out.new) (entry_lines false entry.now)) }
 {
     write_line(entry, out)?;
     write_outcome(&entry.event, out)
 }
 
-/// Writes the entries of a history in their order, exactly their bytes, or answers the writer's fault.
-pub fn write_history<O: Write>(entries: &[Entry], out: &mut O) -> io::Result<()>
-    ensures { OnOk result (Appends (O.contents out.old) (O.contents out.new) (flat_map entry_lines entries.now)) }
+/// Writes the JSON line of an entry. `AllocError`, with nothing written, where there is no room for it.
+fn write_json<O: Write>(
+    alloc: Global,
+    entry: &Entry,
+    out: &mut O,
+) -> io::Result<Result<(), AllocError>>
+    ensures written { IfOk result (λ made. OnOk made (Appends (O.contents out.old) (O.contents out.new) (entry_lines true entry.now))) }
+    ensures no_memory { IfOk result (λ made. OnErr made (Keeps (O.contents out.old) (O.contents out.new))) }
+{
+    match entry_line(alloc, entry) {
+        Ok(text) => {
+            writeln!(out, "{text}")?;
+            Ok(Ok(()))
+        }
+        Err(refused) => Ok(Err(refused)),
+    }
+}
+
+/// Writes an entry as text, or as JSON. `AllocError`, with nothing written, where there is no room for its JSON.
+fn write_entry<O: Write>(
+    alloc: Global,
+    json: bool,
+    entry: &Entry,
+    out: &mut O,
+) -> io::Result<Result<(), AllocError>>
+    ensures written { IfOk result (λ made. OnOk made (Appends (O.contents out.old) (O.contents out.new) (entry_lines json entry.now))) }
+    ensures no_memory { IfOk result (λ made. OnErr made ((json ≡ true) × Keeps (O.contents out.old) (O.contents out.new))) }
+{
+    if json {
+        return write_json(alloc, entry, out);
+    }
+    write_text(entry, out)?;
+    Ok(Ok(()))
+}
+
+/// Writes the entries of a history in their order, as text or as JSON, exactly their bytes, or answers the writer's fault. `AllocError`
+/// at the first entry for whose JSON there is no room: of it and of those behind it nothing is written. Text wants no room.
+pub fn write_history<O: Write>(
+    alloc: Global,
+    json: bool,
+    entries: &[Entry],
+    out: &mut O,
+) -> io::Result<Result<(), AllocError>>
+    ensures written { IfOk result (λ made. OnOk made (Appends (O.contents out.old) (O.contents out.new) (flat_map (entry_lines json) entries.now))) }
+    ensures no_memory { IfOk result (λ made. OnErr made ((json ≡ true) × PrintsPart entries.now (O.contents out.old) (O.contents out.new))) }
 {
     for entry in entries {
-        write_entry(entry, out)?;
+        match write_entry(alloc, json, entry, out)? {
+            Ok(()) => {}
+            Err(refused) => return Ok(Err(refused)),
+        }
     }
-    Ok(())
+    Ok(Ok(()))
 }
 
 /// Why a call was refused.

@@ -2,7 +2,11 @@
 #![tactic(auto)]
 
 #[cfg(test)]
+mod books;
+#[cfg(test)]
 mod meetings;
+#[cfg(test)]
+mod pauses;
 #[cfg(test)]
 mod threads;
 #[cfg(test)]

@@ -120,7 +120,7 @@ fn meet<R: Threads + Wait + Clock + Sync, E: Ending + Send>(
     );
 }
 
-/// The same, where session 0 has put a body at `f` before.
+/// Has session 0 put a body at `f` and ask for it, while session 1 puts another body there and reads.
 fn meet_at_f<R: Threads + Wait + Clock + Sync, E: Ending + Send>(
     rt: &R,
     alloc: Global,

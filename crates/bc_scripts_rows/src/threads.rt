@@ -8,7 +8,8 @@ use bc_book::Refusal;
 use bc_calls::{Call, Entry, Event, PutReply};
 use bc_cons::Facts;
 use bc_fixtures::{
-    Found, WRITES_LAST, WRITES_WHILE_BORROWED, found_by, name, shared_unit, want_memory,
+    Found, WRITES_LAST, WRITES_WHILE_BORROWED, found_by, name, shared_types, shared_unit,
+    want_memory,
 };
 use bc_prov::{Providers, Shared};
 use bc_scripts::{End, Gate, Script, Stage, run_sessions};
@@ -23,10 +24,12 @@ use std::test::Fail;
 use std::thread::Threads;
 use std::time::Clock;
 
-/// A call of a script: a put of a unit under a name, an Ask of a name, or an Ask for all.
+/// A call of a script: declarations, a put of a unit under a name, a removal of a name, an Ask of a name, or an Ask for all.
 #[derive(Clone, Copy)]
-enum Step {
+pub(crate) enum Step {
+    Types(&'static [u8]),
     Put(&'static [u8], &'static [u8]),
+    Remove(&'static [u8]),
     Ask(&'static [u8]),
     All,
 }
@@ -164,14 +167,16 @@ impl<'a> Gate for Watch<'a> {
 /// A call of a script; fails where a text spells nothing, or for want of memory.
 fn call_of(alloc: Global, step: Step) -> Result<Call, Fail> {
     match step {
+        Step::Types(types) => Ok(Call::Types(Shared::new(shared_types(alloc, types)?))),
         Step::Put(put, unit) => Ok(Call::Put(name(put)?, Shared::new(shared_unit(alloc, unit)?))),
+        Step::Remove(removed) => Ok(Call::Remove(name(removed)?)),
         Step::Ask(asked) => Ok(Call::Ask(name(asked)?)),
         Step::All => Ok(Call::All),
     }
 }
 
 /// A script of these steps, so many times.
-fn script_of(alloc: Global, steps: &[Step], times: u32) -> Result<Script, Fail> {
+pub(crate) fn script_of(alloc: Global, steps: &[Step], times: u32) -> Result<Script, Fail> {
     let mut calls = Vec::new(alloc);
     for _time in 0..times {
         for step in steps {
@@ -234,8 +239,8 @@ fn close_behind<R: Threads + Wait + Sync, E: Ending + Send, G: Gate + Sync>(
     }
 }
 
-/// The same, of a new database of so many sessions, whose history may have so many entries.
-fn run_scripts<R: Threads + Wait + Sync, G: Gate + Sync>(
+/// How the scripts end that so many sessions of a new database make, whose history may have so many entries, and that history.
+pub(crate) fn run_scripts<R: Threads + Wait + Sync, G: Gate + Sync>(
     rt: &R,
     alloc: Global,
     capacity: u32,
@@ -275,7 +280,7 @@ fn run_by<R: Threads + Wait + Sync, G: Gate + Sync>(
     run_scripts(rt, alloc, capacity, 2, scripts, providers, gate)
 }
 
-/// The same, by the program's providers.
+/// How the scripts of two sessions end by the program's providers, and the history, which may have so many entries.
 fn run_both<R: Threads + Wait + Sync, G: Gate + Sync>(
     rt: &R,
     alloc: Global,
@@ -435,12 +440,14 @@ fn an_ask_has_begun_before_its_work_is_done(rt: HostRuntime) -> Result<(), Fail>
     let none = Script::new(Vec::new(rt.alloc()));
     let ends = run_counting(&rt, rt.alloc(), script, none, &watch, &solved, 0)?;
     assert!(rt; are_done(&ends), "all calls are made");
-    assert!(rt;
-        watch.at_begun.load(SeqCst) == 0,
+    assert_eq!(rt;
+        watch.at_begun.load(SeqCst),
+        0,
         "nothing is solved where the Ask has begun"
     );
-    assert!(rt;
-        watch.at_worked.load(SeqCst) == 1,
+    assert_eq!(rt;
+        watch.at_worked.load(SeqCst),
+        1,
         "the body is solved where its work is done"
     );
     Ok(())
@@ -457,7 +464,7 @@ fn an_ask_has_read_before_its_first_stage(rt: HostRuntime) -> Result<(), Fail> {
     let ends = run_counting(&rt, rt.alloc(), first, second, &gate, &solved, 0)?;
     assert!(rt; are_done(&ends), "all calls are made");
     assert!(rt; gate.patience.is_kept(), "nobody waits too long");
-    assert!(rt; solved.load(SeqCst) == 2, "both bodies are solved");
+    assert_eq!(rt; solved.load(SeqCst), 2, "both bodies are solved");
     Ok(())
 }
 
@@ -488,12 +495,14 @@ fn an_ask_for_all_has_begun_before_its_work_is_done(rt: HostRuntime) -> Result<(
     let none = Script::new(Vec::new(rt.alloc()));
     let ends = run_counting(&rt, rt.alloc(), script, none, &watch, &solved, 0)?;
     assert!(rt; are_done(&ends), "all calls are made");
-    assert!(rt;
-        watch.at_begun.load(SeqCst) == 0,
+    assert_eq!(rt;
+        watch.at_begun.load(SeqCst),
+        0,
         "nothing is solved where the Ask for all has begun"
     );
-    assert!(rt;
-        watch.at_worked.load(SeqCst) == 2,
+    assert_eq!(rt;
+        watch.at_worked.load(SeqCst),
+        2,
         "both bodies are solved where its work is done"
     );
     Ok(())
@@ -510,7 +519,7 @@ fn an_ask_for_all_has_read_before_its_first_stage(rt: HostRuntime) -> Result<(),
     let ends = run_counting(&rt, rt.alloc(), first, second, &gate, &solved, 0)?;
     assert!(rt; are_done(&ends), "all calls are made");
     assert!(rt; gate.patience.is_kept(), "nobody waits too long");
-    assert!(rt; solved.load(SeqCst) == 3, "all three bodies are solved");
+    assert_eq!(rt; solved.load(SeqCst), 3, "all three bodies are solved");
     Ok(())
 }
 

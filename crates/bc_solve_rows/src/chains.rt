@@ -34,13 +34,8 @@ fn facts_of(alloc: Global, pairs: &[[usize; 2]], starts: &[Entry]) -> Result<Fac
     Ok(Facts::new(3, starts, pairs, 4))
 }
 
-/// A question, and the chain that answers it, or no region where there is none.
-#[derive(Clone, Copy)]
-struct Case<'a> {
-    region: usize,
-    element: usize,
-    chain: &'a [Region],
-}
+/// A region, an element, and the chain that explains it: no region where there is none.
+type Case<'a> = (usize, usize, &'a [Region]);
 
 fn is(found: &Option<Vec<Region>>, chain: &[Region]) -> bool {
     match found {
@@ -85,37 +80,16 @@ fn the_first_of_the_shortest_chains_explains(rt: HostRuntime) -> Result<(), Fail
         Entry { node: 5, fact: 1 },
         Entry { node: 4, fact: 1 },
     ];
-    let cases = [
-        Case {
-            region: 3,
-            element: 0,
-            chain: &[Variable(0), Universal(1), Variable(3)],
-        },
-        Case {
-            region: 7,
-            element: 0,
-            chain: &[Variable(4), Universal(0), Universal(2)],
-        },
-        Case {
-            region: 3,
-            element: 1,
-            chain: &[Variable(0), Variable(1)],
-        },
-        Case {
-            region: 4,
-            element: 1,
-            chain: &[Variable(1)],
-        },
-        Case {
-            region: 0,
-            element: 1,
-            chain: &[],
-        },
+    let cases: [Case<'_>; 5] = [
+        (3, 0, &[Variable(0), Universal(1), Variable(3)]),
+        (7, 0, &[Variable(4), Universal(0), Universal(2)]),
+        (3, 1, &[Variable(0), Variable(1)]),
+        (4, 1, &[Variable(1)]),
+        (0, 1, &[]),
     ];
     let facts = facts_of(rt.alloc(), &pairs, &starts)?;
-    for case in &cases {
-        let found = chain_of(rt.alloc(), &facts, case.region, case.element)?;
-        assert!(rt; is(&found, case.chain));
+    for &(region, element, chain) in &cases {
+        assert!(rt; is(&chain_of(rt.alloc(), &facts, region, element)?, chain));
     }
     Ok(())
 }
@@ -123,37 +97,16 @@ fn the_first_of_the_shortest_chains_explains(rt: HostRuntime) -> Result<(), Fail
 #[test]
 fn a_ring_is_gone_round_once(rt: HostRuntime) -> Result<(), Fail> {
     let starts = [Entry { node: 5, fact: 3 }];
-    let cases = [
-        Case {
-            region: 0,
-            element: 3,
-            chain: &[Universal(0), Universal(1), Variable(2)],
-        },
-        Case {
-            region: 5,
-            element: 3,
-            chain: &[Variable(2)],
-        },
-        Case {
-            region: 2,
-            element: 3,
-            chain: &[],
-        },
-        Case {
-            region: 8,
-            element: 3,
-            chain: &[],
-        },
-        Case {
-            region: 0,
-            element: 4,
-            chain: &[],
-        },
+    let cases: [Case<'_>; 5] = [
+        (0, 3, &[Universal(0), Universal(1), Variable(2)]),
+        (5, 3, &[Variable(2)]),
+        (2, 3, &[]),
+        (8, 3, &[]),
+        (0, 4, &[]),
     ];
     let facts = facts_of(rt.alloc(), &[[0, 1], [1, 5], [5, 0]], &starts)?;
-    for case in &cases {
-        let found = explain(rt.alloc(), &facts, case.region, case.element)?;
-        assert!(rt; is(&found, case.chain));
+    for &(region, element, chain) in &cases {
+        assert!(rt; is(&explain(rt.alloc(), &facts, region, element)?, chain));
     }
     Ok(())
 }

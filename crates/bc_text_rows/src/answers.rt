@@ -1,11 +1,9 @@
-//! A row is a line: a word for what is asked, a blank, and a text (behind the word alone, the empty one). `unit`, `types` and
-//! `name` ask how the text is read, `print-unit` and `print-types` how that is printed which is read of it, `points` where the
-//! points begin of the unit that is read of it. Lines that begin with `#`, and empty ones, are no rows.
+//! A row is a line: a word for what is asked, a blank, and a text (behind the word alone, the empty one). `name` asks which name the
+//! text is, `points` where the points begin of the unit that is read of it. Lines that begin with `#`, and empty ones, are no rows.
 use crate::spelled::text_of;
 use anyhow::bail;
 use bc_places::point_places;
-use bc_print::{print_types, print_unit};
-use bc_text::{Name, ReadFault, read_types, read_unit};
+use bc_text::{Name, ReadFault};
 use std::alloc::Global;
 use std::io::{self, Write};
 
@@ -25,34 +23,6 @@ fn write_name<W: Write>(text: &[u8], out: &mut W) -> io::Result<()> {
     match Name::read(text) {
         Some(name) => writeln!(out, "{name} at depth {}", name.depth()),
         None => writeln!(out, "none"),
-    }
-}
-
-fn write_unit<W: Write>(alloc: Global, text: &[u8], out: &mut W) -> io::Result<()> {
-    match read_unit(alloc, text) {
-        Ok(_) => writeln!(out, "read"),
-        Err(fault) => write_fault(&fault, out),
-    }
-}
-
-fn write_types<W: Write>(alloc: Global, text: &[u8], out: &mut W) -> io::Result<()> {
-    match read_types(alloc, text) {
-        Ok(_) => writeln!(out, "read"),
-        Err(fault) => write_fault(&fault, out),
-    }
-}
-
-fn write_printed_unit<W: Write>(alloc: Global, text: &[u8], out: &mut W) -> io::Result<()> {
-    match read_unit(alloc, text) {
-        Ok(unit) => print_unit(&unit, out),
-        Err(fault) => write_fault(&fault, out),
-    }
-}
-
-fn write_printed_types<W: Write>(alloc: Global, text: &[u8], out: &mut W) -> io::Result<()> {
-    match read_types(alloc, text) {
-        Ok(types) => print_types(&types, out),
-        Err(fault) => write_fault(&fault, out),
     }
 }
 
@@ -81,11 +51,7 @@ pub fn show_line<W: Write>(alloc: Global, line: &str, out: &mut W) -> anyhow::Re
     let text = text_of(alloc, spelled)?;
     write!(out, "  ")?;
     match question {
-        "unit" => write_unit(alloc, &text, out)?,
-        "types" => write_types(alloc, &text, out)?,
         "name" => write_name(&text, out)?,
-        "print-unit" => write_printed_unit(alloc, &text, out)?,
-        "print-types" => write_printed_types(alloc, &text, out)?,
         "points" => write_points(alloc, &text, out)?,
         _ => bail!("nothing is called {question}"),
     }

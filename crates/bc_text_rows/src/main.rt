@@ -1,5 +1,5 @@
-//! Prints each line of the files that are named, and behind each row what the reader or the printer answers to it: rows of
-//! texts, whose answers the expected output has.
+//! Prints each line of the files that are named, and behind each row which name its text is, or where the points of its unit begin:
+//! the expected output has these answers. What units and declarations are answered is shown by `.ci/rows`.
 #![tactic(auto)]
 
 mod answers;

@@ -5,7 +5,7 @@ use bc_syntax::{
     Operand, Outlives, Place, Projection, Reference, Region, RegionName, Rvalue, Sequence,
     Signature, Statement, StructDeclaration, Terminator, Ty, UnitKind, Variance,
 };
-use bc_text::{MAX_TEXT, ReadFault, read_types, read_unit};
+use bc_text::{ReadFault, read_types, read_unit};
 use std::alloc::Global;
 use std::test::Fail;
 
@@ -389,13 +389,6 @@ fn a_text_is_read_as_its_declarations(rt: HostRuntime) -> Result<(), Fail> {
     Ok(())
 }
 
-#[test]
-fn no_bytes_are_read_as_no_declarations(rt: HostRuntime) -> Result<(), Fail> {
-    let found = read_types(rt.alloc(), b"")?;
-    assert!(rt; found.declarations().is_empty());
-    Ok(())
-}
-
 /// A header without `let` locals and blocks.
 fn without_blocks(alloc: Global, header: Header) -> Body {
     Body {
@@ -411,9 +404,4 @@ fn a_body_without_blocks_is_no_unit(rt: HostRuntime) -> Result<(), Fail> {
     let body = without_blocks(rt.alloc(), unit.body().header.clone()?);
     assert!(rt; unit_of(body).is_none());
     Ok(())
-}
-
-#[test]
-fn a_text_has_at_most_1048576_bytes(rt: HostRuntime) {
-    assert_eq!(rt; MAX_TEXT, 1_048_576);
 }

@@ -65,6 +65,23 @@ impl<R: AllocGlobal + Wait> Context<'_, R> {
         Ok(work)
     }
 
+    /// Begins a name and finds its outcome, and writes how many pieces of bodies were made for that.
+    fn make<E: Ending>(
+        &self,
+        session: &mut Session<E>,
+        text: &str,
+        out: &mut Vec<u8>,
+    ) -> Result<()> {
+        let begun = session.begin(&name(text.as_bytes())?)?;
+        let found = begun.find(self.rt.alloc(), self.providers)?;
+        let made = match &found.pieces {
+            Some(set) => set.rows().len(),
+            None => 0,
+        };
+        writeln!(out, "{made} made")?;
+        Ok(())
+    }
+
     /// Settles a work, and writes the report.
     fn settle<E: Ending>(
         &self,
@@ -118,6 +135,7 @@ impl<R: AllocGlobal + Wait> Context<'_, R> {
             "remove" => out.extend_from_slice(self.remove(case.session(who)?, rest)?)?,
             "ask" => self.ask(case.session(who)?, rest, out)?,
             "glance" => glance(case.session(who)?, rest, out)?,
+            "make" => self.make(case.session(who)?, rest, out)?,
             "askall" => self.ask_all(case.session(who)?, out)?,
             "work" => {
                 let work = self.work(case.session(who)?, rest, out)?;

@@ -6,7 +6,8 @@
 //! - `a0 put NAME TEXT`, `a0 types TEXT`, `a0 remove NAME` and `a0 ask NAME` are calls of session 0 of `a`. A text is given by its name, the
 //!   empty one by none.
 //! - `a0 glance NAME` reads the answer that is published. `a0 work NAME` begins a name and works on it. `a0 settle` settles the work that
-//!   was done last, whichever session did it.
+//!   was done last, whichever session did it. `a0 make NAME` begins a name, finds its outcome, and is answered by how many pieces of bodies
+//!   were made for that.
 //! - `a0 askall` asks for all. `a0 workall` begins all roots and works on each. `a0 settleall` settles the works that were done and not settled
 //!   yet, in the order in which they were done, whichever sessions did them, as an Ask for all.
 //! - `close a b` closes `a` with the sessions that `b` has left, and `close a` with none. The answer is how many entries the history has.

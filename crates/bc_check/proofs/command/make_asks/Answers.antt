@@ -7,7 +7,7 @@ use Rattle.bc_check.proofs.command.make_asks.Goals as goal
 pub loop-name-init : goal.loop-name-init
 loop-name-init g c =
     let same : c.into_iter-name-iterator.result ≡ c.args.names.now.keys = c.into_iter-name-iterator.ensures.into_iter_gives.0 in
-    record { made = making_none Ask _ _ (shown c.args.json) _ _ same; range = omega arith }
+    record { made = making_none Ask _ _ (shown c.args.form.now) _ _ same; range = omega arith }
 
 pub loop-name-preserved : goal.loop-name-preserved
 loop-name-preserved g c = record {
@@ -18,7 +18,7 @@ loop-name-preserved g c = record {
 pub returns-in_err-make_ask-clause-refused : goal.returns-in_err-make_ask-clause-refused
 returns-in_err-make_ask-clause-refused g c = same_refused c.from_residual.result c.in_err-make_ask.field-0.0 c.from_residual.ensures.1 (λ e. (
     let kept = c.in_err-make_ask.ensures.refused e in
-    making_part Ask _ _ (shown c.args.json) _ _ _ _ _ _ _ c.loop-name.invariant.made kept.0 kept.1
+    making_part Ask _ _ (shown c.args.form.now) _ _ _ _ _ _ _ c.loop-name.invariant.made kept.0 kept.1
     ))
 
 pub returns-in_err-make_ask-clause-still : goal.returns-in_err-make_ask-clause-still

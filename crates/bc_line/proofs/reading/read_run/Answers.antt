@@ -11,4 +11,6 @@ pub returns-in_default-solver_given : goal.returns-in_default-solver_given
 returns-in_default-solver_given c = run_without_solver _ _ _ c.in-Some.ensures c.in-Some-sessions_given.ensures c.in_default-solver_given.ensures
 
 pub returns : goal.returns
-returns c = run_is _ _ _ _ _ _ c.in-Some.ensures c.in-Some-sessions_given.ensures c.in-Some-solver_given.ensures c.in_ok-file.ensures.ok c.new.ensures
+returns c =
+    run_is _ _ _ _ _ _ _ _ c.in-Some.ensures c.in-Some-sessions_given.ensures c.in-Some-solver_given.ensures c.in_ok-file.ensures.ok
+    c.is_set-json.ensures c.is_set-positions.ensures c.new.ensures

@@ -3,5 +3,5 @@ use Rattle.bc_print.proofs.declarations.write_all_declarations.Goals as goal
 
 pub returns-in_ok-write_declarations : goal.returns-in_ok-write_declarations
 returns-in_ok-write_declarations g c =
-    writes_first _ _ _ _ c.in-Some.first.now c.in-Some.others.now c.args.declarations.now c.in-Some.ensures.cases.0 (rw (c.text.ensures, c.first_word.ensures) at c.in_ok-write_all.ensures.bytes)
+    writes_first _ _ _ _ c.in-Some.first.now c.in-Some.others.now c.args.declarations.now c.in-Some.ensures.cases.0 (rw (c.text.ensures, c.first_word.ensures) at c.in_ok-put.ensures)
     c.in_ok-write_behind_word.ensures c.in_ok-write_declarations.ensures

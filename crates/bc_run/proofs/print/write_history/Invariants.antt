@@ -7,4 +7,4 @@ use Rattle.bc_run.proofs.print.write_history.Given as goal
 abbrev pub invariant-loop-entry : goal.invariant-loop-entry
 invariant-loop-entry g l =
     Appends (g.O.Write.contents l.initial.out) (g.O.Write.contents l.out)
-    (flat_map entry_lines (take l.entry-index l.entries))
+    (flat_map (entry_lines l.json) (take l.entry-index l.entries))

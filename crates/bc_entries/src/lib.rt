@@ -1,0 +1,9 @@
+//! The entries of a history as objects of JSON.
+#![tactic(auto)]
+
+mod entries;
+mod replies;
+mod words;
+
+pub use entries::{entry_line, put_entry};
+pub use words::{put_word, remove_word};

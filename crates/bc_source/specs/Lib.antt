@@ -1,0 +1,4 @@
+pub mod Sources
+pub mod Points
+pub mod Regions
+pub mod Report

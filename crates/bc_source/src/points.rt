@@ -1,0 +1,123 @@
+//! Where a point stands in a file, and its text.
+ghost use Rattle.std.specs.Prelude.{◌≡◌, ◌≤◌, ◌++◌, ◌+◌, length, map, reverse, take_while, OnOk};
+ghost use Rattle.std.specs.Io.KnownBytes.{Appends};
+ghost use Rattle.bc_position.specs.Positions.{position_in};
+ghost use Rattle.bc_source.specs.Points.{without_last_blanks, statement_at, in_one_line, position_text, place_text, place_line, point_line, is_blank, is_no_semicolon};
+
+use crate::starts::Start;
+use crate::unit::SourceUnit;
+use bc_mir::Point;
+use std::io;
+use std::io::Write;
+
+/// Whether a byte is a blank of a text.
+fn is_blank(byte: u8) -> bool
+    ensures { result ≡ is_blank byte }
+{
+    byte == b' ' || byte == b'\n'
+}
+
+/// How many blanks some bytes end with.
+fn count_last_blanks(bytes: &[u8]) -> usize
+    ensures { result ≡ length (take_while is_blank (reverse bytes.now)) }
+{
+    bytes
+        .iter()
+        .rev()
+        .take_while(|byte| is_blank(**byte))
+        .count()
+}
+
+/// How many bytes stand before the first `;`; all, where there is none.
+fn count_to_semicolon(bytes: &[u8]) -> usize
+    ensures { result ≡ length (take_while is_no_semicolon bytes.now) }
+{
+    bytes.iter().take_while(|byte| **byte != b';').count()
+}
+
+/// Bytes without the blanks at their end.
+fn without_last_blanks(bytes: &[u8]) -> &[u8]
+    ensures { result.now ≡ without_last_blanks bytes.now }
+{
+    let blanks = count_last_blanks(bytes);
+    &bytes[..bytes.len() - blanks]
+}
+
+/// The bytes before the first `;`.
+fn to_semicolon(bytes: &[u8]) -> &[u8]
+    ensures { result.now ≡ take_while is_no_semicolon bytes.now }
+{
+    let length = count_to_semicolon(bytes);
+    &bytes[..length]
+}
+
+/// The statement or the terminator that begins at this byte, without the `;` behind it.
+fn statement_at(text: &[u8], at: usize) -> &[u8]
+    ensures { result.now ≡ statement_at text.now at }
+{
+    without_last_blanks(to_semicolon(&text[at.min(text.len())..]))
+}
+
+/// Writes bytes in one line: each line feed as a space.
+fn write_in_one_line<W: Write>(bytes: &[u8], out: &mut W) -> io::Result<()>
+    ensures { OnOk result (Appends (W.contents out.old) (W.contents out.new) (map in_one_line bytes.now)) }
+{
+    for byte in bytes {
+        let byte = if *byte == b'\n' { b' ' } else { *byte };
+        out.write_all(&[byte])?;
+    }
+    Ok(())
+}
+
+/// Writes a line and a column of the file, behind a word.
+#[tactic(auto, unfolding(crate::specs::Points::position_text))]
+fn write_position<W: Write>(word: &str, line: u128, column: usize, out: &mut W) -> io::Result<()>
+    ensures { OnOk result (Appends (W.contents out.old) (W.contents out.new) (position_text word.now line column)) }
+{
+    write!(out, "    {word} {line}:{column} ")
+}
+
+/// Writes a line and a column of the file, and the text there, in one line.
+fn write_place<W: Write>(
+    word: &str,
+    line: u128,
+    column: usize,
+    text: &[u8],
+    out: &mut W,
+) -> io::Result<()>
+    ensures { OnOk result (Appends (W.contents out.old) (W.contents out.new) (place_text word.now line column text.now)) }
+{
+    write_position(word, line, column, out)?;
+    write_in_one_line(text, out)?;
+    out.write_all(b"\n")
+}
+
+/// Writes the line of what begins here.
+fn write_start<W: Write>(
+    word: &str,
+    source: &SourceUnit<'_>,
+    start: Start,
+    out: &mut W,
+) -> io::Result<()>
+    requires { start.position ≡ position_in source.now.text start.at }
+    ensures { OnOk result (Appends (W.contents out.old) (W.contents out.new) (place_line word.now source.now start.at)) }
+{
+    let line = source.line() as u128 + start.position.line as u128;
+    let text = statement_at(source.text(), start.at);
+    write_place(word, line, start.position.column, text, out)
+}
+
+/// Writes the line of a point, and nothing where the unit has no such point.
+pub(crate) fn write_point<W: Write>(
+    word: &str,
+    source: &SourceUnit<'_>,
+    point: Point,
+    out: &mut W,
+) -> io::Result<()>
+    ensures { OnOk result (Appends (W.contents out.old) (W.contents out.new) (point_line word.now source.now point)) }
+{
+    match source.start_of(point) {
+        Some(start) => write_start(word, source, start, out),
+        None => Ok(()),
+    }
+}

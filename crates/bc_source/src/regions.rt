@@ -1,0 +1,138 @@
+//! The names of the universal regions that an error tells of.
+ghost use Rattle.std.specs.Prelude.{◌≡◌, ◌≤◌, ◌+◌, ◌++◌, [], length, get_or, codes, OnOk};
+ghost use Rattle.std.specs.List.{list_any};
+ghost use Rattle.std.specs.Io.KnownBytes.{Appends};
+ghost use Rattle.bc_syntax.specs.Universals.{universal_names};
+ghost use Rattle.bc_report.specs.Text.{line as ended};
+ghost use Rattle.bc_source.specs.Regions.{is_universal, tells_of, tells_of_some, named, all_named, regions_text, regions_line};
+
+use bc_judge::BorrowError;
+use bc_syntax::{Region, RegionName};
+use std::io;
+use std::io::Write;
+
+/// Whether a region is the universal one of this number.
+fn is_universal(number: usize, region: Region) -> bool
+    ensures { result ≡ is_universal number region }
+{
+    match region {
+        Region::Universal(other) => other as usize == number,
+        Region::Variable(_) => false,
+    }
+}
+
+/// Whether the universal region of this number is among these.
+fn is_among(number: usize, regions: &[Region]) -> bool
+    ensures { result ≡ list_any (is_universal number) regions.now }
+{
+    regions.iter().any(|region| is_universal(number, *region))
+}
+
+/// Whether an error, or its chain, tells of the universal region of this number.
+fn tells_of(error: &BorrowError, number: usize) -> bool
+    ensures { result ≡ tells_of error.now number }
+{
+    match error {
+        BorrowError::Conflict {
+            at: _,
+            access: _,
+            loan: _,
+            chain,
+        } => is_among(number, chain.as_slice()),
+        BorrowError::Lifetime {
+            longer,
+            shorter,
+            chain,
+        } => {
+            *longer as usize == number
+                || *shorter as usize == number
+                || is_among(number, chain.as_slice())
+        }
+    }
+}
+
+/// Whether an error tells of one of the universal regions of the first so many numbers.
+fn tells_of_some(error: &BorrowError, count: usize) -> bool
+    ensures { result ≡ tells_of_some error.now count }
+{
+    let mut tells = false;
+    for number in 0..count {
+        tells = tells || tells_of(error, number);
+    }
+    tells
+}
+
+/// The name of a universal region, without its `'`.
+fn name_of(regions: &[RegionName], number: usize) -> &[u8]
+    requires { number ≤ length regions.now }
+    ensures { result.now ≡ get_or (universal_names regions.now) number [] }
+{
+    if number == 0 {
+        return b"static";
+    }
+    regions[number - 1].bytes.as_slice()
+}
+
+/// Writes a region's number and name, if the error tells of it.
+fn write_named<W: Write>(
+    error: &BorrowError,
+    regions: &[RegionName],
+    number: usize,
+    out: &mut W,
+) -> io::Result<()>
+    requires { number ≤ length regions.now }
+    ensures { OnOk result (Appends (W.contents out.old) (W.contents out.new) (named error.now (universal_names regions.now) number)) }
+{
+    if !tells_of(error, number) {
+        return Ok(());
+    }
+    write!(out, " {number} '")?;
+    out.write_all(name_of(regions, number))
+}
+
+/// Writes the numbers and names of the universal regions that an error tells of, by number.
+#[tactic(auto, unfolding(crate::specs::Regions::regions_text))]
+fn write_all_named<W: Write>(
+    error: &BorrowError,
+    regions: &[RegionName],
+    out: &mut W,
+) -> io::Result<()>
+    ensures { OnOk result (Appends (W.contents out.old) (W.contents out.new) (regions_text regions.now error.now)) }
+{
+    let count = regions.len() + 1;
+    for number in 0..count {
+        write_named(error, regions, number, out)?;
+    }
+    Ok(())
+}
+
+/// Writes the universal regions that an error tells of, behind the word for them.
+fn write_words<W: Write>(error: &BorrowError, regions: &[RegionName], out: &mut W) -> io::Result<()>
+    ensures { OnOk result (Appends (W.contents out.old) (W.contents out.new) (codes "    regions" ++ regions_text regions.now error.now)) }
+{
+    out.write_all(b"    regions")?;
+    write_all_named(error, regions, out)
+}
+
+/// Writes a line of the universal regions that an error tells of.
+fn write_line<W: Write>(error: &BorrowError, regions: &[RegionName], out: &mut W) -> io::Result<()>
+    ensures { OnOk result (Appends (W.contents out.old) (W.contents out.new) (ended (codes "    regions" ++ regions_text regions.now error.now))) }
+{
+    write_words(error, regions, out)?;
+    out.write_all(b"\n")
+}
+
+/// Writes the line of the universal regions that an error tells of, where the unit declares these; nothing, where it tells of none.
+#[tactic(auto, unfolding(crate::specs::Regions::regions_line))]
+pub(crate) fn write_regions<W: Write>(
+    error: &BorrowError,
+    regions: &[RegionName],
+    out: &mut W,
+) -> io::Result<()>
+    ensures { OnOk result (Appends (W.contents out.old) (W.contents out.new) (regions_line regions.now error.now)) }
+{
+    if !tells_of_some(error, regions.len() + 1) {
+        return Ok(());
+    }
+    write_line(error, regions, out)
+}

@@ -1,0 +1,102 @@
+//! Texts of units under their names.
+ghost use Rattle.std.specs.Prelude.{◌≡◌, ◌++◌, ◌∷◌, [], OnOk};
+ghost use Rattle.std.specs.Option.{option_copied};
+ghost use Rattle.bc_source.specs.Sources.{is_of, last_of};
+
+use bc_text::Name;
+use std::alloc::{AllocError, Global};
+use std::marker::Model;
+
+/// The text of a unit in a file: its name, how many lines of the file stand before it, and its bytes. It takes no memory.
+#[derive(Drop)]
+pub struct Source<'a> {
+    name: Name,
+    line: usize,
+    text: &'a [u8],
+}
+
+impl<'a> Model for Source<'a> {
+    ghost use Rattle.bc_source.specs.Sources.{SourceParts};
+
+    ghost Value = { SourceParts };
+
+    ghost view = { λ s. record { name = s.name; line = s.line; text = s.text.now } };
+}
+
+impl<'a> Source<'a> {
+    /// The text of a unit that is put under this name, `line` lines behind the beginning of the file.
+    pub fn new(name: Name, line: usize, text: &'a [u8]) -> Source<'a>
+        ensures { result ≡ record { name = name; line = line; text = text.now } }
+    {
+        Source { name, line, text }
+    }
+
+    /// The name that the unit is put under.
+    pub fn name(&self) -> Name
+        ensures { result ≡ self.now.name }
+    {
+        self.name
+    }
+
+    /// How many lines of the file stand before the text.
+    pub fn line(&self) -> usize
+        ensures { result ≡ self.now.line }
+    {
+        self.line
+    }
+
+    /// The bytes of the text.
+    pub fn text(&self) -> &'a [u8]
+        ensures { result.now ≡ self.now.text }
+    {
+        self.text
+    }
+}
+
+/// Whether a text has this name.
+fn is_of(name: &Name, source: &Source<'_>) -> bool
+    ensures { result ≡ is_of name.now source.now }
+{
+    source.name == *name
+}
+
+/// The texts of the units of a file, in its order. A contract sees them as a list.
+#[derive(Drop)]
+pub struct Sources<'a> {
+    texts: Vec<Source<'a>>,
+}
+
+impl<'a> Model for Sources<'a> {
+    ghost use Rattle.std.specs.Prelude.{List};
+    ghost use Rattle.bc_source.specs.Sources.{SourceParts};
+
+    ghost Value = { List SourceParts };
+
+    ghost view = { λ s. s.texts.items };
+}
+
+impl<'a> Sources<'a> {
+    /// No texts. It takes no memory.
+    pub fn new(alloc: Global) -> Sources<'a>
+        ensures { result ≡ [] }
+    {
+        Sources {
+            texts: Vec::new(alloc),
+        }
+    }
+
+    /// Puts a text behind the others. `AllocError` only where memory was refused.
+    pub fn push(&mut self, source: Source<'a>) -> Result<(), AllocError>
+        ensures { OnOk result (self.new ≡ self.old ++ source.entry ∷ []) }
+    {
+        self.texts.push(source)?;
+        Ok(())
+    }
+
+    /// The last text of a name, `None` where there is none.
+    pub fn last_of(&self, name: &Name) -> Option<&Source<'a>>
+        ensures { option_copied result ≡ last_of name.now self.now }
+    {
+        self.texts.iter().rev().find(|source| is_of(name, source))
+    }
+}
