@@ -91,13 +91,16 @@ fn push_required(
     ensures { OnOk result (pairs.new.items ≡ pairs.old.items ++ required_pairs typed.now kids.now rvalue.now) }
 {
     match rvalue {
-        Rvalue::Closure(creation) => match typed.child(creation.closure.number) {
-            Some(header) => {
-                let required = required_by(kids, creation.closure.number);
-                push_required_of(alloc, pairs, creation, required, header)
+        Rvalue::Closure(creation) => {
+            let creation = creation.get();
+            match typed.child(creation.closure.number) {
+                Some(header) => {
+                    let required = required_by(kids, creation.closure.number);
+                    push_required_of(alloc, pairs, creation, required, header)
+                }
+                None => Ok(()),
             }
-            None => Ok(()),
-        },
+        }
         Rvalue::Use(_) | Rvalue::Borrow(_) | Rvalue::Aggregate(_) | Rvalue::Calc(_) => Ok(()),
     }
 }
@@ -120,10 +123,10 @@ pub(crate) fn push_pairs_at(
             push_reborrow(alloc, pairs, references, typed, &assignment.value)
         }
         Instruction::Terminator(Terminator::Call(call)) => {
-            push_call_pairs(alloc, pairs, typed, call)
+            push_call_pairs(alloc, pairs, typed, call.get())
         }
         Instruction::Terminator(Terminator::Invoke(invocation)) => {
-            push_invocation_pairs(alloc, pairs, typed, invocation)
+            push_invocation_pairs(alloc, pairs, typed, invocation.get())
         }
         Instruction::Statement(Statement::Dead(_) | Statement::Drop(_) | Statement::Nop)
         | Instruction::Terminator(

@@ -240,8 +240,8 @@ fn rvalue_fits(limits: Limits, rvalue: &Rvalue) -> bool
     match rvalue {
         Rvalue::Use(operand) => operand_fits(limits, operand),
         Rvalue::Borrow(borrow) => borrow_fits(limits, borrow),
-        Rvalue::Aggregate(aggregate) => aggregate_fits(limits, aggregate),
-        Rvalue::Closure(creation) => creation_fits(limits, creation),
+        Rvalue::Aggregate(aggregate) => aggregate_fits(limits, aggregate.get()),
+        Rvalue::Closure(creation) => creation_fits(limits, creation.get()),
         Rvalue::Calc(operands) => operands_fit(limits, operands.as_slice()),
     }
 }
@@ -301,8 +301,8 @@ fn terminator_fits(limits: Limits, terminator: &Terminator) -> bool
     match terminator {
         Terminator::Goto(label) => *label <= u8::MAX,
         Terminator::If(condition) => condition_fits(limits, condition),
-        Terminator::Call(call) => call_fits(limits, call),
-        Terminator::Invoke(invocation) => invocation_fits(limits, invocation),
+        Terminator::Call(call) => call_fits(limits, call.get()),
+        Terminator::Invoke(invocation) => invocation_fits(limits, invocation.get()),
         Terminator::Return => true,
         Terminator::Stop => true,
     }

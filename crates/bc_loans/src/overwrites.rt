@@ -19,10 +19,10 @@ fn kills(path: &PlaceRef<'_>, instruction: &Instruction) -> bool
             is_prefix(&PlaceRef::of_local(*local), path)
         }
         Instruction::Terminator(Terminator::Call(call)) => {
-            is_prefix(&PlaceRef::of(&call.destination), path)
+            is_prefix(&PlaceRef::of(&call.get().destination), path)
         }
         Instruction::Terminator(Terminator::Invoke(invocation)) => {
-            is_prefix(&PlaceRef::of(&invocation.destination), path)
+            is_prefix(&PlaceRef::of(&invocation.get().destination), path)
         }
         Instruction::Statement(Statement::Drop(_) | Statement::Nop)
         | Instruction::Terminator(

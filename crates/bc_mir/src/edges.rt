@@ -46,8 +46,10 @@ fn push_terminator_edges(
             push_edge(edges, entries, point, condition.then)?;
             push_edge(edges, entries, point, condition.otherwise)
         }
-        Terminator::Call(call) => push_edge(edges, entries, point, call.target),
-        Terminator::Invoke(invocation) => push_edge(edges, entries, point, invocation.target),
+        Terminator::Call(call) => push_edge(edges, entries, point, call.get().target),
+        Terminator::Invoke(invocation) => {
+            push_edge(edges, entries, point, invocation.get().target)
+        }
         Terminator::Return | Terminator::Stop => Ok(()),
     }
 }

@@ -148,10 +148,10 @@ fn takes_value(draft: &Draft, target: &Shape<'_>, value: &Rvalue) -> bool
         Rvalue::Use(operand) => operand_has_shape(draft, operand, target),
         Rvalue::Borrow(borrow) => takes_borrow(draft, target, borrow),
         Rvalue::Aggregate(aggregate) => {
-            target.is_struct(&aggregate.instance) && can_create(draft, aggregate)
+            target.is_struct(&aggregate.get().instance) && can_create(draft, aggregate.get())
         }
         Rvalue::Closure(creation) => {
-            target.is_closure(&creation.closure) && can_capture(draft, creation)
+            target.is_closure(&creation.get().closure) && can_capture(draft, creation.get())
         }
         Rvalue::Calc(operands) => {
             target.is_int() && are_operands_int(draft, operands.as_slice())
@@ -278,8 +278,8 @@ pub(crate) fn terminator_keeps_rules(draft: &Draft, terminator: &Terminator) -> 
     match terminator {
         Terminator::Goto(label) => draft.has_block(*label),
         Terminator::If(condition) => condition_keeps_rules(draft, condition),
-        Terminator::Call(call) => call_keeps_rules(draft, call),
-        Terminator::Invoke(invocation) => invocation_keeps_rules(draft, invocation),
+        Terminator::Call(call) => call_keeps_rules(draft, call.get()),
+        Terminator::Invoke(invocation) => invocation_keeps_rules(draft, invocation.get()),
         Terminator::Return => true,
         Terminator::Stop => true,
     }

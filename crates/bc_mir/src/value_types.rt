@@ -237,6 +237,7 @@ pub(crate) fn type_of_rvalue(
         Rvalue::Use(operand) => type_of_operand(alloc, draft, operand),
         Rvalue::Borrow(borrow) => type_of_borrow(alloc, draft, borrow),
         Rvalue::Aggregate(aggregate) => {
+            let aggregate = aggregate.get();
             if can_create(draft, aggregate) {
                 Ok(Some(struct_type(alloc, &aggregate.instance)?))
             } else {
@@ -244,6 +245,7 @@ pub(crate) fn type_of_rvalue(
             }
         }
         Rvalue::Closure(creation) => {
+            let creation = creation.get();
             if can_capture(draft, creation) {
                 Ok(Some(closure_type(alloc, &creation.closure)?))
             } else {

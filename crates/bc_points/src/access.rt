@@ -94,8 +94,11 @@ fn push_rvalue<'a>(accesses: &mut Vec<Access<'a>>, rvalue: &'a Rvalue) -> Result
             let kind = borrow_access(borrow.reference.mutability);
             push_access(accesses, Depth::Deep, kind, PlaceRef::of(&borrow.place))
         }
-        Rvalue::Aggregate(aggregate) => push_operands(accesses, aggregate.operands.as_slice()),
-        Rvalue::Closure(creation) => push_operands(accesses, creation.operands.as_slice()),
+        Rvalue::Aggregate(aggregate) => push_operands(
+            accesses,
+            aggregate.get().operands.as_slice(),
+        ),
+        Rvalue::Closure(creation) => push_operands(accesses, creation.get().operands.as_slice()),
         Rvalue::Calc(operands) => push_operands(accesses, operands.as_slice()),
     }
 }
@@ -179,10 +182,12 @@ fn push_terminator<'a>(
     match terminator {
         Terminator::If(condition) => push_operand(accesses, &condition.operand),
         Terminator::Call(call) => {
+            let call = call.get();
             push_operands(accesses, call.operands.as_slice())?;
             push_write(accesses, PlaceRef::of(&call.destination))
         }
         Terminator::Invoke(invocation) => {
+            let invocation = invocation.get();
             let closure = PlaceRef::of(&invocation.closure);
             push_access(accesses, Depth::Deep, AccessKind::Write, closure)?;
             push_operands(accesses, invocation.operands.as_slice())?;

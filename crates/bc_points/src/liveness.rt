@@ -36,8 +36,8 @@ fn push_rvalue(locals: &mut Vec<u8>, rvalue: &Rvalue) -> Result<(), AllocError>
             locals.push(borrow.place.local)?;
             Ok(())
         }
-        Rvalue::Aggregate(aggregate) => push_operands(locals, aggregate.operands.as_slice()),
-        Rvalue::Closure(creation) => push_operands(locals, creation.operands.as_slice()),
+        Rvalue::Aggregate(aggregate) => push_operands(locals, aggregate.get().operands.as_slice()),
+        Rvalue::Closure(creation) => push_operands(locals, creation.get().operands.as_slice()),
         Rvalue::Calc(operands) => push_operands(locals, operands.as_slice()),
     }
 }
@@ -93,10 +93,12 @@ pub fn push_uses(
             push_operand(used, &condition.operand)
         }
         Instruction::Terminator(Terminator::Call(call)) => {
+            let call = call.get();
             push_operands(used, call.operands.as_slice())?;
             push_target(used, &call.destination)
         }
         Instruction::Terminator(Terminator::Invoke(invocation)) => {
+            let invocation = invocation.get();
             used.push(invocation.closure.local)?;
             push_operands(used, invocation.operands.as_slice())?;
             push_target(used, &invocation.destination)
@@ -128,9 +130,9 @@ pub fn defines(instruction: &Instruction) -> Option<u8>
     match instruction {
         Instruction::Statement(Statement::Assign(assignment)) => { defined_by(&assignment.target) }
         Instruction::Statement(Statement::Dead(local)) => Some(*local),
-        Instruction::Terminator(Terminator::Call(call)) => defined_by(&call.destination),
+        Instruction::Terminator(Terminator::Call(call)) => defined_by(&call.get().destination),
         Instruction::Terminator(Terminator::Invoke(invocation)) => {
-            defined_by(&invocation.destination)
+            defined_by(&invocation.get().destination)
         }
         Instruction::Statement(Statement::Drop(_) | Statement::Nop)
         | Instruction::Terminator(

@@ -306,21 +306,27 @@ fn push_field_pairs(
 {
     match rvalue {
         Rvalue::Use(_) | Rvalue::Borrow(_) | Rvalue::Calc(_) => Ok(()),
-        Rvalue::Closure(creation) => match typed.child(creation.closure.number) {
-            Some(header) => push_captured_pairs(alloc, constraints, typed, creation, header),
-            None => Ok(()),
-        },
-        Rvalue::Aggregate(aggregate) => match typed.types().struct_of(&aggregate.instance.name) {
-            Some(declaration) => push_operand_pairs(
-                alloc,
-                constraints,
-                typed,
-                aggregate.instance.regions.as_slice(),
-                aggregate.operands.as_slice(),
-                declaration.fields.as_slice(),
-            ),
-            None => Ok(()),
-        },
+        Rvalue::Closure(creation) => {
+            let creation = creation.get();
+            match typed.child(creation.closure.number) {
+                Some(header) => push_captured_pairs(alloc, constraints, typed, creation, header),
+                None => Ok(()),
+            }
+        }
+        Rvalue::Aggregate(aggregate) => {
+            let aggregate = aggregate.get();
+            match typed.types().struct_of(&aggregate.instance.name) {
+                Some(declaration) => push_operand_pairs(
+                    alloc,
+                    constraints,
+                    typed,
+                    aggregate.instance.regions.as_slice(),
+                    aggregate.operands.as_slice(),
+                    declaration.fields.as_slice(),
+                ),
+                None => Ok(()),
+            }
+        }
     }
 }
 

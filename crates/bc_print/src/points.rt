@@ -123,8 +123,8 @@ fn write_rvalue<W: Write>(
             write_symbol(Symbol::Ampersand, out)?;
             write_borrow(regions, borrow, out)
         }
-        Rvalue::Aggregate(aggregate) => write_aggregate(regions, aggregate, out),
-        Rvalue::Closure(creation) => write_creation(regions, creation, out),
+        Rvalue::Aggregate(aggregate) => write_aggregate(regions, aggregate.get(), out),
+        Rvalue::Closure(creation) => write_creation(regions, creation.get(), out),
         Rvalue::Calc(operands) => {
             write_symbol(Symbol::Calc, out)?;
             write_operands(operands.as_slice(), out)
@@ -258,8 +258,8 @@ fn write_terminator<W: Write>(
             write_symbol(Symbol::If, out)?;
             write_condition(condition, out)
         }
-        Terminator::Call(call) => write_call(regions, call, out),
-        Terminator::Invoke(invocation) => write_invocation(regions, invocation, out),
+        Terminator::Call(call) => write_call(regions, call.get(), out),
+        Terminator::Invoke(invocation) => write_invocation(regions, invocation.get(), out),
         Terminator::Return => write_symbol(Symbol::Return, out),
         Terminator::Stop => write_symbol(Symbol::Stop, out),
     }

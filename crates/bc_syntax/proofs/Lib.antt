@@ -3,3 +3,4 @@ pub mod Fronts
 pub mod Equality
 pub mod Signatures
 pub mod Marks
+pub mod Projected

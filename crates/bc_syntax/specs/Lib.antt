@@ -8,3 +8,4 @@ pub mod Fits
 pub mod Token
 pub mod Universals
 pub mod Spelling
+pub mod Projections

@@ -42,7 +42,7 @@ fn mark_rvalue(marks: &mut [bool; CLOSURES], rvalue: &Rvalue)
 {
     match rvalue {
         Rvalue::Use(_) | Rvalue::Borrow(_) | Rvalue::Aggregate(_) | Rvalue::Calc(_) => {}
-        Rvalue::Closure(creation) => mark(marks, creation.closure.number),
+        Rvalue::Closure(creation) => mark(marks, creation.get().closure.number),
     }
 }
 

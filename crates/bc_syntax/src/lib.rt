@@ -2,11 +2,13 @@
 //! the symbols that are always spelled the same.
 #![tactic(auto)]
 
+mod apart;
 mod bytes;
 mod closures;
 mod declarations;
 mod locals;
 mod numbering;
+mod projections;
 mod region_names;
 mod sequence;
 mod symbol;
@@ -14,9 +16,11 @@ mod syntax;
 mod unit;
 mod words;
 
+pub use apart::Apart;
 pub use bytes::{behind, byte_at, from, is_run_byte, region_len, run, run_len};
 pub use declarations::{Types, is_struct};
 pub use numbering::Numbering;
+pub use projections::Projections;
 pub use region_names::is_new;
 pub use sequence::{Sequence, ShortSequence};
 pub use symbol::{Symbol, same};

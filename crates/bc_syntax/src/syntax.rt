@@ -1,4 +1,6 @@
 //! Bodies with their headers, as their texts give them: plain data.
+use crate::apart::Apart;
+use crate::projections::Projections;
 use crate::sequence::{Sequence, ShortSequence};
 
 /// A region: a universal one, by its number, where 0 is `'static` and the declared ones follow in the order of
@@ -79,14 +81,14 @@ pub enum Projection {
 }
 
 /// A local, and the projections that lead on from it. (rustc-dev-guide, "The MIR".)
-#[derive(Clone, Drop, PartialEq)]
+#[derive(Clone, Copy, PartialEq)]
 pub struct Place {
     pub local: u8,
-    pub projections: ShortSequence<Projection, 8>,
+    pub projections: Projections,
 }
 
 /// What an rvalue or a terminator reads. (rustc-dev-guide, "The MIR".)
-#[derive(Clone, Drop, PartialEq)]
+#[derive(Clone, Copy, PartialEq)]
 pub enum Operand {
     Copy(Place),
     Move(Place),
@@ -105,7 +107,7 @@ impl Default for Operand {
 }
 
 /// `&R P` or `&R mut P`. Own.
-#[derive(Clone, Drop, PartialEq)]
+#[derive(Clone, Copy, PartialEq)]
 pub struct Borrow {
     pub reference: Reference,
     pub place: Place,
@@ -130,8 +132,8 @@ pub struct Creation {
 pub enum Rvalue {
     Use(Operand),
     Borrow(Borrow),
-    Aggregate(Aggregate),
-    Closure(Creation),
+    Aggregate(Apart<Aggregate>),
+    Closure(Apart<Creation>),
     Calc(ShortSequence<Operand, 2>),
 }
 
@@ -152,7 +154,7 @@ pub enum Statement {
 }
 
 /// `if operand then otherwise`, two labels. Own.
-#[derive(Clone, Drop, PartialEq)]
+#[derive(Clone, Copy, PartialEq)]
 pub struct Condition {
     pub operand: Operand,
     pub then: u8,
@@ -184,8 +186,8 @@ pub struct Invocation {
 pub enum Terminator {
     Goto(u8),
     If(Condition),
-    Call(Call),
-    Invoke(Invocation),
+    Call(Apart<Call>),
+    Invoke(Apart<Invocation>),
     Return,
     Stop,
 }

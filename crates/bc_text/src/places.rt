@@ -6,8 +6,8 @@ ghost use Rattle.bc_text.specs.Reading as spec;
 use crate::regions::{closure_instance, instance, refuse_past};
 use crate::types::reference;
 use bc_syntax::{
-    Aggregate, Borrow, Creation, Numbering, Operand, Place, Projection, RegionName, Rvalue,
-    ShortSequence, Symbol,
+    Aggregate, Apart, Borrow, Creation, Numbering, Operand, Place, Projection, Projections,
+    RegionName, Rvalue, ShortSequence, Symbol,
 };
 use bc_tokens::{Cursor, Refusal};
 use std::alloc::Global;
@@ -39,18 +39,15 @@ fn projection(cursor: &mut Cursor<'_>) -> Result<Projection, Refusal>
     }
 }
 
-fn some_projections(
-    alloc: Global,
-    cursor: &mut Cursor<'_>,
-) -> Result<ShortSequence<Projection, 8>, Refusal>
+fn some_projections(cursor: &mut Cursor<'_>) -> Result<Projections, Refusal>
     ensures { Reads (spec.projections_from 8 [] cursor.old) result cursor.new }
 {
-    let mut found = ShortSequence::new(alloc);
+    let mut found = Projections::new();
     for _turn in 0..8u8 {
         if !cursor.eat(Symbol::Dot) {
             return Ok(found);
         }
-        found.push(projection(cursor)?)?;
+        found.push(projection(cursor)?);
     }
     if cursor.sees(Symbol::Dot) {
         return Err(Refusal::Limit {
@@ -62,37 +59,34 @@ fn some_projections(
 
 /// The projections behind a local: mostly none, and then there is no list that a place would have to take over.
 #[inline(always)]
-fn projections(
-    alloc: Global,
-    cursor: &mut Cursor<'_>,
-) -> Result<ShortSequence<Projection, 8>, Refusal>
+fn projections(cursor: &mut Cursor<'_>) -> Result<Projections, Refusal>
     ensures { Reads (spec.projections_from 8 [] cursor.old) result cursor.new }
 {
     if cursor.sees(Symbol::Dot) {
-        some_projections(alloc, cursor)
+        some_projections(cursor)
     } else {
-        Ok(ShortSequence::new(alloc))
+        Ok(Projections::new())
     }
 }
 
 /// A place. Own.
 #[inline(always)]
 #[tactic(auto, unfolding(crate::specs::Reading::place))]
-pub fn place(alloc: Global, cursor: &mut Cursor<'_>, locals: u16) -> Result<Place, Refusal>
+pub fn place(cursor: &mut Cursor<'_>, locals: u16) -> Result<Place, Refusal>
     ensures { Reads (spec.place locals cursor.old) result cursor.new }
 {
     let local = local(cursor, locals)?;
-    let projections = projections(alloc, cursor)?;
+    let projections = projections(cursor)?;
     Ok(Place { local, projections })
 }
 
 #[inline(always)]
 #[tactic(auto, unfolding(crate::specs::Reading::moved))]
-fn moved(alloc: Global, cursor: &mut Cursor<'_>, locals: u16) -> Result<Operand, Refusal>
+fn moved(cursor: &mut Cursor<'_>, locals: u16) -> Result<Operand, Refusal>
     ensures { Reads (spec.moved locals cursor.old) result cursor.new }
 {
     if cursor.eat(Symbol::Move) {
-        Ok(Operand::Move(place(alloc, cursor, locals)?))
+        Ok(Operand::Move(place(cursor, locals)?))
     } else {
         Ok(Operand::Number(cursor.numbered(Numbering::Number, u32::MAX)?))
     }
@@ -101,13 +95,13 @@ fn moved(alloc: Global, cursor: &mut Cursor<'_>, locals: u16) -> Result<Operand,
 /// An operand. Own.
 #[inline(always)]
 #[tactic(auto, unfolding(crate::specs::Reading::operand))]
-pub fn operand(alloc: Global, cursor: &mut Cursor<'_>, locals: u16) -> Result<Operand, Refusal>
+pub fn operand(cursor: &mut Cursor<'_>, locals: u16) -> Result<Operand, Refusal>
     ensures { Reads (spec.operand locals cursor.old) result cursor.new }
 {
     if cursor.eat(Symbol::Copy) {
-        Ok(Operand::Copy(place(alloc, cursor, locals)?))
+        Ok(Operand::Copy(place(cursor, locals)?))
     } else {
-        moved(alloc, cursor, locals)
+        moved(cursor, locals)
     }
 }
 
@@ -128,7 +122,7 @@ fn some_operands(
 {
     let mut found = ShortSequence::new(alloc);
     for _turn in 0..16u8 {
-        found.push(operand(alloc, cursor, locals)?)?;
+        found.push(operand(cursor, locals)?)?;
         if !cursor.eat(Symbol::Comma) {
             return Ok(found);
         }
@@ -155,17 +149,12 @@ pub fn operands(
 }
 
 #[tactic(auto, unfolding(crate::specs::Reading::borrow))]
-fn borrow(
-    alloc: Global,
-    cursor: &mut Cursor<'_>,
-    regions: &[RegionName],
-    locals: u16,
-) -> Result<Borrow, Refusal>
+fn borrow(cursor: &mut Cursor<'_>, regions: &[RegionName], locals: u16) -> Result<Borrow, Refusal>
     requires { length regions.now ≤ 15 }
     ensures { Reads (spec.borrow regions.now locals cursor.old) result cursor.new }
 {
     let reference = reference(cursor, true, regions)?;
-    let place = place(alloc, cursor, locals)?;
+    let place = place(cursor, locals)?;
     Ok(Borrow { reference, place })
 }
 
@@ -212,16 +201,19 @@ pub fn rvalue(
     ensures { Reads (spec.rvalue regions.now locals cursor.old) result cursor.new }
 {
     if cursor.eat(Symbol::Ampersand) {
-        return Ok(Rvalue::Borrow(borrow(alloc, cursor, regions, locals)?));
+        return Ok(Rvalue::Borrow(borrow(cursor, regions, locals)?));
     }
     if cursor.eat(Symbol::Calc) {
         return Ok(Rvalue::Calc(operands(alloc, cursor, locals)?));
     }
     if cursor.sees_word() {
-        return Ok(Rvalue::Aggregate(aggregate(alloc, cursor, regions, locals)?));
+        return Ok(Rvalue::Aggregate(Apart::new(
+            alloc,
+            aggregate(alloc, cursor, regions, locals)?,
+        )?));
     }
     if cursor.eat(Symbol::Closure) {
-        return Ok(Rvalue::Closure(creation(alloc, cursor, regions, locals)?));
+        return Ok(Rvalue::Closure(Apart::new(alloc, creation(alloc, cursor, regions, locals)?)?));
     }
-    Ok(Rvalue::Use(operand(alloc, cursor, locals)?))
+    Ok(Rvalue::Use(operand(cursor, locals)?))
 }

@@ -6,8 +6,8 @@ ghost use Rattle.bc_text.specs.Reading as spec;
 use crate::places::{local, operand, operands, place, rvalue};
 use crate::regions::{arguments, instance};
 use bc_syntax::{
-    Assignment, Call, Condition, Invocation, Numbering, Place, RegionName, Statement, Symbol,
-    Terminator,
+    Apart, Assignment, Call, Condition, Invocation, Numbering, Place, RegionName, Statement,
+    Symbol, Terminator,
 };
 use bc_tokens::{Cursor, Refusal};
 use std::alloc::Global;
@@ -61,7 +61,7 @@ fn invoked(
     requires { length regions.now ≤ 15 }
     ensures { Reads (spec.invoked regions.now locals destination cursor.old) result cursor.new }
 {
-    let closure = place(alloc, cursor, locals)?;
+    let closure = place(cursor, locals)?;
     let regions = arguments(alloc, cursor, true, regions)?;
     let operands = operands(alloc, cursor, locals)?;
     let label = label(cursor)?;
@@ -85,15 +85,15 @@ fn assignment(
     requires { length regions.now ≤ 15 }
     ensures { Reads (spec.assignment regions.now locals cursor.old) result cursor.new }
 {
-    let target = place(alloc, cursor, locals)?;
+    let target = place(cursor, locals)?;
     cursor.expect(Symbol::Equals)?;
     if cursor.eat(Symbol::Call) {
         let call = called(alloc, cursor, regions, locals, target)?;
-        return Ok(Point::Terminator(Terminator::Call(call)));
+        return Ok(Point::Terminator(Terminator::Call(Apart::new(alloc, call)?)));
     }
     if cursor.eat(Symbol::Invoke) {
         let invocation = invoked(alloc, cursor, regions, locals, target)?;
-        return Ok(Point::Terminator(Terminator::Invoke(invocation)));
+        return Ok(Point::Terminator(Terminator::Invoke(Apart::new(alloc, invocation)?)));
     }
     let value = rvalue(alloc, cursor, regions, locals)?;
     let assignment = Assignment { target, value };
@@ -101,10 +101,10 @@ fn assignment(
 }
 
 #[tactic(auto, unfolding(crate::specs::Reading::condition))]
-fn condition(alloc: Global, cursor: &mut Cursor<'_>, locals: u16) -> Result<Condition, Refusal>
+fn condition(cursor: &mut Cursor<'_>, locals: u16) -> Result<Condition, Refusal>
     ensures { Reads (spec.condition locals cursor.old) result cursor.new }
 {
-    let operand = operand(alloc, cursor, locals)?;
+    let operand = operand(cursor, locals)?;
     let then = label(cursor)?;
     let otherwise = label(cursor)?;
     Ok(Condition {
@@ -130,7 +130,7 @@ fn dying(
         return Ok(Point::Statement(Statement::Dead(local(cursor, locals)?)));
     }
     if cursor.eat(Symbol::Drop) {
-        let place = place(alloc, cursor, locals)?;
+        let place = place(cursor, locals)?;
         return Ok(Point::Statement(Statement::Drop(place)));
     }
     if cursor.eat(Symbol::Nop) {
@@ -160,7 +160,7 @@ pub fn read_point(
         return Ok(Point::Terminator(Terminator::Goto(label(cursor)?)));
     }
     if cursor.eat(Symbol::If) {
-        let condition = condition(alloc, cursor, locals)?;
+        let condition = condition(cursor, locals)?;
         return Ok(Point::Terminator(Terminator::If(condition)));
     }
     dying(alloc, cursor, regions, locals)

@@ -135,6 +135,7 @@ fn is_calculation(statement: &Statement) -> bool {
 fn is_creation(statement: &Statement) -> bool {
     match assigned(statement, 4, &[]) {
         Some(Rvalue::Aggregate(made)) => {
+            let made = made.get();
             is_instance(&made.instance, b"Pair", &[Region::Variable(1023), B])
                 && matches!(made.operands.as_slice(), [first, second]
                     if is_move(first, 1, &[]) && is_number(second, 5))
@@ -175,6 +176,7 @@ fn is_condition(condition: &Condition) -> bool {
 fn is_call(terminator: &Terminator) -> bool {
     match terminator {
         Terminator::Call(call) => {
+            let call = call.get();
             is_place(&call.destination, 4, &[Projection::Field(1)])
                 && is_instance(&call.function, b"make", &[Region::Variable(2), B])
                 && matches!(call.operands.as_slice(), [operand] if is_copy(operand, 2))
@@ -244,6 +246,7 @@ fn are_closures(lets: &[Ty]) -> bool {
 fn is_first_closure_made(statement: &Statement) -> bool {
     match assigned(statement, 4, &[]) {
         Some(Rvalue::Closure(made)) => {
+            let made = made.get();
             is_closure(&made.closure, 63, &[Region::Variable(3), A])
                 && matches!(made.operands.as_slice(), [first, second, third]
                     if is_copy(first, 1) && is_move(second, 2, &[Projection::Field(0)]) && is_number(third, 5))
@@ -255,6 +258,7 @@ fn is_first_closure_made(statement: &Statement) -> bool {
 fn is_second_closure_made(statement: &Statement) -> bool {
     match assigned(statement, 5, &[]) {
         Some(Rvalue::Closure(made)) => {
+            let made = made.get();
             is_closure(&made.closure, 7, &[]) && made.operands.as_slice().is_empty()
         }
         _ => false,
@@ -265,6 +269,7 @@ fn is_invocation(terminator: &Terminator) -> bool {
     let regions = [B, Region::Variable(9)];
     match terminator {
         Terminator::Invoke(invocation) => {
+            let invocation = invocation.get();
             is_place(&invocation.destination, 4, &[Projection::Field(1)])
                 && is_place(&invocation.closure, 5, &[Projection::Deref])
                 && invocation.regions.as_slice() == regions.as_slice()

@@ -7,27 +7,27 @@ use Rattle.bc_text.proofs.places.some_projections.Goals as goal
 pub returns-then-not-eat : goal.returns-then-not-eat
 unfolding projections_turn
 returns-then-not-eat c =
-    let turn = one_more (λ n. projections_from n c.loop-turn.found c.loop-turn.cursor) 8 c.loop-turn._turn c.loop-turn-test.true c.loop-turn.invariant ∙ projections_go _ _ _ in
+    let turn = one_more (λ n. projections_from n c.loop-turn.found c.loop-turn.cursor) 8 c.loop-turn._turn c.loop-turn-test.true c.loop-turn.invariant.0 ∙ projections_go _ _ _ in
     first_of (search rules, grind (arith, common_steps))
 
 pub returns-in_err-projection : goal.returns-in_err-projection
 unfolding projections_turn
 returns-in_err-projection c =
-    let turn = one_more (λ n. projections_from n c.loop-turn.found c.loop-turn.cursor) 8 c.loop-turn._turn c.loop-turn-test.true c.loop-turn.invariant ∙ projections_go _ _ _ in
+    let turn = one_more (λ n. projections_from n c.loop-turn.found c.loop-turn.cursor) 8 c.loop-turn._turn c.loop-turn-test.true c.loop-turn.invariant.0 ∙ projections_go _ _ _ in
     first_of (search rules, grind (arith, common_steps))
 
 pub loop-turn-preserved : goal.loop-turn-preserved
 unfolding projections_turn
 loop-turn-preserved c =
-    let turn = one_more (λ n. projections_from n c.loop-turn.found c.loop-turn.cursor) 8 c.loop-turn._turn c.loop-turn-test.true c.loop-turn.invariant ∙ projections_go _ _ _ in
+    let turn = one_more (λ n. projections_from n c.loop-turn.found c.loop-turn.cursor) 8 c.loop-turn._turn c.loop-turn-test.true c.loop-turn.invariant.0 ∙ projections_go _ _ _ in
     first_of (search rules, grind (arith, common_steps))
 
 pub returns : goal.returns
 returns c =
-    let stop = no_more (λ n. projections_from n c.loop-turn.found c.loop-turn.cursor) 8 c.loop-turn._turn c.loop-turn-test.false c.loop-turn.invariant ∙ projections_stop _ _ in
+    let stop = no_more (λ n. projections_from n c.loop-turn.found c.loop-turn.cursor) 8 c.loop-turn._turn c.loop-turn-test.false c.loop-turn.invariant.0 ∙ projections_stop _ _ in
     first_of (search rules, grind (arith, common_steps))
 
 pub returns-then-sees : goal.returns-then-sees
 returns-then-sees c =
-    let stop = no_more (λ n. projections_from n c.loop-turn.found c.loop-turn.cursor) 8 c.loop-turn._turn c.loop-turn-test.false c.loop-turn.invariant ∙ projections_stop _ _ in
+    let stop = no_more (λ n. projections_from n c.loop-turn.found c.loop-turn.cursor) 8 c.loop-turn._turn c.loop-turn-test.false c.loop-turn.invariant.0 ∙ projections_stop _ _ in
     first_of (search rules, grind (arith, common_steps))

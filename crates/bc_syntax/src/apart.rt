@@ -1,0 +1,56 @@
+//! Values that lie apart from what holds them. A contract sees such a value as itself.
+ghost use Rattle.std.specs.Prelude.{◌≡◌, IfOk};
+
+use std::alloc::{AllocError, Global};
+use std::marker::Model;
+
+/// A value that is rare and large, and so lies apart from what holds it, which stays small. Own.
+#[derive(Drop)]
+pub struct Apart<T> {
+    value: Box<T>,
+}
+
+impl<T> Model for Apart<T> {
+    ghost Value = { T };
+
+    ghost view = { λ a. a.value.value };
+}
+
+impl<T> Apart<T> {
+    /// The value. Own.
+    pub fn get(&self) -> &T
+        ensures { result.now ≡ self.now }
+    {
+        self.value.as_ref()
+    }
+}
+
+impl<T: Drop> Apart<T> {
+    /// The value, laid apart. Answers `AllocError` only where memory was refused. Own.
+    pub fn new(alloc: Global, value: T) -> Result<Self, AllocError>
+        ensures { IfOk result (λ made. made ≡ value) }
+    {
+        let value = Box::new(alloc, value)?;
+        Ok(Apart { value })
+    }
+}
+
+impl<T: Clone> Clone for Apart<T> {
+    ghost is_clone = { λ s t. T.is_clone s t };
+
+    fn clone(&self) -> Result<Self, AllocError> {
+        Ok(Apart {
+            value: self.value.clone()?,
+        })
+    }
+}
+
+impl<T: PartialEq> PartialEq for Apart<T> {
+    ghost eq = { T.eq };
+
+    ghost laws = { T.laws };
+
+    fn eq(&self, other: &Self) -> bool {
+        *self.get() == *other.get()
+    }
+}

@@ -1,0 +1,72 @@
+//! The projections of a place, which lie in the place itself.
+ghost use Rattle.std.specs.Prelude.{◌≡◌, ◌<◌, ◌++◌, ◌∷◌, [], length};
+
+use crate::syntax::Projection;
+use std::marker::Model;
+
+/// At most eight projections, in order, as a value that is copied. A contract sees the list of them. (rustc-dev-guide, "The MIR".)
+#[derive(Clone, Copy)]
+pub struct Projections {
+    steps: [Projection; 8],
+    count: u8,
+}
+
+impl Model for Projections {
+    ghost use Rattle.std.specs.Prelude.{List};
+    ghost use Rattle.bc_syntax.specs.declared.syntax.Projection.{Projection};
+
+    ghost Value = { List Projection };
+
+    ghost use Rattle.bc_syntax.specs.Projections.{used, IsStored, stored, gives_back};
+
+    ghost view = { used };
+
+    ghost invariant = { IsStored };
+
+    ghost inverse = { stored };
+
+    ghost inverse_ok = { gives_back };
+}
+
+impl Projections {
+    /// No projection. Own.
+    pub fn new() -> Self
+        ensures { result ≡ [] }
+    {
+        Projections {
+            steps: [Projection::Deref; 8],
+            count: 0,
+        }
+    }
+
+    /// The projections, in order. Own.
+    pub fn as_slice(&self) -> &[Projection]
+        ensures { result.now ≡ self.now }
+    {
+        &self.steps[..usize::from(self.count)]
+    }
+
+    /// Puts a projection behind the others, of which there are at most seven. Own.
+    #[inline(always)]
+    pub fn push(&mut self, projection: Projection)
+        requires { length self.old < 8 }
+        ensures { self.new ≡ self.old ++ projection ∷ [] }
+    {
+        self.steps[usize::from(self.count)] = projection;
+        self.count += 1;
+    }
+}
+
+impl PartialEq for Projections {
+    ghost use Rattle.std.specs.Cmp.Lexicographic.{pointwise, lists_per};
+    ghost use Rattle.bc_syntax.specs.contracts.syntax.ProjectionPartialEq.TheImpl as projection_impl;
+    ghost use Rattle.bc_syntax.specs.contracts.syntax.ProjectionPartialEq.TheImpl.Laws.{laws-law};
+
+    ghost eq = { λ s t. pointwise (projection_impl.ghosts).eq s t };
+
+    ghost laws = { lists_per laws-law };
+
+    fn eq(&self, other: &Self) -> bool {
+        self.as_slice() == other.as_slice()
+    }
+}
