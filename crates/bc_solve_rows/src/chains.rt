@@ -157,6 +157,7 @@ fn a_chain_goes_through_as_many_regions_as_a_body_has(rt: HostRuntime) -> Result
     let facts = Facts::new(16, starts, pairs, 1);
     let found = explain(alloc, &facts, 0, 0)?;
     let chain = found.as_deref().unwrap_or(&[]);
-    assert!(rt; chain.len() == 1040 && goes_by_number(chain));
+    assert_eq!(rt; chain.len(), 1040);
+    assert!(rt; goes_by_number(chain));
     Ok(())
 }
