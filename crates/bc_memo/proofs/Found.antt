@@ -17,7 +17,7 @@ use Rattle.bc_prov.specs.Pieces.{PieceView, AreOver, IsPieceFor}
 use Rattle.bc_prov.specs.Pieces.{ArePieces}
 use Rattle.bc_memo.specs.declared.place.Place.{Place}
 use Rattle.bc_memo.specs.declared.change.Change.{Change}
-use Rattle.bc_memo.specs.Places.{Places, PieceRows, AreKeptInOrder, AreOrdered, AreHeldPieces, answered, cleared, mark, marked, part_in, pieces_with, unit_of, units_in, with_answer}
+use Rattle.bc_memo.specs.Places.{Places, PieceRows, AreKeptInOrder, AreOrdered, AreHeldPieces, with_answer_at, cleared, mark, marked, part_in, pieces_with, unit_of, units_in, with_answer}
 use Rattle.bc_memo.proofs.Marking.{same_unit}
 use Rattle.bc_memo.proofs.Places.{at_head, at_name-map, at_name-put, at_name-take, at_tail, by_bool, less_apart, ordered-filter, same_name, units_at}
 use Rattle.bc_prov.specs.declared.outcome.Outcome.{Outcome}
@@ -59,8 +59,8 @@ found-take types ps rows m in_order ordered =
     found_past types ps (cleared m (remove_entry (is_at (name_order m)) ps)) m rows ordered
     (λ n apart. unit-cleared m (remove_entry (is_at (name_order m)) ps) n ∙ ap unit_of (at_name-take m n ps in_order ∙ other m n None (at_name ps n) apart))
 
-pub found-answered : (types : List Declaration) (ps : Places) (rows : PieceRows) (m : NameParts) (a : Option Outcome) → AreHeldPieces types ps rows → AreHeldPieces types (answered m a ps) rows
-found-answered types ps rows m a found n piece at =
+pub found-with_answer_at : (types : List Declaration) (ps : Places) (rows : PieceRows) (m : NameParts) (a : Option Outcome) → AreHeldPieces types ps rows → AreHeldPieces types (with_answer_at m a ps) rows
+found-with_answer_at types ps rows m a found n piece at =
     subst (λ (u : Option Body). IsPieceFor types u piece)
     (sym (unit-map (λ (k : NameParts) (p : Place). cond (is_same_name m k) (with_answer p a) p) ps n (λ k p. same_unit (is_same_name m k) p a))) (found n piece at)
 

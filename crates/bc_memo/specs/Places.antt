@@ -171,8 +171,8 @@ abbrev pub marked : Change → Places → Places
 marked change places = map (λ (p : NameParts × Place). (p.0, mark change p.0 p.1)) places
 
 -- the places with this answer at a name, if it has a place
-abbrev pub answered : NameParts → Option Outcome → Places → Places
-answered name answer places = map (λ (p : NameParts × Place). (p.0, if is_same_name name p.0 then with_answer p.1 answer else p.1)) places
+abbrev pub with_answer_at : NameParts → Option Outcome → Places → Places
+with_answer_at name answer places = map (λ (p : NameParts × Place). (p.0, if is_same_name name p.0 then with_answer p.1 answer else p.1)) places
 
 -- the places without the answers of a name and of those with which it begins
 abbrev pub cleared : NameParts → Places → Places
