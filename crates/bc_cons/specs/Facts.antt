@@ -13,8 +13,8 @@ pub record RegionFacts : Type 0 where
   pub pairs : List Constraint
 
 -- the longer region is to have all that the shorter has
-abbrev pub Outlives : List Constraint → ℕ → ℕ → Type 0
-Outlives pairs longer shorter = Contains pairs (record { longer = longer; shorter = shorter })
+abbrev pub MustOutlive : List Constraint → ℕ → ℕ → Type 0
+MustOutlive pairs longer shorter = Contains pairs (record { longer = longer; shorter = shorter })
 
 -- each constraint is between two of so many regions
 abbrev pub ArePairsWithin : ℕ → List Constraint → Type 0

@@ -5,7 +5,7 @@ use Rattle.bc_syntax.specs.declared.syntax.Region.{Region}
 use Rattle.bc_flow.specs.Flow.{holds}
 use Rattle.bc_flow.proofs.Membership.{Contains-nil, Contains-cons, Contains-head, Contains-later}
 use Rattle.bc_cons.specs.declared.facts.Constraint.{Constraint}
-use Rattle.bc_cons.specs.Facts.{RegionFacts, Outlives}
+use Rattle.bc_cons.specs.Facts.{RegionFacts, MustOutlive}
 use Rattle.bc_solve.specs.Values.{IsInValue}
 use Rattle.bc_solve.specs.Chains.{IsChain, Explains}
 
@@ -19,7 +19,7 @@ reaches_start [] start r h = h
 reaches_start (pair ∷ pairs) start r h =
     or_left (reaches pairs start r) (reaches pairs (λ n. eqb n pair.longer) r && reaches pairs start pair.shorter) (reaches_start pairs start r h)
 
-reaches_on : (pairs : List Constraint) (start : ℕ → Bool) (a b : ℕ) → Outlives pairs a b → reaches pairs start b ≡ true → reaches pairs start a ≡ true
+reaches_on : (pairs : List Constraint) (start : ℕ → Bool) (a b : ℕ) → MustOutlive pairs a b → reaches pairs start b ≡ true → reaches pairs start a ≡ true
 reaches_on [] start a b outlives h = absurd (Contains-nil (record { longer = a; shorter = b }) outlives)
 reaches_on (pair ∷ pairs) start a b outlives h =
     let along : ℕ → Bool = λ n. eqb n pair.longer in
@@ -43,7 +43,7 @@ reaches_on (pair ∷ pairs) start a b outlives h =
     ]
 
 -- one region more before a chain
-pub chain_before : (starts : ℕ → ℕ → Bool) (pairs : List Constraint) (e a b : ℕ) → Outlives pairs a b → (chain : List ℕ) → IsChain starts pairs b e chain → IsChain starts pairs a e (a ∷ chain)
+pub chain_before : (starts : ℕ → ℕ → Bool) (pairs : List Constraint) (e a b : ℕ) → MustOutlive pairs a b → (chain : List ℕ) → IsChain starts pairs b e chain → IsChain starts pairs a e (a ∷ chain)
 chain_before starts pairs e a b outlives [] h = absurd h
 chain_before starts pairs e a b outlives (c ∷ []) h = (refl, rw h.0 outlives, (refl, h.1))
 chain_before starts pairs e a b outlives (c ∷ (d ∷ rest)) h = (refl, rw h.0 outlives, (refl, h.1, h.2))
@@ -62,7 +62,7 @@ joined : (start : ℕ → Bool) (pair : Constraint) (pairs : List Constraint) (e
 joined start pair pairs e other on [] r h = absurd h
 joined start pair pairs e other on (a ∷ []) r h =
     let here : pair.longer ≡ r = sym (eqb-true a pair.longer h.1) ∙ h.0 in
-    (r ∷ other, chain_before (λ n _. start n) (pair ∷ pairs) e r pair.shorter (subst (λ n. Outlives (pair ∷ pairs) n pair.shorter) here (Contains-head pair pairs)) other on)
+    (r ∷ other, chain_before (λ n _. start n) (pair ∷ pairs) e r pair.shorter (subst (λ n. MustOutlive (pair ∷ pairs) n pair.shorter) here (Contains-head pair pairs)) other on)
 joined start pair pairs e other on (a ∷ (b ∷ rest)) r h =
     let later = joined start pair pairs e other on (b ∷ rest) b h.2 in
     (r ∷ later.0, chain_before (λ n _. start n) (pair ∷ pairs) e r b (Contains-later pair pairs (record { longer = r; shorter = b }) (rw h.0 at h.1)) later.0 later.1)

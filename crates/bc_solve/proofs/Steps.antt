@@ -9,7 +9,7 @@ use Rattle.bc_flow.specs.Graph.{HasEdge, AreWithin}
 use Rattle.bc_flow.specs.Flow.{holds}
 use Rattle.bc_flow.proofs.Membership.{Contains-nil}
 use Rattle.bc_cons.specs.declared.facts.Constraint.{Constraint}
-use Rattle.bc_cons.specs.Facts.{Outlives}
+use Rattle.bc_cons.specs.Facts.{MustOutlive}
 use Rattle.bc_flow.specs.Levels.{AreLevels}
 use Rattle.bc_solve.specs.Ways.{AreLengths, AreSteps, AreStepsSoFar, LeadsBelow, IsOnward, AreEdgesOf, way}
 use Rattle.bc_flow.specs.Chains.{IsNext}
@@ -197,12 +197,12 @@ AreStepsSoFar-unreached edges lengths steps shorter none = AreStepsSoFar-skip (L
     ])
 
 pub AreSteps-end : (pairs : List Constraint) (edges : List Edge) (lengths steps : List ℕ) → AreEdgesOf pairs edges → AreWithin edges (length lengths) →
-    ((a : ℕ) → 1 < get_or lengths a 0 → (b : ℕ) × Outlives pairs a b × (get_or lengths b 0 + 1 ≡ get_or lengths a 0)) →
-    AreStepsSoFar (LeadsBelow edges (length lengths)) lengths steps → AreSteps (Outlives pairs) lengths steps
+    ((a : ℕ) → 1 < get_or lengths a 0 → (b : ℕ) × MustOutlive pairs a b × (get_or lengths b 0 + 1 ≡ get_or lengths a 0)) →
+    AreStepsSoFar (LeadsBelow edges (length lengths)) lengths steps → AreSteps (MustOutlive pairs) lengths steps
 AreSteps-end pairs edges lengths steps are_edges within onward so_far =
-    let inside : (a b : ℕ) → Outlives pairs a b → b < length lengths = λ a b outlives.
+    let inside : (a b : ℕ) → MustOutlive pairs a b → b < length lengths = λ a b outlives.
     (All-contains (λ (e : Edge). (e.from < length lengths) × (e.to < length lengths)) edges (record { from = b; to = a }) within ((are_edges a b).1 outlives)).0 in
-    let least : (a b : ℕ) → 1 < get_or lengths a 0 → Outlives pairs a b → get_or lengths b 0 + 1 ≡ get_or lengths a 0 → get_or steps a 0 ≤ b = λ a b long outlives on.
+    let least : (a b : ℕ) → 1 < get_or lengths a 0 → MustOutlive pairs a b → get_or lengths b 0 + 1 ≡ get_or lengths a 0 → get_or steps a 0 ≤ b = λ a b long outlives on.
     so_far.least a b long (inside a b outlives, (are_edges a b).1 outlives) on in
     record {
       leads = λ a long.

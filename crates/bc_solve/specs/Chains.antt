@@ -4,7 +4,7 @@ use Rattle.bc_syntax.specs.declared.syntax.Region.{Region}
 use Rattle.bc_flow.specs.Flow.{holds}
 use Rattle.bc_points.specs.Regions.{region_of_number}
 use Rattle.bc_cons.specs.declared.facts.Constraint.{Constraint}
-use Rattle.bc_cons.specs.Facts.{RegionFacts, Outlives}
+use Rattle.bc_cons.specs.Facts.{RegionFacts, MustOutlive}
 use Rattle.bc_solve.specs.Values.{IsInValue}
 
 -- a chain from a region to an element: a list of regions that begins with the region, in which each has to outlive the next,
@@ -12,7 +12,7 @@ use Rattle.bc_solve.specs.Values.{IsInValue}
 abbrev pub IsChain : (ℕ → ℕ → Bool) → List Constraint → ℕ → ℕ → List ℕ → Type 0
 IsChain starts pairs region element [] = ⊥
 IsChain starts pairs region element (a ∷ []) = (a ≡ region) × (starts a element ≡ true)
-IsChain starts pairs region element (a ∷ b ∷ rest) = (a ≡ region) × Outlives pairs a b × IsChain starts pairs b element (b ∷ rest)
+IsChain starts pairs region element (a ∷ b ∷ rest) = (a ≡ region) × MustOutlive pairs a b × IsChain starts pairs b element (b ∷ rest)
 
 -- at the first place where the two lists differ, the one has the smaller region
 abbrev pub IsBefore : List ℕ → List ℕ → Type 0
