@@ -2,13 +2,13 @@
 use Rattle.std.specs.Prelude.{◌≡◌, ℕ, zero, suc, ◌+◌, ◌<◌, ◌≤◌, ◌↔◌, Bool, true, List, [], ◌∷◌, length, slice_index}
 use Rattle.bc_flow.specs.declared.graph.Edge.{Edge}
 use Rattle.bc_flow.specs.Graph.{HasEdge}
-use Rattle.bc_cons.specs.declared.facts.Constraint.{Constraint}
+use Rattle.bc_cons.specs.declared.facts.NumberedConstraint.{NumberedConstraint}
 use Rattle.bc_flow.specs.Flow.{holds}
 use Rattle.bc_cons.specs.Facts.{RegionFacts, MustOutlive}
 
 -- the length of the shortest chain from each region to the element, or 0 where there is none: 1 where the region starts with the
 -- element, and one more along a constraint, but no more than that
-pub record AreLengths (starts : ℕ → ℕ → Bool) (pairs : List Constraint) (element : ℕ) (lengths : List ℕ) : Type 0 where
+pub record AreLengths (starts : ℕ → ℕ → Bool) (pairs : List NumberedConstraint) (element : ℕ) (lengths : List ℕ) : Type 0 where
   pub begins : (r : ℕ) → starts r element ≡ true → slice_index lengths r ≡ 1
   pub first : (r : ℕ) → slice_index lengths r ≡ 1 → starts r element ≡ true
   pub goes_on : (a : ℕ) → 1 < slice_index lengths a → (b : ℕ) × MustOutlive pairs a b × (slice_index lengths b + 1 ≡ slice_index lengths a)
@@ -34,7 +34,7 @@ abbrev pub IsOnward : List ℕ → ℕ → ℕ → Type 0
 IsOnward lengths longer shorter = (1 < slice_index lengths longer) × (slice_index lengths shorter + 1 ≡ slice_index lengths longer)
 
 -- elements flow along the edges: from the shorter region of each constraint to the longer
-abbrev pub AreEdgesOf : List Constraint → List Edge → Type 0
+abbrev pub AreEdgesOf : List NumberedConstraint → List Edge → Type 0
 AreEdgesOf pairs edges = (a b : ℕ) → HasEdge edges b a ↔ MustOutlive pairs a b
 
 -- the lengths and the steps of all regions, by the facts
