@@ -32,7 +32,7 @@ use Rattle.bc_calls.specs.Calls.{after, HoldsCount, IsReply, MayComeNext}
 use Rattle.bc_calls.specs.Changes.{change_of, writes_of}
 use Rattle.bc_calls.specs.Answers.{IsShelfOf}
 use Rattle.bc_book.specs.Memory.{IsRight, ArePast}
-use Rattle.bc_book.specs.Ledgers.{HasPlace, IsKept, IsRow, bodies_of, kept_rows}
+use Rattle.bc_book.specs.Ledgers.{HasPlace, IsLedger, IsRow, bodies_of, kept_rows}
 use Rattle.bc_calls.proofs.Histories.{legal_none, legal_snoc}
 use Rattle.bc_book.proofs.Counting.{counts_more}
 use Rattle.bc_calls.proofs.Changing.{shelf_none, shelf_snoc}
@@ -146,7 +146,7 @@ sorted_left changes.Nothing rows sorted = sorted
 -- ---- what is kept
 
 pub kept_none : (capacity : ℕ) (counts : List ℕ) (s : ShelfView) → capacity < 2 ^ 32 → length counts ≡ MOST_SESSIONS → ((k : ℕ) → k < MOST_SESSIONS → get_or counts k 0 ≡ 0) → s.types ≡ [] → s.types_revision ≡ 0 → s.places ≡ []
-    → IsKept capacity [] counts 0 s []
+    → IsLedger capacity [] counts 0 s []
 kept_none capacity counts s bounded sized zeros types revision places = record {
   legal = legal_none;
   bounded = bounded;
@@ -164,11 +164,11 @@ kept_none capacity counts s bounded sized zeros types revision places = record {
 
 -- one more entry
 pub kept_snoc : (capacity : ℕ) (h : List Entry) (counts : List ℕ) (writes writes' : ℕ) (s s' : ShelfView) (rows rows' : List (NameParts × Remembered)) (e : Entry)
-    → IsKept capacity h counts writes s rows → length h < capacity → MayComeNext h e → e.session < MOST_SESSIONS → HasPlace (length s.places) e.event → writes' ≡ writes_of (h ++ e ∷ []) → s' ≡ changed s (change_of e.event) writes'
+    → IsLedger capacity h counts writes s rows → length h < capacity → MayComeNext h e → e.session < MOST_SESSIONS → HasPlace (length s.places) e.event → writes' ≡ writes_of (h ++ e ∷ []) → s' ≡ changed s (change_of e.event) writes'
     → rows' ≡ kept_rows (change_of e.event) rows
-    → IsKept capacity (h ++ e ∷ []) (set counts e.session (e.number + 1)) writes' s' rows'
+    → IsLedger capacity (h ++ e ∷ []) (set counts e.session (e.number + 1)) writes' s' rows'
 kept_snoc capacity h counts writes writes' s s' rows rows' e kept below fits session place count is left =
-    subst (λ (x : ℕ × (ShelfView × List (NameParts × Remembered))). IsKept capacity (h ++ e ∷ []) (set counts e.session (e.number + 1)) x.0 x.1.0 x.1.1)
+    subst (λ (x : ℕ × (ShelfView × List (NameParts × Remembered))). IsLedger capacity (h ++ e ∷ []) (set counts e.session (e.number + 1)) x.0 x.1.0 x.1.1)
     (λ i. (sym count i, (sym (is ∙ ap (changed s (change_of e.event)) count) i, sym left i))) (record {
       legal = legal_snoc h e kept.legal fits;
       bounded = kept.bounded;
@@ -189,7 +189,7 @@ kept_snoc capacity h counts writes writes' s s' rows rows' e kept below fits ses
 
 -- one more outcome that is remembered
 pub kept_remembered : (capacity : ℕ) (h : List Entry) (counts : List ℕ) (writes : ℕ) (s : ShelfView) (rows rows' : List (NameParts × Remembered)) (n : NameParts) (r : Remembered)
-    → IsKept capacity h counts writes s rows → IsRow s h n r → rows' ≡ insert_entry name_order rows n r → IsKept capacity h counts writes s rows'
+    → IsLedger capacity h counts writes s rows → IsRow s h n r → rows' ≡ insert_entry name_order rows n r → IsLedger capacity h counts writes s rows'
 kept_remembered capacity h counts writes s rows rows' n r kept row is = record {
   legal = kept.legal;
   bounded = kept.bounded;

@@ -45,7 +45,7 @@ AreCounts counts h = (session : ℕ) → session < most_sessions → slice_index
 
 -- The history is legal and not too long. The counts, the declarations, the bodies and the answers are those that it leaves. What is
 -- remembered is of names that are held, in their order, and is right while all that it was found from has its revision.
-pub record IsKept (capacity : ℕ) (h : List Entry) (counts : List ℕ) (writes : ℕ) (shelf : ShelfView) (answers : List (NameParts × Remembered)) : Type 0 where
+pub record IsLedger (capacity : ℕ) (h : List Entry) (counts : List ℕ) (writes : ℕ) (shelf : ShelfView) (answers : List (NameParts × Remembered)) : Type 0 where
   pub legal : IsLegal h
   pub bounded : capacity < 2 ^ 32
   pub short : length h ≤ capacity

@@ -61,13 +61,13 @@ pub(crate) struct Ledger {
 
 impl Model for Ledger {
     ghost use Rattle.std.specs.Prelude.{◌-◌, vec_capacity};
-    ghost use Rattle.bc_book.specs.Ledgers.{LedgerView, IsKept};
+    ghost use Rattle.bc_book.specs.Ledgers.{LedgerView, IsLedger};
 
     ghost Value = { LedgerView };
 
     ghost view = { λ l. record { capacity = l.capacity; entries = l.history.items; shelf = l.shelf.held; answers = l.memo.rows; room = vec_capacity l.history - l.history.len; places = l.shelf.room; rows = l.memo.room; ready = l.shelf.ready } };
 
-    ghost invariant = { λ l. IsKept l.capacity l.history.items l.counts l.writes l.shelf.held l.memo.rows };
+    ghost invariant = { λ l. IsLedger l.capacity l.history.items l.counts l.writes l.shelf.held l.memo.rows };
 }
 
 impl Ledger {

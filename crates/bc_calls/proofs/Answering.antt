@@ -19,7 +19,7 @@ use Rattle.bc_calls.specs.declared.call.Event.{Event}
 use Rattle.bc_calls.specs.declared.call.Event.TheVariants.{Types, Put, Remove, Ask, All as EveryRoot}
 use Rattle.bc_calls.specs.declared.call.Entry.{Entry}
 use Rattle.bc_calls.specs.Calls.{next, after, stores, takes, with_body, IsListing, IsReply, MayComeNext}
-use Rattle.bc_calls.specs.Answers.{clears, found, asks, IsAnswered, IsAnswer}
+use Rattle.bc_calls.specs.Answers.{clears, found, asks, IsNameAnswered, IsAnswer}
 use Rattle.bc_calls.proofs.Histories.{snoc_split, after-snoc}
 
 -- a write of a name that does not lie within n leaves the body of each that does
@@ -82,7 +82,7 @@ abbrev voids_of : NameParts → Entry → Bool
 voids_of n e = clears n e.event
 
 -- what an entry makes void has no answer
-unanswered_void : (h : List Entry) (e : Entry) (n : NameParts) → clears n e.event ≡ true → ¬ IsAnswered (h ++ e ∷ []) n
+unanswered_void : (h : List Entry) (e : Entry) (n : NameParts) → clears n e.event ≡ true → ¬ IsNameAnswered (h ++ e ∷ []) n
 unanswered_void h e n voids a =
     ⊎_elim
     (λ (t : (a.1.0 ≡ h) × (a.1.1 ≡ e) × (a.1.2 ≡ [])). true≢false (sym a.1.4 ∙ ap (λ (x : Entry). asks n x.event) t.1 ∙ no_ask n e.event voids))
@@ -91,10 +91,10 @@ unanswered_void h e n voids a =
     (snoc_split h e a.1.0 a.1.1 a.1.2 a.1.3)
 
 -- what is not held has none
-pub unanswered_absent : (h : List Entry) (n : NameParts) → (after h).bodies n ≡ None → ¬ IsAnswered h n
+pub unanswered_absent : (h : List Entry) (n : NameParts) → (after h).bodies n ≡ None → ¬ IsNameAnswered h n
 unanswered_absent h n none a = absurd (true≢false (sym (held_along ((after h).bodies n) None none a.0)))
 
-answered_on : (h : List Entry) (e : Entry) (n : NameParts) → clears n e.event ≡ false → (after h).bodies n ≡ (after (h ++ e ∷ [])).bodies n → IsAnswered h n → IsAnswered (h ++ e ∷ []) n
+answered_on : (h : List Entry) (e : Entry) (n : NameParts) → clears n e.event ≡ false → (after h).bodies n ≡ (after (h ++ e ∷ [])).bodies n → IsNameAnswered h n → IsNameAnswered (h ++ e ∷ []) n
 answered_on h e n keeps same a = (
   held_along _ _ same a.0,
   (
@@ -107,7 +107,7 @@ answered_on h e n keeps same a = (
   ),
 )
 
-answered_back : (h : List Entry) (e : Entry) (n : NameParts) → asks n e.event ≡ false → (after h).bodies n ≡ (after (h ++ e ∷ [])).bodies n → IsAnswered (h ++ e ∷ []) n → IsAnswered h n
+answered_back : (h : List Entry) (e : Entry) (n : NameParts) → asks n e.event ≡ false → (after h).bodies n ≡ (after (h ++ e ∷ [])).bodies n → IsNameAnswered (h ++ e ∷ []) n → IsNameAnswered h n
 answered_back h e n other same a = (
   held_along _ _ (sym same) a.0,
   ⊎_elim
@@ -142,7 +142,7 @@ answer_more h e n a fits held was = by_bool (clears n e.event) void kept
         (⊎_elim
         (λ (t : (found n e.event ≡ None) × (asks n e.event ≡ false)).
         subst Now (sym (ap (λ (o : Option Outcome). option_or o a) t.0))
-        (answer_map a (¬ IsAnswered h n) (¬ IsAnswered (h ++ e ∷ []) n) (λ o. IsAnswered h n × IsOutcomeIn (after h) n o) (λ o. IsAnswered (h ++ e ∷ []) n × IsOutcomeIn (after (h ++ e ∷ [])) n o)
+        (answer_map a (¬ IsNameAnswered h n) (¬ IsNameAnswered (h ++ e ∷ []) n) (λ o. IsNameAnswered h n × IsOutcomeIn (after h) n o) (λ o. IsNameAnswered (h ++ e ∷ []) n × IsOutcomeIn (after (h ++ e ∷ [])) n o)
         (λ none now. none (answered_back h e n t.1 same now))
         (λ o some. (answered_on h e n is same some.0, outcome_same (after h) (after (h ++ e ∷ [])) n o part some.1))
         was))

@@ -37,15 +37,15 @@ asks name (Ask other outcome) = is_same_name other name
 asks name (EveryRoot rows) = is_some (at_name rows name)
 
 -- the name is held, and was asked for since an answer of it was made void last
-abbrev pub IsAnswered : List Entry → NameParts → Type 0
-IsAnswered h name =
+abbrev pub IsNameAnswered : List Entry → NameParts → Type 0
+IsNameAnswered h name =
     IsSome ((after h).bodies name)
     × ((before : List Entry) × (asked : Entry) × (rest : List Entry)
     × (h ≡ before ++ asked ∷ rest) × (asks name asked.event ≡ true) × (list_any (λ (e : Entry). clears name e.event) rest ≡ false))
 
 -- the answer of a name after a history: where it is answered, its outcome, else none
 abbrev pub IsAnswer : List Entry → NameParts → Option Outcome → Type 0
-IsAnswer h name answer = MatchOption answer (¬ IsAnswered h name) (λ outcome. IsAnswered h name × IsOutcomeIn (after h) name outcome)
+IsAnswer h name answer = MatchOption answer (¬ IsNameAnswered h name) (λ outcome. IsNameAnswered h name × IsOutcomeIn (after h) name outcome)
 
 -- What a history leaves. A name has an answer exactly where it is answered, and then it is its outcome.
 pub record IsShelfOf (shelf : ShelfView) (h : List Entry) : Type 0 where

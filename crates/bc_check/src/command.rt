@@ -206,25 +206,32 @@ fn make_changes<R: Wait, N: Ending, E: Write>(
     Ok(status)
 }
 
+/// How the names of a file are asked: by which providers, in which form each answer is printed, and which names, in their order.
+#[derive(Drop)]
+struct Asking<'a, 'b> {
+    providers: &'a Providers,
+    form: &'a Form<'b>,
+    names: &'a BTreeSet<Name>,
+}
+
 /// Asks the names in order, and prints their reports. The greatest status of the outcomes.
 fn make_asks<R: Wait, N: Ending, O: Write>(
     rt: &R,
     alloc: Global,
     session: &mut Session<N>,
-    providers: &Providers,
-    form: &Form<'_>,
-    names: &BTreeSet<Name>,
+    asking: &Asking<'_, '_>,
     out: &mut O,
 ) -> Result<u8, Stop>
-    ensures served { IfOk result (λ status. Served (map calls.Ask names.now.keys) (shown form.now) status session.old session.new (O.contents out.old) (O.contents out.new)) }
+    ensures served { IfOk result (λ status. Served (map calls.Ask asking.now.names.now.keys) (shown asking.now.form.now) status session.old session.new (O.contents out.old) (O.contents out.new)) }
     ensures still { IsStill session.old session.new }
-    ensures refused { IfErr result (λ stop. is_refused stop ≡ true → ServedPart (map calls.Ask names.now.keys) (shown form.now) session.old session.new (O.contents out.old) (O.contents out.new)) }
+    ensures refused { IfErr result (λ stop. is_refused stop ≡ true → ServedPart (map calls.Ask asking.now.names.now.keys) (shown asking.now.form.now) session.old session.new (O.contents out.old) (O.contents out.new)) }
     ensures range { IfOk result (λ status. status ≤ 2) }
     ensures stop { IfErr result (λ stop. (stop ≡ Stop.CannotWrite) ⊎ (stop ≡ Stop.NoMemory) ⊎ (stop ≡ Stop.HistoryFull)) }
 {
     let mut status: u8 = 0;
-    for name in names {
-        status = status.max(make_ask(rt, alloc, session, providers, form, name, out)?);
+    for name in asking.names {
+        let asked = make_ask(rt, alloc, session, asking.providers, asking.form, name, out)?;
+        status = status.max(asked);
     }
     Ok(status)
 }
@@ -272,19 +279,17 @@ fn answer_all<R: Wait, N: Ending, O: Write + Drop>(
     rt: &R,
     alloc: Global,
     session: &mut Session<N>,
-    providers: &Providers,
-    form: &Form<'_>,
-    names: &BTreeSet<Name>,
+    asking: &Asking<'_, '_>,
     out: &mut BufWriter<O>,
 ) -> Result<u8, Stop>
-    ensures served { IfOk result (λ status. Served (map calls.Ask names.now.keys) (shown form.now) status session.old session.new (writer_contents O.contents out.old) (writer_contents O.contents out.new)) }
+    ensures served { IfOk result (λ status. Served (map calls.Ask asking.now.names.now.keys) (shown asking.now.form.now) status session.old session.new (writer_contents O.contents out.old) (writer_contents O.contents out.new)) }
     ensures still { IsStill session.old session.new }
-    ensures refused { IfErr result (λ stop. is_refused stop ≡ true → ServedPart (map calls.Ask names.now.keys) (shown form.now) session.old session.new (writer_contents O.contents out.old) (writer_contents O.contents out.new)) }
+    ensures refused { IfErr result (λ stop. is_refused stop ≡ true → ServedPart (map calls.Ask asking.now.names.now.keys) (shown asking.now.form.now) session.old session.new (writer_contents O.contents out.old) (writer_contents O.contents out.new)) }
     ensures range { IfOk result (λ status. status ≤ 2) }
     ensures stop { IfErr result (λ stop. (stop ≡ Stop.CannotWrite) ⊎ (stop ≡ Stop.NoMemory) ⊎ (stop ≡ Stop.HistoryFull)) }
     ensures handed_on { (result ≡ Err Stop.CannotWrite) ⊎ (writer_buffer out.new ≡ []) }
 {
-    let asked = make_asks(rt, alloc, session, providers, form, names, out);
+    let asked = make_asks(rt, alloc, session, asking, out);
     hand_on(asked, out)
 }
 
@@ -294,16 +299,14 @@ fn make_all<R: Wait, N: Ending, O: Write + Drop, E: Write>(
     rt: &R,
     alloc: Global,
     session: &mut Session<N>,
-    providers: &Providers,
-    form: &Form<'_>,
     changes: Vec<Change>,
-    names: &BTreeSet<Name>,
+    asking: &Asking<'_, '_>,
     out: &mut BufWriter<O>,
     err: &mut E,
 ) -> Result<u8, Stop>
-    ensures served { IfOk result (λ status. ServedAll form.now (map seen changes.items) names.now.keys status session.old session.new (writer_contents O.contents out.old) (writer_contents O.contents out.new) (E.contents err.old) (E.contents err.new)) }
+    ensures served { IfOk result (λ status. ServedAll asking.now.form.now (map seen changes.items) asking.now.names.now.keys status session.old session.new (writer_contents O.contents out.old) (writer_contents O.contents out.new) (E.contents err.old) (E.contents err.new)) }
     ensures still { IsStill session.old session.new }
-    ensures refused { IfErr result (λ stop. is_refused stop ≡ true → ServedFirst form.now (map seen changes.items) names.now.keys session.old session.new (writer_contents O.contents out.old) (writer_contents O.contents out.new) (E.contents err.old) (E.contents err.new)) }
+    ensures refused { IfErr result (λ stop. is_refused stop ≡ true → ServedFirst asking.now.form.now (map seen changes.items) asking.now.names.now.keys session.old session.new (writer_contents O.contents out.old) (writer_contents O.contents out.new) (E.contents err.old) (E.contents err.new)) }
     ensures untold { IsErrOf result Stop.CannotTell → OwesLast (λ events. Adds events session.old session.new) (map seen changes.items) }
     ensures silent { IsErrOf result Stop.CannotTell → Keeps (writer_contents O.contents out.old) (writer_contents O.contents out.new) }
     ensures unwritten { IsErrOf result Stop.CannotWrite → ServedThen (map seen changes.items) told session.old (E.contents err.old) (E.contents err.new) }
@@ -312,7 +315,7 @@ fn make_all<R: Wait, N: Ending, O: Write + Drop, E: Write>(
     ensures handed_on { writer_buffer out.old ≡ [] → (result ≡ Err Stop.CannotWrite) ⊎ (writer_buffer out.new ≡ []) }
 {
     let changed = make_changes(rt, session, changes, err)?;
-    let asked = answer_all(rt, alloc, session, providers, form, names, out)?;
+    let asked = answer_all(rt, alloc, session, asking, out)?;
     Ok(changed.max(asked))
 }
 
@@ -337,41 +340,29 @@ pub fn find_capacity(changes: usize, names: usize) -> Result<u32, Stop>
 fn serve<R: Wait, O: Write + Drop, E: Write>(
     rt: &R,
     alloc: Global,
-    providers: &Providers,
-    form: &Form<'_>,
     changes: Vec<Change>,
-    names: &BTreeSet<Name>,
+    asking: &Asking<'_, '_>,
     out: &mut BufWriter<O>,
     err: &mut E,
 ) -> Result<u8, Stop>
-    ensures done { IfOk result (λ status. Runs form.now (map seen changes.items) names.now.keys status (writer_contents O.contents out.old) (writer_contents O.contents out.new) (E.contents err.old) (E.contents err.new)) }
+    ensures done { IfOk result (λ status. Runs asking.now.form.now (map seen changes.items) asking.now.names.now.keys status (writer_contents O.contents out.old) (writer_contents O.contents out.new) (E.contents err.old) (E.contents err.new)) }
     ensures range { IfOk result (λ status. status ≤ 2) }
-    ensures too_many { IsErrOf result Stop.TooManyCalls → (MOST_ENTRIES < length changes.items + length names.now.keys) × Keeps (writer_contents O.contents out.old) (writer_contents O.contents out.new) × Keeps (E.contents err.old) (E.contents err.new) }
-    ensures few { (result ≡ Err Stop.TooManyCalls) ⊎ (length changes.items + length names.now.keys ≤ MOST_ENTRIES) }
-    ensures refused { IfErr result (λ stop. is_refused stop ≡ true → Begins AreLegal form.now (map seen changes.items) names.now.keys (writer_contents O.contents out.old) (writer_contents O.contents out.new) (E.contents err.old) (E.contents err.new)) }
+    ensures too_many { IsErrOf result Stop.TooManyCalls → (MOST_ENTRIES < length changes.items + length asking.now.names.now.keys) × Keeps (writer_contents O.contents out.old) (writer_contents O.contents out.new) × Keeps (E.contents err.old) (E.contents err.new) }
+    ensures few { (result ≡ Err Stop.TooManyCalls) ⊎ (length changes.items + length asking.now.names.now.keys ≤ MOST_ENTRIES) }
+    ensures refused { IfErr result (λ stop. is_refused stop ≡ true → Begins AreLegal asking.now.form.now (map seen changes.items) asking.now.names.now.keys (writer_contents O.contents out.old) (writer_contents O.contents out.new) (E.contents err.old) (E.contents err.new)) }
     ensures untold { IsErrOf result Stop.CannotTell → OwesLast AreLegal (map seen changes.items) }
     ensures silent { IsErrOf result Stop.CannotTell → Keeps (writer_contents O.contents out.old) (writer_contents O.contents out.new) }
     ensures unwritten { IsErrOf result Stop.CannotWrite → Prints (map seen changes.items) told (E.contents err.old) (E.contents err.new) }
-    ensures audited { IsErrOf result Stop.Audit → Begins AreReplied form.now (map seen changes.items) names.now.keys (writer_contents O.contents out.old) (writer_contents O.contents out.new) (E.contents err.old) (E.contents err.new) ⊎ (OwesLast AreReplied (map seen changes.items) × Keeps (writer_contents O.contents out.old) (writer_contents O.contents out.new)) }
+    ensures audited { IsErrOf result Stop.Audit → Begins AreReplied asking.now.form.now (map seen changes.items) asking.now.names.now.keys (writer_contents O.contents out.old) (writer_contents O.contents out.new) (E.contents err.old) (E.contents err.new) ⊎ (OwesLast AreReplied (map seen changes.items) × Keeps (writer_contents O.contents out.old) (writer_contents O.contents out.new)) }
     ensures other { IfErr result (λ stop. is_of_calls stop ≡ true) }
     ensures handed_on { writer_buffer out.old ≡ [] → (result ≡ Err Stop.CannotWrite) ⊎ (writer_buffer out.new ≡ []) }
 {
-    let capacity = find_capacity(changes.len(), names.len())?;
+    let capacity = find_capacity(changes.len(), asking.names.len())?;
     let (db, mut sessions) = Db::open(alloc, Waiting::new(rt), 0, capacity, 1)?;
     let Some(mut session) = sessions.pop() else {
         unreachable!()
     };
-    let made = make_all(
-        rt,
-        alloc,
-        &mut session,
-        providers,
-        form,
-        changes,
-        names,
-        out,
-        err,
-    );
+    let made = make_all(rt, alloc, &mut session, changes, asking, out, err);
     sessions.push_reserved(session);
     let closed = db.close(rt, sessions);
     if is_unwritten(&made) {
@@ -407,7 +398,12 @@ pub fn check<R: Wait, I: Read, O: Write + Drop, E: Write>(
     let changes = read_told_changes(alloc, line.positions(), &file)?;
     let names = find_asked(alloc, &changes)?;
     let form = find_form(alloc, line, &file, &changes)?;
-    serve(rt, alloc, providers, &form, changes, &names, out, err)
+    let asking = Asking {
+        providers,
+        form: &form,
+        names: &names,
+    };
+    serve(rt, alloc, changes, &asking, out, err)
 }
 
 /// The whole command `check` on the input of the file that the line names: writes reports on

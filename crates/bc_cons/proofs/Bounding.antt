@@ -7,7 +7,7 @@ use Rattle.bc_syntax.specs.declared.syntax.Region.{Region}
 use Rattle.bc_types.specs.declared.subtype.Constraint.{Constraint as RegionConstraint}
 use Rattle.bc_mir.specs.Mir.{Mir}
 use Rattle.bc_points.specs.Regions.{region_number}
-use Rattle.bc_cons.specs.declared.facts.Constraint.{Constraint}
+use Rattle.bc_cons.specs.declared.facts.NumberedConstraint.{NumberedConstraint}
 use Rattle.bc_cons.specs.declared.requirements.Requirements.{Requirements}
 use Rattle.bc_cons.specs.Constraints.{numbered, differ, all_pairs}
 use Rattle.bc_mir.specs.Mentions.{regions_of}
@@ -64,7 +64,7 @@ pairs_are_below u least (p ∷ ps) =
 
 pub numbered_within : (u least : ℕ) (ps : List RegionConstraint) → ArePairsWithin (pairs_bound u least ps) (map (numbered u) ps)
 numbered_within u least ps =
-    All-map (λ (c : Constraint). (c.longer < pairs_bound u least ps) × (c.shorter < pairs_bound u least ps)) (numbered u) ps (pairs_are_below u least ps)
+    All-map (λ (c : NumberedConstraint). (c.longer < pairs_bound u least ps) × (c.shorter < pairs_bound u least ps)) (numbered u) ps (pairs_are_below u least ps)
 
 -- ---- the bound is no more than another
 
@@ -83,9 +83,9 @@ types_low u least n (ty ∷ tys) le below =
 pairs_low : (u least n : ℕ) (ps : List RegionConstraint) → least ≤ n → ArePairsWithin n (map (numbered u) ps) → pairs_bound u least ps ≤ n
 pairs_low u least n [] le within = le
 pairs_low u least n (p ∷ ps) le within =
-    let here = All-head (λ (c : Constraint). (c.longer < n) × (c.shorter < n)) (numbered u p) (map (numbered u) ps) within in
+    let here = All-head (λ (c : NumberedConstraint). (c.longer < n) × (c.shorter < n)) (numbered u p) (map (numbered u) ps) within in
     pairs_low u (max (max least (region_number u p.longer + 1)) (region_number u p.shorter + 1)) n ps (omega (arith, le, here.0, here.1))
-    (All-tail (λ (c : Constraint). (c.longer < n) × (c.shorter < n)) (numbered u p) (map (numbered u) ps) within)
+    (All-tail (λ (c : NumberedConstraint). (c.longer < n) × (c.shorter < n)) (numbered u p) (map (numbered u) ps) within)
 
 pub is_region_count : (mir : Mir) (kids : List (ℕ × Requirements)) → IsRegionCount mir kids (pairs_bound mir.universals (types_bound mir.universals mir.universals mir.locals) (filter differ (all_pairs mir kids)))
 is_region_count mir kids =

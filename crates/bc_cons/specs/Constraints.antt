@@ -22,7 +22,7 @@ use Rattle.bc_mir.specs.PlaceTypes.{references_of_place}
 use Rattle.bc_mir.specs.WellFormed.{let_pairs}
 use Rattle.bc_points.specs.Regions.{region_number}
 use Rattle.bc_types.specs.Subtype.{outlives, same_region}
-use Rattle.bc_cons.specs.declared.facts.Constraint.{Constraint}
+use Rattle.bc_cons.specs.declared.facts.NumberedConstraint.{NumberedConstraint}
 use Rattle.bc_cons.specs.declared.requirements.Requirements.{Requirements}
 use Rattle.bc_cons.specs.Requirements.{required_by}
 
@@ -76,9 +76,9 @@ abbrev pub all_pairs : Mir → List (ℕ × Requirements) → List RegionConstra
 all_pairs mir kids = point_pairs mir kids ++ let_pairs mir
 
 -- a pair by the numbers of its regions
-abbrev pub numbered : ℕ → RegionConstraint → Constraint
+abbrev pub numbered : ℕ → RegionConstraint → NumberedConstraint
 numbered universals pair = record { longer = region_number universals pair.longer; shorter = region_number universals pair.shorter }
 
 -- the constraints of a body whose children require so much, by the numbers of the regions
-abbrev pub constraints_of : Mir → List (ℕ × Requirements) → List Constraint
+abbrev pub constraints_of : Mir → List (ℕ × Requirements) → List NumberedConstraint
 constraints_of mir kids = map (numbered mir.universals) (filter differ (all_pairs mir kids))

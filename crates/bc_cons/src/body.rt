@@ -9,7 +9,7 @@ ghost use Rattle.bc_cons.specs.Starts.{starts_with};
 ghost use Rattle.bc_cons.specs.Below.{IsRegionCount};
 
 use crate::bounds::{pairs_bound, types_bound};
-use crate::facts::{Constraint, Facts};
+use crate::facts::{Facts, NumberedConstraint};
 use crate::pairs::push_pairs_at;
 use crate::requirements::Requirements;
 use crate::starts::start_rows;
@@ -69,10 +69,10 @@ fn differing(alloc: Global, pairs: &[RegionConstraint]) -> Result<Vec<RegionCons
     Ok(kept)
 }
 
-fn constraint(universals: u8, pair: RegionConstraint) -> Constraint
+fn constraint(universals: u8, pair: RegionConstraint) -> NumberedConstraint
     ensures { result ≡ numbered universals pair }
 {
-    Constraint {
+    NumberedConstraint {
         longer: region_number(universals, pair.longer),
         shorter: region_number(universals, pair.shorter),
     }
@@ -82,7 +82,7 @@ fn by_number(
     alloc: Global,
     universals: u8,
     pairs: &[RegionConstraint],
-) -> Result<Vec<Constraint>, AllocError>
+) -> Result<Vec<NumberedConstraint>, AllocError>
     ensures { IfOk result (λ constraints. constraints.items ≡ map (numbered universals) pairs.now) }
 {
     pairs

@@ -1,11 +1,11 @@
 //! How many regions a body has, by the numbers that it uses.
 ghost use Rattle.std.specs.Prelude.{◌≡◌, ◌+◌, ◌≤◌, max};
-ghost use Rattle.bc_mir.specs.Mentions.{regions_of_references, regions_of_base, regions_of};
+ghost use Rattle.bc_mir.specs.Mentions.{regions_of_references, regions_of};
 ghost use Rattle.bc_cons.specs.Bounds.{regions_bound as bound_of_regions, types_bound as bound_of_types, pairs_bound as bound_of_pairs};
 
-use bc_mir::Constraint as RegionConstraint;
+use bc_mir::{Constraint as RegionConstraint, base_regions};
 use bc_points::region_number;
-use bc_syntax::{Base, Reference, Region, Ty};
+use bc_syntax::{Reference, Region, Ty};
 
 /// One more than the greatest number of the regions, or `least` where that is more.
 fn regions_bound(universals: u8, least: usize, regions: &[Region]) -> usize
@@ -31,25 +31,13 @@ fn references_bound(universals: u8, least: usize, references: &[Reference]) -> u
     bound
 }
 
-/// The same for the arguments of a struct or a closure.
-fn base_bound(universals: u8, least: usize, base: &Base) -> usize
-    ensures bound { result ≡ bound_of_regions universals least (regions_of_base base.now) }
-    ensures within { result ≤ max least (universals + 65536) }
-{
-    match base {
-        Base::Int => least,
-        Base::Struct(instance) => regions_bound(universals, least, instance.regions.as_slice()),
-        Base::Closure(closure) => regions_bound(universals, least, closure.regions.as_slice()),
-    }
-}
-
 /// The same for the regions that stand in a type.
 fn type_bound(universals: u8, least: usize, ty: &Ty) -> usize
     ensures bound { result ≡ bound_of_regions universals least (regions_of ty.now) }
     ensures within { result ≤ max least (universals + 65536) }
 {
     let bound = references_bound(universals, least, ty.references.as_slice());
-    base_bound(universals, bound, &ty.base)
+    regions_bound(universals, bound, base_regions(&ty.base))
 }
 
 /// The same for the regions that stand in the types of locals.

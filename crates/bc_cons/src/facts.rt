@@ -12,7 +12,7 @@ use std::marker::Model;
 /// `longer: shorter`: the longer region has each element that the shorter has. Regions are numbers. (RFC 2094, "Subtyping";
 /// here a constraint holds at each point, as in rustc's region inference.)
 #[derive(Clone, Copy)]
-pub struct Constraint {
+pub struct NumberedConstraint {
     pub longer: usize,
     pub shorter: usize,
 }
@@ -24,7 +24,7 @@ pub struct Constraint {
 pub struct Facts {
     universals: u8,
     starts: BitTable,
-    pairs: Vec<Constraint>,
+    pairs: Vec<NumberedConstraint>,
     elements: usize,
 }
 
@@ -41,7 +41,12 @@ impl Model for Facts {
 impl Facts {
     /// The facts of regions of which so many are universal, with these start rows, one of so many elements for each region, and
     /// these constraints between them. It asks for no more regions than have numbers.
-    pub fn new(universals: u8, starts: BitTable, pairs: Vec<Constraint>, elements: usize) -> Self
+    pub fn new(
+        universals: u8,
+        starts: BitTable,
+        pairs: Vec<NumberedConstraint>,
+        elements: usize,
+    ) -> Self
         requires regions { length starts ≤ universals + 65536 }
         requires starts { HaveSize elements starts }
         requires pairs { ArePairsWithin (length starts) pairs.items }
@@ -100,7 +105,7 @@ impl Facts {
 
     /// The constraints, each a pair of regions.
     /// (Own.)
-    pub fn pairs(&self) -> &[Constraint]
+    pub fn pairs(&self) -> &[NumberedConstraint]
         ensures pairs { result.now ≡ self.now.pairs }
         ensures within { ArePairsWithin (length self.now.starts) self.now.pairs }
     {

@@ -9,5 +9,5 @@ mod requirements;
 mod starts;
 
 pub use body::constraints;
-pub use facts::{Constraint, Facts};
+pub use facts::{Facts, NumberedConstraint};
 pub use requirements::Requirements;

@@ -5,14 +5,13 @@ ghost use Rattle.bc_flow.specs.Flow.{row, holds, HaveSize, AreAdded};
 ghost use Rattle.bc_flow.specs.BitSet.{has};
 ghost use Rattle.bc_cons.specs.Starts.{universal_start, mentions, goes_to_variable, starts_with, AreGrown};
 ghost use Rattle.bc_cons.specs.Below.{TyIsBelow, TysAreBelow};
-ghost use Rattle.bc_mir.specs.Mentions.{regions_of_base};
 ghost use Rattle.bc_points.specs.Regions.{region_number as number_of};
 
 use bc_flow::{BitRow, BitTable};
 use bc_live::LiveSets;
-use bc_mir::Typed;
+use bc_mir::{Typed, base_regions};
 use bc_points::region_number;
-use bc_syntax::{Base, Reference, Region, Ty};
+use bc_syntax::{Reference, Region, Ty};
 use std::alloc::{AllocError, Global};
 
 /// Adds what a universal region starts with.
@@ -111,41 +110,6 @@ fn add_to_references(
     }
 }
 
-/// The same for the arguments of a struct or a closure.
-fn add_to_base(
-    rows: &mut BitTable,
-    universals: u8,
-    base: &Base,
-    live_points: &BitRow<'_>,
-    points: usize,
-)
-    requires regions { All (λ region. number_of universals region < length rows.old) (regions_of_base base.now) }
-    requires points { (r : ℕ) → r < length rows.old → points ≤ length (row rows.old r) }
-    ensures { AreGrown rows.old rows.new (λ r e. list_any (λ region. number_of universals region == r) (regions_of_base base.now) && goes_to_variable universals points live_points.now r e) }
-{
-    match base {
-        Base::Int => {}
-        Base::Struct(instance) => {
-            add_to_regions(
-                rows,
-                universals,
-                instance.regions.as_slice(),
-                live_points,
-                points,
-            );
-        }
-        Base::Closure(closure) => {
-            add_to_regions(
-                rows,
-                universals,
-                closure.regions.as_slice(),
-                live_points,
-                points,
-            );
-        }
-    }
-}
-
 /// The same for the regions that stand in a type.
 fn add_to_type(
     rows: &mut BitTable,
@@ -165,7 +129,8 @@ fn add_to_type(
         live_points,
         points,
     );
-    add_to_base(rows, universals, &ty.base, live_points, points);
+    let arguments = base_regions(&ty.base);
+    add_to_regions(rows, universals, arguments, live_points, points);
 }
 
 /// Adds the points on whose entry a local is live to the regions of its type.

@@ -4,7 +4,7 @@ use bc_text::Name;
 
 /// What an Ask finds: no body, a missing closure, whose name has so many segments, the first bad declaration, one body with so
 /// many errors, two or three with so many each, or something else. (Own.)
-#[derive(Clone, Copy, PartialEq)]
+#[derive(Clone, Copy, Debug, PartialEq)]
 pub enum Found {
     NoBody,
     Missing(usize),

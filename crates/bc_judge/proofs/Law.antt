@@ -30,7 +30,7 @@ use Rattle.bc_judge.specs.declared.error.BorrowError.{BorrowError}
 use Rattle.bc_judge.specs.declared.error.BorrowError.TheVariants as variants
 use Rattle.bc_judge.specs.declared.conflicts.Conflict.{Conflict}
 use Rattle.bc_judge.specs.Conflicts.{ScopeTest, is_write, is_conflict, is_relevant_at, conflict_with, conflicts_of_access, conflicts_of_step, conflicts_of}
-use Rattle.bc_judge.specs.Lifetimes.{TellsKnown, ValueTest, end_of, failure_of, failures_from, failures_of, is_required_in, is_required, is_lifetime_error, lifetimes_of, required_of}
+use Rattle.bc_judge.specs.Lifetimes.{TellsKnown, ValueTest, end_of, failure_of, failures_from, failures_of, is_required_in, is_required, is_lifetime_error, lifetimes_of, requirements_of}
 use Rattle.bc_judge.specs.Errors.{ChainTo, point_of, conflict_error, lifetime_error, errors_of, IsConflict, IsFailure, IsLifetimeError, IsRequirement, IsError}
 
 -- ---- one element under a test
@@ -172,7 +172,7 @@ in_failures mir value known tells f h =
 
 -- ---- requirements
 
-pub listed_is_required : (mir : Mir) (value : ValueTest) (known : ℕ → ℕ → Bool) → TellsKnown mir known → (f : Outlives) → Contains (required_of mir value known) f ↔ IsRequirement mir value f
+pub listed_is_required : (mir : Mir) (value : ValueTest) (known : ℕ → ℕ → Bool) → TellsKnown mir known → (f : Outlives) → Contains (requirements_of mir value known) f ↔ IsRequirement mir value f
 listed_is_required mir value known tells f = (
   λ h. let kept = from_filter (is_required mir) (failures_of mir value known) f h in record { fails = from_failures mir value known tells f kept.0; is_required = kept.1 },
   λ h. in_filter (is_required mir) (failures_of mir value known) f (in_failures mir value known tells f h.fails) h.is_required,

@@ -18,7 +18,7 @@ use Rattle.bc_judge.specs.declared.error.BorrowError.{BorrowError}
 use Rattle.bc_judge.specs.declared.error.BorrowError.TheVariants as variants
 use Rattle.bc_judge.specs.declared.conflicts.Conflict.{Conflict}
 use Rattle.bc_judge.specs.Conflicts.{ScopeTest, is_relevant_at, conflicts_of}
-use Rattle.bc_judge.specs.Lifetimes.{IsKnown, TellsKnown, ValueTest, end_of, is_required, lifetimes_of, required_of}
+use Rattle.bc_judge.specs.Lifetimes.{IsKnown, TellsKnown, ValueTest, end_of, is_required, lifetimes_of, requirements_of}
 
 -- a point, by its number, as it is printed
 abbrev pub point_of : List Step → ℕ → Point
@@ -61,7 +61,7 @@ pub record AreErrors (mir : Mir) (Explains : ℕ → ℕ → List Region → Typ
 pub record AreRequirements (mir : Mir) (value : ValueTest) (requirements : Requirements) : Type 0 where
   pub known : ℕ → ℕ → Bool
   pub decides : TellsKnown mir known
-  pub listed : requirements.pairs ≡ required_of mir value known
+  pub listed : requirements.pairs ≡ requirements_of mir value known
 
 -- a conflict: a point, one of its accesses, and a loan in scope on entry to it, with the point that makes the loan.
 -- The access reaches the loan's path, it writes or the loan is mutable, and the chain explains why the point is in the value of

@@ -62,5 +62,5 @@ abbrev pub lifetimes_of : Mir → ValueTest → (ℕ → ℕ → Bool) → List 
 lifetimes_of mir value known = filter (is_lifetime_error mir) (failures_of mir value known)
 
 -- what a body requires of its creator, by the longer region
-abbrev pub required_of : Mir → ValueTest → (ℕ → ℕ → Bool) → List Outlives
-required_of mir value known = filter (is_required mir) (failures_of mir value known)
+abbrev pub requirements_of : Mir → ValueTest → (ℕ → ℕ → Bool) → List Outlives
+requirements_of mir value known = filter (is_required mir) (failures_of mir value known)

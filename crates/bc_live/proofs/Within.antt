@@ -18,7 +18,7 @@ use Rattle.bc_mir.specs.declared.mir.Instruction.TheVariants.{Statement, Termina
 use Rattle.bc_mir.specs.Mir.{Mir}
 use Rattle.bc_mir.specs.Typed.{instruction_fits, steps_fit}
 use Rattle.bc_syntax.specs.Fits.{place_fits, operand_fits, operands_fit, rvalue_fits}
-use Rattle.bc_points.specs.Accesses.{runs_drop, operand_uses, rvalue_uses, is_local, target_uses, target_defines, uses_of, defines_of}
+use Rattle.bc_points.specs.Accesses.{runs_drop, operand_uses, rvalue_uses, is_whole_local, target_uses, target_defines, uses_of, defines_of}
 use Rattle.bc_flow.specs.Flow.{AreEntriesWithin}
 use Rattle.bc_flow.proofs.Membership.{Contains-nil, Contains-one}
 use Rattle.bc_live.specs.Entries.{listed, use_entries, definition_entries}
@@ -65,13 +65,13 @@ rvalue_below universals count (Closure creation) fits =
 rvalue_below universals count (Calc operands) fits = operands_below count operands fits
 
 target_within : (count : ℕ) (target : Place) → target.local < count → Below count (target_uses target)
-target_within count target h = elim (is_local target) as (λ b. Below count (cond b [] (target.local ∷ []))) [
+target_within count target h = elim (is_whole_local target) as (λ b. Below count (cond b [] (target.local ∷ []))) [
   | true ↦ below_none count
   | false ↦ below_one count target.local h
 ]
 
 defined_within : (count : ℕ) (target : Place) → target.local < count → Below count (listed (target_defines target))
-defined_within count target h = elim (is_local target) as (λ b. Below count (listed (cond b (Some target.local) None))) [
+defined_within count target h = elim (is_whole_local target) as (λ b. Below count (listed (cond b (Some target.local) None))) [
   | true ↦ below_one count target.local h
   | false ↦ below_none count
 ]

@@ -14,17 +14,17 @@ use Rattle.bc_text.specs.Names.{NameParts, name_order, is_same_name, is_within}
 use Rattle.bc_text.proofs.Equality.{name}
 use Rattle.bc_prov.specs.State.{at_name}
 use Rattle.bc_prov.specs.Pieces.{PieceView, AreOver, IsPieceFor}
-use Rattle.bc_prov.specs.Pieces.{ArePieces as AreOfSnapshot}
+use Rattle.bc_prov.specs.Pieces.{ArePieces}
 use Rattle.bc_memo.specs.declared.place.Place.{Place}
 use Rattle.bc_memo.specs.declared.change.Change.{Change}
-use Rattle.bc_memo.specs.Places.{Places, PieceRows, AreKeptInOrder, AreOrdered, ArePieces, answered, cleared, mark, marked, part_in, pieces_with, unit_of, units_in, with_answer}
+use Rattle.bc_memo.specs.Places.{Places, PieceRows, AreKeptInOrder, AreOrdered, AreHeldPieces, with_answer_at, cleared, mark, marked, part_in, pieces_with, unit_of, units_in, with_answer}
 use Rattle.bc_memo.proofs.Marking.{same_unit}
 use Rattle.bc_memo.proofs.Places.{at_head, at_name-map, at_name-put, at_name-take, at_tail, by_bool, less_apart, ordered-filter, same_name, units_at}
 use Rattle.bc_prov.specs.declared.outcome.Outcome.{Outcome}
 
 -- the same units at all names but one, whose piece is dropped
 found_past : (types : List Declaration) (ps qs : Places) (m : NameParts) (rows : PieceRows) → AreOrdered rows → ((n : NameParts) → (m ≡ n → ⊥) → unit_of (at_name qs n) ≡ unit_of (at_name ps n))
-    → ArePieces types ps rows → ArePieces types qs (remove_entry (is_at (name_order m)) rows)
+    → AreHeldPieces types ps rows → AreHeldPieces types qs (remove_entry (is_at (name_order m)) rows)
 found_past types ps qs m rows ordered same found n piece at =
     by_bool (is_same_name m n)
     (λ is. absurd (let none : None ≡ Some piece = sym (at_name-take m n rows ordered ∙ ap (λ (b : Bool). cond b None (at_name rows n)) is) ∙ at in cc))
@@ -47,32 +47,32 @@ unit-cleared m ps n = unit-map (λ (k : NameParts) (p : Place). cond (is_within 
 other : {A : Type 0} (m n : NameParts) (a b : A) → (m ≡ n → ⊥) → cond (is_same_name m n) a b ≡ b
 other m n a b apart = by_bool (is_same_name m n) (λ is. absurd (apart ((name m n).0 is))) (λ is. ap (λ (x : Bool). cond x a b) is)
 
-pub found-put : (types : List Declaration) (ps : Places) (rows : PieceRows) (m : NameParts) (p : Place) → AreOrdered rows → ArePieces types ps rows
-    → ArePieces types (cleared m (insert_entry name_order ps m p)) (remove_entry (is_at (name_order m)) rows)
+pub found-put : (types : List Declaration) (ps : Places) (rows : PieceRows) (m : NameParts) (p : Place) → AreOrdered rows → AreHeldPieces types ps rows
+    → AreHeldPieces types (cleared m (insert_entry name_order ps m p)) (remove_entry (is_at (name_order m)) rows)
 found-put types ps rows m p ordered =
     found_past types ps (cleared m (insert_entry name_order ps m p)) m rows ordered
     (λ n apart. unit-cleared m (insert_entry name_order ps m p) n ∙ ap unit_of (at_name-put m p n ps ∙ other m n (Some p) (at_name ps n) apart))
 
-pub found-take : (types : List Declaration) (ps : Places) (rows : PieceRows) (m : NameParts) → AreOrdered ps → AreOrdered rows → ArePieces types ps rows
-    → ArePieces types (cleared m (remove_entry (is_at (name_order m)) ps)) (remove_entry (is_at (name_order m)) rows)
+pub found-take : (types : List Declaration) (ps : Places) (rows : PieceRows) (m : NameParts) → AreOrdered ps → AreOrdered rows → AreHeldPieces types ps rows
+    → AreHeldPieces types (cleared m (remove_entry (is_at (name_order m)) ps)) (remove_entry (is_at (name_order m)) rows)
 found-take types ps rows m in_order ordered =
     found_past types ps (cleared m (remove_entry (is_at (name_order m)) ps)) m rows ordered
     (λ n apart. unit-cleared m (remove_entry (is_at (name_order m)) ps) n ∙ ap unit_of (at_name-take m n ps in_order ∙ other m n None (at_name ps n) apart))
 
-pub found-answered : (types : List Declaration) (ps : Places) (rows : PieceRows) (m : NameParts) (a : Option Outcome) → ArePieces types ps rows → ArePieces types (answered m a ps) rows
-found-answered types ps rows m a found n piece at =
+pub found-with_answer_at : (types : List Declaration) (ps : Places) (rows : PieceRows) (m : NameParts) (a : Option Outcome) → AreHeldPieces types ps rows → AreHeldPieces types (with_answer_at m a ps) rows
+found-with_answer_at types ps rows m a found n piece at =
     subst (λ (u : Option Body). IsPieceFor types u piece)
     (sym (unit-map (λ (k : NameParts) (p : Place). cond (is_same_name m k) (with_answer p a) p) ps n (λ k p. same_unit (is_same_name m k) p a))) (found n piece at)
 
-pub found-marked : (types : List Declaration) (ps : Places) (rows : PieceRows) (c : Change) → ArePieces types ps rows → ArePieces types (marked c ps) rows
+pub found-marked : (types : List Declaration) (ps : Places) (rows : PieceRows) (c : Change) → AreHeldPieces types ps rows → AreHeldPieces types (marked c ps) rows
 found-marked types ps rows c found n piece at = subst (λ (u : Option Body). IsPieceFor types u piece) (sym (unit-map (mark c) ps n (λ k p. refl))) (found n piece at)
 
-pub found_none : (types : List Declaration) (ps : Places) → ArePieces types ps []
+pub found_none : (types : List Declaration) (ps : Places) → AreHeldPieces types ps []
 found_none types ps n piece at = absurd (cc)
 
 -- one piece more, of the unit at its name
-pub found_more : (types : List Declaration) (ps : Places) (rows : PieceRows) (m : NameParts) (more : PieceView) → IsPieceFor types (unit_of (at_name ps m)) more → ArePieces types ps rows
-    → ArePieces types ps (insert_entry name_order rows m more)
+pub found_more : (types : List Declaration) (ps : Places) (rows : PieceRows) (m : NameParts) (more : PieceView) → IsPieceFor types (unit_of (at_name ps m)) more → AreHeldPieces types ps rows
+    → AreHeldPieces types ps (insert_entry name_order rows m more)
 found_more types ps rows m more fits found n piece at =
     by_bool (is_same_name m n)
     (λ is.
@@ -114,7 +114,7 @@ all_at P (r ∷ rows) ordered each = (
     behind (x ∷ es) all n v e at =
         behind es all.1 n v e (sym (at_tail n x.0 x.1 es (λ (same : n ≡ x.0). less_apart r.0 x.0 all.0 (sym e ∙ same))) ∙ at)
 
-pub part_pieces : (root : NameParts) (types : List Declaration) (ps : Places) (rows : PieceRows) → AreOrdered rows → ArePieces types ps rows → AreOfSnapshot types (units_in root ps) (part_in root rows)
+pub part_pieces : (root : NameParts) (types : List Declaration) (ps : Places) (rows : PieceRows) → AreOrdered rows → AreHeldPieces types ps rows → ArePieces types (units_in root ps) (part_in root rows)
 part_pieces root types ps rows ordered found =
     all_at (λ (n : NameParts) (piece : PieceView). IsPieceFor types (at_name (units_in root ps) n) piece) (part_in root rows) (ordered-filter (is_within root) rows ordered)
     (λ n piece at. by_bool (is_within root n)

@@ -20,7 +20,7 @@ use Rattle.bc_prov.specs.declared.outcome.Outcome.{Outcome}
 use Rattle.bc_memo.specs.declared.place.Place.{Place}
 use Rattle.bc_memo.specs.declared.change.Change.{Change}
 use Rattle.bc_memo.specs.declared.change.Change.TheVariants.{Put, Remove, Answer, Answers, Nothing}
-use Rattle.bc_memo.specs.Places.{Places, ShelfView, AreKept, AreOrdered, IsAbove, IsBelow, IsFoundAt, IsGapAt, answer_of, answered, changed, cleared, mark, marked, unanswered, with_answer, written}
+use Rattle.bc_memo.specs.Places.{Places, ShelfView, AreKept, AreOrdered, IsAbove, IsBelow, IsFoundAt, IsGapAt, answer_of, with_answer_at, changed, cleared, mark, marked, unanswered, with_answer, written}
 use Rattle.bc_memo.proofs.Places.{at_found, at_head, at_missed, at_name-map, at_name-take, at_tail, by_bool, by_ordering, greater_apart, less_apart, ordered-map, ordered-put, ordered-take, put_here, put_step, same_back}
 
 -- ---- places stay kept
@@ -62,8 +62,8 @@ pub same_unit : (b : Bool) (p : Place) (a : Option Outcome) → (cond b (with_an
 same_unit true p a = refl
 same_unit false p a = refl
 
-pub kept-answered : (n : NameParts) (a : Option Outcome) (ps : Places) → AreKept ps → AreKept (answered n a ps)
-kept-answered n a ps kept = kept-map (λ (m : NameParts) (p : Place). cond (is_same_name n m) (with_answer p a) p) ps (λ m p. same_unit (is_same_name n m) p a) kept
+pub kept-with_answer_at : (n : NameParts) (a : Option Outcome) (ps : Places) → AreKept ps → AreKept (with_answer_at n a ps)
+kept-with_answer_at n a ps kept = kept-map (λ (m : NameParts) (p : Place). cond (is_same_name n m) (with_answer p a) p) ps (λ m p. same_unit (is_same_name n m) p a) kept
 
 pub kept-marked : (c : Change) (ps : Places) → AreKept ps → AreKept (marked c ps)
 kept-marked c ps kept = kept-map (mark c) ps (λ m p. refl) kept
@@ -86,18 +86,18 @@ row_apart : (n : NameParts) (a : Option Outcome) (p : NameParts × Place) → (n
 row_apart n a p apart = ap (λ (b : Bool). (p.0, cond b (with_answer p.1 a) p.1)) (other_name n p.0 apart)
 
 -- a name without a place
-pub answered_missed : (ps : Places) (n : NameParts) (a : Option Outcome) (i : ℕ) → IsAbove ps n i → IsBelow ps n i → ps ≡ answered n a ps
+pub answered_missed : (ps : Places) (n : NameParts) (a : Option Outcome) (i : ℕ) → IsAbove ps n i → IsBelow ps n i → ps ≡ with_answer_at n a ps
 answered_missed [] n a i above below = refl
 answered_missed (p ∷ ps) n a zero above below = λ j. sym (row_apart n a p (less_apart n p.0 (below 0 p (omega arith) (omega arith)))) j ∷ answered_missed ps n a zero (λ k d less. absurd (omega arith)) (λ k d from less. below (suc k) d (omega arith) (omega arith)) j
 answered_missed (p ∷ ps) n a (suc i) above below = λ j. sym (row_apart n a p (greater_apart n p.0 (above 0 p (omega arith)))) j ∷ answered_missed ps n a i (λ k d less. above (suc k) d (omega arith)) (λ k d from less. below (suc k) d (omega arith) (omega arith)) j
 
-all_apart : (ps : Places) (n : NameParts) (a : Option Outcome) → AllByRecursion (λ y. name_order n y ≡ Less) (keys_of ps) → ps ≡ answered n a ps
+all_apart : (ps : Places) (n : NameParts) (a : Option Outcome) → AllByRecursion (λ y. name_order n y ≡ Less) (keys_of ps) → ps ≡ with_answer_at n a ps
 all_apart [] n a all = refl
 all_apart (p ∷ ps) n a all = λ j. sym (row_apart n a p (less_apart n p.0 all.0)) j ∷ all_apart ps n a all.1 j
 
 -- a name with one
 pub answered_found : (ps : Places) (n : NameParts) (a : Option Outcome) (i : ℕ) (x : NameParts × Place) → AreOrdered ps → i < length ps → IsAbove ps n i → ((d : NameParts × Place) → (get_or ps i d).0 ≡ n)
-    → set ps i ((get_or ps i x).0, with_answer (get_or ps i x).1 a) ≡ answered n a ps
+    → set ps i ((get_or ps i x).0, with_answer (get_or ps i x).1 a) ≡ with_answer_at n a ps
 unfolding IsStrictlySortedBy
 answered_found [] n a i x ordered within above at = absurd (omega arith)
 answered_found (p ∷ ps) n a zero x ordered within above at =
@@ -162,7 +162,7 @@ twice p true false c is = ap (λ (x : Bool). bare x p) is
 twice p false true c is = ap (λ (x : Bool). bare x p) is
 twice p false false c is = ap (λ (x : Bool). bare x p) is
 
-pub cleared_more : (n : NameParts) (depth : ℕ) (ps : Places) → depth ≤ length n.segments → answered (beginning n depth) None (cleared_below n depth ps) ≡ cleared_below n (depth + 1) ps
+pub cleared_more : (n : NameParts) (depth : ℕ) (ps : Places) → depth ≤ length n.segments → with_answer_at (beginning n depth) None (cleared_below n depth ps) ≡ cleared_below n (depth + 1) ps
 cleared_more n depth [] few = refl
 cleared_more n depth (p ∷ ps) few = λ i. twice p (is_same_name (beginning n depth) p.0) (clears_below n depth p.0) (clears_below n (depth + 1) p.0) (one_more n p.0 depth few) i ∷ cleared_more n depth ps few i
 
@@ -183,9 +183,9 @@ cleared_whole n (p ∷ ps) = λ i. (p.0, cond (all (is_within p.0 n) refl i) (wi
     all false is = refl
 
 -- the last step, at the name itself
-cleared_all : (n : NameParts) (ps : Places) → answered n None (cleared_below n (length n.segments) ps) ≡ cleared n ps
+cleared_all : (n : NameParts) (ps : Places) → with_answer_at n None (cleared_below n (length n.segments) ps) ≡ cleared n ps
 cleared_all n ps =
-    ap (λ (m : NameParts). answered m None (cleared_below n (length n.segments) ps)) (within_beginning n n (within_self n))
+    ap (λ (m : NameParts). with_answer_at m None (cleared_below n (length n.segments) ps)) (within_beginning n n (within_self n))
     ∙ cleared_more n (length n.segments) ps (omega arith)
     ∙ cleared_whole n ps
 
@@ -198,7 +198,7 @@ still_bare true (Some p) bare = refl
 still_bare false (Some p) bare = bare
 
 -- a name without an answer has none to lose
-answered_bare : (ps : Places) (n : NameParts) → AreOrdered ps → answer_of (at_name ps n) ≡ None → answered n None ps ≡ ps
+answered_bare : (ps : Places) (n : NameParts) → AreOrdered ps → answer_of (at_name ps n) ≡ None → with_answer_at n None ps ≡ ps
 unfolding IsStrictlySortedBy
 answered_bare [] n ordered bare = refl
 answered_bare (p ∷ ps) n ordered bare = by_bool (is_same_name n p.0)
@@ -242,7 +242,7 @@ given : (b : Bool) (p : Place) (o : Outcome) → cond b (with_answer p (Some o))
 given true p o = refl
 given false p o = refl
 
-pub marked_answer : (n : NameParts) (o : Outcome) (ps : Places) → answered n (Some o) ps ≡ marked (Answer n o) ps
+pub marked_answer : (n : NameParts) (o : Outcome) (ps : Places) → with_answer_at n (Some o) ps ≡ marked (Answer n o) ps
 marked_answer n o [] = refl
 marked_answer n o (p ∷ ps) = λ i. (p.0, given (is_same_name n p.0) p.1 o i) ∷ marked_answer n o ps i
 
@@ -266,7 +266,7 @@ last_answer (q ∷ rows) r n p = by_bool (is_at (name_order n) q.0)
     over true = refl
     over false = refl
 
-pub marked_last : (rows : OutcomeRows) (r : NameParts × Outcome) (ps : Places) → marked (Answers (rows ++ r ∷ [])) ps ≡ marked (Answers rows) (answered r.0 (Some r.1) ps)
+pub marked_last : (rows : OutcomeRows) (r : NameParts × Outcome) (ps : Places) → marked (Answers (rows ++ r ∷ [])) ps ≡ marked (Answers rows) (with_answer_at r.0 (Some r.1) ps)
 marked_last rows r [] = refl
 marked_last rows r (p ∷ ps) = λ i. (p.0, last_answer rows r p.0 p.1 i) ∷ marked_last rows r ps i
 
@@ -274,8 +274,8 @@ pub marked_none : (ps : Places) → ps ≡ marked (Answers []) ps
 marked_none [] = refl
 marked_none (p ∷ ps) = λ i. p ∷ marked_none ps i
 
-pub ordered-answered : (n : NameParts) (a : Option Outcome) (ps : Places) → AreOrdered ps → AreOrdered (answered n a ps)
-ordered-answered n a ps ordered = ordered-map (λ (m : NameParts) (p : Place). cond (is_same_name n m) (with_answer p a) p) ps ordered
+pub ordered-with_answer_at : (n : NameParts) (a : Option Outcome) (ps : Places) → AreOrdered ps → AreOrdered (with_answer_at n a ps)
+ordered-with_answer_at n a ps ordered = ordered-map (λ (m : NameParts) (p : Place). cond (is_same_name n m) (with_answer p a) p) ps ordered
 
 pub marked_nothing : (ps : Places) → ps ≡ marked Nothing ps
 marked_nothing [] = refl

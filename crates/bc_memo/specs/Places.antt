@@ -92,14 +92,14 @@ answer_of None = None
 answer_of (Some place) = place.answer
 
 -- each piece was found from these declarations and from the unit that is held at its name
-abbrev pub ArePieces : List Declaration → Places → PieceRows → Type 0
-ArePieces types places pieces = (name : NameParts) (piece : PieceView) → at_name pieces name ≡ Some piece → IsPieceFor types (unit_of (at_name places name)) piece
+abbrev pub AreHeldPieces : List Declaration → Places → PieceRows → Type 0
+AreHeldPieces types places pieces = (name : NameParts) (piece : PieceView) → at_name pieces name ≡ Some piece → IsPieceFor types (unit_of (at_name places name)) piece
 
 -- the places are as they should be, and each piece, in the order of their names, was found from what is held
 pub record IsShelf (types : List Declaration) (places : Places) (pieces : PieceRows) : Type 0 where
   pub kept : AreKept places
   pub sorted : AreOrdered pieces
-  pub found : ArePieces types places pieces
+  pub found : AreHeldPieces types places pieces
 
 -- the revision of a name; an absent name has none
 abbrev pub revision_at : ShelfView → NameParts → Option ℕ
@@ -171,8 +171,8 @@ abbrev pub marked : Change → Places → Places
 marked change places = map (λ (p : NameParts × Place). (p.0, mark change p.0 p.1)) places
 
 -- the places with this answer at a name, if it has a place
-abbrev pub answered : NameParts → Option Outcome → Places → Places
-answered name answer places = map (λ (p : NameParts × Place). (p.0, if is_same_name name p.0 then with_answer p.1 answer else p.1)) places
+abbrev pub with_answer_at : NameParts → Option Outcome → Places → Places
+with_answer_at name answer places = map (λ (p : NameParts × Place). (p.0, if is_same_name name p.0 then with_answer p.1 answer else p.1)) places
 
 -- the places without the answers of a name and of those with which it begins
 abbrev pub cleared : NameParts → Places → Places

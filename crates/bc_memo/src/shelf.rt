@@ -6,7 +6,7 @@ ghost use Rattle.bc_prov.specs.Pieces.{AreOver};
 ghost use Rattle.bc_prov.specs.State.{at_name};
 ghost use Rattle.bc_memo.specs.declared.change.Change.TheVariants.{Answers};
 ghost use Rattle.bc_memo.specs.declared.place.Place.{Place};
-ghost use Rattle.bc_memo.specs.Places.{AreKeptInOrder, AreOrdered, IsHeld, IsReady, MayChange, answer_of, answered, changed, cleared, empty_shelf, marked, most_pieces, most_places, most_ready, pieces_after, revision_at, revisions_in, roots_in, unanswered, unit_of, units_in};
+ghost use Rattle.bc_memo.specs.Places.{AreKeptInOrder, AreOrdered, IsHeld, IsReady, MayChange, answer_of, with_answer_at, changed, cleared, empty_shelf, marked, most_pieces, most_places, most_ready, pieces_after, revision_at, revisions_in, roots_in, unanswered, unit_of, units_in};
 
 use crate::change::Change;
 use crate::pieces::PieceMemo;
@@ -422,7 +422,7 @@ fn is_unit(row: &(Name, Place), unit: &(Name, Shared<Unit>)) -> bool
 // Gives the place of a name this answer, or none, if the name has a place.
 fn set_answer(places: &mut Vec<(Name, Place)>, name: &Name, answer: Option<Shared<Outcome>>)
     requires { AreOrdered places.old.items }
-    ensures places { places.new.items ≡ answered name.now answer places.old.items }
+    ensures places { places.new.items ≡ with_answer_at name.now answer places.old.items }
     ensures memory { vec_capacity places.new ≡ vec_capacity places.old }
 {
     if let Ok(place) = find(places, name) {

@@ -4,7 +4,7 @@ use Rattle.bc_mir.specs.declared.mir.Point.{Point}
 use Rattle.bc_mir.specs.declared.mir.Step.{Step}
 use Rattle.bc_mir.specs.declared.typed.Where.TheVariants.{Header, At}
 use Rattle.bc_mir.specs.Mir.{Mir}
-use Rattle.bc_mir.specs.Typing.{header_fits, fits_at, first_unfit, Fits}
+use Rattle.bc_mir.specs.Typing.{header_fits, fits_at, first_unfit, HasNoMisfit}
 
 pub test_passed : (b : Bool) (rest : Option Point) (p : Point) → cond b rest (Some p) ≡ None → (b ≡ true) × (rest ≡ None)
 test_passed true rest p none = (refl, none)
@@ -16,7 +16,7 @@ passed true (Some point) none = cc
 passed false point none = cc
 
 -- where a unit fits, no point is a misfit
-pub no_unfit : (mir : Mir) → Fits mir → first_unfit mir mir.steps ≡ None
+pub no_unfit : (mir : Mir) → HasNoMisfit mir → first_unfit mir mir.steps ≡ None
 no_unfit mir = passed (header_fits mir) (first_unfit mir mir.steps)
 
 -- where no point is a misfit, each fits

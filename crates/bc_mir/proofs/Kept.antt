@@ -15,7 +15,7 @@ use Rattle.bc_syntax.specs.declared.syntax.UnitKind.{UnitKind}
 use Rattle.bc_syntax.specs.declared.syntax.UnitKind.TheVariants.{Function, Closure}
 use Rattle.bc_syntax.specs.declared.syntax.Ty.{Ty}
 use Rattle.bc_syntax.specs.Locals.{declared_locals, locals_of}
-use Rattle.bc_syntax.specs.Fits.{Fits as Sized, universal_count, point_count, clause_fits, kind_fits, signature_fits, ty_fits, let_fits, statement_fits, terminator_fits, block_fits}
+use Rattle.bc_syntax.specs.Fits.{Fits, universal_count, point_count, clause_fits, kind_fits, signature_fits, ty_fits, let_fits, statement_fits, terminator_fits, block_fits}
 use Rattle.bc_flow.specs.declared.graph.Edge.{Edge}
 use Rattle.bc_mir.specs.declared.children.Child.{Child}
 use Rattle.bc_mir.specs.declared.mir.Step.{Step}
@@ -24,7 +24,7 @@ use Rattle.bc_mir.specs.declared.mir.Instruction.{Instruction}
 use Rattle.bc_mir.specs.declared.mir.Instruction.TheVariants.{Statement, Terminator}
 use Rattle.bc_mir.specs.Mir.{Mir, mir_of, block_steps, steps_from, entries_from, successors_of, edges_of_step, edges_of}
 use Rattle.bc_mir.specs.Rules.{is_operand_int}
-use Rattle.bc_mir.specs.Typing.{fits_at, first_unfit, Fits}
+use Rattle.bc_mir.specs.Typing.{fits_at, first_unfit, HasNoMisfit}
 use Rattle.bc_mir.specs.Typed.{instruction_fits, steps_fit, IsTyped}
 use Rattle.bc_mir.proofs.Mirs.{length-block_steps}
 use Rattle.bc_mir.proofs.Fitting.{test_passed, no_unfit}
@@ -128,11 +128,11 @@ some-point : (blocks : List Block) → 1 ≤ length blocks → 1 ≤ length (ste
 some-point [] some = absurd (omega arith)
 some-point (block ∷ blocks) some = omega (arith, length-append (block_steps 0 0 block.statements block.terminator) (steps_from 1 blocks), length-block_steps 0 0 block.statements block.terminator)
 
-header-parts : (body : Body) → Sized body → (kind_fits (universal_count body.header.signature) body.header.kind body.header.captures ≡ true) × (signature_fits 15 body.header.signature ≡ true)
+header-parts : (body : Body) → Fits body → (kind_fits (universal_count body.header.signature) body.header.kind body.header.captures ≡ true) × (signature_fits 15 body.header.signature ≡ true)
 header-parts body sized = and_parts (kind_fits (universal_count body.header.signature) body.header.kind body.header.captures) (signature_fits 15 body.header.signature) sized.header
 
 -- a unit has at most 16 universal regions
-pub few-universals : (body : Body) → Sized body → universal_count body.header.signature ≤ 16
+pub few-universals : (body : Body) → Fits body → universal_count body.header.signature ≤ 16
 few-universals body sized = omega (arith, (signature_parts 15 body.header.signature (header-parts body sized).1).few)
 
 captures-fit : (n : ℕ) (kind : UnitKind) (captures : List Ty) → kind_fits n kind captures ≡ true → list_all (let_fits n) captures ≡ true
@@ -141,7 +141,7 @@ captures-fit n Function (capture ∷ captures) fits = absurd cc
 captures-fit n Closure captures fits = types-wider n captures (and_parts (list_all (ty_fits false n) captures) _ fits).0
 
 -- the types of the locals name regions that may be named
-types-fit : (body : Body) → Sized body → list_all (let_fits (universal_count body.header.signature)) (locals_of body) ≡ true
+types-fit : (body : Body) → Fits body → list_all (let_fits (universal_count body.header.signature)) (locals_of body) ≡ true
 types-fit body sized =
     let n = universal_count body.header.signature in
     let header = header-parts body sized in
@@ -155,7 +155,7 @@ types-fit body sized =
     sized.lets)
 
 -- a unit that fits is typed
-pub typed : (types : List Declaration) (children : List Child) (body : Body) → Sized body → Fits (mir_of types children body) → IsTyped (mir_of types children body)
+pub typed : (types : List Declaration) (children : List Child) (body : Body) → Fits body → HasNoMisfit (mir_of types children body) → IsTyped (mir_of types children body)
 typed types children body sized fits =
     let mir = mir_of types children body in
     let signature = signature_parts 15 body.header.signature (header-parts body sized).1 in
@@ -177,7 +177,7 @@ typed types children body sized fits =
     }
 
 -- every edge of a body that fits joins two of its points
-pub edges-join : (types : List Declaration) (children : List Child) (body : Body) → Fits (mir_of types children body) → AreWithin (edges_of (mir_of types children body)) (length (mir_of types children body).steps)
+pub edges-join : (types : List Declaration) (children : List Child) (body : Body) → HasNoMisfit (mir_of types children body) → AreWithin (edges_of (mir_of types children body)) (length (mir_of types children body).steps)
 edges-join types children body fits =
     let mir = mir_of types children body in
     let count : length mir.steps ≡ point_count body.blocks = length-steps_from 0 body.blocks in

@@ -6,13 +6,13 @@ use Rattle.bc_flow.specs.Graph.{AreWithin}
 use Rattle.bc_mir.specs.declared.children.Child.{Child}
 use Rattle.bc_mir.specs.declared.mir.Step.{Step}
 use Rattle.bc_mir.specs.Mir.{mir_of, edges_of}
-use Rattle.bc_mir.specs.Typing.{Fits}
+use Rattle.bc_mir.specs.Typing.{HasNoMisfit}
 use Rattle.bc_syntax.specs.declared.syntax.Declaration.{Declaration}
 
 -- every edge of a body that fits joins two of its points
 abbrev pub EdgesJoinPoints : Type 0
 EdgesJoinPoints =
-    (types : List Declaration) (children : List Child) (body : Body) → Fits (mir_of types children body) →
+    (types : List Declaration) (children : List Child) (body : Body) → HasNoMisfit (mir_of types children body) →
     AreWithin (edges_of (mir_of types children body)) (length (mir_of types children body).steps)
 
 -- a block is entered at its point of index 0

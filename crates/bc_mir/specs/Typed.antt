@@ -7,7 +7,7 @@ use Rattle.bc_mir.specs.declared.mir.Step.{Step}
 use Rattle.bc_mir.specs.declared.mir.Instruction.{Instruction}
 use Rattle.bc_mir.specs.declared.mir.Instruction.TheVariants.{Statement, Terminator}
 use Rattle.bc_mir.specs.Mir.{Mir, edges_of}
-use Rattle.bc_mir.specs.Typing.{Fits}
+use Rattle.bc_mir.specs.Typing.{HasNoMisfit}
 
 -- what happens at a point is within its limits where so many regions are universal and so many locals declared
 abbrev pub instruction_fits : (universals locals : ℕ) → Instruction → Bool
@@ -19,7 +19,7 @@ steps_fit universals locals steps = list_all (λ (step : Step). instruction_fits
 
 -- it fits, its numbers are within their limits, its regions are declared, and its edges join its points
 pub record IsTyped (mir : Mir) : Type 0 where
-  pub fits : Fits mir
+  pub fits : HasNoMisfit mir
   pub some_universal : 1 ≤ mir.universals
   pub universals : mir.universals ≤ 16
   pub clauses : list_all (clause_fits mir.universals) mir.clauses ≡ true

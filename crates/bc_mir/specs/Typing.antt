@@ -28,5 +28,5 @@ first_unfit mir (step ∷ steps) = if fits_at mir step.instruction then first_un
 abbrev pub misfit : Mir → Option Where
 misfit mir = if header_fits mir then option_map At (first_unfit mir mir.steps) else Some Header
 
-abbrev pub Fits : Mir → Type 0
-Fits mir = misfit mir ≡ None
+abbrev pub HasNoMisfit : Mir → Type 0
+HasNoMisfit mir = misfit mir ≡ None

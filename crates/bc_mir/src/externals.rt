@@ -4,6 +4,7 @@ ghost use Rattle.std.specs.List.{list_any};
 ghost use Rattle.bc_mir.specs.Mentions.{regions_of_references, regions_of_base};
 ghost use Rattle.bc_mir.specs.Externals.{is_universal as universal_test, stands_in as standing, is_external as external_test, is_local, numbers_from};
 
+use crate::mentions::base_regions;
 use bc_syntax::{Base, Reference, Region, RegionName, Ty};
 use std::alloc::AllocError;
 
@@ -22,21 +23,11 @@ fn is_among(number: usize, regions: &[Region]) -> bool
     regions.iter().any(|region| is_universal(number, *region))
 }
 
-fn stands_in_base(number: usize, base: &Base) -> bool
-    ensures { result ≡ list_any (universal_test number) (regions_of_base base.now) }
-{
-    match base {
-        Base::Int => false,
-        Base::Struct(instance) => is_among(number, instance.regions.as_slice()),
-        Base::Closure(closure) => is_among(number, closure.regions.as_slice()),
-    }
-}
-
 fn stands_behind(number: usize, references: &[Reference], base: &Base) -> bool
     ensures { result ≡ list_any (universal_test number) (regions_of_references references.now ++ regions_of_base base.now) }
 {
     match references {
-        [] => stands_in_base(number, base),
+        [] => is_among(number, base_regions(base)),
         [reference, more @ ..] => {
             is_universal(number, reference.region) || stands_behind(number, more, base)
         }

@@ -7,7 +7,7 @@ ghost use Rattle.bc_syntax.specs.Children.{children_of};
 ghost use Rattle.bc_syntax.specs.Fits.{clause_fits, let_fits};
 ghost use Rattle.bc_mir.specs.Children.{child_of};
 ghost use Rattle.bc_mir.specs.Mir.{mir_of};
-ghost use Rattle.bc_mir.specs.Typing.{first_unfit as first_misfit, misfit as misfit_of, Fits};
+ghost use Rattle.bc_mir.specs.Typing.{first_unfit as first_misfit, misfit as misfit_of, HasNoMisfit};
 ghost use Rattle.bc_mir.specs.Typed.{IsTyped, steps_fit};
 ghost use Rattle.bc_mir.specs.WellFormed.{input_types, let_types};
 ghost use Rattle.bc_mir.specs.declared.typed.Where.{Where};
@@ -213,7 +213,7 @@ pub fn type_unit(
 ) -> Result<Typed, IllFault>
     requires kids { map (λ kid. kid.number) kids.now ≡ children_of unit.now }
     ensures ok { IfOk result (λ typed. typed ≡ mir_of (arc_value types.now) kids.now unit.now) }
-    ensures fits { OnOk result (Fits (mir_of (arc_value types.now) kids.now unit.now)) }
+    ensures fits { OnOk result (HasNoMisfit (mir_of (arc_value types.now) kids.now unit.now)) }
     ensures ill { (place : Where) → result ≡ Err (IllFault.Ill place) → misfit_of (mir_of (arc_value types.now) kids.now unit.now) ≡ Some place }
 {
     let shared = share(types)?;

@@ -122,15 +122,15 @@ abbrev pub are_none : List Projection → Bool
 are_none [] = true
 are_none (projection ∷ projections) = false
 
-abbrev pub is_local : Place → Bool
-is_local place = are_none place.projections
+abbrev pub is_whole_local : Place → Bool
+is_whole_local place = are_none place.projections
 
 -- a target uses its local where it has a projection, and else defines it
 abbrev pub target_uses : Place → List ℕ
-target_uses place = if is_local place then [] else place.local ∷ []
+target_uses place = if is_whole_local place then [] else place.local ∷ []
 
 abbrev pub target_defines : Place → Option ℕ
-target_defines place = if is_local place then Some place.local else None
+target_defines place = if is_whole_local place then Some place.local else None
 
 -- the locals that a point uses
 abbrev pub uses_of : Mir → Instruction → List ℕ

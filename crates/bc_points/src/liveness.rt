@@ -1,7 +1,7 @@
 //! The locals that points use and define (RFC 2094, "Liveness").
 ghost use Rattle.std.specs.Prelude.{◌≡◌, ◌++◌, OnOk};
 ghost use Rattle.std.specs.List.{flat_map};
-ghost use Rattle.bc_points.specs.Accesses.{operand_uses, rvalue_uses, is_local as local_test, target_uses, target_defines, drop_uses, uses_of, defines_of};
+ghost use Rattle.bc_points.specs.Accesses.{operand_uses, rvalue_uses, is_whole_local as local_test, target_uses, target_defines, drop_uses, uses_of, defines_of};
 
 use crate::access::runs_drop;
 use bc_mir::{Instruction, Typed};
@@ -42,7 +42,7 @@ fn push_rvalue(locals: &mut Vec<u8>, rvalue: &Rvalue) -> Result<(), AllocError>
     }
 }
 
-fn is_local(place: &Place) -> bool
+fn is_whole_local(place: &Place) -> bool
     ensures { result ≡ local_test place.now }
 {
     matches!(place.projections.as_slice(), [])
@@ -51,7 +51,7 @@ fn is_local(place: &Place) -> bool
 fn push_target(locals: &mut Vec<u8>, place: &Place) -> Result<(), AllocError>
     ensures { OnOk result (locals.new.items ≡ locals.old.items ++ target_uses place.now) }
 {
-    if !is_local(place) {
+    if !is_whole_local(place) {
         locals.push(place.local)?;
     }
     Ok(())
@@ -115,7 +115,7 @@ pub fn push_uses(
 fn defined_by(target: &Place) -> Option<u8>
     ensures { result ≡ target_defines target.now }
 {
-    if is_local(target) {
+    if is_whole_local(target) {
         Some(target.local)
     } else {
         None

@@ -20,7 +20,7 @@ use Rattle.bc_check.specs.Changes.{Makes, MakeAll}
 use Rattle.bc_print_file.specs.Printed.{text_of, section_text, file_text}
 use Rattle.bc_print_file_laws.specs.Laws.{AreShort, PrintedFilesAreRead, PrintedFilesArePrintedAlike}
 use Rattle.bc_print_file_laws.proofs.Ink.{IsInk, texts_ink}
-use Rattle.bc_print_file_laws.proofs.Cutting.{Piece, IsPiece, ArePieces, InkHeaders, put, anew, put_sections, sections_ink}
+use Rattle.bc_print_file_laws.proofs.Cutting.{LinePair, IsLinePair, AreLinePairs, InkHeaders, put, anew, put_sections, sections_ink}
 
 -- what a call puts, without its line feed
 abbrev words_of : Call → List ℕ
@@ -30,7 +30,7 @@ words_of (calls.Remove name) = []
 words_of (calls.Ask name) = []
 words_of calls.All = []
 
-abbrev pieces : List Part → List Call → List Piece
+abbrev pieces : List Part → List Call → List LinePair
 pieces [] made = []
 pieces (section ∷ sections) [] = []
 pieces (section ∷ sections) (one ∷ made) = (section.header, words_of one) ∷ pieces sections made
@@ -68,14 +68,14 @@ begins_types (declarations.Extern d ∷ ds) = refl
 taken_header : (section : Part) (one : Call) → Makes section one → is_header (section.header ++ 10 ∷ []) ≡ true
 taken_header section one makes = subst (λ (h : List ℕ). is_header (h ++ 10 ∷ []) ≡ true) (sym makes.0.1.1) refl
 
-is_piece : (section : Part) (one : Call) → Makes section one → IsInk section.header → IsPiece (section.header, words_of one)
+is_piece : (section : Part) (one : Call) → Makes section one → IsInk section.header → IsLinePair (section.header, words_of one)
 is_piece section (calls.Types ds) makes ink = (ink, texts_ink (spell.types ds) (types_are_whole ds (types_found section.text ds makes.1).1), taken_header section (calls.Types ds) makes, begins_types ds)
 is_piece section (calls.Put name u) makes ink = (ink, texts_ink (spell.unit u) (unit_is_whole u (read_found section.text u makes.1).1), taken_header section (calls.Put name u) makes, begins_unit u.header.kind (spell.header_rest u.header ++ spell.body u))
 is_piece section (calls.Remove name) makes ink = absurd (let e = makes.0.0 in cc)
 is_piece section (calls.Ask name) makes ink = absurd (let e = makes.0.0 in cc)
 is_piece section calls.All makes ink = absurd (let e = makes.0.0 in cc)
 
-are_pieces : (sections : List Part) (made : List Call) → MakeAll sections made → InkHeaders sections → ArePieces (pieces sections made)
+are_pieces : (sections : List Part) (made : List Call) → MakeAll sections made → InkHeaders sections → AreLinePairs (pieces sections made)
 are_pieces [] [] good ink = tt
 are_pieces [] (one ∷ made) good ink = absurd good
 are_pieces (section ∷ sections) [] good ink = absurd good

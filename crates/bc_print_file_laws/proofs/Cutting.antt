@@ -7,24 +7,24 @@ use Rattle.bc_check.specs.Parts.{Part, Parts, is_header, parts, opened, sections
 use Rattle.bc_print_file_laws.proofs.Ink.{is_ink, IsInk}
 
 -- a header line and the line of its text, without their line feeds
-abbrev pub Piece : Type 0
-Piece = List ℕ × List ℕ
+abbrev pub LinePair : Type 0
+LinePair = List ℕ × List ℕ
 
 -- each is one line, and the first alone is one of a header
-abbrev pub IsPiece : Piece → Type 0
-IsPiece p = IsInk p.0 × IsInk p.1 × (is_header (p.0 ++ 10 ∷ []) ≡ true) × (is_header (p.1 ++ 10 ∷ []) ≡ false)
+abbrev pub IsLinePair : LinePair → Type 0
+IsLinePair p = IsInk p.0 × IsInk p.1 × (is_header (p.0 ++ 10 ∷ []) ≡ true) × (is_header (p.1 ++ 10 ∷ []) ≡ false)
 
-abbrev pub ArePieces : List Piece → Type 0
-ArePieces [] = Unit {0}
-ArePieces (p ∷ ps) = IsPiece p × ArePieces ps
+abbrev pub AreLinePairs : List LinePair → Type 0
+AreLinePairs [] = Unit {0}
+AreLinePairs (p ∷ ps) = IsLinePair p × AreLinePairs ps
 
 -- pieces one behind the other
-abbrev pub put : List Piece → List ℕ
+abbrev pub put : List LinePair → List ℕ
 put [] = []
 put (p ∷ ps) = (p.0 ++ 10 ∷ []) ++ ((p.1 ++ 10 ∷ []) ++ put ps)
 
 -- their sections, the first of which begins at this line
-abbrev pub anew : ℕ → List Piece → List Part
+abbrev pub anew : ℕ → List LinePair → List Part
 anew number [] = []
 anew number (p ∷ ps) = record { line = number; header = p.0; text = p.1 ++ 10 ∷ [] } ∷ anew (number + 2) ps
 
@@ -57,7 +57,7 @@ section_opens n h t lines later ink plain rest =
     let two : (n + 1) + 1 ≡ n + 2 = omega arith in
     rw (plain, two, rest, without_end_is h ink) (ap (λ (text : List ℕ). record { line = n; header = h; text = text } ∷ later) (append-nil (t ++ 10 ∷ [])))
 
-put_lines : (p : Piece) (rest : List ℕ) → IsPiece p → lines_of ((p.0 ++ 10 ∷ []) ++ ((p.1 ++ 10 ∷ []) ++ rest)) ≡ (p.0 ++ 10 ∷ []) ∷ (p.1 ++ 10 ∷ []) ∷ lines_of rest
+put_lines : (p : LinePair) (rest : List ℕ) → IsLinePair p → lines_of ((p.0 ++ 10 ∷ []) ++ ((p.1 ++ 10 ∷ []) ++ rest)) ≡ (p.0 ++ 10 ∷ []) ∷ (p.1 ++ 10 ∷ []) ∷ lines_of rest
 put_lines p rest whole =
     ap lines_of (append_assoc p.0 (10 ∷ []) ((p.1 ++ 10 ∷ []) ++ rest))
     ∙ line_goes p.0 ((p.1 ++ 10 ∷ []) ++ rest) whole.0
@@ -65,13 +65,13 @@ put_lines p rest whole =
     ∙ ap (λ (ls : List (List ℕ)). (p.0 ++ 10 ∷ []) ∷ ls) (line_goes p.1 rest whole.1)
 
 -- no text stands before the first
-put_parts : (n : ℕ) (ps : List Piece) → ArePieces ps → parts n (lines_of (put ps)) ≡ nothing_more (anew n ps)
+put_parts : (n : ℕ) (ps : List LinePair) → AreLinePairs ps → parts n (lines_of (put ps)) ≡ nothing_more (anew n ps)
 put_parts n [] whole = refl
 put_parts n (p ∷ ps) whole =
     ap (parts n) (put_lines p (put ps) whole.0)
     ∙ rw (whole.0.2) (ap nothing_more (section_opens n p.0 p.1 (lines_of (put ps)) (anew (n + 2) ps) whole.0.0 whole.0.3 (put_parts (n + 2) ps whole.1)))
 
-pub put_sections : (n : ℕ) (ps : List Piece) → ArePieces ps → sections_from n (lines_of (put ps)) ≡ anew n ps
+pub put_sections : (n : ℕ) (ps : List LinePair) → AreLinePairs ps → sections_from n (lines_of (put ps)) ≡ anew n ps
 put_sections n [] whole = refl
 put_sections n (p ∷ ps) whole =
     ap (sections_from n) (put_lines p (put ps) whole.0)

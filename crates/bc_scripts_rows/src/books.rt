@@ -35,8 +35,9 @@ fn a_work_of_another_book_is_settled_as_the_second_entry(rt: HostRuntime) -> Res
     book.settle(&rt, alloc, 0, work, &providers)?;
     let entries = book.into_history();
     assert_eq!(rt; entries.len(), 2);
-    assert!(rt;
-        found_at(&entries, 1) == Found::Errors(1),
+    assert_eq!(rt;
+        found_at(&entries, 1),
+        Found::Errors(1),
         "the Ask finds what its own book holds"
     );
     assert_eq!(rt; other.into_history().len(), 1);

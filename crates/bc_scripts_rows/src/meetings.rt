@@ -163,8 +163,9 @@ fn a_session_puts_and_reads_while_another_asks(rt: HostRuntime) -> Result<(), Fa
     });
     let history = history_by(&rt, rt.alloc(), &providers, &meeting)?;
     assert!(rt; meeting.patience.is_kept(), "nobody waits too long");
-    assert!(rt;
-        found_at(history.entries(), 2) == Found::Errors(1),
+    assert_eq!(rt;
+        found_at(history.entries(), 2),
+        Found::Errors(1),
         "the Ask stands behind both puts, and finds what session 1 left"
     );
     Ok(())

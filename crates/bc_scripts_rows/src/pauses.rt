@@ -83,7 +83,7 @@ fn pauses_of<R: Threads + Wait + Sync>(
 fn declarations_puts_and_removals_do_not_pause(rt: HostRuntime) -> Result<(), Fail> {
     let providers = providers!(rt.alloc());
     let pauses = pauses_of(&rt, rt.alloc(), &WRITES, &providers)?;
-    assert!(rt; pauses == (0, 0, Some(End::Done)));
+    assert_eq!(rt; pauses, (0, 0, Some(End::Done)));
     Ok(())
 }
 
@@ -93,7 +93,7 @@ fn an_ask_comes_once_to_each_stage_whatever_it_finds(rt: HostRuntime) -> Result<
     let providers = providers!(rt.alloc());
     for (number, steps) in ASKS.iter().enumerate() {
         let pauses = pauses_of(&rt, rt.alloc(), steps, &providers)?;
-        assert!(rt; pauses == (1, 1, Some(End::Done)), "Ask {number}");
+        assert_eq!(rt; pauses, (1, 1, Some(End::Done)), "Ask {number}");
     }
     Ok(())
 }
@@ -110,6 +110,6 @@ fn an_ask_whose_work_is_refused_comes_to_its_first_stage_alone(
         refusal: Refusal::NoMemory,
     };
     let pauses = pauses_of(&rt, rt.alloc(), &steps, &providers)?;
-    assert!(rt; pauses == (1, 0, Some(stopped)));
+    assert_eq!(rt; pauses, (1, 0, Some(stopped)));
     Ok(())
 }

@@ -424,8 +424,9 @@ fn a_body_is_replaced_while_another_session_works_on_it(rt: HostRuntime) -> Resu
     let ask = place_of(entries, 0, 1);
     assert!(rt; is_replaced(entries, put), "session 1 replaces the body");
     assert!(rt; put < ask, "the Ask stands behind that put");
-    assert!(rt;
-        found_at(entries, ask) == Found::Errors(1),
+    assert_eq!(rt;
+        found_at(entries, ask),
+        Found::Errors(1),
         "and finds what it left"
     );
     Ok(())
@@ -550,8 +551,9 @@ fn a_refused_call_ends_its_script(rt: HostRuntime) -> Result<(), Fail> {
         number: 3,
         refusal: Refusal::HistoryFull,
     };
-    assert!(rt;
-        ends.as_slice() == [stopped, End::Done].as_slice(),
+    assert_eq!(rt;
+        ends.as_slice(),
+        [stopped, End::Done].as_slice(),
         "the fourth call is refused"
     );
     assert!(rt; are_numbered(history.entries(), 0, 3), "three entries");
@@ -569,8 +571,9 @@ fn a_refused_call_is_not_made_again(rt: HostRuntime) -> Result<(), Fail> {
         number: 1,
         refusal: Refusal::NoMemory,
     };
-    assert!(rt;
-        ends.as_slice() == [stopped, End::Done].as_slice(),
+    assert_eq!(rt;
+        ends.as_slice(),
+        [stopped, End::Done].as_slice(),
         "the second call is refused, and no other is made"
     );
     Ok(())

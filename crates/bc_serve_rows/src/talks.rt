@@ -170,10 +170,11 @@ fn lines_that_end(rt: &HostRuntime, text: &[u8], end: &[u8]) -> Result<Vec<u8>, 
 #[test]
 fn each_session_is_answered_in_its_order(rt: HostRuntime) -> Result<(), Fail> {
     let left = leave_with(&rt, &providers!(rt.alloc()), 2, 10, MIXED, SOUND)?;
-    assert!(rt; left.status == 0 && left.err.is_empty());
+    assert_eq!(rt; left.status, 0);
+    assert!(rt; left.err.is_empty());
     for (end, answers) in BY_SESSION {
         let lines = lines_that_end(&rt, &left.out, end)?;
-        assert!(rt; lines.as_slice() == answers);
+        assert_eq!(rt; lines.as_slice(), answers);
     }
     Ok(())
 }

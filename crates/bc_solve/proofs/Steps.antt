@@ -8,8 +8,8 @@ use Rattle.bc_flow.specs.declared.graph.Edge.{Edge}
 use Rattle.bc_flow.specs.Graph.{HasEdge, AreWithin}
 use Rattle.bc_flow.specs.Flow.{holds}
 use Rattle.bc_flow.proofs.Membership.{Contains-nil}
-use Rattle.bc_cons.specs.declared.facts.Constraint.{Constraint}
-use Rattle.bc_cons.specs.Facts.{Outlives}
+use Rattle.bc_cons.specs.declared.facts.NumberedConstraint.{NumberedConstraint}
+use Rattle.bc_cons.specs.Facts.{MustOutlive}
 use Rattle.bc_flow.specs.Levels.{AreLevels}
 use Rattle.bc_solve.specs.Ways.{AreLengths, AreSteps, AreStepsSoFar, LeadsBelow, IsOnward, AreEdgesOf, way}
 use Rattle.bc_flow.specs.Chains.{IsNext}
@@ -48,7 +48,7 @@ starts_within rows r e h = elim (cases_lt r (length rows)) [
 
 -- ---- lengths
 
-pub AreLengths-from_levels : (starts : ℕ → ℕ → Bool) (pairs : List Constraint) (e : ℕ) (edges : List Edge) (sources levels : List ℕ) → AreEdgesOf pairs edges → ((r : ℕ) → Contains sources r ↔ (starts r e ≡ true)) →
+pub AreLengths-from_levels : (starts : ℕ → ℕ → Bool) (pairs : List NumberedConstraint) (e : ℕ) (edges : List Edge) (sources levels : List ℕ) → AreEdgesOf pairs edges → ((r : ℕ) → Contains sources r ↔ (starts r e ≡ true)) →
     AreLevels edges sources levels → AreLengths starts pairs e levels
 AreLengths-from_levels starts pairs e edges sources levels are_edges same are = record {
   begins = λ r h. are.begins r ((same r).1 h);
@@ -196,13 +196,13 @@ AreStepsSoFar-unreached edges lengths steps shorter none = AreStepsSoFar-skip (L
       | inr other ↦ inl (omega (arith, leads.0, other), leads.1)
     ])
 
-pub AreSteps-end : (pairs : List Constraint) (edges : List Edge) (lengths steps : List ℕ) → AreEdgesOf pairs edges → AreWithin edges (length lengths) →
-    ((a : ℕ) → 1 < get_or lengths a 0 → (b : ℕ) × Outlives pairs a b × (get_or lengths b 0 + 1 ≡ get_or lengths a 0)) →
-    AreStepsSoFar (LeadsBelow edges (length lengths)) lengths steps → AreSteps (Outlives pairs) lengths steps
+pub AreSteps-end : (pairs : List NumberedConstraint) (edges : List Edge) (lengths steps : List ℕ) → AreEdgesOf pairs edges → AreWithin edges (length lengths) →
+    ((a : ℕ) → 1 < get_or lengths a 0 → (b : ℕ) × MustOutlive pairs a b × (get_or lengths b 0 + 1 ≡ get_or lengths a 0)) →
+    AreStepsSoFar (LeadsBelow edges (length lengths)) lengths steps → AreSteps (MustOutlive pairs) lengths steps
 AreSteps-end pairs edges lengths steps are_edges within onward so_far =
-    let inside : (a b : ℕ) → Outlives pairs a b → b < length lengths = λ a b outlives.
+    let inside : (a b : ℕ) → MustOutlive pairs a b → b < length lengths = λ a b outlives.
     (All-contains (λ (e : Edge). (e.from < length lengths) × (e.to < length lengths)) edges (record { from = b; to = a }) within ((are_edges a b).1 outlives)).0 in
-    let least : (a b : ℕ) → 1 < get_or lengths a 0 → Outlives pairs a b → get_or lengths b 0 + 1 ≡ get_or lengths a 0 → get_or steps a 0 ≤ b = λ a b long outlives on.
+    let least : (a b : ℕ) → 1 < get_or lengths a 0 → MustOutlive pairs a b → get_or lengths b 0 + 1 ≡ get_or lengths a 0 → get_or steps a 0 ≤ b = λ a b long outlives on.
     so_far.least a b long (inside a b outlives, (are_edges a b).1 outlives) on in
     record {
       leads = λ a long.

@@ -3,16 +3,16 @@ use Rattle.std.specs.Prelude.{◌≡◌, ℕ, ◌<◌, ◌⊎◌, Bool, true, Li
 use Rattle.bc_syntax.specs.declared.syntax.Region.{Region}
 use Rattle.bc_flow.specs.Flow.{holds}
 use Rattle.bc_points.specs.Regions.{region_of_number}
-use Rattle.bc_cons.specs.declared.facts.Constraint.{Constraint}
-use Rattle.bc_cons.specs.Facts.{RegionFacts, Outlives}
+use Rattle.bc_cons.specs.declared.facts.NumberedConstraint.{NumberedConstraint}
+use Rattle.bc_cons.specs.Facts.{RegionFacts, MustOutlive}
 use Rattle.bc_solve.specs.Values.{IsInValue}
 
 -- a chain from a region to an element: a list of regions that begins with the region, in which each has to outlive the next,
 -- and whose last starts with the element
-abbrev pub IsChain : (ℕ → ℕ → Bool) → List Constraint → ℕ → ℕ → List ℕ → Type 0
+abbrev pub IsChain : (ℕ → ℕ → Bool) → List NumberedConstraint → ℕ → ℕ → List ℕ → Type 0
 IsChain starts pairs region element [] = ⊥
 IsChain starts pairs region element (a ∷ []) = (a ≡ region) × (starts a element ≡ true)
-IsChain starts pairs region element (a ∷ b ∷ rest) = (a ≡ region) × Outlives pairs a b × IsChain starts pairs b element (b ∷ rest)
+IsChain starts pairs region element (a ∷ b ∷ rest) = (a ≡ region) × MustOutlive pairs a b × IsChain starts pairs b element (b ∷ rest)
 
 -- at the first place where the two lists differ, the one has the smaller region
 abbrev pub IsBefore : List ℕ → List ℕ → Type 0
@@ -21,14 +21,14 @@ IsBefore (a ∷ rest) [] = ⊥
 IsBefore (a ∷ rest) (b ∷ others) = (a < b) ⊎ ((a ≡ b) × IsBefore rest others)
 
 -- the first of the shortest chains: each chain is longer, or has the same length and is not before it
-pub record IsFirstShortest (starts : ℕ → ℕ → Bool) (pairs : List Constraint) (region element : ℕ) (chain : List ℕ) : Type 0 where
+pub record IsFirstShortest (starts : ℕ → ℕ → Bool) (pairs : List NumberedConstraint) (region element : ℕ) (chain : List ℕ) : Type 0 where
   pub is_chain : IsChain starts pairs region element chain
   pub first : (other : List ℕ) → IsChain starts pairs region element other →
       (length chain < length other) ⊎ ((length other ≡ length chain) × ¬ (IsBefore other chain))
 
 -- regions explain why an element is in the value of a region, where so many regions are universal, by what regions start with and
 -- have to outlive: they are the first of the shortest chains, number by number
-abbrev pub ExplainsOver : ℕ → (ℕ → ℕ → Bool) → List Constraint → ℕ → ℕ → List Region → Type 0
+abbrev pub ExplainsOver : ℕ → (ℕ → ℕ → Bool) → List NumberedConstraint → ℕ → ℕ → List Region → Type 0
 ExplainsOver universals starts pairs region element chain =
     (numbers : List ℕ) × IsFirstShortest starts pairs region element numbers × (chain ≡ map (region_of_number universals) numbers)
 

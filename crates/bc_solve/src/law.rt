@@ -1,7 +1,7 @@
 //! What holds of all chains.
 ghost use Rattle.std.specs.Prelude.{◌≡◌, ℕ, ◌↔◌, Bool, List};
 ghost use Rattle.bc_syntax.specs.declared.syntax.Region.{Region};
-ghost use Rattle.bc_cons.specs.declared.facts.Constraint.{Constraint as APair};
+ghost use Rattle.bc_cons.specs.declared.facts.NumberedConstraint.{NumberedConstraint as APair};
 ghost use Rattle.bc_cons.specs.Facts.{RegionFacts};
 ghost use Rattle.bc_solve.specs.Values.{IsInValue};
 ghost use Rattle.bc_solve.specs.Chains.{IsChain, IsFirstShortest, ExplainsOver, TellsChains};

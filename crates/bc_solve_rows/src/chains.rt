@@ -3,7 +3,7 @@ ghost use Rattle.std.specs.Prelude.{IfOk};
 ghost use Rattle.bc_flow.specs.Flow.{AreEntriesWithin};
 ghost use Rattle.bc_cons.specs.Facts.{ArePairsWithin};
 
-use bc_cons::{Constraint, Facts};
+use bc_cons::{Facts, NumberedConstraint};
 use bc_flow::{Entry, table};
 use bc_solve::{Explainer, explain};
 use bc_syntax::Region;
@@ -12,12 +12,12 @@ use std::alloc::{AllocError, Global};
 use std::test::Fail;
 
 /// Constraints, each between two of eight regions.
-fn pairs_of(alloc: Global, pairs: &[[usize; 2]]) -> Result<Vec<Constraint>, AllocError>
+fn pairs_of(alloc: Global, pairs: &[[usize; 2]]) -> Result<Vec<NumberedConstraint>, AllocError>
     ensures { IfOk result (λ found. ArePairsWithin 8 found.items) }
 {
     let mut found = Vec::new(alloc);
     for pair in pairs {
-        found.push(Constraint {
+        found.push(NumberedConstraint {
             longer: pair[0] % 8,
             shorter: pair[1] % 8,
         })?;
@@ -112,12 +112,12 @@ fn a_ring_is_gone_round_once(rt: HostRuntime) -> Result<(), Fail> {
 }
 
 /// Each region outlives the next.
-fn in_a_row(alloc: Global, regions: usize) -> Result<Vec<Constraint>, AllocError>
+fn in_a_row(alloc: Global, regions: usize) -> Result<Vec<NumberedConstraint>, AllocError>
     ensures { IfOk result (λ found. ArePairsWithin regions found.items) }
 {
     let mut found = Vec::new(alloc);
     for next in 1..regions {
-        found.push(Constraint {
+        found.push(NumberedConstraint {
             longer: next - 1,
             shorter: next,
         })?;
@@ -157,6 +157,7 @@ fn a_chain_goes_through_as_many_regions_as_a_body_has(rt: HostRuntime) -> Result
     let facts = Facts::new(16, starts, pairs, 1);
     let found = explain(alloc, &facts, 0, 0)?;
     let chain = found.as_deref().unwrap_or(&[]);
-    assert!(rt; chain.len() == 1040 && goes_by_number(chain));
+    assert_eq!(rt; chain.len(), 1040);
+    assert!(rt; goes_by_number(chain));
     Ok(())
 }

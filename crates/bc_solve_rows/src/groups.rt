@@ -15,7 +15,8 @@ fn nodes_in_a_ring_are_one_group(rt: HostRuntime) -> Result<(), Fail> {
     let found = strong_components(rt.alloc(), 5, &edges)?;
     assert_eq!(rt; found.groups, 3);
     let group = found.group_of[0];
-    assert!(rt; found.group_of[1] == group && found.group_of[2] == group);
+    assert_eq!(rt; found.group_of[1], group);
+    assert_eq!(rt; found.group_of[2], group);
     assert!(rt; found.group_of[3] < group && group < found.group_of[4]);
     Ok(())
 }
@@ -26,8 +27,8 @@ fn groups_have_the_edges_and_facts_of_their_nodes(rt: HostRuntime) -> Result<(),
     let edges = [Edge { from: 0, to: 1 }, Edge { from: 1, to: 2 }];
     let condensed = group_edges(alloc, &edges, &[1, 1, 0])?;
     assert_eq!(rt; condensed.len(), 2);
-    assert!(rt; condensed[0].from == 1 && condensed[0].to == 1);
-    assert!(rt; condensed[1].from == 1 && condensed[1].to == 0);
+    assert_eq!(rt; (condensed[0].from, condensed[0].to), (1, 1));
+    assert_eq!(rt; (condensed[1].from, condensed[1].to), (1, 0));
     let rows = table(
         alloc,
         3,

@@ -377,9 +377,9 @@ module _ (regions : List RegionName) (declares : Declares regions) (locals : ℕ
         | inr p ↦ active_takes ts y p.1
       ]
 
-  dying_takes : (ts : Tokens) (y : Point × Tokens) → read.dying regions locals ts ≡ Ok y → IsPoint ts y
-  unfolding read.dying
-  dying_takes ts y e =
+  statement_takes : (ts : Tokens) (y : Point × Tokens) → read.statement regions locals ts ≡ Ok y → IsPoint ts y
+  unfolding read.statement
+  statement_takes ts y e =
       elim (eaten s.Dead (λ rest. and_then (read.local locals rest) (λ l last. Ok (point_kinds.Statement (st.Dead l), last))) (read.dropping regions locals) ts y e) [
         | inl p ↦
             let b = bind_ok (read.local locals (after ts)) (λ x last. Ok (point_kinds.Statement (st.Dead x), last)) y p.1 in
@@ -404,12 +404,12 @@ module _ (regions : List RegionName) (declares : Declares regions) (locals : ℕ
   branching_takes : (ts : Tokens) (y : Point × Tokens) → read.branching regions locals ts ≡ Ok y → IsPoint ts y
   unfolding read.branching
   branching_takes ts y e =
-      elim (eaten s.If (λ rest. and_then (read.condition locals rest) (λ x last. Ok (read.ending (t.If x), last))) (read.dying regions locals) ts y e) [
+      elim (eaten s.If (λ rest. and_then (read.condition locals rest) (λ x last. Ok (read.ending (t.If x), last))) (read.statement regions locals) ts y e) [
         | inl p ↦
             let b = bind_ok (read.condition locals (after ts)) (λ x last. Ok (read.ending (t.If x), last)) y p.1 in
             let x = condition_takes (after ts) b.0 b.1 in
             subst (IsPoint ts) (ok_is (read.ending (t.If b.0.0), b.0.1) y b.2) (join ts (spell.symbol s.If) (after ts) (spell.condition b.0.0) b.0.1 p.0 x.0, x.1)
-        | inr p ↦ dying_takes ts y p.1
+        | inr p ↦ statement_takes ts y p.1
       ]
 
   going_takes : (ts : Tokens) (y : Point × Tokens) → read.going regions locals ts ≡ Ok y → IsPoint ts y
@@ -453,19 +453,19 @@ module _ (regions : List RegionName) (declares : Declares regions) (locals : ℕ
   unfolding read.going
   past_goto ts h1 h2 h3 = past_stop ts h1 h2 ∙ eat_other s.Goto _ (read.branching regions locals) ts h3
 
-  past_if : (ts : Tokens) → sees s.Return ts ≡ false → sees s.Stop ts ≡ false → sees s.Goto ts ≡ false → sees s.If ts ≡ false → read.point regions locals ts ≡ read.dying regions locals ts
+  past_if : (ts : Tokens) → sees s.Return ts ≡ false → sees s.Stop ts ≡ false → sees s.Goto ts ≡ false → sees s.If ts ≡ false → read.point regions locals ts ≡ read.statement regions locals ts
   unfolding read.branching
-  past_if ts h1 h2 h3 h4 = past_goto ts h1 h2 h3 ∙ eat_other s.If _ (read.dying regions locals) ts h4
+  past_if ts h1 h2 h3 h4 = past_goto ts h1 h2 h3 ∙ eat_other s.If _ (read.statement regions locals) ts h4
 
   -- a token that is none of the words that end a block
   abbrev NoEnd : Token → Type 0
   NoEnd token = (is_fixed s.Return token ≡ false) × (is_fixed s.Stop token ≡ false) × (is_fixed s.Goto token ≡ false) × (is_fixed s.If token ≡ false)
 
-  no_end : (ts : Tokens) (token : Token) (x : List Token) (rest : Tokens) → Begins ts (token ∷ x) rest → NoEnd token → read.point regions locals ts ≡ read.dying regions locals ts
+  no_end : (ts : Tokens) (token : Token) (x : List Token) (rest : Tokens) → Begins ts (token ∷ x) rest → NoEnd token → read.point regions locals ts ≡ read.statement regions locals ts
   no_end ts token x rest b h = past_if ts (sees_none s.Return ts token x rest b h.0) (sees_none s.Stop ts token x rest b h.1) (sees_none s.Goto ts token x rest b h.2) (sees_none s.If ts token x rest b h.3)
 
   to_assignment : (ts : Tokens) (l : ℕ) (x : List Token) (rest : Tokens) → Begins ts (Numbered n.Local l ∷ x) rest → read.point regions locals ts ≡ read.assignment regions locals ts
-  unfolding read.dying read.dropping read.active
+  unfolding read.statement read.dropping read.active
   to_assignment ts l x rest b =
       no_end ts (Numbered n.Local l) x rest b (refl, refl, refl, refl)
       ∙ eat_other s.Dead _ (read.dropping regions locals) ts (sees_none s.Dead ts (Numbered n.Local l) x rest b refl)
@@ -522,7 +522,7 @@ module _ (regions : List RegionName) (declares : Declares regions) (locals : ℕ
       ∙ rw (invoked_again f.0 x rest f.2 p1.1 p2.1 p3.1 (leb-true x.target 255 p4.1)) refl
 
   pub statement_again : (ts : Tokens) (x : Statement) (rest : Tokens) → Begins ts (spell.statement regions x) rest → statement_fits count locals x ≡ true → NoDot rest → read.point regions locals ts ≡ Ok (point_kinds.Statement x, rest)
-  unfolding read.dying read.dropping read.active same
+  unfolding read.statement read.dropping read.active same
   statement_again ts (st.Assign a) rest b fits other =
       let parts = and_parts (place_fits locals a.target) (rvalue_fits count locals a.value) fits in
       assign_again ts a rest b parts.0 parts.1 other
@@ -562,7 +562,7 @@ module _ (regions : List RegionName) (declares : Declares regions) (locals : ℕ
       eat_other s.Return (pure (read.ending t.Return)) (read.stopping regions locals) ts (sees_none s.Return ts (Fixed s.If) (spell.condition x) rest b refl)
       ∙ eat_other s.Stop (pure (read.ending t.Stop)) (read.going regions locals) ts (sees_none s.Stop ts (Fixed s.If) (spell.condition x) rest b refl)
       ∙ eat_other s.Goto _ (read.branching regions locals) ts (sees_none s.Goto ts (Fixed s.If) (spell.condition x) rest b refl)
-      ∙ eat_again s.If _ (read.dying regions locals) ts a.0 a.1 ∙ rw (condition_again a.0 x rest a.2 fits) refl
+      ∙ eat_again s.If _ (read.statement regions locals) ts a.0 a.1 ∙ rw (condition_again a.0 x rest a.2 fits) refl
   terminator_again ts (t.Call x) rest b fits = call_again ts x rest b fits
   terminator_again ts (t.Invoke x) rest b fits = invocation_again ts x rest b fits
   terminator_again ts t.Return rest b fits = eat_again s.Return (pure (read.ending t.Return)) (read.stopping regions locals) ts rest b

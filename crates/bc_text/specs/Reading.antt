@@ -284,8 +284,9 @@ dropping regions locals = do
   drops ← eat s.Drop
   if drops then ((λ p. point_kinds.Statement (statement_kinds.Drop p)) <$> place locals) else active regions locals
 
-unfoldable pub dying : List RegionName → ℕ → Parser Point
-dying regions locals = do
+-- a statement: what no word of a terminator begins
+unfoldable pub statement : List RegionName → ℕ → Parser Point
+statement regions locals = do
   dies ← eat s.Dead
   if dies then ((λ l. point_kinds.Statement (statement_kinds.Dead l)) <$> local locals) else dropping regions locals
 
@@ -299,7 +300,7 @@ condition locals = do
 unfoldable pub branching : List RegionName → ℕ → Parser Point
 branching regions locals = do
   branches ← eat s.If
-  if branches then ((λ c. ending (If c)) <$> condition locals) else dying regions locals
+  if branches then ((λ c. ending (If c)) <$> condition locals) else statement regions locals
 
 unfoldable pub going : List RegionName → ℕ → Parser Point
 going regions locals = do

@@ -116,15 +116,15 @@ fn condition(cursor: &mut Cursor<'_>, locals: u16) -> Result<Condition, Refusal>
 
 /// A statement: what no keyword of a terminator begins.
 #[inline(always)]
-#[tactic(auto, unfolding(crate::specs::Reading::dying, crate::specs::Reading::dropping, crate::specs::Reading::active))]
-fn dying(
+#[tactic(auto, unfolding(crate::specs::Reading::statement, crate::specs::Reading::dropping, crate::specs::Reading::active))]
+fn statement(
     alloc: Global,
     cursor: &mut Cursor<'_>,
     regions: &[RegionName],
     locals: u16,
 ) -> Result<Point, Refusal>
     requires { length regions.now ≤ 15 }
-    ensures { Reads (spec.dying regions.now locals cursor.old) result cursor.new }
+    ensures { Reads (spec.statement regions.now locals cursor.old) result cursor.new }
 {
     if cursor.eat(Symbol::Dead) {
         return Ok(Point::Statement(Statement::Dead(local(cursor, locals)?)));
@@ -163,5 +163,5 @@ pub fn read_point(
         let condition = condition(cursor, locals)?;
         return Ok(Point::Terminator(Terminator::If(condition)));
     }
-    dying(alloc, cursor, regions, locals)
+    statement(alloc, cursor, regions, locals)
 }

@@ -257,9 +257,9 @@ module _ (regions : List RegionName) (locals : ℕ) where
   unfolding read.dropping
   dropping = optional s.Drop (made _ place (λ x _. refl)) active
 
-  dying : Parses Any (read.dying regions locals) [] (point_text regions)
-  unfolding read.dying
-  dying = optional s.Dead (made _ local (λ x _. refl)) dropping
+  statement : Parses Any (read.statement regions locals) [] (point_text regions)
+  unfolding read.statement
+  statement = optional s.Dead (made _ local (λ x _. refl)) dropping
 
   condition : Parses Any (read.condition locals) [] spell.condition
   unfolding read.condition
@@ -268,7 +268,7 @@ module _ (regions : List RegionName) (locals : ℕ) where
 
   branching : Parses Any (read.branching regions locals) [] (point_text regions)
   unfolding read.branching
-  branching = optional s.If (made _ condition (λ x _. refl)) dying
+  branching = optional s.If (made _ condition (λ x _. refl)) statement
 
   going : Parses Any (read.going regions locals) [] (point_text regions)
   unfolding read.going

@@ -20,7 +20,7 @@ fn a_beginning_comes_before_what_goes_on(rt: HostRuntime) {
             return;
         };
         assert!(rt; low < high);
-        assert!(rt; low.cmp(&high) == Ordering::Less);
+        assert_eq!(rt; low.cmp(&high), Ordering::Less);
         assert!(rt; low != high);
     }
 }
@@ -41,6 +41,6 @@ fn a_child_has_one_segment_more(rt: HostRuntime) {
         name = child;
     }
     assert_eq!(rt; name.root_str(), "f");
-    assert!(rt; name.root() == b"f".as_slice());
+    assert_eq!(rt; name.root(), b"f".as_slice());
     assert!(rt; name.child(0).is_none());
 }

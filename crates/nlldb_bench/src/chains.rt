@@ -6,7 +6,7 @@ ghost use Rattle.bc_cons.specs.Facts.{ArePairsWithin};
 use crate::analyses::values;
 use crate::explanations::measure_explanations;
 use crate::times::Times;
-use bc_cons::{Constraint, Facts};
+use bc_cons::{Facts, NumberedConstraint};
 use bc_flow::{Entry, table};
 use bc_solve::Values;
 use rand_core::Rng;
@@ -40,7 +40,7 @@ const LISTS: [(&str, u32, Shape); 4] = [
     ("random pairs", 8000, Shape::Random),
 ];
 
-fn pair_of(shape: Shape, turn: u32, random: &mut Pcg32) -> Constraint
+fn pair_of(shape: Shape, turn: u32, random: &mut Pcg32) -> NumberedConstraint
     ensures longer { result.longer < 1040 }
     ensures shorter { result.shorter < 1040 }
 {
@@ -51,13 +51,13 @@ fn pair_of(shape: Shape, turn: u32, random: &mut Pcg32) -> Constraint
         Shape::ChainBack => (region, next),
         Shape::Random => (random.next_u32() % REGIONS, random.next_u32() % REGIONS),
     };
-    Constraint {
+    NumberedConstraint {
         longer: longer as usize,
         shorter: shorter as usize,
     }
 }
 
-fn pairs_of(alloc: Global, shape: Shape, count: u32) -> Result<Vec<Constraint>, AllocError>
+fn pairs_of(alloc: Global, shape: Shape, count: u32) -> Result<Vec<NumberedConstraint>, AllocError>
     ensures { IfOk result (λ pairs. ArePairsWithin 1040 pairs.items) }
 {
     let mut random = Pcg32::new(2094, 0);

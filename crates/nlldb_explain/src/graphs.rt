@@ -3,7 +3,7 @@ ghost use Rattle.std.specs.Prelude.{IfOk, ◌<◌};
 ghost use Rattle.bc_flow.specs.Flow.{AreEntriesWithin};
 ghost use Rattle.bc_cons.specs.Facts.{ArePairsWithin};
 
-use bc_cons::{Constraint, Facts};
+use bc_cons::{Facts, NumberedConstraint};
 use bc_flow::{Entry, table};
 use rand_core::Rng;
 use rand_pcg::Pcg32;
@@ -16,18 +16,18 @@ const REGIONS: u32 = 7;
 
 const ELEMENTS: u32 = 3;
 
-fn pair(random: &mut Pcg32) -> Constraint
+fn pair(random: &mut Pcg32) -> NumberedConstraint
     ensures longer { result.longer < 7 }
     ensures shorter { result.shorter < 7 }
 {
-    Constraint {
+    NumberedConstraint {
         longer: (random.next_u32() % REGIONS) as usize,
         shorter: (random.next_u32() % REGIONS) as usize,
     }
 }
 
 /// Up to eighteen constraints, also of a region with itself, and some twice.
-fn pairs(alloc: Global, random: &mut Pcg32) -> Result<Vec<Constraint>, AllocError>
+fn pairs(alloc: Global, random: &mut Pcg32) -> Result<Vec<NumberedConstraint>, AllocError>
     ensures { IfOk result (λ pairs. ArePairsWithin 7 pairs.items) }
 {
     let mut pairs = Vec::new(alloc);

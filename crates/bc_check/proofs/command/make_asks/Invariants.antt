@@ -6,6 +6,6 @@ use Rattle.bc_check.proofs.command.make_asks.Given as goal
 
 abbrev pub invariant-loop-name : goal.invariant-loop-name
 invariant-loop-name g l = record {
-  made : Making Ask l.names.keys l.name-iterator (shown l.form) l.status l.fn.session l.session (g.O.Write.contents l.fn.out) (g.O.Write.contents l.out);
+  made : Making Ask l.asking.names.now.keys l.name-iterator (shown l.asking.form.now) l.status l.fn.session l.session (g.O.Write.contents l.fn.out) (g.O.Write.contents l.out);
   range : l.status ≤ 2;
 }

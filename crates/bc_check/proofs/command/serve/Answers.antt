@@ -21,7 +21,7 @@ unreachable-requires g c =
     omega (arith, one, c.in_ok-db.sessions.ok.0, c.in_default.ensures.cases.0)
 
 pub returns-in_err-db-clause-refused : goal.returns-in_err-db-clause-refused
-returns-in_err-db-clause-refused g c = always_refused _ (begins_none c.args.form.now (map seen c.args.changes.items) c.args.names.now.keys _ _)
+returns-in_err-db-clause-refused g c = always_refused _ (begins_none c.args.asking.now.form.now (map seen c.args.changes.items) c.args.asking.now.names.now.keys _ _)
 
 pub returns-in_err-closed-clause-other : goal.returns-in_err-closed-clause-other
 returns-in_err-closed-clause-other g c =
@@ -34,13 +34,13 @@ pub returns-in_err-closed-clause-audited : goal.returns-in_err-closed-clause-aud
 returns-in_err-closed-clause-audited g c e =
     let new = (the_last _ _ _ (sym c.in_ok-db.ensures.opened.1 ∙ c.in-Some.ensures.items)).1 in
     let made = c.make_all-made.ensures in
-    shown_of c.args.form.now (map seen c.args.changes.items) c.args.names.now.keys c.in-Some.session c.make_all-made.new.session _ _ _ _ c.make_all-made.result new made.served made.refused made.untold made.silent made.stop (λ failed. absurd (true≢false (sym (c.is_unwritten.ensures.1 failed) ∙ c.if-is_unwritten.false)))
+    shown_of c.args.asking.now.form.now (map seen c.args.changes.items) c.args.asking.now.names.now.keys c.in-Some.session c.make_all-made.new.session _ _ _ _ c.make_all-made.result new made.served made.refused made.untold made.silent made.stop (λ failed. absurd (true≢false (sym (c.is_unwritten.ensures.1 failed) ∙ c.if-is_unwritten.false)))
 
 pub returns-clause-done : goal.returns-clause-done
 returns-clause-done g c =
     let closed = closed_with _ _ _ c.in-Some.session c.make_all-made.new.session c.in_ok-closed.field-0 c.in_ok-db.ensures.opened.1 c.in-Some.ensures.items c.push_reserved.ensures.items c.in_ok-closed.ensures.one_history in
-    let few : length (map seen c.args.changes.items) + length c.args.names.now.keys ≤ MOST_ENTRIES = omega (arith, length-map c.args.changes.items seen, c.in_ok-capacity.ensures.fits, c.len.ensures, c.len-2.ensures.len, c.args.changes.ok.0) in
-    runs_of c.args.form.now (map seen c.args.changes.items) c.args.names.now.keys c.in-Some.session c.make_all-made.new.session _ _ _ _ c.in_ok-closed.field-0 c.make_all-made.result closed.0 few closed.1 c.make_all-made.ensures.served
+    let few : length (map seen c.args.changes.items) + length c.args.asking.now.names.now.keys ≤ MOST_ENTRIES = omega (arith, length-map c.args.changes.items seen, c.in_ok-capacity.ensures.fits, c.len.ensures, c.len-2.ensures.len, c.args.changes.ok.0) in
+    runs_of c.args.asking.now.form.now (map seen c.args.changes.items) c.args.asking.now.names.now.keys c.in-Some.session c.make_all-made.new.session _ _ _ _ c.in_ok-closed.field-0 c.make_all-made.result closed.0 few closed.1 c.make_all-made.ensures.served
 
 pub returns-clause-untold : goal.returns-clause-untold
 returns-clause-untold g c e =
@@ -50,4 +50,4 @@ returns-clause-untold g c e =
 pub returns-clause-refused : goal.returns-clause-refused
 returns-clause-refused g c =
     let closed = closed_with _ _ _ c.in-Some.session c.make_all-made.new.session c.in_ok-closed.field-0 c.in_ok-db.ensures.opened.1 c.in-Some.ensures.items c.push_reserved.ensures.items c.in_ok-closed.ensures.one_history in
-    refused_map c.make_all-made.result (λ some. begins_of c.args.form.now (map seen c.args.changes.items) c.args.names.now.keys c.in-Some.session c.make_all-made.new.session _ _ _ _ c.in_ok-closed.field-0 closed.0 closed.1 some) c.make_all-made.ensures.refused
+    refused_map c.make_all-made.result (λ some. begins_of c.args.asking.now.form.now (map seen c.args.changes.items) c.args.asking.now.names.now.keys c.in-Some.session c.make_all-made.new.session _ _ _ _ c.in_ok-closed.field-0 closed.0 closed.1 some) c.make_all-made.ensures.refused

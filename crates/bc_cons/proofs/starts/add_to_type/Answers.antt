@@ -12,9 +12,9 @@ use Rattle.bc_cons.proofs.starts.add_to_type.Goals as goal
 pub add_to_references-requires-clause-regions : goal.add_to_references-requires-clause-regions
 add_to_references-requires-clause-regions c = rw c.as_slice.ensures (all_below c.args.universals (length c.args.rows.now) c.args.ty.now.references (regions_of_base c.args.ty.now.base) c.requires.regions).0
 
-pub add_to_base-requires-clause-regions : goal.add_to_base-requires-clause-regions
-add_to_base-requires-clause-regions c =
-    rw c.add_to_references.ensures.rows ((all_below c.args.universals (length c.args.rows.now) c.args.ty.now.references (regions_of_base c.args.ty.now.base) c.requires.regions).1)
+pub add_to_regions-requires-clause-regions : goal.add_to_regions-requires-clause-regions
+add_to_regions-requires-clause-regions c =
+    rw (c.base_regions-arguments.ensures, c.add_to_references.ensures.rows) ((all_below c.args.universals (length c.args.rows.now) c.args.ty.now.references (regions_of_base c.args.ty.now.base) c.requires.regions).1)
 
 pub returns : goal.returns
 returns c =
@@ -26,4 +26,4 @@ returns c =
     (λ r e. mentions u r ty && goes_to_variable u c.args.points c.args.live_points.now r e)
     (λ r e. both_go (list_any (λ (reference : Reference). region_number u reference.region == r) ty.references) (list_any (λ (region : Region). region_number u region == r) (regions_of_base ty.base)) (goes_to_variable u c.args.points c.args.live_points.now r e)
     ∙ ap (λ m. m && goes_to_variable u c.args.points c.args.live_points.now r e) (sym (mentioned u r ty)))
-    (rw c.as_slice.ensures at c.add_to_references.ensures) c.add_to_base.ensures
+    (rw c.as_slice.ensures at c.add_to_references.ensures) (rw c.base_regions-arguments.ensures at c.add_to_regions.ensures)

@@ -1,7 +1,7 @@
 use Rattle.std.proofs.Common.{◌≡◌, ℕ, length, None, refl, ap, sym, subst, ◌∙◌, arith}
 use Rattle.bc_text.specs.Names.{NameParts}
 use Rattle.bc_text.proofs.Within.{beginning}
-use Rattle.bc_memo.specs.Places.{Places, AreOrdered, answered}
+use Rattle.bc_memo.specs.Places.{Places, AreOrdered, with_answer_at}
 use Rattle.bc_memo.proofs.Marking.{cleared_bare, cleared_below, cleared_more, cleared_none, ordered-cleared}
 use Rattle.bc_memo.proofs.shelf.clear.Goals as goal
 
@@ -18,8 +18,8 @@ loop-depth-preserved c =
     let end = c.depth-depth-end.ensures in
     record {
       places = c.set_answer.ensures.places
-          ∙ ap (λ (m : NameParts). answered m None c.loop-depth.places.items) c.beginning.ensures
-          ∙ ap (λ (ps : Places). answered (beginning n c.loop-depth.depth) None ps) c.loop-depth.invariant.places
+          ∙ ap (λ (m : NameParts). with_answer_at m None c.loop-depth.places.items) c.beginning.ensures
+          ∙ ap (λ (ps : Places). with_answer_at (beginning n c.loop-depth.depth) None ps) c.loop-depth.invariant.places
           ∙ cleared_more n c.loop-depth.depth c.args.places.now.items (omega (arith, less, end));
       memory = c.set_answer.ensures.memory ∙ c.loop-depth.invariant.memory;
     }

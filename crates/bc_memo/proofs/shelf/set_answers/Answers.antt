@@ -2,7 +2,7 @@ use Rattle.std.proofs.Common.{◌≡◌, [], Some, rules, ap, sym, subst, ◌∙
 use Rattle.bc_prov.specs.Outcome.{OutcomeRows}
 use Rattle.bc_memo.specs.declared.change.Change.TheVariants.{Answers}
 use Rattle.bc_memo.specs.Places.{Places, AreOrdered, marked}
-use Rattle.bc_memo.proofs.Marking.{marked_last, marked_none, ordered-answered}
+use Rattle.bc_memo.proofs.Marking.{marked_last, marked_none, ordered-with_answer_at}
 use Rattle.bc_memo.proofs.shelf.set_answers.Goals as goal
 
 pub loop-row-preserved : goal.loop-row-preserved
@@ -12,7 +12,7 @@ loop-row-preserved c =
     let rows : OutcomeRows = c.pop.new.self.items in
     let row = c.in-Some.row in
     record {
-      ordered = subst (λ (qs : Places). AreOrdered qs) (sym c.set_answer.ensures.places) (ordered-answered row.0 (Some row.1) ps before.ordered);
+      ordered = subst (λ (qs : Places). AreOrdered qs) (sym c.set_answer.ensures.places) (ordered-with_answer_at row.0 (Some row.1) ps before.ordered);
       places =
           ap (marked (Answers rows)) c.set_answer.ensures.places
           ∙ sym (marked_last rows row ps)

@@ -4,7 +4,7 @@ use Rattle.bc_memo.specs.Places.{MayChange, changed}
 use Rattle.bc_calls.specs.declared.call.Entry.{Entry}
 use Rattle.bc_calls.specs.Calls.{IsLegal, MayComeNext, after}
 use Rattle.bc_calls.specs.Changes.{writes_after, writes_of}
-use Rattle.bc_book.specs.Ledgers.{LedgerView, HasPlace, IsKept, kept_rows}
+use Rattle.bc_book.specs.Ledgers.{LedgerView, HasPlace, IsLedger, kept_rows}
 use Rattle.bc_calls.proofs.Changing.{may_change}
 use Rattle.bc_calls.proofs.Histories.{legal_snoc, writes-snoc}
 use Rattle.bc_book.proofs.Keeping.{kept_snoc}
@@ -28,7 +28,7 @@ invariant_of-self c =
     let held = c.change.ensures.held ∙ ap (λ (x : Change). changed i.shelf.held x c.args.revision) c.requires.change in
     let rows = c.forget_removed.ensures ∙ ap (λ (x : Change). kept_rows x i.memo.rows) c.requires.change in
     let kept = kept_snoc i.capacity i.history.items i.counts i.writes c.args.revision i.shelf.held c.change.new.self.held i.memo.rows c.forget_removed.new.memo.rows e c.self.invariant below fits c.requires.session place count held rows in
-    subst (λ (x : List Entry × ℕ). IsKept i.capacity x.0 (set i.counts x.1 (e.number + 1)) c.args.revision c.change.new.self.held c.forget_removed.new.memo.rows)
+    subst (λ (x : List Entry × ℕ). IsLedger i.capacity x.0 (set i.counts x.1 (e.number + 1)) c.args.revision c.change.new.self.held c.forget_removed.new.memo.rows)
     (λ k. (sym c.push_reserved.ensures.items k, sym c.from.ensures k)) kept
 
 pub returns-clause-legal : goal.returns-clause-legal

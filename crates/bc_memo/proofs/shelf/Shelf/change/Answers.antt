@@ -8,8 +8,8 @@ use Rattle.bc_memo.specs.Places.{Places, PieceRows, ShelfRoom, ShelfView, AreOrd
 use Rattle.bc_prov.specs.Outcome.{OutcomeRows}
 use Rattle.bc_prov.specs.Pieces.{PieceView}
 use Rattle.bc_memo.proofs.Places.{no_order, ordered-put, ordered-take}
-use Rattle.bc_memo.proofs.Found.{found_none, found-answered, found-marked, found-put, found-take}
-use Rattle.bc_memo.proofs.Marking.{bare_put, bare_take, changed_nothing, kept-answered, kept-cleared, kept-marked, kept-put, kept-take, kept-unanswered, marked_answer, marked_put, marked_remove}
+use Rattle.bc_memo.proofs.Found.{found_none, found-with_answer_at, found-marked, found-put, found-take}
+use Rattle.bc_memo.proofs.Marking.{bare_put, bare_take, changed_nothing, kept-with_answer_at, kept-cleared, kept-marked, kept-put, kept-take, kept-unanswered, marked_answer, marked_put, marked_remove}
 use Rattle.bc_memo.proofs.shelf.Shelf.change.Goals as goal
 
 pub invariant_of-self : goal.invariant_of-self
@@ -61,9 +61,9 @@ pub invariant_of-self-in-Answer : goal.invariant_of-self-in-Answer
 invariant_of-self-in-Answer c =
     let ps = c.self.inside.places.items in
     subst (λ (qs : Places). IsShelf c.self.inside.types qs c.self.inside.pieces.rows) (sym c.set_answer.ensures.places) (record {
-      kept = kept-answered c.in-Answer.name (Some c.in-Answer.outcome) ps c.self.invariant.kept;
+      kept = kept-with_answer_at c.in-Answer.name (Some c.in-Answer.outcome) ps c.self.invariant.kept;
       sorted = c.self.invariant.sorted;
-      found = found-answered c.self.inside.types ps c.self.inside.pieces.rows c.in-Answer.name (Some c.in-Answer.outcome) c.self.invariant.found;
+      found = found-with_answer_at c.self.inside.types ps c.self.inside.pieces.rows c.in-Answer.name (Some c.in-Answer.outcome) c.self.invariant.found;
     })
 
 pub invariant_of-self-in-Answers : goal.invariant_of-self-in-Answers
