@@ -84,7 +84,7 @@ pub struct Entry {
 }
 
 impl Entry {
-    /// The same entry, as one more owner of what it brings. `AllocError` only where memory was refused. Own.
+    /// A copy of the entry, which is one more owner of what it brings. `AllocError` only where memory was refused. Own.
     pub fn copy(&self) -> Result<Entry, AllocError>
         ensures { IfOk result (λ copy. copy ≡ self.now) }
     {
@@ -112,7 +112,7 @@ impl Event {
         self == other
     }
 
-    /// The same event, as one more owner of what it brings. `AllocError` only where memory was refused. Own.
+    /// A copy of the event, which is one more owner of what it brings. `AllocError` only where memory was refused. Own.
     pub fn copy(&self) -> Result<Event, AllocError>
         ensures { IfOk result (λ copy. copy ≡ self.now) }
     {

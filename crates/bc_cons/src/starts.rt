@@ -68,7 +68,7 @@ fn add_to_region(
     }
 }
 
-/// The same for each of some regions.
+/// Adds points to what each variable among the regions starts with.
 fn add_to_regions(
     rows: &mut BitTable,
     universals: u8,
@@ -89,7 +89,7 @@ fn add_to_regions(
     }
 }
 
-/// The same for the regions of references.
+/// Adds points to what each variable among the regions of references starts with.
 fn add_to_references(
     rows: &mut BitTable,
     universals: u8,
@@ -110,7 +110,7 @@ fn add_to_references(
     }
 }
 
-/// The same for the regions that stand in a type.
+/// Adds points to what each variable that stands in a type starts with.
 fn add_to_type(
     rows: &mut BitTable,
     universals: u8,
@@ -152,7 +152,7 @@ fn add_local(
     }
 }
 
-/// The same for locals from number `local` on.
+/// Adds the points on whose entry each local is live, from number `local` on, to the regions of its type.
 fn add_locals(
     rows: &mut BitTable,
     universals: u8,

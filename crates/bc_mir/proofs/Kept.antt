@@ -132,7 +132,7 @@ header-parts : (body : Body) → Fits body → (kind_fits (universal_count body.
 header-parts body sized = and_parts (kind_fits (universal_count body.header.signature) body.header.kind body.header.captures) (signature_fits 15 body.header.signature) sized.header
 
 -- a unit has at most 16 universal regions
-pub few-universals : (body : Body) → Fits body → universal_count body.header.signature ≤ 16
+few-universals : (body : Body) → Fits body → universal_count body.header.signature ≤ 16
 few-universals body sized = omega (arith, (signature_parts 15 body.header.signature (header-parts body sized).1).few)
 
 captures-fit : (n : ℕ) (kind : UnitKind) (captures : List Ty) → kind_fits n kind captures ≡ true → list_all (let_fits n) captures ≡ true

@@ -47,6 +47,18 @@ fn copy_header(header: &Header) -> Result<Header, AllocError>
     })
 }
 
+impl<'a> Clone for KidHeader<'a> {
+    ghost is_clone = { λ s t. t ≡ s };
+
+    /// The number of the child, with its header lent once more. It takes no memory.
+    fn clone(&self) -> Result<KidHeader<'a>, AllocError> {
+        Ok(KidHeader {
+            number: self.number,
+            header: self.header,
+        })
+    }
+}
+
 impl<'a> KidHeader<'a> {
     /// What typing has to know of the child of a number. (Own.)
     pub fn of(number: u8, unit: &'a Unit) -> KidHeader<'a>

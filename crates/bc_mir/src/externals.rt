@@ -66,7 +66,7 @@ pub(crate) fn external_count(captures: &[Ty], before: usize, names: &[RegionName
     }
 }
 
-/// The same of those that are local.
+/// How many of the regions that are declared behind so many others are local.
 pub(crate) fn local_count(captures: &[Ty], before: usize, names: &[RegionName]) -> usize
     requires { before + length names.now < 2 ^ 64 }
     ensures value { result ≡ length (numbers_from (is_local captures.now) before names.now) }

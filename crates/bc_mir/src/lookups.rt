@@ -1,5 +1,6 @@
 //! What is found in a typed unit: types of places, of operands and of rvalues, and closures.
-ghost use Rattle.std.specs.Prelude.{◌≡◌, ◌++◌, ⊤, Some, IfOk, OnOk, MatchOption};
+ghost use Rattle.std.specs.Prelude.{◌≡◌, ◌++◌, ⊤, true, Some, IfOk, OnOk, MatchOption};
+ghost use Rattle.bc_mir.specs.Places.{has_no_field, takes_no_field};
 ghost use Rattle.std.specs.List.{list_any};
 ghost use Rattle.bc_types.specs.Drops.{holds_drop};
 ghost use Rattle.bc_mir.specs.Drops.{closure_holds_drop, type_holds_drop};
@@ -35,7 +36,8 @@ impl Typed {
     /// The type of a place that has one and goes through no field, as it stands in the type of its local; `None` for any other.
     /// It takes no memory. (rustc-dev-guide, "The MIR".)
     pub fn lent_type_of_place(&self, place: &Place) -> Option<TyRef<'_>>
-        ensures { MatchOption result ⊤ (λ ty. place_there self.now place.now ≡ Some ty) }
+        ensures value { MatchOption result ⊤ (λ ty. place_there self.now place.now ≡ Some ty) }
+        ensures found { has_no_field place.now ≡ true → result ≡ place_there self.now place.now }
     {
         lent_type_of_place(&self.draft, place)
     }
@@ -69,7 +71,8 @@ impl Typed {
     /// The type of an operand that copies or moves a place which goes through no field, as it stands in the type of its local;
     /// `None` for any other, and where it breaks a rule. It takes no memory. (Own.)
     pub fn lent_type_of_operand(&self, operand: &Operand) -> Option<TyRef<'_>>
-        ensures { MatchOption result ⊤ (λ ty. operand_there self.now operand.now ≡ Some ty) }
+        ensures value { MatchOption result ⊤ (λ ty. operand_there self.now operand.now ≡ Some ty) }
+        ensures found { takes_no_field operand.now ≡ true → result ≡ operand_there self.now operand.now }
     {
         lent_type_of_operand(&self.draft, operand)
     }
@@ -77,7 +80,8 @@ impl Typed {
     /// The type of a place that is borrowed, where it goes through no field, as it stands in the type of its local; `None` for
     /// any other, and where the borrow breaks a rule. It takes no memory. (Own.)
     pub fn lent_type_to_borrow(&self, borrow: &Borrow) -> Option<TyRef<'_>>
-        ensures { MatchOption result ⊤ (λ ty. borrowed_there self.now borrow.now.reference.mutability borrow.now.place ≡ Some ty) }
+        ensures value { MatchOption result ⊤ (λ ty. borrowed_there self.now borrow.now.reference.mutability borrow.now.place ≡ Some ty) }
+        ensures found { has_no_field borrow.now.place ≡ true → result ≡ borrowed_there self.now borrow.now.reference.mutability borrow.now.place }
     {
         lent_type_to_borrow(&self.draft, borrow)
     }

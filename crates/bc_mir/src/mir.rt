@@ -2,7 +2,7 @@
 ghost use Rattle.std.specs.Prelude.{◌≡◌, ◌≤◌, ◌++◌, nat_lt, length, slice_get, IfOk, OnOk};
 ghost use Rattle.std.specs.Arc.{arc_value};
 ghost use Rattle.std.specs.Option.{option_copied};
-ghost use Rattle.bc_syntax.specs.Fits.{universal_count};
+ghost use Rattle.bc_syntax.specs.Fits.{Fits, point_count as points_of};
 ghost use Rattle.bc_mir.specs.Children.{child_of as child_there};
 ghost use Rattle.bc_mir.specs.Externals.{external_regions};
 ghost use Rattle.bc_mir.specs.Mir.{block_steps, mir_of};
@@ -86,13 +86,14 @@ fn copy_terminator(terminator: &Terminator) -> Result<Terminator, AllocError>
     terminator.clone()
 }
 
-/// How many points a body has, by which its list of points is sized.
-fn point_count(body: &Body) -> usize {
+/// How many points blocks have, by which their list is sized.
+fn point_count(blocks: &[Block]) -> usize
+    requires { points_of blocks.now ≤ 4096 }
+    ensures { result ≡ points_of blocks.now }
+{
     let mut count = 0_usize;
-    for block in body.blocks.as_slice() {
-        count = count
-            .saturating_add(block.statements.len())
-            .saturating_add(1);
+    for block in blocks {
+        count += block.statements.len() + 1;
     }
     count
 }
@@ -134,18 +135,18 @@ fn externals_of(alloc: Global, header: &Header) -> Result<Vec<usize>, AllocError
 }
 
 impl Draft {
-    /// Lists the points of a body, over declarations and the headers of its children.
+    /// Lists the points of a body that has a spelling, over declarations and the headers of its children.
     pub(crate) fn of(
         alloc: Global,
         types: Arc<GoodTypes, Global>,
         kids: &[KidHeader<'_>],
         body: &Body,
     ) -> Result<Draft, AllocError>
-        requires { universal_count body.now.header.signature ≤ 16 }
+        requires { Fits body.now }
         ensures { IfOk result (λ draft. draft ≡ mir_of (arc_value types) kids.now body.now) }
     {
         let signature = &body.header.signature;
-        let mut steps = Vec::with_capacity(alloc, point_count(body))?;
+        let mut steps = Vec::with_capacity(alloc, point_count(body.blocks.as_slice()))?;
         let mut entries = Vec::with_capacity(alloc, body.blocks.len())?;
         for (number, block) in body.blocks.as_slice().iter().enumerate() {
             entries.push(steps.len())?;

@@ -1,7 +1,8 @@
 //! Types of places, through the fields of structs.
-ghost use Rattle.std.specs.Prelude.{◌≡◌, ◌++◌, ⊤, List, Some, IfOk, OnOk, MatchOption};
+ghost use Rattle.std.specs.Prelude.{◌≡◌, ◌++◌, ⊤, true, List, Some, IfOk, OnOk, MatchOption};
+ghost use Rattle.std.specs.List.{list_all};
 ghost use Rattle.bc_syntax.specs.declared.syntax.Declaration.{Declaration};
-ghost use Rattle.bc_mir.specs.Places.{are_mutable};
+ghost use Rattle.bc_mir.specs.Places.{are_mutable, has_no_field, is_deref};
 ghost use Rattle.bc_mir.specs.PlaceTypes.{field_of as field_there, type_behind as behind, type_of_place as place_there, references_behind as dereferenced_behind, references_of_place as dereferenced_there, mutable_behind, mutable_on_way};
 
 use crate::mir::Draft;
@@ -106,7 +107,8 @@ fn lent_behind<'a>(
     references: &'a [Reference],
     base: &'a Base,
 ) -> Option<TyRef<'a>>
-    ensures { MatchOption result ⊤ (λ ty. (types : List Declaration) → behind types projections.now references.now base.now ≡ Some ty) }
+    ensures value { MatchOption result ⊤ (λ ty. (types : List Declaration) → behind types projections.now references.now base.now ≡ Some ty) }
+    ensures found { (types : List Declaration) → list_all is_deref projections.now ≡ true → result ≡ behind types projections.now references.now base.now }
 {
     match projections {
         [] => Some(TyRef::behind(references, base)),
@@ -120,7 +122,8 @@ fn lent_behind<'a>(
 
 /// The type of a place that has one and goes through no field, as it stands in the type of its local.
 pub(crate) fn lent_type_of_place<'a>(draft: &'a Draft, place: &Place) -> Option<TyRef<'a>>
-    ensures { MatchOption result ⊤ (λ ty. place_there draft.now place.now ≡ Some ty) }
+    ensures value { MatchOption result ⊤ (λ ty. place_there draft.now place.now ≡ Some ty) }
+    ensures found { has_no_field place.now ≡ true → result ≡ place_there draft.now place.now }
 {
     match draft.local(place.local) {
         Some(local) => lent_behind(

@@ -194,7 +194,7 @@ impl Typed {
     }
 }
 
-/// The same declarations, kept by one more.
+/// One more owner of declarations.
 fn share(types: &Arc<GoodTypes, Global>) -> Result<Arc<GoodTypes, Global>, AllocError>
     ensures { IfOk result (λ shared. arc_value shared ≡ arc_value types.now) }
 {

@@ -1,5 +1,6 @@
 //! Types of operands and rvalues (own, over the language of the rustc-dev-guide, "The MIR").
-ghost use Rattle.std.specs.Prelude.{◌≡◌, ⊤, Some, IfOk, MatchOption};
+ghost use Rattle.std.specs.Prelude.{◌≡◌, ⊤, true, Some, IfOk, MatchOption};
+ghost use Rattle.bc_mir.specs.Places.{has_no_field, takes_no_field};
 ghost use Rattle.bc_mir.specs.Children.{closure_type as type_closure};
 ghost use Rattle.bc_mir.specs.Rules.{int_type as type_int, type_of_operand as operand_there, type_to_write as written_there, type_reached as reached_there, type_to_borrow as borrowed_there, unless_closure as closure_refused, closure_in as closure_there, type_referenced as referenced, struct_type as type_struct, type_of_rvalue as rvalue_there};
 
@@ -56,7 +57,8 @@ pub(crate) fn type_of_operand(
 
 /// The type of an operand that copies or moves a place which goes through no field, as it stands in the type of its local.
 pub(crate) fn lent_type_of_operand<'a>(draft: &'a Draft, operand: &Operand) -> Option<TyRef<'a>>
-    ensures { MatchOption result ⊤ (λ ty. operand_there draft.now operand.now ≡ Some ty) }
+    ensures value { MatchOption result ⊤ (λ ty. operand_there draft.now operand.now ≡ Some ty) }
+    ensures found { takes_no_field operand.now ≡ true → result ≡ operand_there draft.now operand.now }
 {
     match operand {
         Operand::Copy(place) => {
@@ -86,7 +88,8 @@ fn lent_unless_closure(ty: TyRef<'_>) -> Option<TyRef<'_>>
 
 /// The type of a place that is borrowed, where it goes through no field, as it stands in the type of its local.
 pub(crate) fn lent_type_to_borrow<'a>(draft: &'a Draft, borrow: &Borrow) -> Option<TyRef<'a>>
-    ensures { MatchOption result ⊤ (λ ty. borrowed_there draft.now borrow.now.reference.mutability borrow.now.place ≡ Some ty) }
+    ensures value { MatchOption result ⊤ (λ ty. borrowed_there draft.now borrow.now.reference.mutability borrow.now.place ≡ Some ty) }
+    ensures found { has_no_field borrow.now.place ≡ true → result ≡ borrowed_there draft.now borrow.now.reference.mutability borrow.now.place }
 {
     match borrow.reference.mutability {
         Mutability::Shared => lent_unless_closure(lent_type_of_place(draft, &borrow.place)?),

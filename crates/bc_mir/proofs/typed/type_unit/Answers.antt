@@ -3,11 +3,11 @@ use Rattle.std.specs.Arc.{arc_value}
 use Rattle.bc_mir.specs.Mir.{mir_of}
 use Rattle.bc_mir.specs.Typing.{misfit, HasNoMisfit}
 use Rattle.bc_mir.specs.Typed.{IsTyped}
-use Rattle.bc_mir.proofs.Kept.{few-universals, typed}
+use Rattle.bc_mir.proofs.Kept.{typed}
 use Rattle.bc_mir.proofs.typed.type_unit.Goals as goal
 
 pub of-requires : goal.of-requires
-of-requires c = rw c.body.ensures.value (few-universals c.args.unit.now c.body.ensures.fits)
+of-requires c = rw c.body.ensures.value c.body.ensures.fits
 
 pub invariant_of-result : goal.invariant_of-result
 invariant_of-result c =
