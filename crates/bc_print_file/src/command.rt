@@ -13,7 +13,7 @@ use std::io::{BufWriter, Read, Write};
 
 /// Reads the whole input, and prints its sections: of each its header line as it stands, and behind it its text in its one spelling, the
 /// tokens with one space between two and a line feed behind the last. A buffer that held nothing holds nothing then, but where the
-/// writer behind it failed. Nothing is printed before the whole file is read. (Own.)
+/// writer behind it failed. Nothing is printed before the whole file is read.
 ///
 /// Stops with `CannotRead` where the input cannot be read or is over 16 MiB; with `File` at its first fault, which is that of `check`;
 /// with `NoMemory` where there is no room, and with `CannotWrite` where the writer fails.

@@ -17,20 +17,20 @@ use std::sync::Wait;
 use std::thread;
 use std::thread::Threads;
 
-/// Where an Ask of a script, of one name or for all, pauses: once it has begun, and once its work is done. Nothing is held then. (Own.)
+/// Where an Ask of a script, of one name or for all, pauses: once it has begun, and once its work is done. Nothing is held then.
 #[derive(Clone, Copy, Debug, PartialEq, Eq)]
 pub enum Stage {
     Begun,
     Worked,
 }
 
-/// What the Asks of scripts pause at. A test holds them up there; the program does not. (Own.)
+/// What the Asks of scripts pause at. A test holds them up there; the program does not.
 pub trait Gate {
     /// A session, by its number, is at this stage of an Ask.
     fn pause(&self, session: u8, stage: Stage);
 }
 
-/// The calls that a session is to make, in their order. Contracts see them. (Own.)
+/// The calls that a session is to make, in their order. Contracts see them.
 #[derive(Drop)]
 pub struct Script {
     calls: Vec<Call>,
@@ -46,14 +46,14 @@ impl Model for Script {
 }
 
 impl Script {
-    /// The script of these calls. It takes no memory. (Own.)
+    /// The script of these calls. It takes no memory.
     pub fn new(calls: Vec<Call>) -> Script
         ensures { result ≡ calls.items }
     {
         Script { calls }
     }
 
-    /// Its calls, in their order. (Own.)
+    /// Its calls, in their order.
     pub fn calls(&self) -> &[Call]
         ensures { result.now ≡ self.now }
     {
@@ -61,7 +61,7 @@ impl Script {
     }
 }
 
-/// How a script ended: all its calls were made; or the one at this place, from 0, was refused, and the rest was not made. (Own.)
+/// How a script ended: all its calls were made; or the one at this place, from 0, was refused, and the rest was not made.
 #[derive(Clone, Copy, Debug, PartialEq, Eq)]
 pub enum End {
     Done,
@@ -70,7 +70,7 @@ pub enum End {
 
 /// Has each session make the calls of its script, on a thread of its own, or one session after another where no thread can be made.
 /// The sessions come back in their order, each with how its script ended. It asks for as many scripts as sessions, and that the
-/// database, which these are sessions of, stays open meanwhile. (Own.)
+/// database, which these are sessions of, stays open meanwhile.
 ///
 /// Room for the result is made first: where memory for it is refused, no call was made, and the sessions come back as the `Err`. A
 /// call that is refused ends its own script alone.

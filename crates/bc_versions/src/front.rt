@@ -19,7 +19,7 @@ use std::alloc::{AllocError, Global};
 use std::marker::Model;
 use std::sync::Wait;
 
-/// What makes fronts, as many as the press was opened for. (Own.)
+/// What makes fronts, as many as the press was opened for.
 pub struct Fronts {
     factory: Factory<Table, Seen, Published>,
 }
@@ -37,7 +37,7 @@ impl Fronts {
         Fronts { factory }
     }
 
-    /// A front that has seen nothing. Answers `AllocError` where an owner, or one reader more than there may be, is refused. (Own.)
+    /// A front that has seen nothing. Answers `AllocError` where an owner, or one reader more than there may be, is refused.
     pub fn front(&self) -> Result<Front, AllocError>
         ensures { IfOk result (λ front. front ≡ []) }
     {
@@ -46,7 +46,7 @@ impl Fronts {
     }
 }
 
-/// A reader of the published table. Contracts see it as the list of the entries that it has seen. (Own.)
+/// A reader of the published table. Contracts see it as the list of the entries that it has seen.
 pub struct Front {
     reader: TableReader,
 }
@@ -81,7 +81,7 @@ impl Front {
     }
 
     /// The answer that is published for a name: its outcome, where it is answered, else none. What was seen only grows. Answers
-    /// `AllocError` where the reading or an owner is refused, as once the writer is gone. It waits for nobody. (Own.)
+    /// `AllocError` where the reading or an owner is refused, as once the writer is gone. It waits for nobody.
     pub fn glance(&mut self, name: &Name) -> Result<Option<Shared<Outcome>>, AllocError>
         ensures later { StartsWith self.new self.old }
         ensures legal { IsLegal self.new }
@@ -91,7 +91,7 @@ impl Front {
     }
 
     /// A name's part of what is published, which carries the name's answer if one is published. What was seen only grows. Answers
-    /// `AllocError` where memory or the reading is refused, as once the writer is gone. It waits for nobody. (Own.)
+    /// `AllocError` where memory or the reading is refused, as once the writer is gone. It waits for nobody.
     pub fn begin(&mut self, alloc: Global, name: &Name) -> Result<Begun, AllocError>
         ensures later { StartsWith self.new self.old }
         ensures legal { IsLegal self.new }
@@ -103,7 +103,7 @@ impl Front {
 
     /// The parts of all held names without segments, in the order of the names, each as `begin` gives it. They are parts of what one
     /// reading found, which copies it and is over before they are made. What was seen only grows. Answers `AllocError` where memory or
-    /// the reading is refused, as once the writer is gone. It waits for nobody. (Own.)
+    /// the reading is refused, as once the writer is gone. It waits for nobody.
     pub fn begin_all(&mut self, alloc: Global) -> Result<Vec<Begun>, AllocError>
         ensures later { StartsWith self.new self.old }
         ensures legal { IsLegal self.new }
@@ -116,7 +116,7 @@ impl Front {
     }
 
     /// Reads until the last entry that is published is this event, of this session, which had so many entries before it. What was seen
-    /// only grows. It takes no memory. (Own.)
+    /// only grows. It takes no memory.
     pub fn reach<R: Wait>(&mut self, rt: &R, session: u8, number: usize, event: &Event)
         ensures later { StartsWith self.new self.old }
         ensures legal { IsLegal self.new }

@@ -19,7 +19,7 @@ use std::marker::Model;
 use std::sync::Wait;
 
 /// The writer of the published table, and what ends it. Contracts see the entries that were published, and what is held after them
-/// with its revisions and its answers. (Own.)
+/// with its revisions and its answers.
 pub struct Press<E: Ending> {
     writer: TableWriter,
     ending: E,
@@ -47,7 +47,7 @@ impl<E: Ending> Model for Press<E> {
 
 impl<E: Ending> Press<E> {
     /// A press that has published nothing: no declarations, which are handed in for each of the two copies of the table, and no body, with
-    /// memory for all bodies and a piece of each. There may be so many readers at most; what ends the writer is handed in. Answers `AllocError` only where memory was refused. (Own.)
+    /// memory for all bodies and a piece of each. There may be so many readers at most; what ends the writer is handed in. Answers `AllocError` only where memory was refused.
     pub fn open(
         alloc: Global,
         ending: E,
@@ -67,14 +67,14 @@ impl<E: Ending> Press<E> {
         })
     }
 
-    /// What makes the fronts at which this is read. Answers `AllocError` only where one more owner of it was refused. (Own.)
+    /// What makes the fronts at which this is read. Answers `AllocError` only where one more owner of it was refused.
     pub fn fronts(&self) -> Result<Fronts, AllocError> {
         Ok(Fronts::new(self.writer.factory().another()?))
     }
 
     /// Publishes the entry that comes next, with the revision that it gives to what it writes, and with pieces of bodies that were made
     /// for an Ask, if it is one; it waits for those who still read what was published before. Answers `AllocError` only where memory for
-    /// it was refused, and then nothing is published; what can be refused behind that is tried again until it is not. (Own.)
+    /// it was refused, and then nothing is published; what can be refused behind that is tried again until it is not.
     pub fn add<R: Wait>(
         &mut self,
         rt: &R,

@@ -9,11 +9,11 @@ use left_right::reader::Reader;
 use left_right::writer::Writer;
 use std::collections::LinkedList;
 
-/// What a thread has seen: a beginning of the list of the entries that were published. No value of it is made. (Own.)
+/// What a thread has seen: a beginning of the list of the entries that were published. No value of it is made.
 pub type Seen = LinkedList<Entry>;
 
 /// The rule of the published table: there is one legal list of what was published, the table is that list's, and what each thread has
-/// seen is a beginning of it. (Own.)
+/// seen is a beginning of it.
 pub struct Published;
 
 impl Protocol<Table, Seen> for Published {
@@ -36,8 +36,8 @@ impl Outcome<Table, Seen> for Add {
     ghost then = { Adds };
 }
 
-/// A reader of the published table. (Own.)
+/// A reader of the published table.
 pub type TableReader = Reader<Table, Seen, Published>;
 
-/// The writer of the published table. (Own.)
+/// The writer of the published table.
 pub type TableWriter = Writer<Table, Update, Seen, Published>;

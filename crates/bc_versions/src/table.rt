@@ -15,7 +15,7 @@ use std::alloc::{AllocError, Global};
 use std::marker::Model;
 
 /// An entry that is to be published, with the revision that it gives to what it writes, and pieces that were made for an Ask. Contracts
-/// see the entry and the revision. (Own.)
+/// see the entry and the revision.
 #[derive(Drop)]
 pub struct Update {
     entry: Entry,
@@ -51,7 +51,7 @@ impl Update {
 }
 
 /// The last entry, and what is held after it with its answers. Contracts see both. There is memory for all places and one to spare, for
-/// a piece of each and one more, and for as many answers that a change brings at once: the type keeps it. (Own.)
+/// a piece of each and one more, and for as many answers that a change brings at once: the type keeps it.
 #[derive(Drop)]
 pub struct Table {
     last: Option<Entry>,
