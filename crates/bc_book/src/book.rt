@@ -321,6 +321,12 @@ impl<E: Ending> Book<E> {
         let told = Told::of(&event)?;
         let change = event.change()?;
         self.ledger.prepare(&change)?;
+        let Findings {
+            rows,
+            kept,
+            published,
+        } = findings;
+        self.ledger.keep(kept)?;
         let number = self.ledger.number(session);
         let revision = self.ledger.revision(&event);
         let entry = Entry {
@@ -329,15 +335,9 @@ impl<E: Ending> Book<E> {
             event,
         };
         let copy = entry.copy()?;
-        let Findings {
-            rows,
-            kept,
-            published,
-        } = findings;
         self.press.add(rt, copy, revision, published)?;
         self.ledger.remember(rows);
         self.ledger.record(entry, change, revision);
-        self.ledger.keep(kept);
         Ok(told)
     }
 

@@ -48,7 +48,8 @@ impl From<AllocError> for Refusal {
     }
 }
 
-/// A legal history, which may have so many entries, with what it leaves, and answers that are remembered.
+/// A legal history, which may have so many entries, with what it leaves, and answers that are remembered. There is memory for a piece of
+/// each body that may be held, and one to spare.
 #[derive(Drop)]
 pub(crate) struct Ledger {
     capacity: u32,
@@ -60,14 +61,16 @@ pub(crate) struct Ledger {
 }
 
 impl Model for Ledger {
-    ghost use Rattle.std.specs.Prelude.{◌-◌, vec_capacity};
+    ghost use Rattle.std.specs.Prelude.{◌-◌, ◌<◌, vec_capacity};
+    ghost use Rattle.bc_memo.specs.Places.{most_pieces};
+    ghost use Rattle.bc_calls.specs.Calls.{most_bodies};
     ghost use Rattle.bc_book.specs.Ledgers.{LedgerView, IsLedger};
 
     ghost Value = { LedgerView };
 
     ghost view = { λ l. record { capacity = l.capacity; entries = l.history.items; shelf = l.shelf.held; answers = l.memo.rows; room = vec_capacity l.history - l.history.len; places = l.shelf.room; rows = l.memo.room; ready = l.shelf.ready } };
 
-    ghost invariant = { λ l. IsLedger l.capacity l.history.items l.counts l.writes l.shelf.held l.memo.rows };
+    ghost invariant = { λ l. IsLedger l.capacity l.history.items l.counts l.writes l.shelf.held l.memo.rows × (most_bodies < most_pieces l.shelf) };
 }
 
 impl Ledger {
@@ -341,12 +344,14 @@ impl Ledger {
         self.memo.put(name, row);
     }
 
-    /// Keeps those pieces, if there are any, that were found from what is held. Contracts do not see them.
-    pub(crate) fn keep(&mut self, pieces: Option<PieceSet>)
+    /// Keeps those pieces, if there are any, that were found from what is held. Contracts do not see them. `AllocError` only where an owner
+    /// or memory was refused: then some may be kept, and each is right.
+    pub(crate) fn keep(&mut self, pieces: Option<PieceSet>) -> Result<(), AllocError>
         ensures { self.new ≡ self.old }
     {
-        if let Some(set) = pieces {
-            let _kept = self.shelf.keep_all(&set);
+        match pieces {
+            Some(set) => self.shelf.keep_all(&set),
+            None => Ok(()),
         }
     }
 

@@ -11,26 +11,33 @@ ghost use Rattle.bc_outcomes.specs.Reported.{kid_header, kid_requirements};
 ghost use Rattle.bc_prov.specs.State.{number_of_child};
 
 use crate::stack::Stack;
-use crate::verdicts::take_kids;
+use crate::verdicts::{copy_requirements, take_kids};
 use bc_cons::Requirements;
 use bc_mir::{Child, IllFault, KidHeader, Typed, type_unit};
 use bc_prov::{Check, Declared, Piece, Providers, Shared, piece_of, share};
 use bc_syntax::Unit;
 use std::alloc::{AllocError, Global};
 
-/// The headers of children, and what the children require, apart.
+/// The header of a child, lent once more.
+fn lent_again<'a>(header: &KidHeader<'a>) -> Result<KidHeader<'a>, AllocError>
+    ensures { IfOk result (λ again. again ≡ header.now) }
+{
+    header.clone()
+}
+
+/// The headers of children, lent once more, and copies of what the children require, apart.
 fn apart<'a>(
     alloc: Global,
-    kids: Vec<(KidHeader<'a>, Requirements)>,
+    kids: &[(KidHeader<'a>, Requirements)],
 ) -> Result<(Vec<KidHeader<'a>>, Vec<Requirements>), AllocError>
-    ensures headers { IfOk result (λ r. r.0.items ≡ map kid_header kids.entry.items) }
-    ensures requirements { IfOk result (λ r. r.1.items ≡ map (λ kid. kid.1) kids.entry.items) }
+    ensures headers { IfOk result (λ r. r.0.items ≡ map kid_header kids.now) }
+    ensures requirements { IfOk result (λ r. r.1.items ≡ map (λ kid. kid.1) kids.now) }
 {
     let mut headers = Vec::with_capacity(alloc, kids.len())?;
     let mut requirements = Vec::with_capacity(alloc, kids.len())?;
-    for (header, required) in kids {
-        headers.push(header)?;
-        requirements.push(required)?;
+    for kid in kids {
+        headers.push(lent_again(&kid.0)?)?;
+        requirements.push(copy_requirements(&kid.1)?)?;
     }
     Ok((headers, requirements))
 }
@@ -80,13 +87,13 @@ pub fn piece(
     providers: &Providers,
     types: &Shared<Declared>,
     unit: &Shared<Unit>,
-    kids: Vec<(KidHeader<'_>, Requirements)>,
+    kids: &[(KidHeader<'_>, Requirements)],
 ) -> Result<Piece, IllFault>
     requires good { first_bad types.now ≡ None }
-    requires children { map (λ kid. number_of_child kid.0) kids.items ≡ children_of unit.now }
-    requires external { AreOfChildren (map kid_header kids.items) (map kid_requirements kids.items) }
-    ensures from { IfOk result (IsFoundFrom types.now unit.now (mir_of types.now (map kid_header kids.entry.items) unit.now) (map kid_requirements kids.entry.items)) }
-    ensures ill { (place : Where) → result ≡ Err (IllFault.Ill place) → misfit (mir_of types.now (map kid_header kids.entry.items) unit.now) ≡ Some place }
+    requires children { map (λ kid. number_of_child kid.0) kids.now ≡ children_of unit.now }
+    requires external { AreOfChildren (map kid_header kids.now) (map kid_requirements kids.now) }
+    ensures from { IfOk result (IsFoundFrom types.now unit.now (mir_of types.now (map kid_header kids.now) unit.now) (map kid_requirements kids.now)) }
+    ensures ill { (place : Where) → result ≡ Err (IllFault.Ill place) → misfit (mir_of types.now (map kid_header kids.now) unit.now) ≡ Some place }
 {
     let (headers, requirements) = apart(alloc, kids)?;
     let typed = typed_over(alloc, types, unit, &headers)?;

@@ -33,7 +33,7 @@ pub(crate) fn take_kids(
     Ok(taken)
 }
 
-fn copy_requirements(requirements: &Requirements) -> Result<Requirements, AllocError>
+pub(crate) fn copy_requirements(requirements: &Requirements) -> Result<Requirements, AllocError>
     ensures { IfOk result (λ copy. copy ≡ requirements.now) }
 {
     Ok(Requirements {

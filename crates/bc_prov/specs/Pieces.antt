@@ -1,10 +1,11 @@
 -- The verdict on one body, with all that it was found from.
 use Rattle.std.specs.Prelude.{◌≡◌, ℕ, Bool, List, [], map, Option, Some, None}
 use Rattle.std.specs.List.{AllByRecursion, items_where_true}
+use Rattle.std.specs.List.Sorted.{IsSortedByKey}
 use Rattle.bc_syntax.specs.declared.syntax.Declaration.{Declaration}
 use Rattle.bc_syntax.specs.declared.syntax.Body.{Body}
 use Rattle.bc_syntax.specs.Children.{children_of}
-use Rattle.bc_text.specs.Names.{NameParts}
+use Rattle.bc_text.specs.Names.{NameParts, name_order}
 use Rattle.bc_mir.specs.Mir.{Mir, mir_of}
 use Rattle.bc_mir.specs.Typing.{misfit}
 use Rattle.bc_cons.specs.declared.requirements.Requirements.{Requirements}
@@ -49,6 +50,10 @@ pub record IsPieceFor (held_types : List Declaration) (held : Option Body) (piec
 -- each piece is of the body that a list has at its name, over these declarations
 abbrev pub ArePieces : List Declaration → List (NameParts × Body) → List (NameParts × PieceView) → Type 0
 ArePieces types units pieces = AllByRecursion (λ (p : NameParts × PieceView). IsPieceFor types (at_name units p.0) p.1) pieces
+
+-- the names of pieces ascend, and one name may stand several times
+abbrev pub AreAscending : List (NameParts × PieceView) → Type 0
+AreAscending pieces = IsSortedByKey (λ (p : NameParts × PieceView). p.0) name_order pieces
 
 -- each piece was found from these declarations
 abbrev pub AreOver : List Declaration → List (NameParts × PieceView) → Type 0

@@ -10,7 +10,7 @@ use Rattle.bc_text.specs.Names.{NameParts, is_within, name_order}
 use Rattle.bc_prov.specs.declared.outcome.Outcome.{Outcome}
 use Rattle.bc_prov.specs.State.{State, Suits, at_name, child, state_of}
 use Rattle.bc_prov.specs.Outcome.{IsOutcomeIn}
-use Rattle.bc_prov.specs.Pieces.{PieceView, ArePieces}
+use Rattle.bc_prov.specs.Pieces.{PieceView, AreAscending, ArePieces}
 use Rattle.std.specs.declared.alloc.Global.{Global}
 
 -- declarations, a name, bodies under their names, and an outcome, if one is carried
@@ -36,13 +36,18 @@ abbrev pub IsAmongPieces : PieceList → NameParts → PieceView → Type 0
 IsAmongPieces None name piece = ⊥
 IsAmongPieces (Some pieces) name piece = (place : ℕ) × (place < length pieces.items) × (slice_index_or pieces.items place (name, piece) ≡ (name, piece))
 
+-- the piece of a name that is kept was found from children with these headers, which required so much
+abbrev pub IsKeptOf : PieceList → NameParts × PieceView → Type 0
+IsKeptOf kept entry = (piece : PieceView) × IsAmongPieces kept entry.0 piece × (piece.mir.children ≡ entry.1.mir.children) × (piece.kids ≡ entry.1.kids)
+
 -- The names and the bodies are as they should be. What is carried, if it is, is the outcome of the name, and each piece that is
--- kept or carried is of the body at its name.
+-- kept or carried is of the body at its name; those that are carried stand in the order of their names.
 pub record IsKept (types : List Declaration) (root : NameParts) (units : List (NameParts × Body)) (carried : Option Outcome) (kept offered : PieceList) : Type 0 where
   pub snapshot : IsSnapshot root units
   pub outcome : IfSome carried (IsOutcomeIn (state_of types units) root)
   pub kept_pieces : IfSome kept (λ (pieces : Vec (NameParts × PieceView) Global). ArePieces types units pieces.items)
   pub offered_pieces : IfSome offered (λ (pieces : Vec (NameParts × PieceView) Global). ArePieces types units pieces.items)
+  pub offered_ascend : IfSome offered (λ (pieces : Vec (NameParts × PieceView) Global). AreAscending pieces.items)
 
 -- the names of the closures of a body at a name
 abbrev pub children_named : NameParts × Body → List NameParts

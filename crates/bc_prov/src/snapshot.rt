@@ -1,11 +1,12 @@
 //! Parts of what is held: what the outcome of one name rests on.
 ghost use Rattle.std.specs.Prelude.{◌≡◌, ◌≢◌, ◌<◌, ◌++◌, [], true, length, map, nat_le, Some, None, IfOk, IfSome, IsTrue, OnOk};
 ghost use Rattle.std.specs.List.{list_all};
+ghost use Rattle.std.specs.List.Sorted.{IsPermutation};
 ghost use Rattle.std.specs.Option.{option_copied};
 ghost use Rattle.bc_prov.specs.Outcome.{IsOutcomeIn};
 ghost use Rattle.bc_syntax.specs.Children.{children_of};
-ghost use Rattle.bc_prov.specs.Pieces.{ArePieces, AreSomeOf, IsPieceFor};
-ghost use Rattle.bc_prov.specs.Snapshots.{IsAmongPieces, IsSnapshot, names_used};
+ghost use Rattle.bc_prov.specs.Pieces.{AreAscending, ArePieces, AreSomeOf, IsPieceFor};
+ghost use Rattle.bc_prov.specs.Snapshots.{IsAmongPieces, IsKeptOf, IsSnapshot, names_used};
 ghost use Rattle.bc_prov.specs.State.{AreSuited, at_name, child, state_of};
 
 use crate::declared::Declared;
@@ -76,6 +77,16 @@ fn piece_of_name<'a>(pieces: &'a Option<Pieces>, name: &Name) -> Option<&'a Shar
     }
 }
 
+/// Whether a piece was found from children with the same headers and requirements as the one that is kept for its name.
+fn is_kept(kept: &Option<Pieces>, entry: &(Name, Shared<Piece>)) -> bool
+    ensures { IsTrue result → IsKeptOf kept.now entry.now }
+{
+    match piece_of_name(kept, &entry.0) {
+        Some(piece) => piece.get().has_kids_of(entry.1.get()),
+        None => false,
+    }
+}
+
 impl Snapshot {
     /// The snapshot of a name that has these declarations and these units. It takes no memory. It asks that the names ascend
     /// strictly, that each is the root or begins with it and `/`, that a function has a name without segments and a closure
@@ -120,7 +131,7 @@ impl Snapshot {
 
     /// The snapshot with pieces, which a report takes where all that they were found from is there, before any that are kept. It takes
     /// no memory, and asks nothing of its caller: those that were found from other declarations or from another unit than that at
-    /// their name are left out. One is found again where their names ascend. (Own.)
+    /// their name are left out. Those that are taken stand in the order of their names, in whatever order they were handed in. (Own.)
     pub fn carry_pieces(self, pieces: Pieces) -> Snapshot
         ensures { result ≡ self }
     {
@@ -130,7 +141,8 @@ impl Snapshot {
 
     /// The snapshot with the pieces of a set, which a report takes where all that they were found from is there, before any that are kept.
     /// It takes no memory, and asks nothing of its caller: of a set over other declarations none is taken, and of one over its own those
-    /// that were found from the unit at their name. One is found again where their names ascend. (Own.)
+    /// that were found from the unit at their name. Those that are taken stand in the order of their names, in whatever order the set has
+    /// them. (Own.)
     pub fn offer(self, set: PieceSet) -> Snapshot
         ensures { result ≡ self }
     {
@@ -141,11 +153,12 @@ impl Snapshot {
         self.with_offered(pieces)
     }
 
-    /// The snapshot with these pieces of its bodies before any that are kept.
+    /// The snapshot with these pieces of its bodies, in the order of their names, before any that are kept.
     fn with_offered(self, pieces: Pieces) -> Snapshot
         requires { ArePieces self.types self.units pieces.items }
         ensures { result ≡ self }
     {
+        let pieces = self.in_order(pieces);
         let Snapshot {
             types,
             root,
@@ -162,6 +175,18 @@ impl Snapshot {
             kept,
             offered: Some(pieces),
         }
+    }
+
+    /// These pieces of its bodies in the order of their names. It takes no memory.
+    fn in_order(&self, pieces: Pieces) -> Pieces
+        requires { ArePieces self.now.types self.now.units pieces.items }
+        ensures pieces { ArePieces self.now.types self.now.units result.items }
+        ensures same { IsPermutation pieces.items result.items }
+        ensures ascending { AreAscending result.items }
+    {
+        let mut pieces = pieces;
+        pieces.sort_unstable_by_key(|entry| entry.0);
+        pieces
     }
 
     /// Those pieces that were found from its declarations and from the unit at their name.
@@ -213,20 +238,12 @@ impl Snapshot {
         }
     }
 
-    /// Whether this very piece is kept already.
-    fn keeps(&self, entry: &(Name, Shared<Piece>)) -> bool {
-        match piece_of_name(&self.kept, &entry.0) {
-            Some(piece) => piece.get().has_kids_of(entry.1.get()),
-            None => false,
-        }
-    }
-
     /// Those of these pieces that are not kept already, in their order. Which of them are kept is not told. It takes no memory. (Own.)
     pub fn without_kept(&self, pieces: Pieces) -> Pieces
         ensures { AreSomeOf pieces.items result.items }
     {
         let mut pieces = pieces;
-        pieces.retain(|entry| !self.keeps(entry));
+        pieces.retain(|entry| !is_kept(&self.kept, entry));
         pieces
     }
 

@@ -84,10 +84,10 @@ fn piece_in(alloc: Global, providers: &Providers, snapshot: &Snapshot) -> Result
     let children = unit.get().body().children(alloc)?;
     let mut kids = Vec::new(alloc);
     match (children.as_slice(), closures) {
-        ([], _) => Ok(piece(alloc, providers, types, unit, kids)?),
+        ([], _) => Ok(piece(alloc, providers, types, unit, &kids)?),
         ([0], [(_, closure), ..]) => {
             kids.push(child(alloc, closure.get())?)?;
-            Ok(piece(alloc, providers, types, unit, kids)?)
+            Ok(piece(alloc, providers, types, unit, &kids)?)
         }
         _ => bail!("the body creates other closures"),
     }

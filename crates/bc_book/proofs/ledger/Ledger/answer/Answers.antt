@@ -15,7 +15,7 @@ returns-clause-right c =
     let n = c.args.name.now in
     subst (λ (v : LedgerView). IfSome c.lookup.result (λ o. IsOutcomeIn (after v.entries) n o.now)) c.self.view_is
     (some_map c.lookup.result _ (λ o. IsOutcomeIn (after i.history.items) n o.now)
-    (λ o t. answer_right i.history.items i.shelf.held i.memo.rows n t.0 o.now c.self.invariant.right t.1 t.2 t.3) c.lookup.ensures.stands)
+    (λ o t. answer_right i.history.items i.shelf.held i.memo.rows n t.0 o.now c.self.invariant.0.right t.1 t.2 t.3) c.lookup.ensures.stands)
 
 pub returns-clause-remembered : goal.returns-clause-remembered
 returns-clause-remembered c =

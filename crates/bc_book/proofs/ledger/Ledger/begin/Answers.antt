@@ -18,7 +18,7 @@ carrying-requires c =
     let n = c.args.name.now in
     let s = after c.args.self.now.entries in
     let of = c.in_ok-part.ensures.snapshot in
-    let part : IsPartOf v n s = subst (λ (w : LedgerView). IsPartOf v n (after w.entries)) c.self.view_is (copied_part i.shelf.held i.history.items n v c.self.invariant.shelf_of of.0 of.1 of.2) in
+    let part : IsPartOf v n s = subst (λ (w : LedgerView). IsPartOf v n (after w.entries)) c.self.view_is (copied_part i.shelf.held i.history.items n v c.self.invariant.0.shelf_of of.0 of.1 of.2) in
     some_map c.in_ok-answer.answer (IsOutcomeIn s n) (IsOutcomeIn (state_of v.types v.units) v.root) (λ o is. outcome_part v n s o part is) c.in_ok-answer.ensures.right
 
 pub returns-clause-part : goal.returns-clause-part
@@ -27,7 +27,7 @@ returns-clause-part c =
     let of = c.in_ok-part.ensures.snapshot in
     rw (← c.self.view_is)
     (same_part_of c.in_ok-part.part.snapshot c.carrying.result c.args.name.now (after i.history.items) c.carrying.ensures.part.0 c.carrying.ensures.part.1 c.carrying.ensures.part.2
-    (copied_part i.shelf.held i.history.items c.args.name.now c.in_ok-part.part.snapshot c.self.invariant.shelf_of of.0 of.1 of.2))
+    (copied_part i.shelf.held i.history.items c.args.name.now c.in_ok-part.part.snapshot c.self.invariant.0.shelf_of of.0 of.1 of.2))
 
 pub returns-clause-remembered : goal.returns-clause-remembered
 returns-clause-remembered c =

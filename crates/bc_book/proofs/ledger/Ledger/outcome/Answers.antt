@@ -15,4 +15,4 @@ returns-in-Ok-clause-outcome g c =
     let o = c.in-Ok.found.outcome in
     let root : w.snapshot.root ≡ c.args.name.now = subst (λ (work : Option WorkView). IfSome work (λ x. x.snapshot.root ≡ c.args.name.now)) c.in-Some-work.is c.requires in
     subst (λ (p : LedgerView × NameParts). IsOutcomeIn (after p.0.entries) p.1 o) (λ k. (c.self.view_is k, root k))
-    (stood_outcome i.shelf.held i.history.items w o c.self.invariant.shelf_of c.in-Ok.ensures.own)
+    (stood_outcome i.shelf.held i.history.items w o c.self.invariant.0.shelf_of c.in-Ok.ensures.own)

@@ -16,7 +16,7 @@ push_outcome-requires-clause-held g c =
     let n : NameParts = c.name-item.result in
     let roots : names ≡ roots_in s.places = c.deref-name-items.ensures.value ∙ c.in_ok-roots.ensures in
     subst (λ (v : LedgerView). IsSome (at_name v.shelf.places n)) c.self.view_is
-    (root_held s c.self.inside.history.items names n c.self.invariant.shelf_of roots (c.loop-name.name-index, c.loop-name-test.true, sym c.name-item.is))
+    (root_held s c.self.inside.history.items names n c.self.invariant.0.shelf_of roots (c.loop-name.name-index, c.loop-name-test.true, sym c.name-item.is))
 
 pub returns-clause-listing : goal.returns-clause-listing
 returns-clause-listing g c =
@@ -26,4 +26,4 @@ returns-clause-listing g c =
     let all = take_all c.loop-name.name-index names c.loop-name-test.false in
     let found = subst (λ (v : LedgerView). IsFoundAll v.shelf v.entries v.answers c.loop-name.found.listing.items c.loop-name.found.rows.items) (sym c.self.view_is) c.loop-name.invariant.found in
     subst (λ (v : LedgerView). IsListing (after v.entries) c.loop-name.found.listing.items) c.self.view_is
-    (listing_of s c.self.inside.history.items c.loop-name.found.listing.items c.self.invariant.shelf_of (c.loop-name.invariant.names ∙ all ∙ roots) found.right)
+    (listing_of s c.self.inside.history.items c.loop-name.found.listing.items c.self.invariant.0.shelf_of (c.loop-name.invariant.names ∙ all ∙ roots) found.right)

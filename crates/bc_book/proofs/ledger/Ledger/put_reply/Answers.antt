@@ -10,4 +10,4 @@ pub returns-clause-reply : goal.returns-clause-reply
 returns-clause-reply c =
     let i = c.self.inside in
     subst (λ (v : LedgerView). IfOk c.put_reply.result (IsPutReply (after v.entries).bodies c.args.name.now c.args.unit.now)) c.self.view_is
-    (subst (λ (bodies : Bodies). IfOk c.put_reply.result (IsPutReply bodies c.args.name.now c.args.unit.now)) (same_bodies i.shelf.held i.history.items c.self.invariant.shelf_of) c.put_reply.ensures.reply)
+    (subst (λ (bodies : Bodies). IfOk c.put_reply.result (IsPutReply bodies c.args.name.now c.args.unit.now)) (same_bodies i.shelf.held i.history.items c.self.invariant.0.shelf_of) c.put_reply.ensures.reply)

@@ -1,8 +1,8 @@
 use Rattle.std.proofs.Common.{◌≡◌, ℕ, ◌+◌, ◌<◌, List, [], ◌∷◌, ◌++◌, length, set, sym, ap, ◌∙◌, subst}
 use Rattle.bc_memo.specs.declared.change.Change.{Change}
-use Rattle.bc_memo.specs.Places.{MayChange, changed}
+use Rattle.bc_memo.specs.Places.{MayChange, changed, most_pieces}
 use Rattle.bc_calls.specs.declared.call.Entry.{Entry}
-use Rattle.bc_calls.specs.Calls.{IsLegal, MayComeNext, after}
+use Rattle.bc_calls.specs.Calls.{IsLegal, MayComeNext, after, most_bodies}
 use Rattle.bc_calls.specs.Changes.{writes_after, writes_of}
 use Rattle.bc_book.specs.Ledgers.{LedgerView, HasPlace, IsLedger, kept_rows}
 use Rattle.bc_calls.proofs.Changing.{may_change}
@@ -27,13 +27,16 @@ invariant_of-self c =
     let count : c.args.revision ≡ writes_of (i.history.items ++ e ∷ []) = given ∙ sym (writes-snoc i.history.items e) in
     let held = c.change.ensures.held ∙ ap (λ (x : Change). changed i.shelf.held x c.args.revision) c.requires.change in
     let rows = c.forget_removed.ensures ∙ ap (λ (x : Change). kept_rows x i.memo.rows) c.requires.change in
-    let kept = kept_snoc i.capacity i.history.items i.counts i.writes c.args.revision i.shelf.held c.change.new.self.held i.memo.rows c.forget_removed.new.memo.rows e c.self.invariant below fits c.requires.session place count held rows in
-    subst (λ (x : List Entry × ℕ). IsLedger i.capacity x.0 (set i.counts x.1 (e.number + 1)) c.args.revision c.change.new.self.held c.forget_removed.new.memo.rows)
-    (λ k. (sym c.push_reserved.ensures.items k, sym c.from.ensures k)) kept
+    let kept = kept_snoc i.capacity i.history.items i.counts i.writes c.args.revision i.shelf.held c.change.new.self.held i.memo.rows c.forget_removed.new.memo.rows e c.self.invariant.0 below fits c.requires.session place count held rows in
+    let room : most_bodies < most_pieces c.change.new.self = subst (λ (n : ℕ). most_bodies < n) (sym c.change.ensures.memory.1) c.self.invariant.1 in (
+      subst (λ (x : List Entry × ℕ). IsLedger i.capacity x.0 (set i.counts x.1 (e.number + 1)) c.args.revision c.change.new.self.held c.forget_removed.new.memo.rows)
+          (λ k. (sym c.push_reserved.ensures.items k, sym c.from.ensures k)) kept,
+      room,
+    )
 
 pub returns-clause-legal : goal.returns-clause-legal
 returns-clause-legal c =
     let i = c.self.inside in
     let e = c.args.entry in
     let fits = subst (λ (v : LedgerView). MayComeNext v.entries e) (sym c.self.view_is) c.requires.next in
-    subst IsLegal (sym c.push_reserved.ensures.items) (legal_snoc i.history.items e c.self.invariant.legal fits)
+    subst IsLegal (sym c.push_reserved.ensures.items) (legal_snoc i.history.items e c.self.invariant.0.legal fits)

@@ -8,6 +8,6 @@ writes_with-requires c =
     let i = c.self.inside in
     let below : length i.history.items < i.capacity = subst (λ (v : LedgerView). length v.entries < v.capacity) (sym c.self.view_is) c.requires in
     let few = writes_few i.history.items in
-    let written = c.self.invariant.written in
-    let bounded = c.self.invariant.bounded in
+    let written = c.self.invariant.0.written in
+    let bounded = c.self.invariant.0.bounded in
     omega (arith, below, few, written, bounded)
