@@ -5,7 +5,7 @@ use bc_syntax::Unit;
 use bc_text::Name;
 
 /// What a session asks for: to store declarations, which were checked before; to put a unit under a name; to take the unit of a name away;
-/// the outcome of the name of a work; or those of all held roots, on some of which works were done. (Own.)
+/// the outcome of the name of a work; or those of all held roots, on some of which works were done.
 #[derive(Drop)]
 pub enum Asked {
     Types(Shared<Declared>),

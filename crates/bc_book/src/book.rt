@@ -68,7 +68,7 @@ impl Findings {
 
 /// A book: the history of all calls, what it leaves, what is remembered of it, and the writer that publishes it. Contracts see how many
 /// entries it may have, those that it has, what is held, and what is remembered. The entries that it has are those that were
-/// published, and so is what is held, with its revisions and its answers: its type keeps it. (Own.)
+/// published, and so is what is held, with its revisions and its answers: its type keeps it.
 pub struct Book<E: Ending> {
     ledger: Ledger,
     press: Press<E>,
@@ -97,7 +97,7 @@ impl<E: Ending> Model for Book<E> {
 
 impl<E: Ending> Book<E> {
     /// A book without entries, which may have so many, with no declaration and no body, for so many readers of what it publishes, and
-    /// what ends its writer. Answers `AllocError` only where memory was refused. Own.
+    /// what ends its writer. Answers `AllocError` only where memory was refused.
     pub fn new(
         alloc: Global,
         ending: E,
@@ -117,7 +117,7 @@ impl<E: Ending> Book<E> {
     }
 
     /// What makes the fronts at which sessions read what is published. Answers `AllocError` only where one more owner of it was
-    /// refused. Own.
+    /// refused.
     pub fn fronts(&self) -> Result<Fronts, AllocError> {
         self.press.fronts()
     }
@@ -224,7 +224,7 @@ impl<E: Ending> Book<E> {
 
     /// The part of what is held that the outcome of a name rests on: the declarations, and the units at the name and at all names that
     /// begin with it and `/`, with their revisions; it carries the outcome that is remembered for the name and stands, if there is one,
-    /// which is the name's outcome in what is held. Nothing is entered. `AllocError` only where memory was refused. Own.
+    /// which is the name's outcome in what is held. Nothing is entered. `AllocError` only where memory was refused.
     pub fn snapshot(&self, alloc: Global, name: &Name) -> Result<Begun, AllocError>
         ensures part { IfOk result (λ begun. IsPartOf begun name.now (after self.now.entries)) }
         ensures remembered { IfOk result (λ begun. IsRemembered self.now.shelf self.now.answers name.now begun.carried) }
@@ -269,7 +269,7 @@ impl<E: Ending> Book<E> {
     /// `settle` would answer to an Ask of that name, with a session's work on it where one is handed in. Works may be handed in in any order, and may be of names
     /// that are no held roots, of another database, or doubled: those that do not come in the order of the names are let go, and what they
     /// found is found again. All outcomes are remembered, and published with the one entry, and so are the pieces. Published and refused as
-    /// `settle` is. (Own.)
+    /// `settle` is.
     pub fn settle_all<R: Wait>(
         &mut self,
         rt: &R,
@@ -341,7 +341,7 @@ impl<E: Ending> Book<E> {
         Ok(told)
     }
 
-    /// The history, taken out: all entries, in their order. Own.
+    /// The history, taken out: all entries, in their order.
     pub fn into_history(self) -> Vec<Entry>
         ensures entries { result.items ≡ self.entries }
         ensures legal { IsLegal self.entries }

@@ -28,7 +28,7 @@ use thiserror::Error;
 /// How many sessions a database may have (own).
 pub const MOST_SESSIONS: usize = 16;
 
-/// Why a call was refused: memory was refused, or the history is as long as it may be. The call changed nothing. (Own.)
+/// Why a call was refused: memory was refused, or the history is as long as it may be. The call changed nothing.
 #[derive(Clone, Copy, Debug, PartialEq, Eq, Error)]
 pub enum Refusal {
     #[error("no memory")]
@@ -102,7 +102,7 @@ impl Ledger {
     }
 
     /// Makes room for one entry, one body and so many answers. The capacity is tested first: `HistoryFull` exactly where the history is as
-    /// long as it may be, and `NoMemory` only where memory was refused. What is kept is as it was in each case. (Own.)
+    /// long as it may be, and `NoMemory` only where memory was refused. What is kept is as it was in each case.
     pub(crate) fn reserve(&mut self, answers: usize) -> Result<(), Refusal>
         ensures same { SameLedger self.old self.new }
         ensures room { OnOk result ((0 < self.new.room) × (0 < self.new.places) × (answers ≤ self.new.rows)) }

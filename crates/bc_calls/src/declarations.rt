@@ -5,7 +5,7 @@ use bc_prov::{Declared, Shared, share};
 use bc_syntax::{Sequence, Types};
 use std::alloc::{AllocError, Global};
 
-/// Declarations with what their check finds. Answers `AllocError` only where memory was refused. (Own.)
+/// Declarations with what their check finds. Answers `AllocError` only where memory was refused.
 pub fn checked(alloc: Global, types: Shared<Types>) -> Result<Shared<Declared>, AllocError>
     ensures { IfOk result (λ declared. declared ≡ types) }
 {
@@ -13,7 +13,7 @@ pub fn checked(alloc: Global, types: Shared<Types>) -> Result<Shared<Declared>, 
     share(alloc, declared)
 }
 
-/// No declarations, checked: those that a database opens with. Answers `AllocError` only where memory was refused. (Own.)
+/// No declarations, checked: those that a database opens with. Answers `AllocError` only where memory was refused.
 pub fn no_declarations(alloc: Global) -> Result<Shared<Declared>, AllocError>
     ensures { IfOk result (λ declared. declared ≡ []) }
 {

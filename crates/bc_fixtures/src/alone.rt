@@ -8,7 +8,7 @@ use bc_text::read_types;
 use std::alloc::{AllocError, Global};
 use std::sync::Arc;
 
-/// The declarations that a text spells; fails where it spells none, where one is bad, or for want of memory. (Own.)
+/// The declarations that a text spells; fails where it spells none, where one is bad, or for want of memory.
 pub fn good_types(alloc: Global, text: &[u8]) -> anyhow::Result<Arc<GoodTypes, Global>> {
     let good = read_types(alloc, text)?.check(alloc)?;
     match Arc::new(alloc, good) {
@@ -17,7 +17,7 @@ pub fn good_types(alloc: Global, text: &[u8]) -> anyhow::Result<Arc<GoodTypes, G
     }
 }
 
-/// A unit that names no closure, typed; fails where it names one or is ill, or for want of memory. (Own.)
+/// A unit that names no closure, typed; fails where it names one or is ill, or for want of memory.
 pub fn typed_alone(
     alloc: Global,
     types: &Arc<GoodTypes, Global>,
@@ -30,7 +30,7 @@ pub fn typed_alone(
     }
 }
 
-/// What the values of a unit that names no closure are made from; fails where it names one, or for want of memory. (Own.)
+/// What the values of a unit that names no closure are made from; fails where it names one, or for want of memory.
 pub fn facts_alone(alloc: Global, typed: &Typed, live: &LiveSets) -> anyhow::Result<Facts> {
     match typed.children() {
         [] => Ok(constraints(alloc, typed, live, &[])?),

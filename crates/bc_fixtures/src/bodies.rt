@@ -1,30 +1,30 @@
 //! Functions, closures and declarations, by what an Ask finds in them.
 
-/// Writes the local once the borrow of it is used no more: no error. (Own.)
+/// Writes the local once the borrow of it is used no more: no error.
 pub const WRITES_LAST: &[u8] =
     b"fn () -> int { let _1: int; let _2: &'?0 int; bb0 { _1 = 1; _2 = &'?1 _1; _0 = copy _2.*; _1 = 2; return; } }";
 
-/// Writes the local while the borrow of it is still used: one conflict. (Own.)
+/// Writes the local while the borrow of it is still used: one conflict.
 pub const WRITES_WHILE_BORROWED: &[u8] =
     b"fn () -> int { let _1: int; let _2: &'?0 int; bb0 { _1 = 1; _2 = &'?1 _1; _1 = 2; _0 = copy _2.*; return; } }";
 
-/// Creates its closure 0 and invokes it. (Own.)
+/// Creates its closure 0 and invokes it.
 pub const INVOKES: &[u8] =
     b"fn () -> int { let _1: closure 0; bb0 { _1 = closure 0(); _0 = invoke _1() bb1; } bb1 { return; } }";
 
-/// A closure that does so with its closure 1. (Own.)
+/// A closure that does so with its closure 1.
 pub const NESTED: &[u8] =
     b"closure [] () -> int { let _1: closure 1; bb0 { _1 = closure 1(); _0 = invoke _1() bb1; } bb1 { return; } }";
 
-/// A closure that creates none: no error. (Own.)
+/// A closure that creates none: no error.
 pub const CLOSURE: &[u8] = b"closure [] () -> int { bb0 { _0 = 0; return; } }";
 
-/// A closure that writes a local while the borrow of it is still used: one conflict. (Own.)
+/// A closure that writes a local while the borrow of it is still used: one conflict.
 pub const CLOSURE_WRITES: &[u8] =
     b"closure [] () -> int { let _1: int; let _2: &'?0 int; bb0 { _1 = 1; _2 = &'?1 _1; _1 = 2; _0 = copy _2.*; return; } }";
 
-/// A bad declaration. (Own.)
+/// A bad declaration.
 pub const INVARIANT_BUT_MARKED_COVARIANT: &[u8] = b"struct H<+'a> { &'static mut &'a int; }";
 
-/// A good declaration: the bad one above with the right mark. (Own.)
+/// A good declaration: the bad one above with the right mark.
 pub const MARKED_INVARIANT: &[u8] = b"struct H<='a> { &'static mut &'a int; }";

@@ -29,21 +29,21 @@ pub use refused::again;
 use std::alloc::{AllocError, Global};
 pub use texts::{name, shared_types, shared_unit};
 
-/// A solver that always wants memory. (Own.)
+/// A solver that always wants memory.
 pub fn want_memory(_alloc: Global, _facts: &Facts) -> Result<Values, AllocError>
     ensures { IfOk result (AreValues _facts.now) }
 {
     Err(AllocError)
 }
 
-/// A liveness that always wants memory. (Own.)
+/// A liveness that always wants memory.
 pub fn no_live(_alloc: Global, _typed: &Typed) -> Result<LiveSets, AllocError>
     ensures { IfOk result (AreLive _typed.now) }
 {
     Err(AllocError)
 }
 
-/// Loans in scope that always want memory. (Own.)
+/// Loans in scope that always want memory.
 pub fn no_scopes(_alloc: Global, _typed: &Typed, _values: &Values) -> Result<Scopes, AllocError>
     ensures { IfOk result (AreScopes _typed.now _values.now) }
 {
@@ -51,7 +51,7 @@ pub fn no_scopes(_alloc: Global, _typed: &Typed, _values: &Values) -> Result<Sco
 }
 
 /// The providers of which each always wants memory, made with the allocator that is named; answers want of memory from the function in
-/// which it stands, where memory was refused for them. It is a macro, as `providers!` of `bc_analyses` is. (Own.)
+/// which it stands, where memory was refused for them. It is a macro, as `providers!` of `bc_analyses` is.
 #[macro_export]
 macro_rules! refusing {
     ($alloc:expr) => {

@@ -3,7 +3,7 @@ use bc_prov::Outcome;
 use bc_text::Name;
 
 /// What an Ask finds: no body, a missing closure, whose name has so many segments, the first bad declaration, one body with so
-/// many errors, two or three with so many each, or something else. (Own.)
+/// many errors, two or three with so many each, or something else.
 #[derive(Clone, Copy, Debug, PartialEq)]
 pub enum Found {
     NoBody,
@@ -15,7 +15,7 @@ pub enum Found {
     Other,
 }
 
-/// What is found by an outcome. (Own.)
+/// What is found by an outcome.
 pub fn found_by(outcome: &Outcome) -> Found {
     match outcome {
         Outcome::NoBody => Found::NoBody,
@@ -37,7 +37,7 @@ pub fn found_by(outcome: &Outcome) -> Found {
     }
 }
 
-/// What is seen of an outcome of any size: no body, a missing closure, so many bodies with so many errors in all, or something else. (Own.)
+/// What is seen of an outcome of any size: no body, a missing closure, so many bodies with so many errors in all, or something else.
 #[derive(Clone, Copy, PartialEq)]
 pub enum Sight {
     NoBody,
@@ -47,7 +47,7 @@ pub enum Sight {
 }
 
 impl Sight {
-    /// What is seen of an outcome. (Own.)
+    /// What is seen of an outcome.
     pub fn of(outcome: &Outcome) -> Sight {
         match outcome {
             Outcome::NoBody => Sight::NoBody,

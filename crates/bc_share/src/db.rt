@@ -20,7 +20,6 @@ use thiserror::Error;
 pub const MOST_ENTRIES: u32 = 1_000_000;
 
 /// Why a database could not be opened: the capacity or the number of sessions is out of its range, or memory was refused.
-/// (Own.)
 #[derive(Clone, Copy, Debug, PartialEq, Eq, Error)]
 pub enum OpenFault {
     #[error("out of range")]
@@ -30,7 +29,7 @@ pub enum OpenFault {
 }
 
 /// Why a database could not be closed: the sessions are not as many as it has, of its tag, each number once; or the history,
-/// which is handed out, does not agree with them. (Own.)
+/// which is handed out, does not agree with them.
 #[derive(Debug, Drop, Error)]
 pub enum CloseFault {
     #[error("the sessions are not those of this database")]
@@ -39,7 +38,7 @@ pub enum CloseFault {
     Audit(History),
 }
 
-/// A legal history. Contracts see it as its entries. (Own.)
+/// A legal history. Contracts see it as its entries.
 #[derive(Drop)]
 #[derive_where(Debug)]
 pub struct History {
@@ -61,7 +60,7 @@ impl Model for History {
 }
 
 impl History {
-    /// The entries, in order. (Own.)
+    /// The entries, in order.
     pub fn entries(&self) -> &[Entry]
         ensures entries { result.now ≡ self.now }
         ensures legal { IsLegal self.now }
@@ -70,7 +69,7 @@ impl History {
     }
 }
 
-/// A database. Contracts see its tag, and how many sessions it has. (Own.)
+/// A database. Contracts see its tag, and how many sessions it has.
 pub struct Db<E: Ending> {
     alloc: Global,
     tag: u64,

@@ -26,7 +26,7 @@ use std::sync::{Arc, Wait};
 
 /// One session of a database: it makes the calls, keeps a list of its own of them and their replies, and reads what is published. It may
 /// go from thread to thread; the others of its database make theirs meanwhile. Contracts see its number, the tag of its database, that
-/// list, and the entries that it has seen: a beginning of what was published, which only grows. (Own.)
+/// list, and the entries that it has seen: a beginning of what was published, which only grows.
 pub struct Session<E: Ending> {
     alloc: Global,
     notes: Notes,
@@ -125,7 +125,7 @@ impl<E: Ending> Session<E> {
 
     /// The part of what is published that the outcome of a name rests on, to be worked on and settled later; it carries the name's
     /// answer if one is published. It is no call: the session's own list stays. It waits for nobody. `AllocError` only where memory or
-    /// the reading was refused, as it is once the database is closed. (Own.)
+    /// the reading was refused, as it is once the database is closed.
     pub fn begin(&mut self, name: &Name) -> Result<Begun, AllocError>
         ensures kept { Stays self.old self.new }
         ensures part { IfOk result (λ begun. IsPartOf begun name.now (after self.new.seen)) }
@@ -137,7 +137,7 @@ impl<E: Ending> Session<E> {
     /// The part of each name without segments that is held in what is published, in the order of the names, to be worked on and settled
     /// later; each carries its name's answer if one is published. All are parts of what one reading found. It is no call: the session's
     /// own list stays. It waits for nobody. `AllocError` only where memory or the reading was refused, as it is once the database is
-    /// closed. (Own.)
+    /// closed.
     pub fn begin_all(&mut self) -> Result<Vec<Begun>, AllocError>
         ensures kept { Stays self.old self.new }
         ensures parts { IfOk result (λ begun. AreAllBegun self.new.seen begun.items) }
@@ -148,7 +148,6 @@ impl<E: Ending> Session<E> {
     /// The answer that is published for a name: the outcome of what is held, where the name is held and was asked for since declarations
     /// were stored last and it or a name that begins with it and `/` was written last; else none. It is no call: the session's own list
     /// stays. It waits for nobody. `AllocError` only where an owner or the reading was refused, as it is once the database is closed.
-    /// (Own.)
     pub fn glance(&mut self, name: &Name) -> Result<Option<Arc<Outcome, Global>>, AllocError>
         ensures kept { Stays self.old self.new }
         ensures answer { IfOk result (λ answer. IsAnswer self.new.seen name.now (option_map arc_value answer)) }
@@ -226,7 +225,7 @@ impl<E: Ending> Session<E> {
 
     /// Which bodies are borrow-correct now: the outcome of each name without segments that is held, in the order of the names, each as `ask`
     /// answers it. What is published is begun by one reading and worked on with nothing held, and settled then; roots that were written
-    /// meanwhile, and new ones, are worked on under the lock. (Own.)
+    /// meanwhile, and new ones, are worked on under the lock.
     ///
     /// Refused as `settle_all` is, and with `NoMemory` where the reading is refused, as it is once the database is closed.
     pub fn ask_all<R: Wait>(
@@ -259,14 +258,14 @@ impl<E: Ending> Session<E> {
             .enter(rt, self.alloc, &mut self.notes, asked, providers)
     }
 
-    /// The tag of its database. Own.
+    /// The tag of its database.
     pub fn tag(&self) -> u64
         ensures { result ≡ self.now.tag }
     {
         self.notes.tag()
     }
 
-    /// Its number among the sessions of its database, from 0. Own.
+    /// Its number among the sessions of its database, from 0.
     pub fn number(&self) -> u8
         ensures value { result ≡ self.now.number }
         ensures range { self.now.number < MOST_SESSIONS }
