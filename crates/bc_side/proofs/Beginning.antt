@@ -1,5 +1,5 @@
 -- Asks that are begun one after another.
-use Rattle.std.proofs.Common.{◌≡◌, List, [], ◌∷◌, ◌++◌, refl, sym, ap, ◌∙◌, append_assoc, append-nil}
+use Rattle.std.proofs.Common.{◌≡◌, List, [], ◌∷◌, ◌++◌, sym, ap, ◌∙◌, append_assoc}
 use Rattle.bc_text.specs.Names.{NameParts}
 use Rattle.bc_calls.proofs.Beginnings.{starts_again}
 use Rattle.bc_share.specs.Sessions.{SessionView, IsSame, Stays}
@@ -34,7 +34,3 @@ begun_more all left rest begun begun' name ask old mid new h next is longer stay
   cut = h.cut ∙ ap (λ (l : List NameParts). begun ++ l) next ∙ sym (append_assoc begun (name ∷ []) rest) ∙ ap (λ (l : List NameParts). l ++ rest) (sym (longer ∙ ap (λ (n : NameParts). begun ++ n ∷ []) is));
   kept = same_then_stays old mid new h.kept stays;
 }
-
--- all names
-pub begun_all : (all left begun : List NameParts) (old new : SessionView) → HasBegun all left begun old new → left ≡ [] → begun ≡ all
-begun_all all left begun old new h none = sym (h.cut ∙ ap (λ (l : List NameParts). begun ++ l) none ∙ append-nil begun)

@@ -1,6 +1,6 @@
-use Rattle.std.proofs.Common.{◌≡◌, [], sym, ◌∙◌}
+use Rattle.std.proofs.Common.{◌≡◌}
 use Rattle.bc_share.proofs.Noting.{same_session}
-use Rattle.bc_side.proofs.Beginning.{begun_none, begun_more, begun_all, begun_kept}
+use Rattle.bc_side.proofs.Beginning.{begun_none, begun_more, begun_kept}
 use Rattle.bc_side.proofs.ahead.begin_each.Goals as goal
 
 pub loop-name-init : goal.loop-name-init
