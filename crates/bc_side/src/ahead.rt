@@ -51,7 +51,7 @@ fn work_each<R: Threads + Sync>(
 
 /// Begins an Ask of each name in a session, and works on all of them, side by side in so many threads, or in fewer where no more can be made, which
 /// hold nothing meanwhile: an Ask for each name, in the order of the names, which is still to be settled. None is a call yet: the session's own list
-/// stays. (Own.)
+/// stays.
 ///
 /// `AllocError` only where there is no room for the list of them. Where memory is refused to one of them, that is told when it is settled, so that it does not keep
 /// those before it from being answered.

@@ -38,7 +38,7 @@ fn worked(alloc: Global, providers: &Providers, begun: Begun) -> Stage
 }
 
 /// An Ask of a name that is still to be settled, whether it was worked on or not. Contracts see the name: the type keeps that what has begun, and
-/// the work on it, is that name's. (Own.)
+/// the work on it, is that name's.
 #[derive(Drop)]
 pub struct PendingAsk {
     name: Name,
@@ -58,7 +58,7 @@ impl Model for PendingAsk {
 
 impl PendingAsk {
     /// Begins an Ask of a name in a session. It is no call: the session's own list stays. It waits for nobody. Where memory or the reading is
-    /// refused, that is told when the Ask is settled. (Own.)
+    /// refused, that is told when the Ask is settled.
     pub fn begin<N: Ending>(session: &mut Session<N>, name: &Name) -> PendingAsk
         ensures name { result ≡ name.now }
         ensures kept { Stays session.old session.new }
@@ -70,7 +70,7 @@ impl PendingAsk {
         PendingAsk { name: *name, stage }
     }
 
-    /// The name that is asked. (Own.)
+    /// The name that is asked.
     pub fn name(&self) -> Name
         ensures { result ≡ self.now }
     {
@@ -91,7 +91,7 @@ impl PendingAsk {
     }
 
     /// Works on the Ask, where it has begun and was not worked on yet. Nothing is held meanwhile, and nobody is waited for. Where memory is
-    /// refused, as a provider may answer too, that is told when the Ask is settled. (Own.)
+    /// refused, as a provider may answer too, that is told when the Ask is settled.
     pub fn work(&mut self, alloc: Global, providers: &Providers)
         ensures { self.new ≡ self.old }
     {
@@ -114,7 +114,7 @@ impl PendingAsk {
     }
 
     /// Settles the Ask in a session: the outcome of its name, as `Session::settle` answers it, of what is held now (its errors by RFC 2094,
-    /// "Borrow checker phase 2" and "Named lifetimes"; the rest is own). It is the call; before, none was made.
+    /// "Borrow checker phase 2" and "Named lifetimes"). It is the call; before, none was made.
     ///
     /// Refused as `Session::settle` is, and with `NoMemory`, with no call made, where memory was refused when it began or was worked on.
     pub fn settle<R: Wait, N: Ending>(
