@@ -1,7 +1,7 @@
 use Rattle.std.proofs.Common.{◌∙◌}
 use Rattle.bc_check.specs.Run.{shown}
 use Rattle.bc_check.proofs.Serving.{always_refused}
-use Rattle.bc_check.proofs.Ahead.{asked_ahead, part_ahead, part_none}
+use Rattle.bc_check.proofs.Begun.{asked_ahead, part_ahead, part_none}
 use Rattle.bc_check.proofs.ahead.ask_ahead.Goals as goal
 
 pub returns-in_err-asks-clause-refused : goal.returns-in_err-asks-clause-refused
