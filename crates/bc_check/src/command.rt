@@ -54,7 +54,7 @@ fn write_text<O: Write>(name: &Name, outcome: &Outcome, out: &mut O) -> io::Resu
     ensures { OnOk result (Appends (O.contents out.old) (O.contents out.new) (answer_lines Form.Text name.now outcome.now)) }
 {
     writeln!(out, "ask {name}")?;
-    write_report(outcome, out)
+    Ok(write_report(outcome, out)?)
 }
 
 /// Writes the line of an Ask, and its report with the texts that explain its errors.
@@ -67,7 +67,7 @@ fn write_sourced_text<O: Write>(
     ensures { OnOk result (Appends (O.contents out.old) (O.contents out.new) (ended (codes "ask " ++ name_text name.now) ++ report_with bodies.now outcome.now)) }
 {
     writeln!(out, "ask {name}")?;
-    write_sourced_report(outcome, bodies, out)
+    Ok(write_sourced_report(outcome, bodies, out)?)
 }
 
 /// Writes the line of an Ask, and its report with the texts that explain its errors. `NoMemory`, with nothing written, where there is no

@@ -2,14 +2,15 @@
 ghost use Rattle.std.specs.Prelude.{◌≤◌, ◌++◌, length, OnOk};
 ghost use Rattle.std.specs.Io.KnownBytes.{Appends};
 ghost use Rattle.bc_judge.specs.Lines.{next_region};
-ghost use Rattle.bc_report.specs.Report.{error_line, chain_line, error_lines, body_line, body_lines, report};
+ghost use Rattle.bc_report.specs.Report.{error_line, chain_line, error_lines, body_lines, report};
 
+use crate::fault::{WriterFault, write_bytes};
 use crate::line::put;
+use crate::one_line::{write_bad_declaration, write_body_line, write_ill, write_missing};
 use crate::texts::{put_error, put_region, put_regions};
 use bc_judge::BorrowError;
 use bc_prov::{BodyErrors, Outcome};
 use bc_syntax::Region;
-use std::io;
 use std::io::Write;
 
 /// How many bytes the line of an error has at most.
@@ -26,7 +27,7 @@ const LINES: usize = ERROR + 10 + 8 * TOGETHER;
 
 /// Writes the line of an error and that of its chain, which has at most eight regions, by one call of the writer.
 #[tactic(auto, unfolding(crate::specs::Report::error_line, crate::specs::Report::chain_line))]
-fn write_together<W: Write>(error: &BorrowError, chain: &[Region], out: &mut W) -> io::Result<()>
+fn write_together<W: Write>(error: &BorrowError, chain: &[Region], out: &mut W) -> Result<(), WriterFault>
     requires { length chain.now ≤ 8 }
     ensures { OnOk result (Appends (W.contents out.old) (W.contents out.new) (error_line error.now ++ chain_line chain.now)) }
 {
@@ -36,45 +37,45 @@ fn write_together<W: Write>(error: &BorrowError, chain: &[Region], out: &mut W) 
     let end = put(b"\n    chain", &mut lines, end);
     let end = put_error(error, &mut lines, end);
     let start = put(b"  ", &mut lines, end);
-    out.write_all(&lines[start..])
+    write_bytes(&lines[start..], out)
 }
 
 /// Writes the line of an error.
 #[tactic(auto, unfolding(crate::specs::Report::error_line))]
-fn write_error<W: Write>(error: &BorrowError, out: &mut W) -> io::Result<()>
+fn write_error<W: Write>(error: &BorrowError, out: &mut W) -> Result<(), WriterFault>
     ensures { OnOk result (Appends (W.contents out.old) (W.contents out.new) (error_line error.now)) }
 {
     let mut line = [0; ERROR];
     let end = put(b"\n", &mut line, ERROR);
     let end = put_error(error, &mut line, end);
     let start = put(b"  ", &mut line, end);
-    out.write_all(&line[start..])
+    write_bytes(&line[start..], out)
 }
 
 /// Writes a region of a chain, and a space before it.
-fn write_region<W: Write>(region: Region, out: &mut W) -> io::Result<()>
+fn write_region<W: Write>(region: Region, out: &mut W) -> Result<(), WriterFault>
     ensures { OnOk result (Appends (W.contents out.old) (W.contents out.new) (next_region region)) }
 {
     let mut line = [0; REGION];
     let start = put_region(region, &mut line, REGION);
-    out.write_all(&line[start..])
+    write_bytes(&line[start..], out)
 }
 
 /// Writes the line of a chain, of any length, region by region.
 #[tactic(auto, unfolding(crate::specs::Report::chain_line))]
-fn write_chain<W: Write>(regions: &[Region], out: &mut W) -> io::Result<()>
+fn write_chain<W: Write>(regions: &[Region], out: &mut W) -> Result<(), WriterFault>
     ensures { OnOk result (Appends (W.contents out.old) (W.contents out.new) (chain_line regions.now)) }
 {
-    out.write_all(b"    chain")?;
+    write_bytes(b"    chain", out)?;
     for region in regions {
         write_region(*region, out)?;
     }
-    out.write_all(b"\n")
+    write_bytes(b"\n", out)
 }
 
-/// Writes the line of an error, and behind it that of its chain, or answers the writer's fault. It takes no memory.
+/// Writes the line of an error, and behind it that of its chain. Answers `WriterFault` only where a write failed. It takes no memory.
 #[tactic(auto, unfolding(crate::specs::Report::error_lines))]
-pub fn write_explained<W: Write>(error: &BorrowError, out: &mut W) -> io::Result<()>
+pub fn write_explained<W: Write>(error: &BorrowError, out: &mut W) -> Result<(), WriterFault>
     ensures { OnOk result (Appends (W.contents out.old) (W.contents out.new) (error_lines error.now)) }
 {
     let chain = error.chain();
@@ -85,18 +86,8 @@ pub fn write_explained<W: Write>(error: &BorrowError, out: &mut W) -> io::Result
     write_chain(chain, out)
 }
 
-/// Writes the line of a body, its name and the number of its errors, or answers the writer's fault. It takes no memory.
-pub fn write_body_line<W: Write>(body: &BodyErrors, out: &mut W) -> io::Result<()>
-    ensures { OnOk result (Appends (W.contents out.old) (W.contents out.new) (body_line body.now)) }
-{
-    let name = body.name;
-    let errors = body.errors.get();
-    let count = errors.len();
-    writeln!(out, "{name} {count}")
-}
-
 /// Writes the line of a body, and the lines of each of its errors.
-fn write_body<W: Write>(body: &BodyErrors, out: &mut W) -> io::Result<()>
+fn write_body<W: Write>(body: &BodyErrors, out: &mut W) -> Result<(), WriterFault>
     ensures { OnOk result (Appends (W.contents out.old) (W.contents out.new) (body_lines body.now)) }
 {
     write_body_line(body, out)?;
@@ -107,16 +98,16 @@ fn write_body<W: Write>(body: &BodyErrors, out: &mut W) -> io::Result<()>
     Ok(())
 }
 
-/// Writes the text form of an outcome, exactly the bytes of its report (own), or answers the writer's fault. It takes no
+/// Writes the text form of an outcome, exactly the bytes of its report (own). Answers `WriterFault` only where a write failed. It takes no
 /// memory.
-pub fn write_report<W: Write>(outcome: &Outcome, out: &mut W) -> io::Result<()>
+pub fn write_report<W: Write>(outcome: &Outcome, out: &mut W) -> Result<(), WriterFault>
     ensures { OnOk result (Appends (W.contents out.old) (W.contents out.new) (report outcome.now)) }
 {
     match outcome {
-        Outcome::NoBody => writeln!(out, "no body"),
-        Outcome::Missing(name) => writeln!(out, "missing {name}"),
-        Outcome::BadTypes(index) => writeln!(out, "bad declaration {index}"),
-        Outcome::Ill(name, place) => writeln!(out, "ill {name} at {place}"),
+        Outcome::NoBody => write_bytes(b"no body\n", out),
+        Outcome::Missing(name) => write_missing(name, out),
+        Outcome::BadTypes(index) => write_bad_declaration(*index, out),
+        Outcome::Ill(name, place) => write_ill(name, *place, out),
         Outcome::Report(bodies) => {
             for body in bodies.as_slice() {
                 write_body(body, out)?;

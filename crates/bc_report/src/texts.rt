@@ -9,9 +9,9 @@ use bc_judge::BorrowError;
 use bc_mir::Point;
 use bc_syntax::Region;
 
-/// Puts a point right before `end`, and gives where it begins.
+/// Puts a point right before `end`, and gives where it begins. It has at most 44 bytes.
 #[inline(always)]
-fn put_point(point: Point, line: &mut [u8], end: usize) -> usize
+pub(crate) fn put_point(point: Point, line: &mut [u8], end: usize) -> usize
     requires { (44 ≤ end) × (end ≤ length line.old) }
     ensures room { (result ≤ end) × (end ≤ result + 44) }
     ensures written { drop result line.new ≡ point_text point ++ drop end line.old }

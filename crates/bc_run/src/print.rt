@@ -55,7 +55,7 @@ fn write_root<O: Write>(row: &(Name, Shared<Outcome>), out: &mut O) -> io::Resul
 {
     let name = &row.0;
     writeln!(out, "root {name}")?;
-    write_report(row.1.get(), out)
+    Ok(write_report(row.1.get(), out)?)
 }
 
 /// Writes roots with their reports, in their order.
@@ -74,7 +74,7 @@ fn write_outcome<O: Write>(event: &Event, out: &mut O) -> io::Result<()>
 {
     match event {
         Event::Types(_) | Event::Put(_, _, _) | Event::Remove(_, _) => Ok(()),
-        Event::Ask(_, outcome) => write_report(outcome.get(), out),
+        Event::Ask(_, outcome) => Ok(write_report(outcome.get(), out)?),
         Event::All(listing) => write_roots(listing.get().as_slice(), out),
     }
 }

@@ -1,5 +1,5 @@
 //! Where a point stands in a file, and its text.
-ghost use Rattle.std.specs.Prelude.{◌≡◌, ◌≤◌, ◌++◌, ◌+◌, length, map, reverse, take_while, OnOk};
+ghost use Rattle.std.specs.Prelude.{◌≡◌, ◌≤◌, ◌++◌, ◌+◌, length, map, reverse, take_while, codes, decimal, OnOk};
 ghost use Rattle.std.specs.Io.KnownBytes.{Appends};
 ghost use Rattle.bc_position.specs.Positions.{position_in};
 ghost use Rattle.bc_source.specs.Points.{without_last_blanks, statement_at, in_one_line, position_text, place_text, place_line, point_line, is_blank, is_no_semicolon};
@@ -7,7 +7,7 @@ ghost use Rattle.bc_source.specs.Points.{without_last_blanks, statement_at, in_o
 use crate::starts::Start;
 use crate::unit::SourceUnit;
 use bc_mir::Point;
-use std::io;
+use bc_report::{WriterFault, write_bytes, write_number};
 use std::io::Write;
 
 /// Whether a byte is a blank of a text.
@@ -59,22 +59,51 @@ fn statement_at(text: &[u8], at: usize) -> &[u8]
 }
 
 /// Writes bytes in one line: each line feed as a space.
-fn write_in_one_line<W: Write>(bytes: &[u8], out: &mut W) -> io::Result<()>
+fn write_in_one_line<W: Write>(bytes: &[u8], out: &mut W) -> Result<(), WriterFault>
     ensures { OnOk result (Appends (W.contents out.old) (W.contents out.new) (map in_one_line bytes.now)) }
 {
     for byte in bytes {
         let byte = if *byte == b'\n' { b' ' } else { *byte };
-        out.write_all(&[byte])?;
+        write_bytes(&[byte], out)?;
     }
     Ok(())
 }
 
+/// Writes a word, set in, and a space behind it.
+fn write_word<W: Write>(word: &str, out: &mut W) -> Result<(), WriterFault>
+    ensures { OnOk result (Appends (W.contents out.old) (W.contents out.new) (codes "    " ++ word.now ++ codes " ")) }
+{
+    write_bytes(b"    ", out)?;
+    write_bytes(word.as_bytes(), out)?;
+    write_bytes(b" ", out)
+}
+
+/// Writes a line and a column, and a space behind them.
+fn write_line_and_column<W: Write>(
+    line: u128,
+    column: usize,
+    out: &mut W,
+) -> Result<(), WriterFault>
+    ensures { OnOk result (Appends (W.contents out.old) (W.contents out.new) (decimal line ++ codes ":" ++ decimal column ++ codes " ")) }
+{
+    write_number(line, out)?;
+    write_bytes(b":", out)?;
+    write_number(column as u128, out)?;
+    write_bytes(b" ", out)
+}
+
 /// Writes a line and a column of the file, behind a word.
 #[tactic(auto, unfolding(crate::specs::Points::position_text))]
-fn write_position<W: Write>(word: &str, line: u128, column: usize, out: &mut W) -> io::Result<()>
+fn write_position<W: Write>(
+    word: &str,
+    line: u128,
+    column: usize,
+    out: &mut W,
+) -> Result<(), WriterFault>
     ensures { OnOk result (Appends (W.contents out.old) (W.contents out.new) (position_text word.now line column)) }
 {
-    write!(out, "    {word} {line}:{column} ")
+    write_word(word, out)?;
+    write_line_and_column(line, column, out)
 }
 
 /// Writes a line and a column of the file, and the text there, in one line.
@@ -84,12 +113,12 @@ fn write_place<W: Write>(
     column: usize,
     text: &[u8],
     out: &mut W,
-) -> io::Result<()>
+) -> Result<(), WriterFault>
     ensures { OnOk result (Appends (W.contents out.old) (W.contents out.new) (place_text word.now line column text.now)) }
 {
     write_position(word, line, column, out)?;
     write_in_one_line(text, out)?;
-    out.write_all(b"\n")
+    write_bytes(b"\n", out)
 }
 
 /// Writes the line of what begins here.
@@ -98,7 +127,7 @@ fn write_start<W: Write>(
     source: &SourceUnit<'_>,
     start: Start,
     out: &mut W,
-) -> io::Result<()>
+) -> Result<(), WriterFault>
     requires { start.position ≡ position_in source.now.text start.at }
     ensures { OnOk result (Appends (W.contents out.old) (W.contents out.new) (place_line word.now source.now start.at)) }
 {
@@ -113,7 +142,7 @@ pub(crate) fn write_point<W: Write>(
     source: &SourceUnit<'_>,
     point: Point,
     out: &mut W,
-) -> io::Result<()>
+) -> Result<(), WriterFault>
     ensures { OnOk result (Appends (W.contents out.old) (W.contents out.new) (point_line word.now source.now point)) }
 {
     match source.start_of(point) {

@@ -7,8 +7,8 @@ ghost use Rattle.bc_report.specs.Text.{line as ended};
 ghost use Rattle.bc_source.specs.Regions.{is_universal, tells_of, tells_of_some, named, all_named, regions_text, regions_line};
 
 use bc_judge::BorrowError;
+use bc_report::{WriterFault, write_bytes, write_number};
 use bc_syntax::{Region, RegionName};
-use std::io;
 use std::io::Write;
 
 /// Whether a region is the universal one of this number.
@@ -79,15 +79,17 @@ fn write_named<W: Write>(
     regions: &[RegionName],
     number: usize,
     out: &mut W,
-) -> io::Result<()>
+) -> Result<(), WriterFault>
     requires { number ≤ length regions.now }
     ensures { OnOk result (Appends (W.contents out.old) (W.contents out.new) (named error.now (universal_names regions.now) number)) }
 {
     if !tells_of(error, number) {
         return Ok(());
     }
-    write!(out, " {number} '")?;
-    out.write_all(name_of(regions, number))
+    write_bytes(b" ", out)?;
+    write_number(number as u128, out)?;
+    write_bytes(b" '", out)?;
+    write_bytes(name_of(regions, number), out)
 }
 
 /// Writes the numbers and names of the universal regions that an error tells of, by number.
@@ -96,7 +98,7 @@ fn write_all_named<W: Write>(
     error: &BorrowError,
     regions: &[RegionName],
     out: &mut W,
-) -> io::Result<()>
+) -> Result<(), WriterFault>
     ensures { OnOk result (Appends (W.contents out.old) (W.contents out.new) (regions_text regions.now error.now)) }
 {
     let count = regions.len() + 1;
@@ -107,19 +109,19 @@ fn write_all_named<W: Write>(
 }
 
 /// Writes the universal regions that an error tells of, behind the word for them.
-fn write_words<W: Write>(error: &BorrowError, regions: &[RegionName], out: &mut W) -> io::Result<()>
+fn write_words<W: Write>(error: &BorrowError, regions: &[RegionName], out: &mut W) -> Result<(), WriterFault>
     ensures { OnOk result (Appends (W.contents out.old) (W.contents out.new) (codes "    regions" ++ regions_text regions.now error.now)) }
 {
-    out.write_all(b"    regions")?;
+    write_bytes(b"    regions", out)?;
     write_all_named(error, regions, out)
 }
 
 /// Writes a line of the universal regions that an error tells of.
-fn write_line<W: Write>(error: &BorrowError, regions: &[RegionName], out: &mut W) -> io::Result<()>
+fn write_line<W: Write>(error: &BorrowError, regions: &[RegionName], out: &mut W) -> Result<(), WriterFault>
     ensures { OnOk result (Appends (W.contents out.old) (W.contents out.new) (ended (codes "    regions" ++ regions_text regions.now error.now))) }
 {
     write_words(error, regions, out)?;
-    out.write_all(b"\n")
+    write_bytes(b"\n", out)
 }
 
 /// Writes the line of the universal regions that an error tells of, where the unit declares these; nothing, where it tells of none.
@@ -128,7 +130,7 @@ pub(crate) fn write_regions<W: Write>(
     error: &BorrowError,
     regions: &[RegionName],
     out: &mut W,
-) -> io::Result<()>
+) -> Result<(), WriterFault>
     ensures { OnOk result (Appends (W.contents out.old) (W.contents out.new) (regions_line regions.now error.now)) }
 {
     if !tells_of_some(error, regions.len() + 1) {

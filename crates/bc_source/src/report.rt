@@ -10,9 +10,8 @@ use crate::source::Sources;
 use crate::unit::{SourceUnit, unit_under};
 use bc_judge::BorrowError;
 use bc_prov::{BodyErrors, Outcome};
-use bc_report::{write_body_line, write_explained, write_report};
+use bc_report::{WriterFault, write_body_line, write_explained, write_report};
 use std::alloc::{AllocError, Global};
-use std::io;
 use std::io::Write;
 use std::marker::Model;
 
@@ -84,7 +83,7 @@ fn write_points<W: Write>(
     error: &BorrowError,
     source: &SourceUnit<'_>,
     out: &mut W,
-) -> io::Result<()>
+) -> Result<(), WriterFault>
     ensures { OnOk result (Appends (W.contents out.old) (W.contents out.new) (points_lines source.now error.now)) }
 {
     match error {
@@ -111,7 +110,7 @@ fn write_source<W: Write>(
     error: &BorrowError,
     source: &SourceUnit<'_>,
     out: &mut W,
-) -> io::Result<()>
+) -> Result<(), WriterFault>
     ensures { OnOk result (Appends (W.contents out.old) (W.contents out.new) (source_lines source.now error.now)) }
 {
     write_points(error, source, out)?;
@@ -123,7 +122,7 @@ fn write_sourced_error<W: Write>(
     error: &BorrowError,
     unit: &Option<SourceUnit<'_>>,
     out: &mut W,
-) -> io::Result<()>
+) -> Result<(), WriterFault>
     ensures { OnOk result (Appends (W.contents out.old) (W.contents out.new) (sourced_error unit.now error.now)) }
 {
     write_explained(error, out)?;
@@ -134,7 +133,7 @@ fn write_sourced_error<W: Write>(
 }
 
 /// Writes the line of a body, and the lines of each of its errors.
-fn write_sourced_body<W: Write>(sourced: &SourcedBody<'_>, out: &mut W) -> io::Result<()>
+fn write_sourced_body<W: Write>(sourced: &SourcedBody<'_>, out: &mut W) -> Result<(), WriterFault>
     ensures { OnOk result (Appends (W.contents out.old) (W.contents out.new) (sourced_lines sourced.now)) }
 {
     write_body_line(sourced.body, out)?;
@@ -146,13 +145,13 @@ fn write_sourced_body<W: Write>(sourced: &SourcedBody<'_>, out: &mut W) -> io::R
 }
 
 /// Writes the text form of an outcome, and of a report behind each error and its chain the lines and texts of its points and the names of
-/// its regions, as far as the texts are known: `bodies` is what `find_bodies` finds for the outcome. Exactly the bytes of the definition, or the
-/// writer's fault. It takes no memory.
+/// its regions, as far as the texts are known: `bodies` is what `find_bodies` finds for the outcome. Exactly the bytes of the definition.
+/// Answers `WriterFault` only where a write failed. It takes no memory.
 pub fn write_sourced_report<W: Write>(
     outcome: &Outcome,
     bodies: &[SourcedBody<'_>],
     out: &mut W,
-) -> io::Result<()>
+) -> Result<(), WriterFault>
     ensures { OnOk result (Appends (W.contents out.old) (W.contents out.new) (report_with bodies.now outcome.now)) }
 {
     match outcome {

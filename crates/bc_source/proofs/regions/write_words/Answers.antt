@@ -5,5 +5,5 @@ use Rattle.bc_source.proofs.regions.write_words.Goals as goal
 
 pub returns : goal.returns
 returns g c =
-    then_added (g.W.Write.contents c.args.out.now) (g.W.Write.contents c.write_all.new.self) (g.W.Write.contents c.write_all_named.new.out) (codes "    regions") (regions_text c.args.regions.now c.args.error.now) c.write_all_named.result
-    c.in_ok-write_all.ensures.bytes c.write_all_named.ensures
+    then_added (g.W.Write.contents c.args.out.now) (g.W.Write.contents c.write_bytes.new.out) (g.W.Write.contents c.write_all_named.new.out) (codes "    regions") (regions_text c.args.regions.now c.args.error.now) c.write_all_named.result
+    c.in_ok-write_bytes.ensures c.write_all_named.ensures

@@ -1,0 +1,30 @@
+//! The fault of a writer, and the one place where it is made.
+ghost use Rattle.std.specs.Prelude.{OnOk};
+ghost use Rattle.std.specs.Io.KnownBytes.{Appends};
+
+use std::io;
+use std::io::Write;
+use thiserror::Error;
+
+/// Why a report was not written whole: a write failed, and this is its fault. Only `write_bytes` makes one, and only of the fault of a
+/// write, so that no function which answers one can give up for another reason.
+#[derive(Debug, Drop, Error)]
+#[error(transparent)]
+pub struct WriterFault(io::Error);
+
+impl From<WriterFault> for io::Error {
+    /// The fault of the write itself.
+    fn from(fault: WriterFault) -> io::Error {
+        fault.0
+    }
+}
+
+/// Writes all bytes. Answers `WriterFault` where the writer does not take them all.
+pub fn write_bytes<W: Write>(bytes: &[u8], out: &mut W) -> Result<(), WriterFault>
+    ensures { OnOk result (Appends (W.contents out.old) (W.contents out.new) bytes.now) }
+{
+    match out.write_all(bytes) {
+        Ok(()) => Ok(()),
+        Err(fault) => Err(WriterFault(fault)),
+    }
+}
