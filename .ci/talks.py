@@ -9,7 +9,9 @@ import subprocess
 # How many seconds a line of the output or the end may take, and how many a reply is waited for before the input is closed.
 LIMIT = 60
 PATIENCE = (0.05, 1, LIMIT)
-AGAIN, LATE = "a request refused, and sent again", "which was told once the input was closed"
+AGAIN, LOST, LATE = "a request refused, and sent again", "an answer lost", "which was told once the input was closed"
+# What tells that memory was refused for a request, and that it was for an answer.
+REFUSED, UNTOLD = "no memory", "no memory for the answer"
 
 
 @dataclasses.dataclass(frozen=True)
@@ -56,8 +58,12 @@ class Request:
         return Request(written({"id": kind, "session": self.session, "call": "glance", "name": self.name}), self.session, None, kind)
 
     def refused(self):
-        """The reply that tells that memory for it was refused."""
-        return written({"fault": "no memory", "id": member(self.line, "id"), "session": self.session})
+        """The replies that tell that memory for it was refused: for its call, or for the line itself."""
+        return [written({"fault": REFUSED, "id": it, "session": self.session or 0}) for it in (member(self.line, "id"), None)]
+
+    def untold(self):
+        """The reply that tells that memory for its answer was refused."""
+        return written({"fault": UNTOLD, "id": None, "session": self.session or 0})
 
 
 def lanes_of(file, sessions, are_beside):
@@ -71,10 +77,11 @@ def lanes_of(file, sessions, are_beside):
 
 
 class Lane:
-    """Requests that are sent one behind the other's reply, the replies that came but for those that refused, and what was wrong."""
+    """Requests that are sent one behind the other's reply, the replies that came but for those that refused, how many requests were refused and how many
+    answers lost, and what was wrong."""
 
     def __init__(self, requests):
-        self.waiting, self.replies, self.wrong, self.refused, self.published = collections.deque(requests), [], [], 0, None
+        self.waiting, self.replies, self.wrong, self.refused, self.lost, self.published = collections.deque(requests), [], [], 0, 0, None
 
     def next(self):
         """The request that is sent next, or whose reply is waited for."""
@@ -83,7 +90,8 @@ class Lane:
     def take(self, reply):
         """Takes the reply to a request. One that was refused is sent once more, with a look before it at what it may have changed."""
         request = self.waiting.popleft()
-        if reply == request.refused():
+        self.lost += reply == request.untold()
+        if reply in request.refused():
             self.refused += 1
             self.waiting.extendleft([request] + ([request.reads("look")] if request.name else []))
         elif request.kind == "look":
@@ -161,9 +169,10 @@ class Talk:
         return Left(status, b"".join(line + b"\n" for line in lines), self.running.stderr.read(), self.went())
 
     def went(self):
-        """How it went, where a request was refused, or it went on until the input was closed."""
-        refused = sum(lane.refused for lane in self.lanes)
-        return LATE if self.is_late else {0: "", 1: AGAIN}.get(refused, f"{refused} requests refused")
+        """How it went, where a request was refused or an answer lost, or it went on until the input was closed."""
+        refused, lost = (sum(getattr(lane, it) for lane in self.lanes) for it in ("refused", "lost"))
+        known = {(0, 0): "", (1, 0): AGAIN, (0, 1): LOST}
+        return LATE if self.is_late else known.get((refused, lost), f"{refused} requests refused, {lost} answers lost")
 
     def kill(self):
         self.running.kill()
@@ -181,18 +190,23 @@ def hold(words, lanes, how):
             left = talk.left()
         finally:
             talk.kill()
-        if left.status != 0 or not talk.is_late:
+        if not talk.is_late:
             return left
     return left
 
 
+def are_told(replies, whole):
+    """Whether replies are those of the whole conversation, but for answers that were lost."""
+    return len(replies) == len(whole) and all(mine == its or member(mine, "fault") == UNTOLD for mine, its in zip(replies, whole))
+
+
 def is_beginning(out, whole):
-    """Whether replies are a beginning of each session's of the whole conversation."""
+    """Whether replies are a beginning of each session's of the whole conversation, but for answers that were lost."""
     mine, all_of = collections.defaultdict(list), collections.defaultdict(list)
     for replies, found in ((out, mine), (whole, all_of)):
         for line in replies.splitlines():
             found[member(line, "session")].append(line)
-    return all(all_of[session][: len(lines)] == lines for session, lines in mine.items())
+    return all(are_told(lines, all_of[session][: len(lines)]) for session, lines in mine.items())
 
 
 def is_well(left, whole):
@@ -200,7 +214,9 @@ def is_well(left, whole):
     if left.status == 0:
         return left == whole and left.went in ("", AGAIN)
     stopped = left.status == 3 and left.err in (b"no memory\n", b"cannot start a thread\n")
-    return stopped and left.went in ("", AGAIN, LATE) and is_beginning(left.out, whole.out)
+    if left.went == LOST and len(left.out.splitlines()) != len(whole.out.splitlines()):
+        return False
+    return stopped and left.went in ("", AGAIN, LOST) and is_beginning(left.out, whole.out)
 
 
 def told_of(left, whole):

@@ -1,5 +1,5 @@
 -- A session that answered as many lines as the router counted answered all.
-use Rattle.std.proofs.Common.{◌≡◌, ℕ, ◌+◌, ◌<◌, List, [], ◌++◌, length, length-append, Option, Some, None, sym, ap, ◌∙◌, arith, append-nil}
+use Rattle.std.proofs.Common.{◌≡◌, ℕ, ◌+◌, ◌<◌, false, List, [], ◌++◌, length, length-append, Option, Some, None, sym, ap, ◌∙◌, arith, append-nil}
 use Rattle.std.specs.Prelude.{slice_index}
 use Rattle.std.proofs.lemmas.List.{nil_from_length}
 use Rattle.bc_share.specs.Sessions.{SessionView, new_session}
@@ -16,7 +16,7 @@ all_first sessions number count counts (Some lines) front first sized counted lo
     let none : first.0 ≡ [] = nil_from_length first.0 (omega (arith, long, same, is, sized)) in
     sym (first.1 ∙ ap (λ (ls : List (List ℕ)). front ++ ls) none ∙ append-nil front)
 
-pub whole : (sessions number count : ℕ) (counts : List ℕ) (known : Option (List (List ℕ))) (new : SessionView) → HasAnswered sessions number count known (new_session 0 number) new None None → CountsAll sessions counts known → number < sessions → slice_index counts number ≡ count → IsWhole sessions number known new
+pub whole : (sessions number count : ℕ) (counts : List ℕ) (known : Option (List (List ℕ))) (new : SessionView) → HasAnswered sessions number count false known (new_session 0 number) new None None → CountsAll sessions counts known → number < sessions → slice_index counts number ≡ count → IsWhole sessions number known new
 whole sessions number count counts known new h counted low is = record {
   lines = h.lines;
   all = all_first sessions number count counts known h.lines h.first h.sized counted low is;

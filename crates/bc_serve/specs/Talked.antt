@@ -1,5 +1,5 @@
 -- What workers left of their sessions.
-use Rattle.std.specs.Prelude.{◌≡◌, ℕ, ◌<◌, List, length, slice_index_or, Option, Some, None, Result, IfOk, OnOk, OnErr, ⊤}
+use Rattle.std.specs.Prelude.{◌≡◌, ℕ, ◌<◌, false, List, length, slice_index_or, Option, Some, None, Result, IfOk, OnOk, OnErr, ⊤}
 use Rattle.bc_share.specs.Sessions.{SessionView, new_session}
 use Rattle.bc_requests.specs.Sessions.{lines_for}
 use Rattle.bc_talk.specs.declared.fault.TalkFault.{TalkFault}
@@ -11,11 +11,11 @@ use Rattle.bc_serve.specs.declared.stop.ServeStop.{ServeStop}
 abbrev pub IsOwn : ℕ → SessionView → Type 0
 IsOwn number session = (session.tag ≡ 0) × (session.number ≡ number)
 
--- A new session answered the first lines that name it, in order, as many as it says. Or it stopped, and answered some, and perhaps one
--- line more whose answer was not given.
+-- A new session answered the first lines that name it, in order, as many as it says. Or it stopped, and answered some, of which answers may
+-- be lost, and perhaps one line more for which no text was given.
 pub record HasTalked (sessions number : ℕ) (known : Option (List (List ℕ))) (new : SessionView) (ended : Result ℕ TalkFault) : Type 0 where
   pub own : IsOwn number new
-  pub answered : IfOk ended (λ count. HasAnswered sessions number count known (new_session 0 number) new None None)
+  pub answered : IfOk ended (λ count. HasAnswered sessions number count false known (new_session 0 number) new None None)
   pub stopped : OnErr ended (HasStopped sessions number known (new_session 0 number) new)
 
 -- these are the lines that name a session, where the lines of the input are known
@@ -29,7 +29,7 @@ pub record IsWhole (sessions number : ℕ) (known : Option (List (List ℕ))) (n
   pub lines : List (List ℕ)
   pub all : AreAll sessions number known lines
   pub texts : List (List ℕ)
-  pub turns : Turns sessions lines (new_session 0 number) new texts
+  pub turns : Turns sessions number false lines (new_session 0 number) new texts
 
 -- each of these sessions is the one of its place
 abbrev pub AreOwn : List SessionView → Type 0

@@ -20,9 +20,10 @@ use std::thread::Threads;
 /// next. Then the database is closed: the history of all calls. It asks for 1 to 16 sessions, and for a capacity of 1 to 1,000,000.
 ///
 /// Stops with `CannotRead` where the input fails; with `CannotWrite` where the output fails, after which nothing more is written; with
-/// `NoMemory` where there is no room for the database, a line or an answer (a call that wants memory is answered so, and the conversation
-/// goes on); with `NoThread` where the threads cannot be made, before a line is read; with `Audit` where the history does not agree
-/// with the sessions at the close, which is said before all else; and with `LostLine` where a session did not answer all its lines.
+/// `NoMemory` where there is no room for the database or for finding the session of a line, and at the end of the input where an answer was
+/// lost, in whose place a line said so (a call or a line that wants memory is answered so, which is no stop); with `NoThread` where the
+/// threads cannot be made, before a line is read; with `Audit` where the history does not agree with the sessions at the close, which is
+/// said before all else; and with `LostLine` where a session did not answer all its lines.
 pub fn serve<R: Threads + Wait + Sync, I: BufRead, O: Write + Drop + Send>(
     rt: &R,
     alloc: Global,

@@ -1,5 +1,5 @@
 -- A session stays the session that it is.
-use Rattle.std.proofs.Common.{◌≡◌, ℕ, List, [], ◌∷◌, Option, ap, ◌∙◌, inl, inr}
+use Rattle.std.proofs.Common.{◌≡◌, ℕ, Bool, true, List, [], ◌∷◌, Option, ap, ◌∙◌, inl, inr}
 use Rattle.bc_share.specs.Sessions.{SessionView}
 use Rattle.bc_requests.specs.declared.request.Request.{Request}
 use Rattle.bc_requests.specs.declared.request.Request.TheVariants.{Good, Bad}
@@ -8,7 +8,7 @@ use Rattle.bc_requests.specs.declared.request.Wanted.TheVariants.{Call, Glance}
 use Rattle.bc_answers.specs.declared.answer.Answer.{Answer}
 use Rattle.bc_answers.specs.declared.answer.Answer.TheVariants.{Entered, Glanced, Refused, Wrong}
 use Rattle.bc_talk.specs.declared.answer.Answered.{Answered}
-use Rattle.bc_talk.specs.Turns.{IsAnswerTo, IsReplyTo, IsStill, Turns}
+use Rattle.bc_talk.specs.Turns.{IsAnswerTo, IsReplyTo, IsStill, IsTurn, Turns}
 use Rattle.bc_talk.specs.Talks.{HasAnswered, HasStopped}
 
 same_still : (old new : SessionView) → new ≡ old → IsStill old new
@@ -31,18 +31,22 @@ reply_still : (request : Request) (answered : Answered) (old new : SessionView) 
 reply_still (Good id session wanted) answered old new h = wanted_still wanted answered.answer old new h.2
 reply_still (Bad id session fault) answered old new h = same_still old new h.3
 
-turns_still : (sessions : ℕ) (lines : List (List ℕ)) (old new : SessionView) (texts : List (List ℕ)) → Turns sessions lines old new texts → IsStill old new
-turns_still sessions [] old new texts h = same_still old new h.0
-turns_still sessions (line ∷ lines) old new texts (between, text, rest, turn, later, cut) =
-    still_again old between new (reply_still turn.1.request turn.0 old between turn.1.answers) (turns_still sessions lines between new rest later)
+turn_still : (sessions number : ℕ) (lossy : Bool) (line : List ℕ) (old new : SessionView) (text : List ℕ) → IsTurn sessions number lossy line old new text → IsStill old new
+turn_still sessions number lossy line old new text (inl done) = reply_still done.1.request done.0 old new done.1.answers
+turn_still sessions number lossy line old new text (inr unread) = same_still old new unread.0
+
+turns_still : (sessions number : ℕ) (lossy : Bool) (lines : List (List ℕ)) (old new : SessionView) (texts : List (List ℕ)) → Turns sessions number lossy lines old new texts → IsStill old new
+turns_still sessions number lossy [] old new texts h = same_still old new h.0
+turns_still sessions number lossy (line ∷ lines) old new texts (between, text, rest, turn, later, cut) =
+    still_again old between new (turn_still sessions number lossy line old between text turn) (turns_still sessions number lossy lines between new rest later)
 
 -- where it answered lines
-pub answered_still : (sessions session n : ℕ) (known : Option (List (List ℕ))) (old new : SessionView) (given given' : Option (List (List ℕ))) → HasAnswered sessions session n known old new given given' → IsStill old new
-answered_still sessions session n known old new given given' h = turns_still sessions h.lines old new h.texts h.turns
+pub answered_still : (sessions session n : ℕ) (lossy : Bool) (known : Option (List (List ℕ))) (old new : SessionView) (given given' : Option (List (List ℕ))) → HasAnswered sessions session n lossy known old new given given' → IsStill old new
+answered_still sessions session n lossy known old new given given' h = turns_still sessions session lossy h.lines old new h.texts h.turns
 
 -- and where it stopped
 pub stopped_still : (sessions session : ℕ) (known : Option (List (List ℕ))) (old new : SessionView) → HasStopped sessions session known old new → IsStill old new
-stopped_still sessions session known old new h = still_again old h.between new (turns_still sessions h.lines old h.between h.texts h.turns) (elim h.left [
+stopped_still sessions session known old new h = still_again old h.between new (turns_still sessions session true h.lines old h.between h.texts h.turns) (elim h.left [
   | inl none ↦ same_still h.between new none.1
   | inr made ↦ reply_still made.3.request made.1 h.between new made.3.answers
 ])

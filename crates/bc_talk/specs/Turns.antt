@@ -1,5 +1,5 @@
 -- Turns of a conversation: a session's line, and the line that answers it.
-use Rattle.std.specs.Prelude.{◌≡◌, ◌⊎◌, ℕ, List, [], ◌∷◌, ◌++◌, length, Some, None}
+use Rattle.std.specs.Prelude.{◌≡◌, ◌⊎◌, ℕ, Bool, true, List, [], ◌∷◌, ◌++◌, length, decimal, codes, Some, None}
 use Rattle.std.specs.Arc.{arc_value}
 use Rattle.std.specs.Option.{option_map}
 use Rattle.bc_book.specs.declared.ledger.Refusal.TheVariants.{NoMemory}
@@ -51,19 +51,32 @@ pub record IsLineAnswered (sessions : ℕ) (line : List ℕ) (answered : Answere
   pub is : IsRequest sessions line request
   pub answers : IsReplyTo request answered old new
 
--- a line was answered by this text
-abbrev pub IsTurn : ℕ → List ℕ → SessionView → SessionView → List ℕ → Type 0
-IsTurn sessions line old new text = (answered : Answered) × IsLineAnswered sessions line answered old new × IsWholeLine answered text
+-- the line that tells, of the session of this number, that there was no memory, in these words
+abbrev pub lost_line : List ℕ → ℕ → List ℕ
+lost_line words session = codes "{\"fault\":\"" ++ words ++ codes "\",\"id\":null,\"session\":" ++ decimal session ++ codes "}\n"
+
+-- there was no memory to read a line: nothing was done for it, and this text tells that
+abbrev pub IsUnread : ℕ → SessionView → SessionView → List ℕ → Type 0
+IsUnread number old new text = (new ≡ old) × (text ≡ lost_line (codes "no memory") number)
+
+-- this text is the line of an answer; or, where answers may be lost, it tells that there was no memory for that
+abbrev pub IsGiven : ℕ → Bool → Answered → List ℕ → Type 0
+IsGiven number lossy answered text = IsWholeLine answered text ⊎ ((lossy ≡ true) × (text ≡ lost_line (codes "no memory for the answer") number))
+
+-- a line of the session of this number was answered by this text, or there was no memory to read it
+abbrev pub IsTurn : ℕ → ℕ → Bool → List ℕ → SessionView → SessionView → List ℕ → Type 0
+IsTurn sessions number lossy line old new text =
+    ((answered : Answered) × IsLineAnswered sessions line answered old new × IsGiven number lossy answered text) ⊎ IsUnread number old new text
 
 -- nothing was done for a line, or it was answered, whatever became of the text
 abbrev pub StopsIn : ℕ → List ℕ → SessionView → SessionView → Type 0
 StopsIn sessions line old new = (new ≡ old) ⊎ ((answered : Answered) × IsLineAnswered sessions line answered old new)
 
 -- each line was answered, in order, by a text of its own
-abbrev pub Turns : ℕ → List (List ℕ) → SessionView → SessionView → List (List ℕ) → Type 0
-Turns sessions [] old new texts = (new ≡ old) × (texts ≡ [])
-Turns sessions (line ∷ lines) old new texts =
-    (between : SessionView) × (text : List ℕ) × (rest : List (List ℕ)) × IsTurn sessions line old between text × Turns sessions lines between new rest × (texts ≡ text ∷ rest)
+abbrev pub Turns : ℕ → ℕ → Bool → List (List ℕ) → SessionView → SessionView → List (List ℕ) → Type 0
+Turns sessions number lossy [] old new texts = (new ≡ old) × (texts ≡ [])
+Turns sessions number lossy (line ∷ lines) old new texts =
+    (between : SessionView) × (text : List ℕ) × (rest : List (List ℕ)) × IsTurn sessions number lossy line old between text × Turns sessions number lossy lines between new rest × (texts ≡ text ∷ rest)
 
 -- a line names no session, and this text tells its id and what is wrong with it
 pub record IsTold (sessions : ℕ) (line text : List ℕ) : Type 0 where

@@ -5,6 +5,7 @@
 mod answer;
 mod counted;
 mod fault;
+mod lost;
 mod message;
 mod replies;
 mod router;

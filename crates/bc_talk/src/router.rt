@@ -4,16 +4,15 @@ ghost use Rattle.bc_input.specs.Lines.{IsLine, ReadsNext, lines_of};
 ghost use Rattle.bc_requests.specs.declared.request.TheConstants.{MOST_REQUEST_BYTES};
 ghost use Rattle.bc_requests.specs.Sessions.{session_in};
 ghost use Rattle.bc_talk.specs.Wires.{Takes};
-ghost use Rattle.bc_talk.specs.Turns.{IsTold};
+ghost use Rattle.bc_talk.specs.Turns.{IsTold, IsWholeLine};
 ghost use Rattle.bc_talk.specs.Talks.{IsLineOf};
 ghost use Rattle.bc_talk.specs.Counted.{CountsAll, CountsSoFar};
 ghost use Rattle.bc_talk.specs.Routed.{RoutesNext};
 
-use crate::answer::Answered;
+use crate::answer::{Answered, whole_line};
 use crate::fault::TalkFault;
 use crate::message::{Message, Talk};
 use crate::replies::Replies;
-use crate::worker::give;
 use bc_answers::Answer;
 use bc_input::{InputLine, read_input_line};
 use bc_requests::{MOST_REQUEST_BYTES, Request, find_session, read_request};
@@ -46,6 +45,23 @@ fn next_line<I: BufRead>(alloc: Global, input: &mut I) -> Result<Option<InputLin
             ErrorKind::OutOfMemory => Err(TalkFault::NoMemory),
             _ => Err(TalkFault::CannotRead),
         },
+    }
+}
+
+// Gives the line of an answer.
+fn give<P: Replies>(
+    alloc: Global,
+    answered: &Answered,
+    replies: &mut P,
+) -> Result<(), TalkFault>
+    ensures { OnOk result ((text : List ℕ) × IsWholeLine answered.now text × Takes (P.given replies.old) (P.given replies.new) text) }
+{
+    let Ok(text) = whole_line(alloc, answered) else {
+        return Err(TalkFault::NoMemory);
+    };
+    match replies.reply(text.as_str()) {
+        Ok(()) => Ok(()),
+        Err(_) => Err(TalkFault::CannotWrite),
     }
 }
 
