@@ -44,11 +44,7 @@ pub(crate) fn write_bad_declaration<W: Write>(index: usize, out: &mut W) -> Resu
 }
 
 /// Writes the line that tells which body is ill, and where.
-pub(crate) fn write_ill<W: Write>(
-    name: &Name,
-    place: Where,
-    out: &mut W,
-) -> Result<(), WriterFault>
+pub(crate) fn write_ill<W: Write>(name: &Name, place: Where, out: &mut W) -> Result<(), WriterFault>
     ensures { OnOk result (Appends (W.contents out.old) (W.contents out.new) (line (codes "ill " ++ name_text name.now ++ codes " at " ++ place_text place))) }
 {
     write_bytes(b"ill ", out)?;

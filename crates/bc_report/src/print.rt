@@ -27,7 +27,11 @@ const LINES: usize = ERROR + 10 + 8 * TOGETHER;
 
 /// Writes the line of an error and that of its chain, which has at most eight regions, by one call of the writer.
 #[tactic(auto, unfolding(crate::specs::Report::error_line, crate::specs::Report::chain_line))]
-fn write_together<W: Write>(error: &BorrowError, chain: &[Region], out: &mut W) -> Result<(), WriterFault>
+fn write_together<W: Write>(
+    error: &BorrowError,
+    chain: &[Region],
+    out: &mut W,
+) -> Result<(), WriterFault>
     requires { length chain.now ≤ 8 }
     ensures { OnOk result (Appends (W.contents out.old) (W.contents out.new) (error_line error.now ++ chain_line chain.now)) }
 {

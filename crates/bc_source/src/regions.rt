@@ -109,7 +109,11 @@ fn write_all_named<W: Write>(
 }
 
 /// Writes the universal regions that an error tells of, behind the word for them.
-fn write_words<W: Write>(error: &BorrowError, regions: &[RegionName], out: &mut W) -> Result<(), WriterFault>
+fn write_words<W: Write>(
+    error: &BorrowError,
+    regions: &[RegionName],
+    out: &mut W,
+) -> Result<(), WriterFault>
     ensures { OnOk result (Appends (W.contents out.old) (W.contents out.new) (codes "    regions" ++ regions_text regions.now error.now)) }
 {
     write_bytes(b"    regions", out)?;
@@ -117,7 +121,11 @@ fn write_words<W: Write>(error: &BorrowError, regions: &[RegionName], out: &mut 
 }
 
 /// Writes a line of the universal regions that an error tells of.
-fn write_line<W: Write>(error: &BorrowError, regions: &[RegionName], out: &mut W) -> Result<(), WriterFault>
+fn write_line<W: Write>(
+    error: &BorrowError,
+    regions: &[RegionName],
+    out: &mut W,
+) -> Result<(), WriterFault>
     ensures { OnOk result (Appends (W.contents out.old) (W.contents out.new) (ended (codes "    regions" ++ regions_text regions.now error.now))) }
 {
     write_words(error, regions, out)?;

@@ -49,11 +49,7 @@ fn next_line<I: BufRead>(alloc: Global, input: &mut I) -> Result<Option<InputLin
 }
 
 // Gives the line of an answer.
-fn give<P: Replies>(
-    alloc: Global,
-    answered: &Answered,
-    replies: &mut P,
-) -> Result<(), TalkFault>
+fn give<P: Replies>(alloc: Global, answered: &Answered, replies: &mut P) -> Result<(), TalkFault>
     ensures { OnOk result ((text : List ℕ) × IsWholeLine answered.now text × Takes (P.given replies.old) (P.given replies.new) text) }
 {
     let Ok(text) = whole_line(alloc, answered) else {
