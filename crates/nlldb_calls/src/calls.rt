@@ -2,9 +2,9 @@
 use crate::cases::Case;
 use crate::rows::{Context, halves};
 use anyhow::{Result, bail};
-use bc_calls::{PutReply, RemoveReply, Work};
+use bc_calls::{Call, PutReply, RemoveReply, Work};
 use bc_fixtures::{name, shared_types, shared_unit};
-use bc_prov::Listing;
+use bc_prov::{Listing, Shared};
 use bc_report::write_report;
 use bc_share::{Session, work_all};
 use bc_versions::Ending;
@@ -12,43 +12,59 @@ use std::io::Write;
 use std::sync::Wait;
 
 impl<R: AllocGlobal + Wait> Context<'_, R> {
-    /// Puts the unit of a text under a name, and answers the line of the reply.
-    fn put<E: Ending>(&self, session: &mut Session<E>, row: &str) -> Result<&'static [u8]> {
-        let (put, text) = halves(row);
-        let put = name(put.as_bytes())?;
+    /// The put that a name and the name of a text spell.
+    fn put_of(&self, row: &str) -> Result<Call> {
+        let (at, text) = halves(row);
+        let at = name(at.as_bytes())?;
         let unit = shared_unit(self.rt.alloc(), self.text(text)?.as_bytes())?;
-        match session.put(self.rt, put, unit)? {
-            PutReply::Added => Ok(b"added\n"),
-            PutReply::Replaced => Ok(b"replaced\n"),
-            PutReply::Full => Ok(b"full\n"),
-            PutReply::WrongKind => Ok(b"wrongkind\n"),
+        Ok(Call::Put(at, Shared::new(unit)))
+    }
+
+    /// The call that a row spells; fails where it spells none.
+    pub fn call(&self, row: &str) -> Result<Call> {
+        let (verb, rest) = halves(row);
+        match verb {
+            "put" => self.put_of(rest),
+            "types" => {
+                let types = shared_types(self.rt.alloc(), self.text(rest)?.as_bytes())?;
+                Ok(Call::Types(Shared::new(types)))
+            }
+            "remove" => Ok(Call::Remove(name(rest.as_bytes())?)),
+            "ask" => Ok(Call::Ask(name(rest.as_bytes())?)),
+            "askall" => Ok(Call::All),
+            _ => bail!("no session does this"),
         }
     }
 
-    /// Stores the declarations of a text, and answers the line of that.
-    fn put_types<E: Ending>(&self, session: &mut Session<E>, text: &str) -> Result<&'static [u8]> {
-        let types = shared_types(self.rt.alloc(), self.text(text)?.as_bytes())?;
-        session.put_types(self.rt, types)?;
-        Ok(b"stored\n")
-    }
-
-    /// Removes a name, and answers the line of the reply.
-    fn remove<E: Ending>(&self, session: &mut Session<E>, text: &str) -> Result<&'static [u8]> {
-        match session.remove(self.rt, name(text.as_bytes())?)? {
-            RemoveReply::Removed => Ok(b"removed\n"),
-            RemoveReply::Absent => Ok(b"absent\n"),
-        }
-    }
-
-    /// Asks for a name, and writes the report.
-    fn ask<E: Ending>(
+    /// Has a session make a call, and writes what it is answered.
+    fn make_call<E: Ending>(
         &self,
         session: &mut Session<E>,
-        text: &str,
+        call: Call,
         out: &mut Vec<u8>,
     ) -> Result<()> {
-        let outcome = session.ask(self.rt, &name(text.as_bytes())?, self.providers)?;
-        write_report(&outcome, out)?;
+        match call {
+            Call::Types(types) => {
+                session.put_types(self.rt, types.into_arc())?;
+                out.extend_from_slice(b"stored\n")?;
+            }
+            Call::Put(name, unit) => {
+                let reply = session.put(self.rt, name, unit.into_arc())?;
+                out.extend_from_slice(put_line(reply))?;
+            }
+            Call::Remove(name) => {
+                let reply = session.remove(self.rt, name)?;
+                out.extend_from_slice(remove_line(reply))?;
+            }
+            Call::Ask(name) => {
+                let outcome = session.ask(self.rt, &name, self.providers)?;
+                write_report(&outcome, out)?;
+            }
+            Call::All => {
+                let listing = session.ask_all(self.rt, self.providers)?;
+                write_listing(&listing, out)?;
+            }
+        }
         Ok(())
     }
 
@@ -97,12 +113,6 @@ impl<R: AllocGlobal + Wait> Context<'_, R> {
         Ok(())
     }
 
-    /// Asks for all, and writes the listing.
-    fn ask_all<E: Ending>(&self, session: &mut Session<E>, out: &mut Vec<u8>) -> Result<()> {
-        let listing = session.ask_all(self.rt, self.providers)?;
-        write_listing(&listing, out)
-    }
-
     /// Begins all roots, and works on each; fails where a provider wants memory.
     fn work_on_all<E: Ending>(&self, session: &mut Session<E>) -> Result<Vec<Work>> {
         let begun = session.begin_all()?;
@@ -130,13 +140,8 @@ impl<R: AllocGlobal + Wait> Context<'_, R> {
     ) -> Result<()> {
         let (verb, rest) = halves(row);
         match verb {
-            "put" => out.extend_from_slice(self.put(case.session(who)?, rest)?)?,
-            "types" => out.extend_from_slice(self.put_types(case.session(who)?, rest)?)?,
-            "remove" => out.extend_from_slice(self.remove(case.session(who)?, rest)?)?,
-            "ask" => self.ask(case.session(who)?, rest, out)?,
             "glance" => glance(case.session(who)?, rest, out)?,
             "make" => self.make(case.session(who)?, rest, out)?,
-            "askall" => self.ask_all(case.session(who)?, out)?,
             "work" => {
                 let work = self.work(case.session(who)?, rest, out)?;
                 case.works.push(work)?;
@@ -153,9 +158,30 @@ impl<R: AllocGlobal + Wait> Context<'_, R> {
                 let works = case.take_works(self.rt.alloc());
                 self.settle_all(case.session(who)?, works, out)?;
             }
-            _ => bail!("no session does this"),
+            _ => {
+                let session = case.session(who)?;
+                self.make_call(session, self.call(row)?, out)?;
+            }
         }
         Ok(())
+    }
+}
+
+/// The line of the reply to a put.
+fn put_line(reply: PutReply) -> &'static [u8] {
+    match reply {
+        PutReply::Added => b"added\n",
+        PutReply::Replaced => b"replaced\n",
+        PutReply::Full => b"full\n",
+        PutReply::WrongKind => b"wrongkind\n",
+    }
+}
+
+/// The line of the reply to a removal.
+fn remove_line(reply: RemoveReply) -> &'static [u8] {
+    match reply {
+        RemoveReply::Removed => b"removed\n",
+        RemoveReply::Absent => b"absent\n",
     }
 }
 

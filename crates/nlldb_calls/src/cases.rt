@@ -1,16 +1,18 @@
 //! The databases that the rows of a case open, with their sessions.
 use anyhow::{Result, bail};
 use bc_calls::Work;
+use bc_scripts::Script;
 use bc_share::{Db, Session};
 use bc_versions::Ending;
 use std::alloc::Global;
 use std::mem;
 
-/// A database, until it is closed, and its sessions, until a database is closed with them.
+/// A database, until it is closed; its sessions, until a database is closed with them; and the scripts that they are to make.
 #[derive(Drop)]
-struct Opened<E: Ending> {
-    db: Option<Db<E>>,
-    sessions: Vec<Session<E>>,
+pub struct Opened<E: Ending> {
+    pub db: Option<Db<E>>,
+    pub sessions: Vec<Session<E>>,
+    pub scripts: Vec<Script>,
 }
 
 /// What the rows of a case have opened, and the works that were done and not settled yet.
@@ -30,14 +32,17 @@ impl<E: Ending> Case<E> {
     }
 
     /// Keeps a database and its sessions, under the next letter.
-    pub fn push(&mut self, db: Db<E>, sessions: Vec<Session<E>>) -> Result<()> {
-        let db = Some(db);
-        self.opened.push(Opened { db, sessions })?;
+    pub fn push(&mut self, alloc: Global, db: Db<E>, sessions: Vec<Session<E>>) -> Result<()> {
+        self.opened.push(Opened {
+            db: Some(db),
+            sessions,
+            scripts: Vec::new(alloc),
+        })?;
         Ok(())
     }
 
     /// What was opened under a letter; fails where nothing was.
-    fn at(&mut self, letter: &str) -> Result<&mut Opened<E>> {
+    pub fn at(&mut self, letter: &str) -> Result<&mut Opened<E>> {
         let place = match letter.as_bytes() {
             [letter] => usize::from(letter.wrapping_sub(b'a')),
             _ => usize::MAX,

@@ -1,58 +1,65 @@
 //! Gauges of providers, which count their calls and may have them want memory.
+use crate::meetings::Meeting;
 use anyhow::bail;
 use std::alloc::{AllocError, Global};
 use std::io;
 use std::io::Write;
 use std::sync::Arc;
+use std::sync::atomic::AtomicU64;
 use std::sync::atomic::Ordering::SeqCst;
-use std::sync::atomic::{AtomicBool, AtomicU64};
 
-/// How often a provider was called, and whether it wants memory.
+/// How often a provider was called, and at how many of its first calls it wants memory.
 #[derive(Drop)]
 pub struct Gauge {
     calls: AtomicU64,
-    refuses: AtomicBool,
+    refused: AtomicU64,
 }
 
 impl Gauge {
     fn new() -> Gauge {
         Gauge {
             calls: AtomicU64::new(0),
-            refuses: AtomicBool::new(false),
+            refused: AtomicU64::new(0),
         }
     }
 
     /// Counts a call; `AllocError` where the provider wants memory.
     pub fn count(&self) -> Result<(), AllocError> {
-        self.calls.fetch_add(1, SeqCst);
-        if self.refuses.load(SeqCst) {
+        if self.calls.fetch_add(1, SeqCst) < self.refused.load(SeqCst) {
             return Err(AllocError);
         }
         Ok(())
     }
 
-    /// Counts anew from now on, and wants memory or not.
-    fn set(&self, refuses: bool) {
+    /// How often the provider was called.
+    pub fn calls(&self) -> u64 {
+        self.calls.load(SeqCst)
+    }
+
+    /// Counts anew from now on, and wants memory at so many of the first calls.
+    fn set(&self, refused: u64) {
         self.calls.store(0, SeqCst);
-        self.refuses.store(refuses, SeqCst);
+        self.refused.store(refused, SeqCst);
     }
 }
 
-/// The gauges of the three providers.
+/// The gauges of the three providers, and whether two sessions meet at the solver.
 #[derive(Drop)]
 pub struct Gauges {
     pub live: Gauge,
     pub solve: Gauge,
     pub scopes: Gauge,
+    pub meeting: Meeting,
 }
 
 impl Gauges {
-    /// Gauges behind an `Arc`, so that each provider may own a part: none was called, and none wants memory.
+    /// Gauges behind an `Arc`, so that each provider may own a part: none was called, none wants memory, and nobody meets.
     pub fn shared(alloc: Global) -> Result<Arc<Gauges, Global>, AllocError> {
         let gauges = Gauges {
             live: Gauge::new(),
             solve: Gauge::new(),
             scopes: Gauge::new(),
+            meeting: Meeting::new(),
         };
         match Arc::new(alloc, gauges) {
             Ok(gauges) => Ok(gauges),
@@ -60,14 +67,16 @@ impl Gauges {
         }
     }
 
-    /// Counts anew from now on, and has those providers want memory that a word names, and no other.
+    /// Counts anew from now on, and has those providers want memory that a word names, and no other: at each call, or the solver at its
+    /// first one.
     pub fn refuse(&self, which: &str) -> anyhow::Result<()> {
         let (live, solve, scopes) = match which {
-            "none" => (false, false, false),
-            "live" => (true, false, false),
-            "solve" => (false, true, false),
-            "scopes" => (false, false, true),
-            "all" => (true, true, true),
+            "none" => (0, 0, 0),
+            "live" => (u64::MAX, 0, 0),
+            "solve" => (0, u64::MAX, 0),
+            "scopes" => (0, 0, u64::MAX),
+            "all" => (u64::MAX, u64::MAX, u64::MAX),
+            "first" => (0, 1, 0),
             _ => bail!("no such providers"),
         };
         self.live.set(live);

@@ -10,8 +10,16 @@
 //!   were made for that.
 //! - `a0 askall` asks for all. `a0 workall` begins all roots and works on each. `a0 settleall` settles the works that were done and not settled
 //!   yet, in the order in which they were done, whichever sessions did them, as an Ask for all.
+//! - `script a CALL; CALL` gives the next session of `a` a script of these calls, each as above but for `a0`. `run a` has the sessions of `a` make
+//!   their scripts, each on a thread of its own, and is answered by how each script ended, and by how often session 0 came to each of the two
+//!   stages of an Ask, with how often the solver had been called when it came there last. `run a begun 2 1` holds session 0 up where it has
+//!   begun an Ask until the others have begun two, and each of these, where it has begun one, until session 0 has come there and they all have
+//!   begun one; `run a worked 2 1` holds session 0 up where it has worked on an Ask.
+//! - `meet a put NAME TEXT` has session 0 ask for the name while session 1 makes this put, once session 0 works on the body that is there, and
+//!   reads what is published of the name, once session 0 works on this one.
 //! - `close a b` closes `a` with the sessions that `b` has left, and `close a` with none. The answer is how many entries the history has.
-//! - `refuse live`, `solve`, `scopes`, `all` or `none` says which providers want memory from then on.
+//! - `refuse live`, `solve`, `scopes`, `all` or `none` says which providers want memory from then on, and `refuse first` that the solver does at
+//!   its first call.
 //! - `count` is answered by how often each provider was called since the last `count` or `refuse`.
 //! - `9 ROW` makes a row nine times, with the number of the turn, from 0, for each `#` in it. Its answers have to be the same, and are printed
 //!   once.
@@ -24,7 +32,10 @@
 mod calls;
 mod cases;
 mod gauges;
+mod meetings;
 mod rows;
+mod scripts;
+mod waits;
 
 use crate::gauges::Gauges;
 use crate::rows::Context;
@@ -38,10 +49,12 @@ use std::fs::Files;
 use std::io::Write;
 use std::rt::Env;
 use std::sync::{Arc, Wait};
+use std::thread::Threads;
+use std::time::Clock;
 use std::{env, fs};
 
 /// Shows the rows of each file that is named.
-fn show_files<R: AllocGlobal + Env + Files + Wait, W: Write>(
+fn show_files<R: AllocGlobal + Clock + Env + Files + Threads + Wait + Sync, W: Write>(
     rt: &R,
     gauges: &Gauges,
     providers: &Providers,
@@ -72,6 +85,7 @@ fn main(rt: HostRuntime) -> anyhow::Result<()> {
     })?;
     let solve: Solver = Box::new(alloc, move |alloc: Global, facts: &Facts| {
         to_solve.solve.count()?;
+        to_solve.meeting.solve(&rt);
         find_values(alloc, facts)
     })?;
     let in_scope: Scoping = Box::new(

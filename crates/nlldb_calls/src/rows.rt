@@ -7,6 +7,8 @@ use bc_share::Db;
 use bc_versions::{Ending, Waiting};
 use std::io::Write;
 use std::sync::Wait;
+use std::thread::Threads;
+use std::time::Clock;
 
 /// What rows are answered by, and all lines of their file.
 #[derive(Clone, Copy)]
@@ -46,7 +48,7 @@ impl<'a, R: AllocGlobal + Wait> Context<'a, R> {
         let count = count.parse()?;
         let ending = Waiting::new(self.rt);
         let (db, sessions) = Db::open(self.rt.alloc(), ending, tag, capacity, count)?;
-        case.push(db, sessions)
+        case.push(self.rt.alloc(), db, sessions)
     }
 
     /// Closes a database with the sessions that one has left, or with none; answers how many entries its history has.
@@ -57,7 +59,9 @@ impl<'a, R: AllocGlobal + Wait> Context<'a, R> {
         let history = db.close(self.rt, sessions)?;
         Ok(history.entries().len())
     }
+}
 
+impl<'a, R: AllocGlobal + Clock + Threads + Wait + Sync> Context<'a, R> {
     /// Writes what a row is answered.
     fn answer(&self, case: &mut Case<Waiting<&'a R>>, row: &str, out: &mut Vec<u8>) -> Result<()> {
         let (word, rest) = halves(row);
@@ -70,6 +74,9 @@ impl<'a, R: AllocGlobal + Wait> Context<'a, R> {
                 let count = self.close(case, rest)?;
                 writeln!(out, "{count} entries")?;
             }
+            "script" => self.give_script(case, rest)?,
+            "run" => self.run(case, rest, out)?,
+            "meet" => self.meet(case, rest, out)?,
             "refuse" => self.gauges.refuse(rest)?,
             "count" => self.gauges.write_counts(out)?,
             _ => self.act(case, word, rest, out)?,

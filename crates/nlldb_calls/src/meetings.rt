@@ -1,0 +1,114 @@
+//! Two sessions that make calls by themselves, without scripts, each on a thread.
+use crate::cases::Case;
+use crate::rows::{Context, halves};
+use crate::waits::Patience;
+use anyhow::{Result, bail};
+use bc_book::Refusal;
+use bc_calls::Call;
+use bc_share::Session;
+use bc_text::Name;
+use bc_versions::Ending;
+use std::sync::Wait;
+use std::sync::atomic::Ordering::SeqCst;
+use std::sync::atomic::{AtomicBool, AtomicU64};
+use std::thread;
+use std::thread::Threads;
+use std::time::Clock;
+
+/// Whether two sessions meet at the solver now; how often session 0 has come there, and how many steps session 1 has made.
+#[derive(Drop)]
+pub struct Meeting {
+    is_held: AtomicBool,
+    patience: Patience,
+    solving: AtomicU64,
+    steps: AtomicU64,
+}
+
+impl Meeting {
+    /// Nobody meets.
+    pub fn new() -> Meeting {
+        Meeting {
+            is_held: AtomicBool::new(false),
+            patience: Patience::new(),
+            solving: AtomicU64::new(0),
+            steps: AtomicU64::new(0),
+        }
+    }
+
+    /// Session 0 comes to its solver, and waits there, where a meeting is held, until session 1 has made as many steps as it has come there.
+    pub fn solve<C: Clock>(&self, clock: &C) {
+        if self.is_held.load(SeqCst) {
+            let before = self.solving.fetch_add(1, SeqCst);
+            self.patience
+                .hold(clock, &self.steps, before.saturating_add(1));
+        }
+    }
+
+    /// Session 1 waits until session 0 has come to its solver so often.
+    fn await_solving<C: Clock>(&self, clock: &C, times: u64) {
+        self.patience.hold(clock, &self.solving, times);
+    }
+}
+
+impl<R: AllocGlobal + Clock + Threads + Wait + Sync> Context<'_, R> {
+    /// Makes a put once session 0 works on the body that is at its name, and reads what is published there once session 0 works on this one.
+    fn put_and_read<E: Ending>(
+        &self,
+        session: &mut Session<E>,
+        call: &Call,
+    ) -> Result<(), Refusal> {
+        let meeting = &self.gauges.meeting;
+        let Call::Put(at, unit) = call else {
+            return Ok(());
+        };
+        meeting.await_solving(self.rt, 1);
+        session.put(self.rt, *at, unit.clone()?.into_arc())?;
+        meeting.steps.fetch_add(1, SeqCst);
+        meeting.await_solving(self.rt, 2);
+        session.glance(at)?;
+        session.begin(at)?;
+        meeting.steps.fetch_add(1, SeqCst);
+        Ok(())
+    }
+
+    /// Session 0 asks for the name of a put, and session 1 makes that put, and reads.
+    fn take_part<E: Ending>(&self, session: &mut Session<E>, at: &Name, call: &Call) {
+        if session.number() == 0 {
+            let _outcome = session.ask(self.rt, at, self.providers);
+        } else {
+            let _made = self.put_and_read(session, call);
+        }
+    }
+
+    /// Has session 0 ask for the name of a put while session 1 makes that put, and reads.
+    fn meet_at<E: Ending + Send>(&self, sessions: &mut [Session<E>], at: &Name, call: &Call) {
+        thread::for_each_mut(
+            self.rt,
+            sessions,
+            2,
+            &|_index: usize, session: &mut Session<E>| self.take_part(session, at, call),
+        );
+    }
+
+    /// Has the two sessions of a letter meet at the put that a row spells, and writes that they did; fails where one waited too long.
+    pub fn meet<E: Ending + Send>(
+        &self,
+        case: &mut Case<E>,
+        row: &str,
+        out: &mut Vec<u8>,
+    ) -> Result<()> {
+        let (letter, row) = halves(row);
+        let opened = case.at(letter)?;
+        let call = self.call(row)?;
+        let Call::Put(at, _) = &call else {
+            bail!("sessions meet at a put");
+        };
+        let meeting = &self.gauges.meeting;
+        meeting.is_held.store(true, SeqCst);
+        self.meet_at(&mut opened.sessions, at, &call);
+        meeting.is_held.store(false, SeqCst);
+        meeting.patience.is_kept()?;
+        out.extend_from_slice(b"met\n")?;
+        Ok(())
+    }
+}
