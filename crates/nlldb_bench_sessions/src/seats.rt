@@ -1,15 +1,15 @@
 //! Sessions that each do one thing again and again, on threads of their own.
 use anyhow::{Result, bail};
-use bc_book::Book;
-use bc_calls::{Event, PutReply};
-use bc_prov::{Outcome, Shared};
+use bc_calls::PutReply;
+use bc_fixtures::shared_unit;
+use bc_prov::Providers;
 use bc_share::Session;
 use bc_syntax::Unit;
 use bc_text::Name;
 use bc_versions::Ending;
 use std::alloc::Global;
 use std::io::{Eprint, Print};
-use std::sync::{Arc, Mutex, Wait};
+use std::sync::{Arc, Wait};
 use std::thread::Threads;
 use std::time::{Clock, Instant};
 use std::{io, thread};
@@ -20,20 +20,15 @@ const SPAN: u128 = 50_000_000;
 /// How many names it takes at most: a history has room for what three put.
 const MOST: usize = 300_000;
 
-/// A name with its answer.
-pub type Answered = (Name, Arc<Outcome, Global>);
-
-/// What a session does with each of its names: it finds the answer in a sorted list and makes one more owner of it, glances at the answer that is
-/// published, begins its part, or puts a unit; in a book under a lock, it takes a snapshot of its part or puts a unit; or it does nothing.
+/// What a session does with each of its names: it glances at the answer that is published, begins its part, puts the unit, asks, or reads the
+/// text, puts its unit and asks.
 #[derive(Clone, Copy)]
 pub enum Act {
-    LookUp,
     Glance,
     Begin,
     Put,
-    Snapshot,
-    BookPut,
-    Idle,
+    Ask,
+    Edit,
 }
 
 /// How many names were taken, how many answers were wrong, and how long that took, in nanoseconds: in all, and for all names at best.
@@ -45,67 +40,45 @@ pub struct Done {
     least: u128,
 }
 
-/// A session, what it does with which names, and what it has done, if the clock did not fail.
+/// A session, the text and its unit that it puts, what it does with which names, and what it has done, if the clock did not fail.
 #[derive(Drop)]
 pub struct Seat<'a, R, E: Ending> {
     pub rt: &'a R,
+    pub text: &'a [u8],
     pub unit: &'a Arc<Unit, Global>,
-    pub answers: &'a [Answered],
-    pub book: &'a Mutex<Book<E>>,
-    pub names: &'a [Name],
+    pub providers: &'a Providers,
     pub session: Session<E>,
+    pub names: &'a [Name],
     pub act: Act,
     pub done: Option<Done>,
 }
 
-/// Whether a sorted list has an answer of a name, of which it makes one more owner.
-fn look_up(answers: &[Answered], name: &Name) -> bool {
-    let place = answers.binary_search_by(|row| row.0.cmp(name));
-    match answers.get(place.unwrap_or(usize::MAX)) {
-        Some(row) => Arc::try_clone(&row.1).is_ok(),
-        None => false,
-    }
-}
-
 impl<R: AllocGlobal + Clock + Wait, E: Ending> Seat<'_, R, E> {
-    /// Puts the unit under a name. Gives whether it replaced one.
-    fn put(&mut self, name: &Name) -> bool {
-        let Ok(unit) = Arc::try_clone(self.unit) else {
+    /// Asks for a name. Gives whether that is answered.
+    fn ask(&mut self, name: &Name) -> bool {
+        self.session.ask(self.rt, name, self.providers).is_ok()
+    }
+
+    /// Puts a unit, if there is one, under a name. Gives whether it replaced another.
+    fn put(&mut self, name: &Name, unit: Option<Arc<Unit, Global>>) -> bool {
+        let Some(unit) = unit else {
             return false;
         };
         let reply = self.session.put(self.rt, *name, unit);
         matches!(reply, Ok(PutReply::Replaced))
     }
 
-    /// Puts the unit under a name in the book. Gives whether it replaced one.
-    fn put_in_book(&self, name: &Name) -> bool {
-        let (rt, alloc) = (self.rt, self.rt.alloc());
-        let Ok(unit) = Arc::try_clone(self.unit) else {
-            return false;
-        };
-        let reply = self
-            .book
-            .lock(rt)
-            .put(rt, alloc, 0, *name, Shared::new(unit));
-        match reply {
-            Ok(told) => matches!(told.into_owners().0, Event::Put(_, _, PutReply::Replaced)),
-            Err(_) => false,
-        }
-    }
-
     /// Takes a name. Gives whether the answer is right.
     fn take(&mut self, name: &Name) -> bool {
         match self.act {
-            Act::LookUp => look_up(self.answers, name),
             Act::Glance => matches!(self.session.glance(name), Ok(Some(_))),
             Act::Begin => self.session.begin(name).is_ok(),
-            Act::Put => self.put(name),
-            Act::Snapshot => {
-                let begun = self.book.lock(self.rt).snapshot(self.rt.alloc(), name);
-                begun.is_ok()
+            Act::Put => self.put(name, Arc::try_clone(self.unit).ok()),
+            Act::Ask => self.ask(name),
+            Act::Edit => {
+                let unit = shared_unit(self.rt.alloc(), self.text).ok();
+                self.put(name, unit) && self.ask(name)
             }
-            Act::BookPut => self.put_in_book(name),
-            Act::Idle => true,
         }
     }
 
@@ -129,7 +102,7 @@ impl<R: AllocGlobal + Clock + Wait, E: Ending> Seat<'_, R, E> {
             least: u128::MAX,
         };
         for _ in 0..MOST / self.names.len().max(1) {
-            if done.nanos >= SPAN || matches!(self.act, Act::Idle) {
+            if done.nanos >= SPAN || self.names.is_empty() {
                 break;
             }
             let start = Instant::now(self.rt)?;
