@@ -12,10 +12,6 @@ pub const WRITES_WHILE_BORROWED: &[u8] =
 pub const INVOKES: &[u8] =
     b"fn () -> int { let _1: closure 0; bb0 { _1 = closure 0(); _0 = invoke _1() bb1; } bb1 { return; } }";
 
-/// A closure that does so with its closure 1.
-pub const NESTED: &[u8] =
-    b"closure [] () -> int { let _1: closure 1; bb0 { _1 = closure 1(); _0 = invoke _1() bb1; } bb1 { return; } }";
-
 /// A closure that creates none: no error.
 pub const CLOSURE: &[u8] = b"closure [] () -> int { bb0 { _0 = 0; return; } }";
 
@@ -23,8 +19,5 @@ pub const CLOSURE: &[u8] = b"closure [] () -> int { bb0 { _0 = 0; return; } }";
 pub const CLOSURE_WRITES: &[u8] =
     b"closure [] () -> int { let _1: int; let _2: &'?0 int; bb0 { _1 = 1; _2 = &'?1 _1; _1 = 2; _0 = copy _2.*; return; } }";
 
-/// A bad declaration.
-pub const INVARIANT_BUT_MARKED_COVARIANT: &[u8] = b"struct H<+'a> { &'static mut &'a int; }";
-
-/// A good declaration: the bad one above with the right mark.
+/// A good declaration: its parameter stands behind a mutable reference, and is marked invariant.
 pub const MARKED_INVARIANT: &[u8] = b"struct H<='a> { &'static mut &'a int; }";

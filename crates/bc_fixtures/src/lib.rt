@@ -21,10 +21,9 @@ use bc_mir::Typed;
 pub use bc_prov::Providers;
 use bc_solve::Values;
 pub use bodies::{
-    CLOSURE, CLOSURE_WRITES, INVARIANT_BUT_MARKED_COVARIANT, INVOKES, MARKED_INVARIANT, NESTED,
-    WRITES_LAST, WRITES_WHILE_BORROWED,
+    CLOSURE, CLOSURE_WRITES, INVOKES, MARKED_INVARIANT, WRITES_LAST, WRITES_WHILE_BORROWED,
 };
-pub use outcomes::{Found, Sight, found_by};
+pub use outcomes::Sight;
 pub use refused::again;
 use std::alloc::{AllocError, Global};
 pub use texts::{name, shared_types, shared_unit};
