@@ -1,7 +1,5 @@
 //! The first steps of the analysis of a body that names no closure.
 use anyhow::bail;
-use bc_cons::{Facts, constraints};
-use bc_live::LiveSets;
 use bc_mir::{CheckTypes, GoodTypes, Typed, type_unit};
 use bc_syntax::Unit;
 use bc_text::read_types;
@@ -26,14 +24,6 @@ pub fn typed_alone(
     let children = unit.body().children(alloc)?;
     match children.as_slice() {
         [] => Ok(type_unit(alloc, types, unit, &[])?),
-        [_, ..] => bail!("the body names a closure"),
-    }
-}
-
-/// What the values of a unit that names no closure are made from; fails where it names one, or for want of memory.
-pub fn facts_alone(alloc: Global, typed: &Typed, live: &LiveSets) -> anyhow::Result<Facts> {
-    match typed.children() {
-        [] => Ok(constraints(alloc, typed, live, &[])?),
         [_, ..] => bail!("the body names a closure"),
     }
 }

@@ -13,7 +13,7 @@ mod outcomes;
 mod refused;
 mod texts;
 
-pub use alone::{facts_alone, good_types, typed_alone};
+pub use alone::{good_types, typed_alone};
 use bc_cons::Facts;
 use bc_live::LiveSets;
 use bc_loans::Scopes;

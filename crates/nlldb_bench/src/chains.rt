@@ -3,12 +3,11 @@ ghost use Rattle.std.specs.Prelude.{IfOk, ◌<◌};
 ghost use Rattle.bc_flow.specs.Flow.{AreEntriesWithin};
 ghost use Rattle.bc_cons.specs.Facts.{ArePairsWithin};
 
-use crate::analyses::values;
 use crate::explanations::measure_explanations;
-use crate::times::Times;
+use crate::times::{Step, Times};
 use bc_cons::{Facts, NumberedConstraint};
 use bc_flow::{Entry, table};
-use bc_solve::Values;
+use bc_solve::{Values, solve_components, solve_plain};
 use rand_core::Rng;
 use rand_pcg::Pcg32;
 use std::alloc::{AllocError, Global};
@@ -110,28 +109,28 @@ fn count(values: &Values) -> u64 {
     members
 }
 
-/// How many elements are in the values that a list of constraints has.
-fn solved(rt: &HostRuntime, shape: Shape, pairs: u32, times: &mut Times) -> anyhow::Result<u64> {
-    let facts = facts_of(rt.alloc(), shape, pairs)?;
-    let values = values(rt, &facts, times)?;
+/// Solves constraints by groups of regions, and by their list. Gives how many elements are in the values by the list.
+fn solved(rt: &HostRuntime, facts: &Facts, times: &mut Times) -> Result<u64, AllocError> {
+    times.begin(rt);
+    let by_groups = solve_components(rt.alloc(), facts)?;
+    times.end(rt, Step::SolvingByGroups);
+    drop(by_groups);
+    times.begin(rt);
+    let values = solve_plain(rt.alloc(), facts)?;
+    times.end(rt, Step::Solving);
     Ok(count(&values))
-}
-
-/// How many regions stand in the chains that explain elements of the values that a list of constraints has.
-fn explained(rt: &HostRuntime, shape: Shape, pairs: u32, times: &mut Times) -> anyhow::Result<u64> {
-    let facts = facts_of(rt.alloc(), shape, pairs)?;
-    Ok(measure_explanations(rt, &facts, times)?)
 }
 
 /// Solves a list of constraints, many times, and explains elements. Writes how many elements the values have, and how many regions the
 /// chains, to standard output, and how long that took at best to standard error.
 fn measure_list(rt: &HostRuntime, name: &str, pairs: u32, shape: Shape) -> anyhow::Result<()> {
+    let facts = facts_of(rt.alloc(), shape, pairs)?;
     let mut times = Times::new();
     let mut members = 0;
     for _ in 0..TURNS {
-        members = solved(rt, shape, pairs, &mut times)?;
+        members = solved(rt, &facts, &mut times)?;
     }
-    let regions = explained(rt, shape, pairs, &mut times)?;
+    let regions = measure_explanations(rt, &facts, &mut times)?;
     println!(rt; "{name}: {members} elements in values, {regions} regions in chains")?;
     times.show(rt, name)?;
     Ok(())

@@ -5,29 +5,17 @@ use std::time::Instant;
 /// A step that is measured.
 #[derive(Clone, Copy)]
 pub enum Step {
-    Reading,
-    Typing,
-    Liveness,
-    Constraints,
     SolvingByGroups,
     Solving,
-    Scopes,
-    Judging,
     ExplainingInARow,
     Explaining,
     ExplainingAlone,
 }
 
 /// What the steps are called, in their order.
-const NAMES: [&str; 11] = [
-    "reading",
-    "typing",
-    "liveness",
-    "constraints",
+const NAMES: [&str; 5] = [
     "solving by groups",
     "solving",
-    "scopes",
-    "judging",
     "4,000 explanations, eight in a row of an element",
     "4,000 explanations",
     "4,000 explanations without an explainer",
@@ -36,7 +24,7 @@ const NAMES: [&str; 11] = [
 /// The least time of each step in nanoseconds, if it was taken, and when the step that is taken now began, if the clock tells.
 #[derive(Clone, Copy)]
 pub struct Times {
-    least: [Option<u128>; 11],
+    least: [Option<u128>; 5],
     began: Option<Instant>,
 }
 
@@ -44,7 +32,7 @@ impl Times {
     /// No step was taken.
     pub fn new() -> Times {
         Times {
-            least: [None; 11],
+            least: [None; 5],
             began: None,
         }
     }
