@@ -1,11 +1,10 @@
 //! The whole program over readers and writers in memory.
-use crate::checks;
 use bc_analyses::providers;
 use bc_devices::{
     Case, Devices, Input, Left, Output, SOUND, stops_at_each_tell, stops_at_each_write,
 };
 use bc_fixtures::want_memory;
-use bc_line::{PRINT_USAGE, SERVE_USAGE, USAGE, read_line};
+use bc_line::{USAGE, read_line};
 use bc_program::{Inputs, obey_line, run_program};
 use std::io;
 use std::io::{BufWriter, ErrorKind};
@@ -21,21 +20,13 @@ const CONFLICT: &[u8] =
 
 const CALLS: &[u8] = b"@0 ask h\n";
 
-const GOOD_REPORT: &str = "ask f\nf 0\n";
-
 const CONFLICT_REPORT: &str =
     "ask g\ng 1\n  conflict bb0[2] access 0 loan bb0[1]\n    chain '?1 '?0\n";
 
 const NO_BODY: &str = "0 0 ask h\nno body\n";
 
 /// The files that there are, by their names.
-const FILES: [(&str, &[u8]); 5] = [
-    ("good", GOOD),
-    ("conflict", CONFLICT),
-    ("calls", CALLS),
-    ("./-", CONFLICT),
-    ("demo", checks::FILE),
-];
+const FILES: [(&str, &[u8]); 2] = [("good", GOOD), ("conflict", CONFLICT)];
 
 /// These files, as devices read them; others cannot be opened.
 #[derive(Drop)]
@@ -85,66 +76,6 @@ fn leave<R: AllocGlobal + Threads + Wait + Sync>(
     let files = Named { devices };
     let ended = run_program(rt, words, &files, &mut standard, &mut out, &mut err);
     Ok(left_of(ended.unwrap_or(3), out, err))
-}
-
-/// Words, and what the program leaves of them where standard input has `CONFLICT`: its status, and what it prints and tells.
-const ENDS: [(&[&str], u8, &str, &str); 18] = [
-    (&["check", "good"], 0, GOOD_REPORT, ""),
-    (&["check", "conflict"], 1, CONFLICT_REPORT, ""),
-    (
-        &["check", "conflict", "--solver", "plain"],
-        1,
-        CONFLICT_REPORT,
-        "",
-    ),
-    (&["check", "-"], 1, CONFLICT_REPORT, ""),
-    (&["check", "./-"], 1, CONFLICT_REPORT, ""),
-    (&["check", "none"], 3, "", "cannot read none\n"),
-    (&["check", "--json", "none"], 3, "", "cannot read none\n"),
-    (&["run", "calls"], 2, NO_BODY, ""),
-    (&["run", "calls", "--solver=plain"], 2, NO_BODY, ""),
-    (
-        &["run", "none", "--solver=plain"],
-        3,
-        "",
-        "cannot read none\n",
-    ),
-    (&["run", "-"], 2, "", "line 1: bad header\n"),
-    (&["--help"], 0, USAGE, ""),
-    (&["serve", "--help"], 0, SERVE_USAGE, ""),
-    (&["print", "none", "-h"], 0, PRINT_USAGE, ""),
-    (&["-V"], 0, "nlldb 0.1.0\n", ""),
-    (&["good"], 3, "", "wrong use\n"),
-    (
-        &["check", "good", "--json", "--source"],
-        3,
-        "",
-        "wrong use\n",
-    ),
-    (&["run", "calls", "--source"], 3, "", "wrong use\n"),
-];
-
-#[test]
-fn obeys_the_line_on_the_input_that_it_names(rt: HostRuntime) -> Result<(), Fail> {
-    for (number, (words, status, out, err)) in ENDS.iter().enumerate() {
-        let left = leave(&rt, words, CONFLICT, SOUND)?;
-        assert!(rt;
-            left.is(*status, out.as_bytes(), err.as_bytes()),
-            "line {number}"
-        );
-    }
-    Ok(())
-}
-
-#[test]
-fn reads_standard_input_for_its_name_alone(rt: HostRuntime) -> Result<(), Fail> {
-    let read = leave(&rt, &["check", "-"], GOOD, SOUND)?;
-    assert!(rt; read.is(0, GOOD_REPORT.as_bytes(), b""));
-    let run = leave(&rt, &["run", "-"], CALLS, SOUND)?;
-    assert!(rt; run.is(2, NO_BODY.as_bytes(), b""));
-    let other = leave(&rt, &["check", "./-"], GOOD, SOUND)?;
-    assert!(rt; other.is(1, CONFLICT_REPORT.as_bytes(), b""));
-    Ok(())
 }
 
 /// Words whose answer is printed, standard input, the status, and what is printed.
@@ -241,26 +172,5 @@ fn tells_want_of_memory(rt: HostRuntime) -> Result<(), Fail> {
         &mut err,
     )?;
     assert!(rt; left_of(status, out, err).is(3, b"", b"no memory\n"));
-    Ok(())
-}
-
-/// Two requests, and their answers: where the history has room, and where it has room for one call.
-const REQUESTS: &[u8] =
-    b"{\"id\":1,\"call\":\"put\",\"name\":\"f\",\"text\":\"fn()->int{bb0{_0=1;return;}}\"}\n{\"id\":2,\"call\":\"ask\",\"name\":\"f\"}\n";
-
-const ANSWERS: &str =
-    "{\"id\":1,\"number\":0,\"reply\":\"added\",\"session\":0}\n{\"id\":2,\"number\":1,\"outcome\":{\"bodies\":[{\"errors\":[],\"name\":\"f\"}],\"kind\":\"report\"},\"session\":0}\n";
-
-const FULL_ANSWERS: &str =
-    "{\"id\":1,\"number\":0,\"reply\":\"added\",\"session\":0}\n{\"fault\":\"history full\",\"id\":2,\"session\":0}\n";
-
-#[test]
-fn answers_requests_on_standard_input(rt: HostRuntime) -> Result<(), Fail> {
-    let served = leave(&rt, &["serve"], REQUESTS, SOUND)?;
-    assert!(rt; served.is(0, ANSWERS.as_bytes(), b""));
-    let plainly = leave(&rt, &["serve", "--solver", "plain"], REQUESTS, SOUND)?;
-    assert!(rt; plainly.is(0, ANSWERS.as_bytes(), b""));
-    let full = leave(&rt, &["serve", "--capacity", "1"], REQUESTS, SOUND)?;
-    assert!(rt; full.is(0, FULL_ANSWERS.as_bytes(), b""));
     Ok(())
 }

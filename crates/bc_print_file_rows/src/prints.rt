@@ -1,7 +1,6 @@
 //! The command `print` over readers and writers in memory, also such as fail at one call.
 use bc_devices::{
-    Case, Devices, Input, Left, Output, SOUND, stops_at_each_read, stops_at_each_tell,
-    stops_at_each_write,
+    Case, Devices, Input, Left, Output, stops_at_each_read, stops_at_each_tell, stops_at_each_write,
 };
 use bc_line::{Line, PrintLine, read_line};
 use bc_print_file::print_over;
@@ -113,25 +112,7 @@ fn leave_print(
     Ok(Left::of(status, &input, out, err))
 }
 
-#[test]
-fn prints_each_text_in_its_one_spelling(rt: HostRuntime) -> Result<(), Fail> {
-    for (number, case) in PRINTS.iter().enumerate() {
-        let left = leave_print(&rt, case.words, case.file, SOUND)?;
-        assert!(rt; left.is_of(case), "case {number}");
-    }
-    Ok(())
-}
-
-#[test]
-fn a_printed_file_is_printed_as_itself(rt: HostRuntime) -> Result<(), Fail> {
-    for (number, case) in PRINTS.iter().enumerate() {
-        let left = leave_print(&rt, case.words, case.out, SOUND)?;
-        assert!(rt; left.is(0, case.out, b""), "case {number}");
-    }
-    Ok(())
-}
-
-/// Each read, each write and flush, and each write on standard error fails in turn.
+/// Each text is printed in its one spelling; then each read, each write and flush, and each write on standard error fails in turn.
 #[test]
 fn each_call_of_print_fails_in_turn(rt: HostRuntime) -> Result<(), Fail> {
     for (number, case) in PRINTS.iter().enumerate() {

@@ -1,4 +1,4 @@
-//! Conversations over readers and writers of which each call fails in turn.
+//! A conversation over readers and writers of which each call fails in turn.
 use crate::command::leave;
 use crate::talks::{ANSWERS, LINES};
 use bc_devices::{Case, Devices, SOUND, stops_at_each_write};
@@ -30,7 +30,8 @@ const CASE: Case<'static> = Case {
     wants_memory: false,
 };
 
-/// Each write and each flush fails in turn, of a device that sees each write at once and of one behind a buffer: nothing more is written.
+/// Each line is answered; then each write and each flush fails in turn, of a device that sees each write at once and of one behind a buffer: nothing
+/// more is written.
 #[test]
 fn each_write_fails_in_turn(rt: HostRuntime) -> Result<(), Fail> {
     for room in [0, 8192] {
