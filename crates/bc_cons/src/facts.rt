@@ -64,6 +64,7 @@ impl Facts {
     }
 
     /// How many regions there are.
+    /// (Own.)
     pub fn regions(&self) -> usize
         ensures { result ≡ length self.now.starts }
     {
@@ -86,6 +87,7 @@ impl Facts {
     }
 
     /// How many elements there are.
+    /// (Own.)
     pub fn elements(&self) -> usize
         ensures { result ≡ self.now.elements }
     {
@@ -93,6 +95,7 @@ impl Facts {
     }
 
     /// The start rows: for each region the set of the elements that it starts with.
+    /// (Own.)
     pub fn starts(&self) -> &BitTable
         ensures starts { result.now ≡ self.now.starts }
         ensures sizes { HaveSize self.now.elements self.now.starts }
@@ -101,6 +104,7 @@ impl Facts {
     }
 
     /// The constraints, each a pair of regions.
+    /// (Own.)
     pub fn pairs(&self) -> &[NumberedConstraint]
         ensures pairs { result.now ≡ self.now.pairs }
         ensures within { ArePairsWithin (length self.now.starts) self.now.pairs }

@@ -26,14 +26,14 @@ impl Model for LiveSets {
 
 impl LiveSets {
     /// Whether a local is live on entry to a point, both by number. A number that is none of the unit's locals or
-    /// points gives false. Takes no memory.
+    /// points gives false. Takes no memory. (Own.)
     pub fn live(&self, local: usize, point: usize) -> bool
         ensures { result ≡ holds self.now local point }
     {
         self.rows.holds(local, point)
     }
 
-    /// The points on whose entry each local is live: one set for each local, in order.
+    /// The points on whose entry each local is live: one set for each local, in order. (Own.)
     pub fn rows(&self) -> &BitTable
         ensures { result.now ≡ self.now }
     {

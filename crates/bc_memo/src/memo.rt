@@ -15,7 +15,7 @@ use bc_text::Name;
 use std::alloc::{AllocError, Global};
 use std::marker::Model;
 
-/// An outcome, with the revisions of the declarations and of each name that it was found from; an absent name has none.
+/// An outcome, with the revisions of the declarations and of each name that it was found from; an absent name has none. (Own.)
 #[derive(Drop)]
 pub struct Remembered {
     pub types: u32,
@@ -23,7 +23,7 @@ pub struct Remembered {
     pub outcome: Shared<Outcome>,
 }
 
-/// What is remembered. Contracts see the rows, in the order of their names, and for how many more names there is memory.
+/// What is remembered. Contracts see the rows, in the order of their names, and for how many more names there is memory. (Own.)
 pub struct Memo {
     rows: Vec<(Name, Remembered)>,
 }
@@ -49,7 +49,7 @@ impl Model for Memo {
 
 impl Remembered {
     /// An outcome with the revisions that a shelf has of its declarations and of these names. Answers `AllocError` only where
-    /// memory was refused.
+    /// memory was refused. (Own.)
     pub fn of(
         alloc: Global,
         shelf: &Shelf,
@@ -68,7 +68,7 @@ impl Remembered {
 }
 
 impl Memo {
-    /// Nothing is remembered.
+    /// Nothing is remembered. (Own.)
     pub fn new(alloc: Global) -> Memo
         ensures { result.rows ≡ [] }
     {
@@ -78,7 +78,7 @@ impl Memo {
     }
 
     /// The outcome that is remembered for a name, where the declarations and all names that it was found from have the revisions
-    /// that they had; `None` exactly where nothing is remembered for the name or something changed since. It takes no memory.
+    /// that they had; `None` exactly where nothing is remembered for the name or something changed since. It takes no memory. (Own.)
     pub fn lookup(&self, shelf: &Shelf, name: &Name) -> Option<&Shared<Outcome>>
         ensures stands { IfSome result (λ outcome. (row : Remembered) × (at_name self.now.rows name.now ≡ Some row) × Stands shelf.now.held row × (outcome.now ≡ row.outcome)) }
         ensures none { IfNone result ((row : Remembered) → at_name self.now.rows name.now ≡ Some row → Stands shelf.now.held row → ⊥) }
@@ -97,7 +97,7 @@ impl Memo {
     }
 
     /// Makes room for so many more names, and changes nothing else. It takes no memory where there is some for as many. Answers
-    /// `AllocError` only where memory was refused.
+    /// `AllocError` only where memory was refused. (Own.)
     pub fn reserve(&mut self, names: usize) -> Result<(), AllocError>
         ensures same { self.new.rows ≡ self.old.rows }
         ensures room { OnOk result (names ≤ self.new.room) }
@@ -107,7 +107,7 @@ impl Memo {
     }
 
     /// Remembers a row for a name, in the place of what was remembered for it. It takes no memory: it asks for room for one name, and
-    /// leaves that for as many as before but for one.
+    /// leaves that for as many as before but for one. (Own.)
     pub fn put(&mut self, name: Name, row: Remembered)
         requires { 0 < self.old.room }
         ensures rows { self.new.rows ≡ insert_entry name_order self.old.rows name row }
@@ -116,7 +116,7 @@ impl Memo {
         put(&mut self.rows, name, row);
     }
 
-    /// Forgets what is remembered for a name, if anything is. It takes no memory.
+    /// Forgets what is remembered for a name, if anything is. It takes no memory. (Own.)
     pub fn forget(&mut self, name: &Name)
         ensures { self.new.rows ≡ remove_entry (is_at (name_order name.now)) self.old.rows }
     {
@@ -124,7 +124,7 @@ impl Memo {
     }
 
     /// Remembers an outcome for a name that is held, with the revisions that a shelf has of its declarations, of the name and of these
-    /// names. Answers `AllocError` only where memory was refused, and then remembers what it did before.
+    /// names. Answers `AllocError` only where memory was refused, and then remembers what it did before. (Own.)
     pub fn install(
         &mut self,
         alloc: Global,

@@ -28,7 +28,7 @@ fn has_room(alloc: Global, unit: &Unit, name: &Name) -> Result<bool, AllocError>
 }
 
 /// Whether a unit may be held at a name: a function's is a root, a closure's any other, and a name of seven segments is none for a unit
-/// with a child. Answers `AllocError` only where memory was refused.
+/// with a child. Answers `AllocError` only where memory was refused. (Own.)
 pub fn suits(alloc: Global, unit: &Unit, name: &Name) -> Result<bool, AllocError>
     ensures { IfOk result (λ suits. IsTrue suits ↔ Suits unit.now name.now) }
 {

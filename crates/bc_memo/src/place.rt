@@ -5,7 +5,7 @@ use bc_prov::{Outcome, Shared};
 use bc_syntax::Unit;
 use std::alloc::AllocError;
 
-/// The unit of a name, the revision at which it was put there, and the outcome that was found for the name, if there is one.
+/// The unit of a name, the revision at which it was put there, and the outcome that was found for the name, if there is one. (Own.)
 #[derive(Drop)]
 pub struct Place {
     pub unit: Shared<Unit>,
@@ -14,7 +14,7 @@ pub struct Place {
 }
 
 impl Place {
-    /// One more owner of the unit and of the outcome, with the revision. Answers `AllocError` only where an owner was refused.
+    /// One more owner of the unit and of the outcome, with the revision. Answers `AllocError` only where an owner was refused. (Own.)
     pub fn copy(&self) -> Result<Place, AllocError>
         ensures { IfOk result (λ copy. copy ≡ self.now) }
     {

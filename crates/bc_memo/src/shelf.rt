@@ -20,7 +20,7 @@ use std::marker::Model;
 
 /// What is held. Contracts see the declarations with their revision, the places in the order of their names, the pieces that are kept of
 /// the bodies, in the order of these, the outcomes that are ready for a change, and for how many more of each there is memory. Each piece was
-/// found from the declarations and from the unit at its name: the type keeps it.
+/// found from the declarations and from the unit at its name: the type keeps it. (Own.)
 pub struct Shelf {
     types: Shared<Declared>,
     types_revision: u32,
@@ -53,7 +53,7 @@ impl Model for Shelf {
     ghost invariant = { λ s. IsShelf s.types s.places.items s.pieces.rows };
 }
 
-/// A name's part of what is held: a snapshot, with the revisions of its declarations and of its units.
+/// A name's part of what is held: a snapshot, with the revisions of its declarations and of its units. (Own.)
 #[derive(Drop)]
 pub struct Part {
     pub snapshot: Snapshot,
@@ -63,7 +63,7 @@ pub struct Part {
 
 impl Shelf {
     /// A shelf that holds these declarations, at revision 0, and no unit, with memory for so many places, and for a piece and an outcome of each.
-    /// Answers `AllocError` only where memory was refused.
+    /// Answers `AllocError` only where memory was refused. (Own.)
     pub fn new(alloc: Global, types: Shared<Declared>, places: usize) -> Result<Shelf, AllocError>
         ensures held { IfOk result (λ shelf. shelf.held ≡ empty_shelf types) }
         ensures pieces { IfOk result (λ shelf. shelf.pieces ≡ []) }
@@ -82,7 +82,7 @@ impl Shelf {
     }
 
     /// Makes room for one more place, and changes nothing else. It takes no memory where there is some for one place more, and gives none
-    /// back. Answers `AllocError` only where memory was refused.
+    /// back. Answers `AllocError` only where memory was refused. (Own.)
     pub fn reserve(&mut self) -> Result<(), AllocError>
         ensures same { self.new.held ≡ self.old.held }
         ensures pieces { self.new.pieces ≡ self.old.pieces }
@@ -96,7 +96,7 @@ impl Shelf {
 
     /// Makes ready what a change moves into the places for many names: one more owner of each outcome, in the place of what was ready before.
     /// Nothing else is changed, and no memory given back; it takes none where there is some for as many outcomes. Answers `AllocError` only where
-    /// an owner or memory was refused.
+    /// an owner or memory was refused. (Own.)
     pub fn prepare(&mut self, change: &Change) -> Result<(), AllocError>
         ensures same { self.new.held ≡ self.old.held }
         ensures pieces { self.new.pieces ≡ self.old.pieces }
@@ -114,7 +114,7 @@ impl Shelf {
         }
     }
 
-    /// Whether a unit is held under a name.
+    /// Whether a unit is held under a name. (Own.)
     pub fn is_held(&self, name: &Name) -> bool
         ensures { result ≡ is_some (at_name self.now.held.places name.now) }
     {
@@ -124,7 +124,7 @@ impl Shelf {
         }
     }
 
-    /// How many units are held.
+    /// How many units are held. (Own.)
     pub fn count(&self) -> usize
         ensures count { result ≡ length self.now.held.places }
         ensures ordered { AreOrdered self.now.held.places }
@@ -132,21 +132,21 @@ impl Shelf {
         self.places.len()
     }
 
-    /// The declarations, to be lent or shared.
+    /// The declarations, to be lent or shared. (Own.)
     pub fn types(&self) -> &Shared<Declared>
         ensures { result.now ≡ self.now.held.types }
     {
         &self.types
     }
 
-    /// The revision of the declarations.
+    /// The revision of the declarations. (Own.)
     pub fn types_revision(&self) -> u32
         ensures { result ≡ self.now.held.types_revision }
     {
         self.types_revision
     }
 
-    /// The revision of the unit of a name; `None` exactly where none is held.
+    /// The revision of the unit of a name; `None` exactly where none is held. (Own.)
     pub fn revision(&self, name: &Name) -> Option<u32>
         ensures { result ≡ revision_at self.now.held name.now }
     {
@@ -156,7 +156,7 @@ impl Shelf {
         }
     }
 
-    /// The answer that is kept for a name, if one is. It takes no memory.
+    /// The answer that is kept for a name, if one is. It takes no memory. (Own.)
     pub fn answer(&self, name: &Name) -> Option<&Shared<Outcome>>
         ensures { option_copied result ≡ answer_of (at_name self.now.held.places name.now) }
     {
@@ -167,7 +167,7 @@ impl Shelf {
     }
 
     /// A name's part: the declarations, and the units of the name and of the names that begin with it and `/`, all with their
-    /// revisions, and with the pieces that are kept of them; no outcome is carried. Answers `AllocError` only where memory was refused.
+    /// revisions, and with the pieces that are kept of them; no outcome is carried. Answers `AllocError` only where memory was refused. (Own.)
     pub fn part(&self, alloc: Global, root: &Name) -> Result<Part, AllocError>
         ensures snapshot { IfOk result (λ part. (part.snapshot.types ≡ self.now.held.types) × (part.snapshot.root ≡ root.now) × (part.snapshot.units ≡ units_in root.now self.now.held.places)) }
         ensures revisions { IfOk result (λ part. (part.types_revision ≡ self.now.held.types_revision) × (part.revisions.items ≡ revisions_in root.now self.now.held.places)) }
@@ -186,7 +186,7 @@ impl Shelf {
 
     /// Whether a snapshot has what is held at its root and at names that begin with it and `/`, and the declarations that are held,
     /// and whether these are all their revisions. It makes no list and takes no memory; values are compared only where the revisions
-    /// are the same.
+    /// are the same. (Own.)
     pub fn holds(&self, snapshot: &Snapshot, types_revision: u32, revisions: &[u32]) -> bool
         ensures { IsTrue result ↔ IsHeld self.now.held snapshot.now types_revision revisions.now }
     {
@@ -201,7 +201,7 @@ impl Shelf {
     /// taken away makes void the answers of its name and of those with which this begins, up to a `/`. Declarations drop all pieces; a
     /// unit that is put or taken away drops the one of its name alone. It takes no memory, and leaves that for as many places and pieces
     /// as before: it asks for room for one place, that a unit suits the name at which it is put, as `suits` tells, and that answers for many
-    /// names are ready, as `prepare` makes them.
+    /// names are ready, as `prepare` makes them. (Own.)
     pub fn change(&mut self, change: Change, revision: u32)
         requires room { 0 < self.old.room }
         requires suited { MayChange change }
@@ -241,7 +241,7 @@ impl Shelf {
 
     /// Keeps the pieces of a set in their order, as one more owner of each, where they were found from the declarations and from the
     /// unit at their name that are held; the others are left out. The declarations are compared once. Answers `AllocError` only where an
-    /// owner or memory was refused: then it stopped at that piece, and nothing is lost with the others but the work to make them again.
+    /// owner or memory was refused: then it stopped at that piece, and nothing is lost with the others but the work to make them again. (Own.)
     pub fn keep_all(&mut self, set: &PieceSet) -> Result<(), AllocError>
         ensures held { self.new.held ≡ self.old.held }
         ensures room { self.new.room ≡ self.old.room }
@@ -292,7 +292,7 @@ impl Shelf {
     }
 
     /// All that is held, and the pieces that are kept of it, as further owners. Answers `AllocError` only where an owner or memory was
-    /// refused.
+    /// refused. (Own.)
     pub fn copy(&self, alloc: Global) -> Result<Shelf, AllocError>
         ensures held { IfOk result (λ copy. copy.held ≡ self.now.held) }
         ensures pieces { IfOk result (λ copy. copy.pieces ≡ self.now.pieces) }
@@ -306,7 +306,7 @@ impl Shelf {
         })
     }
 
-    /// The names without segments that are held, in their order. Answers `AllocError` only where memory was refused.
+    /// The names without segments that are held, in their order. Answers `AllocError` only where memory was refused. (Own.)
     pub fn roots(&self, alloc: Global) -> Result<Vec<Name>, AllocError>
         ensures { IfOk result (λ names. names.items ≡ roots_in self.now.held.places) }
     {

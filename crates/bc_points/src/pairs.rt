@@ -34,7 +34,7 @@ fn push_sub_place(
     }
 }
 
-/// Appends what makes a reference to a value a subtype of the type of a place.
+/// The same of a reference to a value.
 fn push_sub_place_reference(
     alloc: Global,
     constraints: &mut Vec<Constraint>,
@@ -63,7 +63,7 @@ fn push_sub_place_reference(
     }
 }
 
-/// Appends what makes a value that was built, if there is one, a subtype of the type of a place.
+/// The same of a value that was built, if there is one.
 fn push_sub_place_found(
     alloc: Global,
     constraints: &mut Vec<Constraint>,
@@ -79,7 +79,7 @@ fn push_sub_place_found(
     }
 }
 
-/// Appends what makes an operand a subtype of the type of a place.
+/// The same of an operand.
 fn push_sub_place_operand(
     alloc: Global,
     constraints: &mut Vec<Constraint>,
@@ -99,7 +99,7 @@ fn push_sub_place_operand(
     }
 }
 
-/// Appends what makes a borrow a subtype of the type of a place.
+/// The same of a borrow.
 fn push_sub_place_borrow(
     alloc: Global,
     constraints: &mut Vec<Constraint>,
@@ -127,7 +127,7 @@ fn push_sub_place_borrow(
     }
 }
 
-/// Appends what makes an rvalue a subtype of the type of a place.
+/// The same of an rvalue.
 fn push_sub_place_rvalue(
     alloc: Global,
     constraints: &mut Vec<Constraint>,

@@ -22,7 +22,7 @@ impl<'a> Model for PlaceRef<'a> {
 }
 
 impl<'a> PlaceRef<'a> {
-    /// A place, lent.
+    /// A place, lent. (Own.)
     pub fn of(place: &'a Place) -> PlaceRef<'a>
         ensures { result ≡ place.now }
     {
@@ -32,7 +32,7 @@ impl<'a> PlaceRef<'a> {
         }
     }
 
-    /// A local alone, as a place.
+    /// A local alone, as a place. (Own.)
     pub fn of_local(local: u8) -> PlaceRef<'a>
         ensures { result ≡ local_place local }
     {
@@ -42,14 +42,14 @@ impl<'a> PlaceRef<'a> {
         }
     }
 
-    /// The local that the place begins with.
+    /// The local that the place begins with. (Own.)
     pub fn local(&self) -> u8
         ensures { result ≡ self.now.local }
     {
         self.local
     }
 
-    /// What is projected from the local, in order.
+    /// What is projected from the local, in order. (Own.)
     pub fn projections(&self) -> &'a [Projection]
         ensures { result.now ≡ self.now.projections }
     {
