@@ -14,7 +14,6 @@ ghost use Rattle.bc_check.specs.Run.{refused_line, answer_lines, told, shown, Ar
 ghost use Rattle.bc_check.specs.Served.{Serves, Served, ServedPart, ServedAll, ServedFirst, ServedThen, Adds, Owes, OwesLast, Runs, Begins, Prints, IsAtMostOneMore, IsStill};
 ghost use Rattle.bc_line.specs.Lines.{is_check};
 
-use crate::ahead::{ask_ahead, find_threads};
 use crate::asked::find_asked;
 use crate::file::{Change, read_told_changes};
 use crate::form::{Form, find_form};
@@ -35,7 +34,6 @@ use std::collections::BTreeSet;
 use std::io;
 use std::io::{BufWriter, Read, Write};
 use std::sync::Wait;
-use std::thread::Threads;
 
 /// Writes the line of a put that stored nothing. It fails only where there is such a line.
 fn write_refusal<E: Write>(name: &Name, reply: PutReply, err: &mut E) -> io::Result<()>
@@ -113,7 +111,7 @@ fn write_json<O: Write>(
 }
 
 /// Writes an Ask with its outcome, in this form. `NoMemory`, with nothing written, where there is no room for it.
-pub(crate) fn write_answer<O: Write>(
+fn write_answer<O: Write>(
     alloc: Global,
     form: &Form<'_>,
     name: &Name,
@@ -208,14 +206,12 @@ fn make_changes<R: Wait, N: Ending, E: Write>(
     Ok(status)
 }
 
-/// How the names of a file are asked: by which providers, in which form each answer is printed, which names, in their order, and by how many threads the
-/// work is done.
+/// How the names of a file are asked: by which providers, in which form each answer is printed, and which names, in their order.
 #[derive(Drop)]
-pub(crate) struct Asking<'a, 'b> {
-    pub providers: &'a Providers,
-    pub form: &'a Form<'b>,
-    pub names: &'a BTreeSet<Name>,
-    pub threads: usize,
+struct Asking<'a, 'b> {
+    providers: &'a Providers,
+    form: &'a Form<'b>,
+    names: &'a BTreeSet<Name>,
 }
 
 /// Asks the names in order, and prints their reports. The greatest status of the outcomes.
@@ -238,28 +234,6 @@ fn make_asks<R: Wait, N: Ending, O: Write>(
         status = status.max(asked);
     }
     Ok(status)
-}
-
-/// Asks the names in order, and prints their reports: one after another, or where there are several names and several threads, with the work on
-/// them side by side before. The greatest status of the outcomes.
-fn ask_names<R: Threads + Wait + Sync, N: Ending, O: Write>(
-    rt: &R,
-    alloc: Global,
-    session: &mut Session<N>,
-    asking: &Asking<'_, '_>,
-    out: &mut O,
-) -> Result<u8, Stop>
-    ensures served { IfOk result (λ status. Served (map calls.Ask asking.now.names.now.keys) (shown asking.now.form.now) status session.old session.new (O.contents out.old) (O.contents out.new)) }
-    ensures still { IsStill session.old session.new }
-    ensures refused { IfErr result (λ stop. is_refused stop ≡ true → ServedPart (map calls.Ask asking.now.names.now.keys) (shown asking.now.form.now) session.old session.new (O.contents out.old) (O.contents out.new)) }
-    ensures range { IfOk result (λ status. status ≤ 2) }
-    ensures stop { IfErr result (λ stop. (stop ≡ Stop.CannotWrite) ⊎ (stop ≡ Stop.NoMemory) ⊎ (stop ≡ Stop.HistoryFull)) }
-{
-    if asking.threads <= 1 || asking.names.len() <= 1 {
-        make_asks(rt, alloc, session, asking, out)
-    } else {
-        ask_ahead(rt, alloc, session, asking, out)
-    }
 }
 
 /// Whether standard output failed.
@@ -301,7 +275,7 @@ fn hand_on<O: Write + Drop>(asked: Result<u8, Stop>, out: &mut BufWriter<O>) -> 
 
 /// Asks the names in order, and hands on what is printed of them, also where this stops before its end. The greatest
 /// status of the outcomes.
-fn answer_all<R: Threads + Wait + Sync, N: Ending, O: Write + Drop>(
+fn answer_all<R: Wait, N: Ending, O: Write + Drop>(
     rt: &R,
     alloc: Global,
     session: &mut Session<N>,
@@ -315,13 +289,13 @@ fn answer_all<R: Threads + Wait + Sync, N: Ending, O: Write + Drop>(
     ensures stop { IfErr result (λ stop. (stop ≡ Stop.CannotWrite) ⊎ (stop ≡ Stop.NoMemory) ⊎ (stop ≡ Stop.HistoryFull)) }
     ensures handed_on { (result ≡ Err Stop.CannotWrite) ⊎ (writer_buffer out.new ≡ []) }
 {
-    let asked = ask_names(rt, alloc, session, asking, out);
+    let asked = make_asks(rt, alloc, session, asking, out);
     hand_on(asked, out)
 }
 
 /// Makes the changes in order, and then asks the names in order; what is printed of these is handed on. The greatest status
 /// of the calls.
-fn make_all<R: Threads + Wait + Sync, N: Ending, O: Write + Drop, E: Write>(
+fn make_all<R: Wait, N: Ending, O: Write + Drop, E: Write>(
     rt: &R,
     alloc: Global,
     session: &mut Session<N>,
@@ -363,7 +337,7 @@ pub fn find_capacity(changes: usize, names: usize) -> Result<u32, Stop>
 /// where there are more than `MOST_ENTRIES` of them.
 ///
 /// That `out` failed is said before all else, and a fault of the close before a refused call and a line that was not told.
-fn serve<R: Threads + Wait + Sync, O: Write + Drop, E: Write>(
+fn serve<R: Wait, O: Write + Drop, E: Write>(
     rt: &R,
     alloc: Global,
     changes: Vec<Change>,
@@ -399,15 +373,14 @@ fn serve<R: Threads + Wait + Sync, O: Write + Drop, E: Write>(
 }
 
 /// Reads the whole input, makes its changes and asks its names, and prints what belongs to each call: of an Ask its line and its
-/// report, or one line that has both where the line asks for JSON. The work on the Asks is done by as many threads as the line says, or else by
-/// as many as there are processors, or by fewer where no more can be made; what is printed does not depend on it. The greatest status of the calls. A buffer
-/// that held nothing holds nothing then, but where the writer behind it failed. (Own.)
+/// report, or one line that has both where the line asks for JSON. The greatest status of the calls. A buffer that held nothing holds nothing then, but
+/// where the writer behind it failed. (Own.)
 ///
 /// Stops with `CannotRead` where the input cannot be read or is over 16 MiB; with `File` at its first fault; with
 /// `TooManyCalls` where it makes more than 1,000,000 calls; with `CannotWrite` or `CannotTell` where a writer
 /// fails; with `NoMemory` where there is no room; with `HistoryFull` where a call finds a full history, and with `Audit` where the
 /// history does not agree with the session at the close.
-pub fn check<R: Threads + Wait + Sync, I: Read, O: Write + Drop, E: Write>(
+pub fn check<R: Wait, I: Read, O: Write + Drop, E: Write>(
     rt: &R,
     alloc: Global,
     providers: &Providers,
@@ -429,7 +402,6 @@ pub fn check<R: Threads + Wait + Sync, I: Read, O: Write + Drop, E: Write>(
         providers,
         form: &form,
         names: &names,
-        threads: find_threads(rt, line.jobs()),
     };
     serve(rt, alloc, changes, &asking, out, err)
 }
@@ -441,7 +413,7 @@ pub fn check<R: Threads + Wait + Sync, I: Read, O: Write + Drop, E: Write>(
 /// 0 where no report has an error; 1 where one has; 2 where the file has a fault, a put stores nothing or an
 /// outcome is no report; 3 where the command stops for another reason, which is the last line on `err`. The fault of
 /// `err` where that line cannot be written: then nothing more can be said.
-pub fn check_and_tell<R: Threads + Wait + Sync, I: Read, O: Write + Drop, E: Write>(
+pub fn check_and_tell<R: Wait, I: Read, O: Write + Drop, E: Write>(
     rt: &R,
     alloc: Global,
     providers: &Providers,
@@ -462,7 +434,7 @@ pub fn check_and_tell<R: Threads + Wait + Sync, I: Read, O: Write + Drop, E: Wri
 
 /// The whole command `check` on the input of the file that the line names; it asks that the line is one of `check`. As
 /// `check_and_tell`, with status 3 where standard error fails (own).
-pub fn check_over<R: Threads + Wait + Sync, I: Read, O: Write + Drop, E: Write>(
+pub fn check_over<R: Wait, I: Read, O: Write + Drop, E: Write>(
     rt: &R,
     alloc: Global,
     providers: &Providers,

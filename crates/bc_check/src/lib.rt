@@ -1,7 +1,6 @@
 //! The command `check`: a file cut into its sections, stored and asked, and what is printed of it.
 #![tactic(auto)]
 
-mod ahead;
 mod asked;
 mod command;
 mod fault;

@@ -19,7 +19,6 @@ pub struct CheckLine {
     json: bool,
     source: bool,
     positions: bool,
-    jobs: Option<u8>,
     solver: Solver,
 }
 
@@ -34,7 +33,6 @@ impl Model for CheckLine {
       json = line.json;
       source = line.source;
       positions = line.positions;
-      jobs = line.jobs;
       solver = line.solver;
     } };
 
@@ -48,18 +46,16 @@ impl CheckLine {
         json: bool,
         source: bool,
         positions: bool,
-        jobs: Option<u8>,
         solver: Solver,
     ) -> Self
         requires alone { (json && source) ≡ false }
-        ensures { result ≡ record { file = string_bytes file; json = json; source = source; positions = positions; jobs = jobs; solver = solver } }
+        ensures { result ≡ record { file = string_bytes file; json = json; source = source; positions = positions; solver = solver } }
     {
         CheckLine {
             file,
             json,
             source,
             positions,
-            jobs,
             solver,
         }
     }
@@ -92,13 +88,6 @@ impl CheckLine {
         ensures { result ≡ self.now.positions }
     {
         self.positions
-    }
-
-    /// By how many threads the work on Asks is to be done: what `--jobs` says, or `None` where it does not stand. (Own.)
-    pub fn jobs(&self) -> Option<u8>
-        ensures { result ≡ self.now.jobs }
-    {
-        self.jobs
     }
 
     /// The solver: what `--solver` names, or else the one by components. (Own.)
