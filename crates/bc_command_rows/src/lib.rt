@@ -19,4 +19,3 @@ mod reports;
 #[cfg(test)]
 mod runs;
 #[cfg(test)]
-mod telling;

@@ -1,3 +1,2 @@
 pub mod Stopping
 pub mod Opening
-pub mod Telling

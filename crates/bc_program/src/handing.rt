@@ -1,4 +1,4 @@
-//! What is printed and what is told is handed on in the end.
+//! What is printed is handed on in the end.
 ghost use Rattle.std.specs.Prelude.{◌≡◌, ◌≤◌, ◌<◌, [], IfOk};
 ghost use Rattle.std.specs.Io.Buffered.{writer_buffer, writer_contents};
 ghost use Rattle.std.specs.Io.KnownBytes.{Keeps};
@@ -24,17 +24,5 @@ pub(crate) fn hand_on<O: Write + Drop, E: Write>(
         Ok(status)
     } else {
         stop_with("", &Stop::CannotWrite, err)
-    }
-}
-
-/// Gives the status that a command ended with, once standard error has handed on what was told, where it is a buffer. The fault of standard
-/// error where it fails here.
-pub(crate) fn hand_on_told<E: Write>(status: u8, err: &mut E) -> io::Result<u8>
-    ensures same { IfOk result (λ exit. exit ≡ status) }
-    ensures kept { Keeps (E.contents err.old) (E.contents err.new) }
-{
-    match err.flush() {
-        Ok(()) => Ok(status),
-        Err(failed) => Err(failed),
     }
 }

@@ -8,7 +8,7 @@ ghost use Rattle.bc_serve.specs.Served.{IsEnd as IsEndOfServe};
 ghost use Rattle.bc_program.specs.Ends.{IsEndOfLine, input_of};
 
 use crate::Inputs;
-use crate::handing::{hand_on, hand_on_told};
+use crate::handing::hand_on;
 use crate::inputs::is_standard_input;
 use crate::printing::obey_print;
 use bc_check::{Stop, check_and_tell, stop_with};
@@ -136,8 +136,13 @@ fn obey_serve<R: AllocGlobal + Threads + Wait + Sync, I: BufRead, O: Write + Dro
     }
 }
 
-/// Does what a line says, and leaves what is told where standard error keeps it.
-fn obey_command<
+/// Does what a line says, with these providers, and gives the exit status of its command: `check`, `run` and `print` on the file that the
+/// line names, or on standard input where it names `-`, and `serve` over standard input. What is printed goes to `out`, which has handed it on
+/// where the status is below 3, and what is told to `err`. (Own.)
+///
+/// A file that cannot be opened is told as one that cannot be read. The fault of `err` where the last line there cannot be written: then
+/// nothing more can be said.
+pub fn obey_line<
     R: AllocGlobal + Threads + Wait + Sync,
     S: Inputs,
     I: BufRead,
@@ -161,36 +166,5 @@ fn obey_command<
         Line::Run(run) => obey_run(rt, providers, run, inputs, standard, out, err),
         Line::Serve(serve) => obey_serve(rt, providers, serve, standard, out, err),
         Line::Print(print) => obey_print(rt, print, inputs, standard, out, err),
-    }
-}
-
-/// Does what a line says, with these providers, and gives the exit status of its command: `check`, `run` and `print` on the file that the
-/// line names, or on standard input where it names `-`, and `serve` over standard input. What is printed goes to `out`, which has handed it on
-/// where the status is below 3, and what is told to `err`, which is flushed in the end. (Own.)
-///
-/// A file that cannot be opened is told as one that cannot be read. The fault of `err` where the last line there cannot be written, or the
-/// flush fails: then nothing more can be said.
-pub fn obey_line<
-    R: AllocGlobal + Threads + Wait + Sync,
-    S: Inputs,
-    I: BufRead,
-    O: Write + Drop + Send,
-    E: Write,
->(
-    rt: &R,
-    providers: &Providers,
-    line: &Line,
-    inputs: &S,
-    standard: &mut I,
-    out: &mut BufWriter<O>,
-    err: &mut E,
-) -> io::Result<u8>
-    ensures range { IfOk result (λ status. status ≤ 3) }
-    ensures ended { IfOk result (λ status. IsEndOfLine (S.bytes_of inputs.now) (I.remaining standard.old) line.now status (writer_contents O.contents out.old) (writer_contents O.contents out.new) (E.contents err.old) (E.contents err.new)) }
-    ensures handed_on { writer_buffer out.old ≡ [] → IfOk result (λ status. status < 3 → writer_buffer out.new ≡ []) }
-{
-    match obey_command(rt, providers, line, inputs, standard, out, err) {
-        Ok(status) => hand_on_told(status, err),
-        Err(failed) => Err(failed),
     }
 }

@@ -4,7 +4,7 @@ ghost use Rattle.std.specs.Io.Buffered.{writer_buffer, writer_contents};
 ghost use Rattle.bc_check.specs.Words.{Answers};
 ghost use Rattle.bc_program.specs.Ends.{IsEndOfLine, IsEndOfWords};
 
-use crate::handing::{hand_on, hand_on_told};
+use crate::handing::hand_on;
 use crate::{Inputs, obey_line};
 use bc_analyses::{find_plain_values, providers};
 use bc_check::{Stop, answer_words, stop_with};
@@ -138,8 +138,14 @@ fn answer<O: Write + Drop, E: Write>(
     }
 }
 
-/// Does what words say, and leaves what is told where standard error keeps it.
-fn run_words<
+/// The whole program for the words behind its own name, over any inputs and outputs: obeys the line that they write, or answers words that
+/// write none, and gives the exit status (own). What is printed goes to `out`, which has handed it on where the status is below 3, and what
+/// is told to `err`; `inputs` opens the file that a line names, and `standard` is standard input.
+///
+/// 0 where no report has an error, and for help and the version; 1 where a report has one; 2 where the file has a fault, a put stores
+/// nothing or an outcome is no report; 3 for wrong use, a file that cannot be opened or read, want of memory, a failed output, and the
+/// other stops of the commands. The fault of `err` where the last line there cannot be written: then nothing more can be said.
+pub fn run_program<
     R: AllocGlobal + Threads + Wait + Sync,
     S: Inputs,
     I: BufRead,
@@ -160,37 +166,5 @@ fn run_words<
     match read_line(rt.alloc(), words) {
         Ok(line) => obey(rt, &line, inputs, standard, out, err),
         Err(fault) => answer(fault, out, err),
-    }
-}
-
-/// The whole program for the words behind its own name, over any inputs and outputs: obeys the line that they write, or answers words that
-/// write none, and gives the exit status (own). What is printed goes to `out`, which has handed it on where the status is below 3, and what
-/// is told to `err`, which is flushed in the end; `inputs` opens the file that a line names, and `standard` is standard input.
-///
-/// 0 where no report has an error, and for help and the version; 1 where a report has one; 2 where the file has a fault, a put stores
-/// nothing or an outcome is no report; 3 for wrong use, a file that cannot be opened or read, want of memory, a failed output, and the
-/// other stops of the commands. The fault of `err` where the last line there cannot be written, or the flush fails: then nothing more
-/// can be said.
-pub fn run_program<
-    R: AllocGlobal + Threads + Wait + Sync,
-    S: Inputs,
-    I: BufRead,
-    O: Write + Drop + Send,
-    E: Write,
->(
-    rt: &R,
-    words: &[&str],
-    inputs: &S,
-    standard: &mut I,
-    out: &mut BufWriter<O>,
-    err: &mut E,
-) -> io::Result<u8>
-    ensures range { IfOk result (λ status. status ≤ 3) }
-    ensures ended { IfOk result (λ status. IsEndOfWords (S.bytes_of inputs.now) (I.remaining standard.old) (map (λ word. word.now) words.now) status (writer_contents O.contents out.old) (writer_contents O.contents out.new) (E.contents err.old) (E.contents err.new)) }
-    ensures handed_on { writer_buffer out.old ≡ [] → IfOk result (λ status. status < 3 → writer_buffer out.new ≡ []) }
-{
-    match run_words(rt, words, inputs, standard, out, err) {
-        Ok(status) => hand_on_told(status, err),
-        Err(failed) => Err(failed),
     }
 }

@@ -1,7 +1,6 @@
 //! The program on its own words, over the files of the system.
 ghost use Rattle.std.specs.Prelude.{◌≤◌, IfOk};
 
-use crate::handing::hand_on_told;
 use crate::{SystemFiles, run_program};
 use bc_check::{Stop, answer_words, stop_with};
 use bc_line::LineFault;
@@ -90,8 +89,7 @@ fn run_over_buffers<
 }
 
 /// The program as the system runs it: reads the words of its command line, does what `run_program` says with the files of the system, and
-/// gives the exit status, which is 3 also where standard error fails, so that nothing more can be said. Standard error is flushed in the
-/// end. (Own.)
+/// gives the exit status, which is 3 also where standard error fails, so that nothing more can be said. (Own.)
 pub fn run_on_system<
     R: Env + Files + AllocGlobal + Threads + Wait + Sync,
     I: Read + Drop,
@@ -100,9 +98,8 @@ pub fn run_on_system<
 >(rt: &R, standard: I, out: O, err: &mut E) -> u8
     ensures { result ≤ 3 }
 {
-    let ended = match run_over_buffers(rt, standard, out, err) {
-        Ok(status) => hand_on_told(status, err),
-        Err(failed) => Err(failed),
-    };
-    ended.unwrap_or(3)
+    match run_over_buffers(rt, standard, out, err) {
+        Ok(status) => status,
+        Err(_) => 3,
+    }
 }
