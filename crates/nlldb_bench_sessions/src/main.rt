@@ -122,7 +122,6 @@ impl<'a, R: AllocGlobal + Clock + Eprint + Print + Threads + Wait + Sync> Bench<
                 rt: self.rt,
                 text: self.text,
                 unit: self.unit,
-                providers: self.providers,
                 session,
                 names: own,
                 act,
@@ -145,7 +144,7 @@ impl<'a, R: AllocGlobal + Clock + Eprint + Print + Threads + Wait + Sync> Bench<
     ) -> Result<()> {
         let beside: &[Name] = if row.2 { names } else { &[] };
         let mut seats = self.seats(row.1, sessions, draws, beside)?;
-        act_all(self.rt, &mut seats);
+        act_all(self.rt, self.providers, &mut seats);
         show(self.rt, row.0, &seats)
     }
 

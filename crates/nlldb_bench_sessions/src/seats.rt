@@ -46,7 +46,6 @@ pub struct Seat<'a, R, E: Ending> {
     pub rt: &'a R,
     pub text: &'a [u8],
     pub unit: &'a Arc<Unit, Global>,
-    pub providers: &'a Providers,
     pub session: Session<E>,
     pub names: &'a [Name],
     pub act: Act,
@@ -55,8 +54,8 @@ pub struct Seat<'a, R, E: Ending> {
 
 impl<R: AllocGlobal + Clock + Wait, E: Ending> Seat<'_, R, E> {
     /// Asks for a name. Gives whether that is answered.
-    fn ask(&mut self, name: &Name) -> bool {
-        self.session.ask(self.rt, name, self.providers).is_ok()
+    fn ask(&mut self, name: &Name, providers: &Providers) -> bool {
+        self.session.ask(self.rt, name, providers).is_ok()
     }
 
     /// Puts a unit, if there is one, under a name. Gives whether it replaced another.
@@ -69,24 +68,24 @@ impl<R: AllocGlobal + Clock + Wait, E: Ending> Seat<'_, R, E> {
     }
 
     /// Takes a name. Gives whether the answer is right.
-    fn take(&mut self, name: &Name) -> bool {
+    fn take(&mut self, name: &Name, providers: &Providers) -> bool {
         match self.act {
             Act::Glance => matches!(self.session.glance(name), Ok(Some(_))),
             Act::Begin => self.session.begin(name).is_ok(),
             Act::Put => self.put(name, Arc::try_clone(self.unit).ok()),
-            Act::Ask => self.ask(name),
+            Act::Ask => self.ask(name, providers),
             Act::Edit => {
                 let unit = shared_unit(self.rt.alloc(), self.text).ok();
-                self.put(name, unit) && self.ask(name)
+                self.put(name, unit) && self.ask(name, providers)
             }
         }
     }
 
     /// Takes each name. Gives how many answers are wrong.
-    fn take_each(&mut self) -> u64 {
+    fn take_each(&mut self, providers: &Providers) -> u64 {
         let mut wrong = 0u64;
         for name in self.names {
-            if !self.take(name) {
+            if !self.take(name, providers) {
                 wrong = wrong.saturating_add(1);
             }
         }
@@ -94,7 +93,7 @@ impl<R: AllocGlobal + Clock + Wait, E: Ending> Seat<'_, R, E> {
     }
 
     /// Takes its names again and again for a while. Fails where the clock does.
-    fn act(&mut self) -> io::Result<Done> {
+    fn act(&mut self, providers: &Providers) -> io::Result<Done> {
         let mut done = Done {
             taken: 0,
             wrong: 0,
@@ -106,7 +105,7 @@ impl<R: AllocGlobal + Clock + Wait, E: Ending> Seat<'_, R, E> {
                 break;
             }
             let start = Instant::now(self.rt)?;
-            let wrong = self.take_each();
+            let wrong = self.take_each(providers);
             let took = start.elapsed(self.rt)?.as_nanos();
             done.taken = done.taken.saturating_add(self.names.len());
             done.wrong = done.wrong.saturating_add(wrong);
@@ -120,6 +119,7 @@ impl<R: AllocGlobal + Clock + Wait, E: Ending> Seat<'_, R, E> {
 /// Has each session act on a thread of its own.
 pub fn act_all<R: AllocGlobal + Clock + Threads + Wait + Sync, E: Ending + Send>(
     rt: &R,
+    providers: &Providers,
     seats: &mut [Seat<'_, R, E>],
 ) {
     let threads = seats.len().max(1);
@@ -127,7 +127,7 @@ pub fn act_all<R: AllocGlobal + Clock + Threads + Wait + Sync, E: Ending + Send>
         rt,
         seats,
         threads,
-        &|_index: usize, seat: &mut Seat<'_, R, E>| seat.done = seat.act().ok(),
+        &|_index: usize, seat: &mut Seat<'_, R, E>| seat.done = seat.act(providers).ok(),
     );
 }
 
