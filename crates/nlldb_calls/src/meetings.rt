@@ -5,6 +5,7 @@ use crate::waits::Patience;
 use anyhow::{Result, bail};
 use bc_book::Refusal;
 use bc_calls::Call;
+use bc_prov::Providers;
 use bc_share::Session;
 use bc_text::Name;
 use bc_versions::Ending;
@@ -50,46 +51,62 @@ impl Meeting {
     }
 }
 
+/// Makes a put once session 0 works on the body that is at its name, and reads what is published there once session 0 works on this one.
+fn put_and_read<R: Clock + Wait, E: Ending>(
+    rt: &R,
+    session: &mut Session<E>,
+    meeting: &Meeting,
+    call: &Call,
+) -> Result<(), Refusal> {
+    let Call::Put(at, unit) = call else {
+        return Ok(());
+    };
+    meeting.await_solving(rt, 1);
+    session.put(rt, *at, unit.clone()?.into_arc())?;
+    meeting.steps.fetch_add(1, SeqCst);
+    meeting.await_solving(rt, 2);
+    session.glance(at)?;
+    session.begin(at)?;
+    meeting.steps.fetch_add(1, SeqCst);
+    Ok(())
+}
+
+/// Session 0 asks for the name of a put, and session 1 makes that put, and reads.
+fn take_part<R: Clock + Wait, E: Ending>(
+    rt: &R,
+    session: &mut Session<E>,
+    providers: &Providers,
+    meeting: &Meeting,
+    at: &Name,
+    call: &Call,
+) {
+    if session.number() == 0 {
+        let _outcome = session.ask(rt, at, providers);
+    } else {
+        let _made = put_and_read(rt, session, meeting, call);
+    }
+}
+
+/// Has session 0 ask for the name of a put while session 1 makes that put, and reads.
+fn meet_at<R: Threads + Wait + Clock + Sync, E: Ending + Send>(
+    rt: &R,
+    sessions: &mut [Session<E>],
+    providers: &Providers,
+    meeting: &Meeting,
+    at: &Name,
+    call: &Call,
+) {
+    thread::for_each_mut(
+        rt,
+        sessions,
+        2,
+        &|_index: usize, session: &mut Session<E>| {
+            take_part(rt, session, providers, meeting, at, call);
+        },
+    );
+}
+
 impl<R: AllocGlobal + Clock + Threads + Wait + Sync> Context<'_, R> {
-    /// Makes a put once session 0 works on the body that is at its name, and reads what is published there once session 0 works on this one.
-    fn put_and_read<E: Ending>(
-        &self,
-        session: &mut Session<E>,
-        call: &Call,
-    ) -> Result<(), Refusal> {
-        let meeting = &self.gauges.meeting;
-        let Call::Put(at, unit) = call else {
-            return Ok(());
-        };
-        meeting.await_solving(self.rt, 1);
-        session.put(self.rt, *at, unit.clone()?.into_arc())?;
-        meeting.steps.fetch_add(1, SeqCst);
-        meeting.await_solving(self.rt, 2);
-        session.glance(at)?;
-        session.begin(at)?;
-        meeting.steps.fetch_add(1, SeqCst);
-        Ok(())
-    }
-
-    /// Session 0 asks for the name of a put, and session 1 makes that put, and reads.
-    fn take_part<E: Ending>(&self, session: &mut Session<E>, at: &Name, call: &Call) {
-        if session.number() == 0 {
-            let _outcome = session.ask(self.rt, at, self.providers);
-        } else {
-            let _made = self.put_and_read(session, call);
-        }
-    }
-
-    /// Has session 0 ask for the name of a put while session 1 makes that put, and reads.
-    fn meet_at<E: Ending + Send>(&self, sessions: &mut [Session<E>], at: &Name, call: &Call) {
-        thread::for_each_mut(
-            self.rt,
-            sessions,
-            2,
-            &|_index: usize, session: &mut Session<E>| self.take_part(session, at, call),
-        );
-    }
-
     /// Has the two sessions of a letter meet at the put that a row spells, and writes that they did; fails where one waited too long.
     pub fn meet<E: Ending + Send>(
         &self,
@@ -105,7 +122,14 @@ impl<R: AllocGlobal + Clock + Threads + Wait + Sync> Context<'_, R> {
         };
         let meeting = &self.gauges.meeting;
         meeting.is_held.store(true, SeqCst);
-        self.meet_at(&mut opened.sessions, at, &call);
+        meet_at(
+            self.rt,
+            &mut opened.sessions,
+            self.providers,
+            meeting,
+            at,
+            &call,
+        );
         meeting.is_held.store(false, SeqCst);
         meeting.patience.is_kept()?;
         out.extend_from_slice(b"met\n")?;
