@@ -18,4 +18,3 @@ mod programs;
 mod reports;
 #[cfg(test)]
 mod runs;
-#[cfg(test)]
