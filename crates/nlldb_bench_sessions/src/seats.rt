@@ -1,15 +1,15 @@
 //! Sessions that each do one thing again and again, on threads of their own.
 use anyhow::{Result, bail};
-use bc_calls::PutReply;
-use bc_fixtures::shared_unit;
-use bc_prov::Providers;
+use bc_book::Book;
+use bc_calls::{Event, PutReply};
+use bc_prov::{Outcome, Shared};
 use bc_share::Session;
 use bc_syntax::Unit;
 use bc_text::Name;
 use bc_versions::Ending;
 use std::alloc::Global;
 use std::io::{Eprint, Print};
-use std::sync::{Arc, Wait};
+use std::sync::{Arc, Mutex, Wait};
 use std::thread::Threads;
 use std::time::{Clock, Instant};
 use std::{io, thread};
@@ -20,15 +20,20 @@ const SPAN: u128 = 50_000_000;
 /// How many names it takes at most: a history has room for what three put.
 const MOST: usize = 300_000;
 
-/// What a session does with each of its names: it glances at the answer that is published, begins its part, puts the unit, asks, or reads the
-/// text, puts its unit and asks.
+/// A name with its answer.
+pub type Answered = (Name, Arc<Outcome, Global>);
+
+/// What a session does with each of its names: it finds the answer in a sorted list and makes one more owner of it, glances at the answer that is
+/// published, begins its part, or puts a unit; in a book under a lock, it takes a snapshot of its part or puts a unit; or it does nothing.
 #[derive(Clone, Copy)]
 pub enum Act {
+    LookUp,
     Glance,
     Begin,
     Put,
-    Ask,
-    Edit,
+    Snapshot,
+    BookPut,
+    Idle,
 }
 
 /// How many names were taken, how many answers were wrong, and how long that took, in nanoseconds: in all, and for all names at best.
@@ -40,52 +45,75 @@ pub struct Done {
     least: u128,
 }
 
-/// A session, the text and its unit that it puts, what it does with which names, and what it has done, if the clock did not fail.
+/// A session, what it does with which names, and what it has done, if the clock did not fail.
 #[derive(Drop)]
 pub struct Seat<'a, R, E: Ending> {
     pub rt: &'a R,
-    pub text: &'a [u8],
     pub unit: &'a Arc<Unit, Global>,
-    pub session: Session<E>,
+    pub answers: &'a [Answered],
+    pub book: &'a Mutex<Book<E>>,
     pub names: &'a [Name],
+    pub session: Session<E>,
     pub act: Act,
     pub done: Option<Done>,
 }
 
-impl<R: AllocGlobal + Clock + Wait, E: Ending> Seat<'_, R, E> {
-    /// Asks for a name. Gives whether that is answered.
-    fn ask(&mut self, name: &Name, providers: &Providers) -> bool {
-        self.session.ask(self.rt, name, providers).is_ok()
+/// Whether a sorted list has an answer of a name, of which it makes one more owner.
+fn look_up(answers: &[Answered], name: &Name) -> bool {
+    let place = answers.binary_search_by(|row| row.0.cmp(name));
+    match answers.get(place.unwrap_or(usize::MAX)) {
+        Some(row) => Arc::try_clone(&row.1).is_ok(),
+        None => false,
     }
+}
 
-    /// Puts a unit, if there is one, under a name. Gives whether it replaced another.
-    fn put(&mut self, name: &Name, unit: Option<Arc<Unit, Global>>) -> bool {
-        let Some(unit) = unit else {
+impl<R: AllocGlobal + Clock + Wait, E: Ending> Seat<'_, R, E> {
+    /// Puts the unit under a name. Gives whether it replaced one.
+    fn put(&mut self, name: &Name) -> bool {
+        let Ok(unit) = Arc::try_clone(self.unit) else {
             return false;
         };
         let reply = self.session.put(self.rt, *name, unit);
         matches!(reply, Ok(PutReply::Replaced))
     }
 
+    /// Puts the unit under a name in the book. Gives whether it replaced one.
+    fn put_in_book(&self, name: &Name) -> bool {
+        let (rt, alloc) = (self.rt, self.rt.alloc());
+        let Ok(unit) = Arc::try_clone(self.unit) else {
+            return false;
+        };
+        let reply = self
+            .book
+            .lock(rt)
+            .put(rt, alloc, 0, *name, Shared::new(unit));
+        match reply {
+            Ok(told) => matches!(told.into_owners().0, Event::Put(_, _, PutReply::Replaced)),
+            Err(_) => false,
+        }
+    }
+
     /// Takes a name. Gives whether the answer is right.
-    fn take(&mut self, name: &Name, providers: &Providers) -> bool {
+    fn take(&mut self, name: &Name) -> bool {
         match self.act {
+            Act::LookUp => look_up(self.answers, name),
             Act::Glance => matches!(self.session.glance(name), Ok(Some(_))),
             Act::Begin => self.session.begin(name).is_ok(),
-            Act::Put => self.put(name, Arc::try_clone(self.unit).ok()),
-            Act::Ask => self.ask(name, providers),
-            Act::Edit => {
-                let unit = shared_unit(self.rt.alloc(), self.text).ok();
-                self.put(name, unit) && self.ask(name, providers)
+            Act::Put => self.put(name),
+            Act::Snapshot => {
+                let begun = self.book.lock(self.rt).snapshot(self.rt.alloc(), name);
+                begun.is_ok()
             }
+            Act::BookPut => self.put_in_book(name),
+            Act::Idle => true,
         }
     }
 
     /// Takes each name. Gives how many answers are wrong.
-    fn take_each(&mut self, providers: &Providers) -> u64 {
+    fn take_each(&mut self) -> u64 {
         let mut wrong = 0u64;
         for name in self.names {
-            if !self.take(name, providers) {
+            if !self.take(name) {
                 wrong = wrong.saturating_add(1);
             }
         }
@@ -93,7 +121,7 @@ impl<R: AllocGlobal + Clock + Wait, E: Ending> Seat<'_, R, E> {
     }
 
     /// Takes its names again and again for a while. Fails where the clock does.
-    fn act(&mut self, providers: &Providers) -> io::Result<Done> {
+    fn act(&mut self) -> io::Result<Done> {
         let mut done = Done {
             taken: 0,
             wrong: 0,
@@ -101,11 +129,11 @@ impl<R: AllocGlobal + Clock + Wait, E: Ending> Seat<'_, R, E> {
             least: u128::MAX,
         };
         for _ in 0..MOST / self.names.len().max(1) {
-            if done.nanos >= SPAN || self.names.is_empty() {
+            if done.nanos >= SPAN || matches!(self.act, Act::Idle) {
                 break;
             }
             let start = Instant::now(self.rt)?;
-            let wrong = self.take_each(providers);
+            let wrong = self.take_each();
             let took = start.elapsed(self.rt)?.as_nanos();
             done.taken = done.taken.saturating_add(self.names.len());
             done.wrong = done.wrong.saturating_add(wrong);
@@ -119,7 +147,6 @@ impl<R: AllocGlobal + Clock + Wait, E: Ending> Seat<'_, R, E> {
 /// Has each session act on a thread of its own.
 pub fn act_all<R: AllocGlobal + Clock + Threads + Wait + Sync, E: Ending + Send>(
     rt: &R,
-    providers: &Providers,
     seats: &mut [Seat<'_, R, E>],
 ) {
     let threads = seats.len().max(1);
@@ -127,7 +154,7 @@ pub fn act_all<R: AllocGlobal + Clock + Threads + Wait + Sync, E: Ending + Send>
         rt,
         seats,
         threads,
-        &|_index: usize, seat: &mut Seat<'_, R, E>| seat.done = seat.act(providers).ok(),
+        &|_index: usize, seat: &mut Seat<'_, R, E>| seat.done = seat.act().ok(),
     );
 }
 
