@@ -36,6 +36,11 @@ def member(line, key):
         return None
 
 
+def told_by(reply):
+    """What the reply to a glance tells: the outcome that is published, or the fault of the name."""
+    return member(reply, "outcome"), member(reply, "fault")
+
+
 @dataclasses.dataclass(frozen=True)
 class Request:
     """A line to be sent; the session that it names, if any; the name that it calls, if it is a call of one; and whether it is a glance before such a
@@ -95,10 +100,10 @@ class Lane:
             self.refused += 1
             self.waiting.extendleft([request] + ([request.reads("look")] if request.name else []))
         elif request.kind == "look":
-            if member(reply, "outcome") != self.published or member(reply, "fault"):
+            if told_by(reply) != self.published:
                 self.wrong.append(b"a refused call left another answer: " + reply)
         else:
-            self.published = member(reply, "outcome") if request.kind == "glance" else None
+            self.published = told_by(reply) if request.kind == "glance" else None
             self.replies.append(reply)
 
 
@@ -107,7 +112,7 @@ class Talk:
 
     def __init__(self, words, lanes, how):
         pipe = subprocess.PIPE
-        self.lanes, self.is_open, self.is_late, self.behind, self.stray = [Lane(it) for it in lanes], True, False, b"", []
+        self.lanes, self.is_open, self.is_late, self.has_ended, self.behind, self.stray = [Lane(it) for it in lanes], True, False, False, b"", []
         self.running = subprocess.Popen(words, stdin=pipe, stdout=pipe, stderr=pipe, bufsize=0, **how)
 
     def is_answered(self):
@@ -136,10 +141,11 @@ class Talk:
             self.stray.append(line)
 
     def lines(self, patience):
-        """The lines that come, until none does for so many seconds, or the output ends."""
+        """The lines that come, until none does for so many seconds, or the output ends, which is noted."""
         while select.select([self.running.stdout], [], [], patience)[0]:
             more = os.read(self.running.stdout.fileno(), 1 << 16)
             if not more:
+                self.has_ended = True
                 return
             *lines, self.behind = (self.behind + more).split(b"\n")
             yield from lines
@@ -152,7 +158,7 @@ class Talk:
             self.take(line)
             if self.is_answered():
                 break
-        self.is_late = not self.is_answered() and self.running.poll() is None
+        self.is_late = not self.is_answered() and not self.has_ended
         if self.is_open:
             self.close()
         for line in self.lines(LIMIT):
