@@ -1,7 +1,7 @@
 //! The program: `nlldb check FILE`, `nlldb run FILE` and `nlldb serve`.
 #![tactic(auto)]
 
-use bc_program::run_on_system;
+use cli_program::run_on_system;
 use std::process::ExitCode;
 
 fn main(rt: HostRuntime) -> ExitCode {

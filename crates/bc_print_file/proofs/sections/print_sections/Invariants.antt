@@ -1,9 +1,0 @@
-use Rattle.std.proofs.Common.{map}
-use Rattle.bc_check.specs.Parts.{sections_of}
-use Rattle.bc_check.specs.Left.{left}
-use Rattle.bc_check.specs.Changes.{seen}
-use Rattle.bc_print_file.proofs.Writing.{Writing}
-use Rattle.bc_print_file.proofs.sections.print_sections.Given as goal
-
-abbrev pub invariant-loop-section : goal.invariant-loop-section
-invariant-loop-section g l = Writing (sections_of l.file) (left l.section-iterator) (map seen l.changes) (map seen l.rest) (g.O.Write.contents l.initial.out) (g.O.Write.contents l.out)

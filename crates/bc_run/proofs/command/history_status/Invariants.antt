@@ -1,7 +1,0 @@
-use Rattle.std.proofs.Common.{◌≡◌, ◌≤◌, take}
-use Rattle.bc_check.specs.Run.{greatest}
-use Rattle.bc_run.specs.Runs.{events_of}
-use Rattle.bc_run.proofs.command.history_status.Given as goal
-
-abbrev pub invariant-loop-entry : goal.invariant-loop-entry
-invariant-loop-entry l = (l.status ≡ greatest (events_of (take l.entry-index l.entries))) × (l.status ≤ 2)

@@ -1,7 +1,0 @@
-use Rattle.std.proofs.Common.{ℕ, ◌<◌, Some}
-use Rattle.bc_check.specs.declared.heading.Heading.{Heading}
-use Rattle.bc_check.specs.Headings.{IsHeader}
-use Rattle.bc_run.proofs.header.read_header.Given as goal
-
-abbrev pub invariant-loop-session : goal.invariant-loop-session
-invariant-loop-session l = (session : ℕ) (heading : Heading) → session < l.session → IsHeader (Some session) heading l.header → ⊥

@@ -1,5 +1,0 @@
-use Rattle.bc_talk.specs.Counted.{CountsSoFar}
-use Rattle.bc_serve.proofs.talk.route_all.Given as goal
-
-abbrev pub invariant-lines : goal.invariant-lines
-invariant-lines g l = CountsSoFar l.sessions l.counts.items g.L.Talk.lines (g.I.Read.remaining l.input)

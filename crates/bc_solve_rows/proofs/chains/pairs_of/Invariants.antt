@@ -1,5 +1,0 @@
-use Rattle.bc_cons.specs.Facts.{ArePairsWithin}
-use Rattle.bc_solve_rows.proofs.chains.pairs_of.Given as goal
-
-abbrev pub invariant-loop-pair : goal.invariant-loop-pair
-invariant-loop-pair l = ArePairsWithin 8 l.found.items

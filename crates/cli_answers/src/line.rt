@@ -1,0 +1,57 @@
+//! The line of an answer.
+ghost use Rattle.std.specs.Prelude.{IfOk, string_bytes};
+ghost use Rattle.serde_json.specs.View.{view as data_of};
+ghost use Rattle.cli_requests.specs.Ids.{told};
+ghost use Rattle.cli_answers.specs.Answers.{IsAnswerLine, IsAnswerOf, IsLineOf};
+
+use crate::answer::Answer;
+use crate::entries::entry_value;
+use crate::faults::{refusal_value, wrong_value};
+use crate::glances::glance_value;
+use cli_requests::Id;
+use serde_json::Value;
+use std::alloc::{AllocError, Global};
+
+/// The value of an answer.
+fn answer_value(
+    alloc: Global,
+    id: &Id,
+    session: Option<u8>,
+    answer: &Answer,
+) -> Result<Value, AllocError>
+    ensures { IfOk result (λ value. IsAnswerOf (told id.now) session answer.now (data_of value)) }
+{
+    match answer {
+        Answer::Entered { number, event } => entry_value(alloc, id, session, *number, event),
+        Answer::Glanced(published) => glance_value(alloc, id, session, published),
+        Answer::Refused(refusal) => refusal_value(alloc, id, session, *refusal),
+        Answer::Wrong(fault) => wrong_value(alloc, id, session, fault),
+    }
+}
+
+/// The line of a value.
+#[tactic(auto, using(crate::proofs::OneLine::one_line))]
+fn line_of(alloc: Global, value: &Value) -> Result<String, AllocError>
+    ensures { IfOk result (λ line. IsLineOf (data_of value.now) (string_bytes line)) }
+{
+    match value.to_string(alloc) {
+        Ok(line) => Ok(line),
+        Err(refused) => Err(refused),
+    }
+}
+
+/// The line, without its line feed, that answers the request of this id, which names this session or none: one object of JSON,
+/// compact, its keys in byte order, with the id as it was sent. It has no line feed inside. Where the id has no float, the bytes
+/// are exactly those of the object; a float in the id is written with other digits where these read as the float that it was.
+/// Answers `AllocError` only where memory was refused. (RFC 8259 for the text of JSON.)
+pub fn answer_line(
+    alloc: Global,
+    id: &Id,
+    session: Option<u8>,
+    answer: &Answer,
+) -> Result<String, AllocError>
+    ensures { IfOk result (λ line. IsAnswerLine (told id.now) session answer.now (string_bytes line)) }
+{
+    let value = answer_value(alloc, id, session, answer)?;
+    line_of(alloc, &value)
+}

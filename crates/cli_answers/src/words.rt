@@ -1,0 +1,28 @@
+//! The words of refusals and of faults.
+ghost use Rattle.std.specs.Prelude.{◌≡◌};
+ghost use Rattle.cli_answers.specs.Words.{kind_word, refusal_word};
+
+use bc_book::Refusal;
+use cli_requests::TextFaultKind;
+
+/// The words of a refusal.
+pub(crate) fn refusal_name(refusal: Refusal) -> &'static str
+    ensures { result.now ≡ refusal_word refusal }
+{
+    match refusal {
+        Refusal::NoMemory => "no memory",
+        Refusal::HistoryFull => "history full",
+    }
+}
+
+/// The words of a kind of fault that a text has.
+pub(crate) fn kind_name(kind: TextFaultKind) -> &'static str
+    ensures { result.now ≡ kind_word kind }
+{
+    match kind {
+        TextFaultKind::NotAscii => "not ascii",
+        TextFaultKind::Token => "token",
+        TextFaultKind::Grammar => "grammar",
+        TextFaultKind::Limit => "limit",
+    }
+}

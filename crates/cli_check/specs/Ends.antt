@@ -1,0 +1,105 @@
+-- How the command ends, and what it leaves where it stops.
+use Rattle.std.specs.Prelude.{◌≡◌, ◌⊎◌, ℕ, ◌+◌, ◌<◌, ◌≤◌, Option, List, IfSome, length}
+use Rattle.std.specs.Io.KnownBytes.{Appends, Keeps}
+use Rattle.bc_text.specs.Names.{NameParts}
+use Rattle.bc_calls.specs.declared.call.Call.{Call}
+use Rattle.bc_calls.specs.declared.call.Event.{Event}
+use Rattle.bc_share.specs.declared.db.TheConstants.{MOST_ENTRIES}
+use Rattle.cli_line.specs.Parts.{CheckParts}
+use Rattle.cli_line.specs.declared.line.Line.{Line}
+use Rattle.cli_line.specs.declared.line.Line.TheVariants.{Check, Run, Serve, Print}
+use Rattle.cli_check.specs.declared.stop.Stop.{Stop}
+use Rattle.cli_check.specs.declared.stop.Stop.TheVariants.{WrongUse, CannotRead, CannotWrite, CannotTell, NoMemory, File, TooManyCalls, HistoryFull, Foreign, Audit}
+use Rattle.cli_check.specs.Files.{most_bytes}
+use Rattle.cli_check.specs.Parts.{sections_of}
+use Rattle.cli_check.specs.Changes.{MakeAll, IsToldFault}
+use Rattle.cli_check.specs.Asked.{AreAsked}
+use Rattle.cli_check.specs.Forms.{form_of}
+use Rattle.cli_check.specs.Stops.{last_line, stop_status}
+use Rattle.cli_check.specs.Run.{told, AreLegal, AreReplied}
+use Rattle.cli_check.specs.Served.{Runs, Begins, OwesLast, Prints}
+
+-- each section made its call, each root name under which one put a body was asked, and what belongs to these calls was
+-- printed
+pub record Checked (line : CheckParts) (file : List ℕ) (exit : ℕ) (out out' err err' : Option (List ℕ)) : Type 0 where
+  pub made : List Call
+  pub names : List NameParts
+  pub good : MakeAll (sections_of file) made
+  pub asked : AreAsked made names
+  pub runs : Runs (form_of line (sections_of file) made) made names exit out out' err err'
+
+-- a file without a fault that makes more calls than a history may have
+pub record HasTooManyCalls (file : List ℕ) : Type 0 where
+  pub made : List Call
+  pub names : List NameParts
+  pub good : MakeAll (sections_of file) made
+  pub asked : AreAsked made names
+  pub many : MOST_ENTRIES < length made + length names
+
+-- a file without a fault, of a beginning of whose calls was printed what belongs to them, and this holds of their replies
+pub record HasBegun (Holds : List Event → Type 0) (line : CheckParts) (file : List ℕ) (out out' err err' : Option (List ℕ)) : Type 0 where
+  pub made : List Call
+  pub names : List NameParts
+  pub good : MakeAll (sections_of file) made
+  pub asked : AreAsked made names
+  pub few : length made + length names ≤ MOST_ENTRIES
+  pub begins : Begins Holds (form_of line (sections_of file) made) made names out out' err err'
+
+-- a file without a fault, of whose sections standard error has what belongs to their calls
+pub record HasTold (file : List ℕ) (err err' : Option (List ℕ)) : Type 0 where
+  pub made : List Call
+  pub names : List NameParts
+  pub good : MakeAll (sections_of file) made
+  pub asked : AreAsked made names
+  pub few : length made + length names ≤ MOST_ENTRIES
+  pub prints : Prints made told err err'
+
+-- a file without a fault, of a beginning of whose sections this holds of the replies, the last of which owes standard error a line
+pub record HasUntold (Holds : List Event → Type 0) (file : List ℕ) : Type 0 where
+  pub made : List Call
+  pub names : List NameParts
+  pub good : MakeAll (sections_of file) made
+  pub asked : AreAsked made names
+  pub few : length made + length names ≤ MOST_ENTRIES
+  pub untold : OwesLast Holds made
+
+-- the file was read whole, where it is known, and this holds of it
+abbrev pub OfFile : Option (List ℕ) → (List ℕ → Type 0) → Type 0
+OfFile known P = IfSome known (λ file. (length file ≤ most_bytes) × P file)
+
+-- nothing is printed
+abbrev pub IsSilent : Option (List ℕ) → Option (List ℕ) → Option (List ℕ) → Option (List ℕ) → Type 0
+IsSilent out out' err err' = Keeps out out' × Keeps err err'
+
+-- What the command finds and leaves where it stops, but for the line that says so. What a writer that failed took is
+-- not known.
+abbrev pub Leaves : CheckParts → Stop → Option (List ℕ) → Option (List ℕ) → Option (List ℕ) → Option (List ℕ) → Option (List ℕ) → Type 0
+Leaves line WrongUse known out out' err err' = ⊥
+Leaves line CannotRead known out out' err err' = IsSilent out out' err err'
+Leaves line CannotWrite known out out' err err' = OfFile known (λ file. HasTold file err err')
+Leaves line CannotTell known out out' err err' = OfFile known (HasUntold AreLegal) × Keeps out out'
+Leaves line NoMemory known out out' err err' = IsSilent out out' err err' ⊎ OfFile known (λ file. HasBegun AreLegal line file out out' err err')
+Leaves line (File fault) known out out' err err' = OfFile known (λ file. IsToldFault line.positions file fault) × IsSilent out out' err err'
+Leaves line TooManyCalls known out out' err err' = OfFile known HasTooManyCalls × IsSilent out out' err err'
+Leaves line HistoryFull known out out' err err' = OfFile known (λ file. HasBegun AreLegal line file out out' err err')
+Leaves line Foreign known out out' err err' = ⊥
+Leaves line Audit known out out' err err' = OfFile known (λ file. HasBegun AreReplied line file out out' err err') ⊎ (OfFile known (HasUntold AreReplied) × Keeps out out')
+
+-- the command stopped with this status: its line is written behind all else, of which this holds
+pub record StopsWith (Left : Stop → Option (List ℕ) → Type 0) (name : List ℕ) (exit : ℕ) (err : Option (List ℕ)) : Type 0 where
+  pub stop : Stop
+  pub told : Option (List ℕ)
+  pub left : Left stop told
+  pub said : Appends told err (last_line name stop)
+  pub status : exit ≡ stop_status stop
+
+-- the command on the file that its line names ended with this status: at its end, or where it stopped
+abbrev pub IsEnd : CheckParts → Option (List ℕ) → ℕ → Option (List ℕ) → Option (List ℕ) → Option (List ℕ) → Option (List ℕ) → Type 0
+IsEnd line known exit out out' err err' = OfFile known (λ file. Checked line file exit out out' err err') ⊎ StopsWith (λ stop told. Leaves line stop known out out' err told) line.file exit err'
+
+-- the same, of a line of `check`
+abbrev pub IsEndOf : Line → Option (List ℕ) → ℕ → Option (List ℕ) → Option (List ℕ) → Option (List ℕ) → Option (List ℕ) → Type 0
+IsEndOf (Check line) known exit out out' err err' = IsEnd line known exit out out' err err'
+IsEndOf (Run line) known exit out out' err err' = ⊥
+IsEndOf (Serve line) known exit out out' err err' = ⊥
+IsEndOf (Print line) known exit out out' err err' = ⊥

@@ -1,0 +1,123 @@
+-- Calls that a session answered, and what was printed of them.
+use Rattle.std.specs.Prelude.{◌≡◌, ◌≢◌, ◌⊎◌, ℕ, ◌+◌, ◌≤◌, Option, List, [], ◌∷◌, ◌++◌, map, flat_map, length}
+use Rattle.std.specs.Io.KnownBytes.{Appends}
+use Rattle.bc_text.specs.Names.{NameParts}
+use Rattle.bc_calls.specs.declared.call.Call.{Call}
+use Rattle.bc_calls.specs.declared.call.Event.{Event}
+use Rattle.bc_calls.specs.Calls.{IsLegal, call_of, calls}
+use Rattle.bc_share.specs.Sessions.{SessionView, IsAnswered, IsSame}
+use Rattle.bc_share.specs.declared.db.TheConstants.{MOST_ENTRIES}
+use Rattle.cli_check.specs.declared.form.Form.{Form}
+use Rattle.cli_check.specs.Run.{event_status, greatest, calls_of, shown, told, AreLegal, AreReplied}
+
+-- one call was answered and printed; its status
+pub record Serves (call : Call) (text : Event → List ℕ) (exit : ℕ) (old new : SessionView) (before after : Option (List ℕ)) : Type 0 where
+  pub event : Event
+  pub made : call_of event ≡ call
+  pub answered : IsAnswered event old new
+  pub printed : Appends before after (text event)
+  pub status : exit ≡ event_status event
+
+-- one call was answered, and standard error is owed a line about it
+abbrev pub Owes : Call → SessionView → SessionView → Type 0
+Owes call old new = (event : Event) × (call_of event ≡ call) × (told event ≢ []) × IsAnswered event old new
+
+-- it is the same session, whatever calls it made
+abbrev pub IsStill : SessionView → SessionView → Type 0
+IsStill old new = (new.tag ≡ old.tag) × (new.number ≡ old.number)
+
+-- what a session has seen is legal, and its calls there are its own list
+abbrev pub HasSeenItsOwn : SessionView → Type 0
+HasSeenItsOwn session = IsLegal session.seen × (calls session.number session.seen ≡ session.own)
+
+-- the session's own list is longer by these calls, and it is the same session; it has still seen its own
+pub record Adds (events : List Event) (old new : SessionView) : Type 0 where
+  pub tag : new.tag ≡ old.tag
+  pub number : new.number ≡ old.number
+  pub own : new.own ≡ old.own ++ events
+  pub seen : HasSeenItsOwn old → HasSeenItsOwn new
+
+-- no call more was answered, or one
+abbrev pub IsAtMostOneMore : SessionView → SessionView → Type 0
+IsAtMostOneMore old new = IsSame old new ⊎ ((event : Event) × IsAnswered event old new)
+
+-- some calls were answered and printed, in this order; the greatest of their statuses
+pub record Served (list : List Call) (text : Event → List ℕ) (exit : ℕ) (old new : SessionView) (before after : Option (List ℕ)) : Type 0 where
+  pub events : List Event
+  pub made : map call_of events ≡ list
+  pub adds : Adds events old new
+  pub printed : Appends before after (flat_map text events)
+  pub status : exit ≡ greatest events
+
+-- a beginning of some calls was answered and printed, and at most one call more was answered
+pub record ServedPart (list : List Call) (text : Event → List ℕ) (old new : SessionView) (before after : Option (List ℕ)) : Type 0 where
+  pub front : List Call
+  pub ahead : List Call
+  pub cut : front ++ ahead ≡ list
+  pub exit : ℕ
+  pub between : SessionView
+  pub served : Served front text exit old between before after
+  pub last : IsAtMostOneMore between new
+
+-- some calls were answered as a legal history has them, and of each was printed what belongs to it
+pub record Prints (list : List Call) (text : Event → List ℕ) (before after : Option (List ℕ)) : Type 0 where
+  pub events : List Event
+  pub made : map call_of events ≡ list
+  pub replied : AreReplied events
+  pub printed : Appends before after (flat_map text events)
+
+-- some calls begin with these, of whose replies this holds, and standard error is owed a line about the last of these
+pub record OwesLast (Holds : List Event → Type 0) (list : List Call) : Type 0 where
+  pub events : List Event
+  pub last : Event
+  pub ahead : List Call
+  pub made : map call_of (events ++ last ∷ []) ++ ahead ≡ list
+  pub holds : Holds (events ++ last ∷ [])
+  pub owed : told last ≢ []
+
+-- some calls were answered and printed, whatever the session did then
+pub record ServedThen (list : List Call) (text : Event → List ℕ) (old : SessionView) (before after : Option (List ℕ)) : Type 0 where
+  pub exit : ℕ
+  pub between : SessionView
+  pub served : Served list text exit old between before after
+
+-- the calls of the sections were answered and the names asked; of each call was printed what belongs to it, and the status is the
+-- greatest of theirs
+pub record ServedAll (form : Form) (first : List Call) (names : List NameParts) (exit : ℕ) (old new : SessionView) (out out' err err' : Option (List ℕ)) : Type 0 where
+  pub events : List Event
+  pub made : map call_of events ≡ calls_of first names
+  pub adds : Adds events old new
+  pub output : Appends out out' (flat_map (shown form) events)
+  pub errors : Appends err err' (flat_map told events)
+  pub status : exit ≡ greatest events
+
+-- the same, where only a beginning of the calls was answered and printed, and at most one call more was answered
+pub record ServedFirst (form : Form) (first : List Call) (names : List NameParts) (old new : SessionView) (out out' err err' : Option (List ℕ)) : Type 0 where
+  pub events : List Event
+  pub ahead : List Call
+  pub made : map call_of events ++ ahead ≡ calls_of first names
+  pub between : SessionView
+  pub adds : Adds events old between
+  pub last : IsAtMostOneMore between new
+  pub output : Appends out out' (flat_map (shown form) events)
+  pub errors : Appends err err' (flat_map told events)
+
+-- The calls of the sections were made and the names asked, at most as many as a history may have, as one session's legal history; of
+-- each call was printed what belongs to it, and the status is the greatest of theirs.
+pub record Runs (form : Form) (first : List Call) (names : List NameParts) (exit : ℕ) (out out' err err' : Option (List ℕ)) : Type 0 where
+  pub events : List Event
+  pub made : map call_of events ≡ calls_of first names
+  pub few : length first + length names ≤ MOST_ENTRIES
+  pub legal : AreLegal events
+  pub output : Appends out out' (flat_map (shown form) events)
+  pub errors : Appends err err' (flat_map told events)
+  pub status : exit ≡ greatest events
+
+-- The same, where only of a beginning of the calls was printed what belongs to it, and this holds of their replies.
+pub record Begins (Holds : List Event → Type 0) (form : Form) (first : List Call) (names : List NameParts) (out out' err err' : Option (List ℕ)) : Type 0 where
+  pub events : List Event
+  pub ahead : List Call
+  pub made : map call_of events ++ ahead ≡ calls_of first names
+  pub holds : Holds events
+  pub output : Appends out out' (flat_map (shown form) events)
+  pub errors : Appends err err' (flat_map told events)

@@ -1,0 +1,36 @@
+//! The names that are asked.
+ghost use Rattle.std.specs.Prelude.{◌≡◌, IfOk, IfErr, map};
+ghost use Rattle.cli_check.specs.Changes.{seen};
+ghost use Rattle.cli_check.specs.Asked.{AreAsked, root_put as root};
+
+use crate::file::Change;
+use crate::stop::Stop;
+use bc_text::{Name, names_are_told_apart};
+use std::alloc::Global;
+use std::collections::BTreeSet;
+
+/// The root name under which a change puts a body, if it puts one under a root.
+fn root_put(change: &Change) -> Option<Name>
+    ensures { result ≡ root (seen change.now) }
+{
+    match change {
+        Change::Types(_) => None,
+        Change::Put(name, _) => { if name.depth() == 0 { Some(*name) } else { None } }
+    }
+}
+
+/// The root names under which bodies are put, in the order of names, each once. `NoMemory` where there is no room for
+/// them.
+pub fn find_asked(alloc: Global, changes: &[Change]) -> Result<BTreeSet<Name>, Stop>
+    ensures asked { IfOk result (λ names. AreAsked (map seen changes.now) names.keys) }
+    ensures stop { IfErr result (λ stop. stop ≡ Stop.NoMemory) }
+{
+    names_are_told_apart();
+    let mut names = BTreeSet::new(alloc);
+    for change in changes {
+        if let Some(name) = root_put(change) {
+            names.insert(name)?;
+        }
+    }
+    Ok(names)
+}

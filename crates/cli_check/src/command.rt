@@ -1,0 +1,458 @@
+//! The calls of a file, and what is printed of them.
+ghost use Rattle.std.specs.Prelude.{◌≡◌, ◌≢◌, ◌↔◌, ◌≤◌, ◌<◌, ◌+◌, ◌⊎◌, ◌++◌, [], true, Err, OnOk, OnErr, IfOk, IfErr, IsErrOf, IsTrue, codes, length, map, max};
+ghost use Rattle.std.specs.Io.Buffered.{writer_buffer, writer_contents};
+ghost use Rattle.std.specs.Io.KnownBytes.{Appends, Keeps};
+ghost use Rattle.bc_text.specs.Names.{name_text};
+ghost use Rattle.bc_calls.specs.declared.call.Call.TheVariants as calls;
+ghost use Rattle.bc_report.specs.Text.{line as ended};
+ghost use Rattle.bc_source.specs.Report.{report_with};
+ghost use Rattle.bc_share.specs.Sessions.{Makes};
+ghost use Rattle.cli_check.specs.Changes.{seen};
+ghost use Rattle.cli_check.specs.Stops.{is_of_calls, is_refused};
+ghost use Rattle.cli_check.specs.Ends.{Checked, IsEnd, IsEndOf, Leaves, OfFile};
+ghost use Rattle.cli_check.specs.Run.{refused_line, answer_lines, told, shown, AreLegal, AreReplied};
+ghost use Rattle.cli_check.specs.Served.{Serves, Served, ServedPart, ServedAll, ServedFirst, ServedThen, Adds, Owes, OwesLast, Runs, Begins, Prints, IsAtMostOneMore, IsStill};
+ghost use Rattle.cli_line.specs.Lines.{is_check};
+
+use crate::asked::find_asked;
+use crate::file::{Change, read_told_changes};
+use crate::form::{Form, find_form};
+use crate::input::read_whole;
+use crate::status::{outcome_status, put_status};
+use crate::stop::{Stop, stop_with};
+use bc_calls::PutReply;
+use bc_json::json_report;
+use bc_prov::{Outcome, Providers};
+use bc_report::write_report;
+use bc_share::{Db, MOST_ENTRIES, Session};
+use bc_source::{SourcedBody, Sources, find_bodies, write_sourced_report};
+use bc_text::Name;
+use bc_versions::{Ending, Waiting};
+use cli_line::{CheckLine, Line};
+use std::alloc::Global;
+use std::collections::BTreeSet;
+use std::io;
+use std::io::{BufWriter, Read, Write};
+use std::sync::Wait;
+
+/// Writes the line of a put that stored nothing. It fails only where there is such a line.
+fn write_refusal<E: Write>(name: &Name, reply: PutReply, err: &mut E) -> io::Result<()>
+    ensures written { OnOk result (Appends (E.contents err.old) (E.contents err.new) (refused_line name.now reply)) }
+    ensures owed { OnErr result (refused_line name.now reply ≢ []) }
+{
+    match reply {
+        PutReply::Added | PutReply::Replaced => Ok(()),
+        PutReply::Full => writeln!(err, "put {name} full"),
+        PutReply::WrongKind => writeln!(err, "put {name} wrongkind"),
+    }
+}
+
+/// Writes the line of an Ask, and its report.
+fn write_text<O: Write>(name: &Name, outcome: &Outcome, out: &mut O) -> io::Result<()>
+    ensures { OnOk result (Appends (O.contents out.old) (O.contents out.new) (answer_lines Form.Text name.now outcome.now)) }
+{
+    writeln!(out, "ask {name}")?;
+    Ok(write_report(outcome, out)?)
+}
+
+/// Writes the line of an Ask, and its report with the texts that explain its errors.
+fn write_sourced_text<O: Write>(
+    name: &Name,
+    outcome: &Outcome,
+    bodies: &[SourcedBody<'_>],
+    out: &mut O,
+) -> io::Result<()>
+    ensures { OnOk result (Appends (O.contents out.old) (O.contents out.new) (ended (codes "ask " ++ name_text name.now) ++ report_with bodies.now outcome.now)) }
+{
+    writeln!(out, "ask {name}")?;
+    Ok(write_sourced_report(outcome, bodies, out)?)
+}
+
+/// Writes the line of an Ask, and its report with the texts that explain its errors. `NoMemory`, with nothing written, where there is no
+/// room for what they are found by.
+fn write_sourced<O: Write>(
+    alloc: Global,
+    sources: &Sources<'_>,
+    name: &Name,
+    outcome: &Outcome,
+    out: &mut O,
+) -> Result<(), Stop>
+    ensures written { OnOk result (Appends (O.contents out.old) (O.contents out.new) (answer_lines (Form.Sourced sources.now) name.now outcome.now)) }
+    ensures no_memory { IsErrOf result Stop.NoMemory → Keeps (O.contents out.old) (O.contents out.new) }
+    ensures stop { IfErr result (λ stop. (stop ≡ Stop.CannotWrite) ⊎ (stop ≡ Stop.NoMemory)) }
+{
+    let Ok(bodies) = find_bodies(alloc, outcome, sources) else {
+        return Err(Stop::NoMemory);
+    };
+    if write_sourced_text(name, outcome, &bodies, out).is_err() {
+        return Err(Stop::CannotWrite);
+    }
+    Ok(())
+}
+
+/// Writes the JSON line of an Ask. `NoMemory`, with nothing written, where there is no room for it.
+fn write_json<O: Write>(
+    alloc: Global,
+    name: &Name,
+    outcome: &Outcome,
+    out: &mut O,
+) -> Result<(), Stop>
+    ensures written { OnOk result (Appends (O.contents out.old) (O.contents out.new) (answer_lines Form.Json name.now outcome.now)) }
+    ensures no_memory { IsErrOf result Stop.NoMemory → Keeps (O.contents out.old) (O.contents out.new) }
+    ensures stop { IfErr result (λ stop. (stop ≡ Stop.CannotWrite) ⊎ (stop ≡ Stop.NoMemory)) }
+{
+    let Ok(text) = json_report(alloc, name, outcome) else {
+        return Err(Stop::NoMemory);
+    };
+    if writeln!(out, "{text}").is_err() {
+        return Err(Stop::CannotWrite);
+    }
+    Ok(())
+}
+
+/// Writes an Ask with its outcome, in this form. `NoMemory`, with nothing written, where there is no room for it.
+fn write_answer<O: Write>(
+    alloc: Global,
+    form: &Form<'_>,
+    name: &Name,
+    outcome: &Outcome,
+    out: &mut O,
+) -> Result<(), Stop>
+    ensures written { OnOk result (Appends (O.contents out.old) (O.contents out.new) (answer_lines form.now name.now outcome.now)) }
+    ensures no_memory { IsErrOf result Stop.NoMemory → Keeps (O.contents out.old) (O.contents out.new) }
+    ensures stop { IfErr result (λ stop. (stop ≡ Stop.CannotWrite) ⊎ (stop ≡ Stop.NoMemory)) }
+{
+    match form {
+        Form::Text => {
+            if write_text(name, outcome, out).is_err() {
+                return Err(Stop::CannotWrite);
+            }
+            Ok(())
+        }
+        Form::Json => write_json(alloc, name, outcome, out),
+        Form::Sourced(sources) => write_sourced(alloc, sources, name, outcome, out),
+    }
+}
+
+/// Makes a change, and tells of a body that is not stored. The status of the call.
+fn make_change<R: Wait, N: Ending, E: Write>(
+    rt: &R,
+    session: &mut Session<N>,
+    change: Change,
+    err: &mut E,
+) -> Result<u8, Stop>
+    ensures still { IsStill session.old session.new }
+    ensures refused { IfErr result (λ stop. is_refused stop ≡ true → IsAtMostOneMore session.old session.new × Keeps (E.contents err.old) (E.contents err.new)) }
+    ensures untold { IsErrOf result Stop.CannotTell → Owes (seen change) session.old session.new }
+    ensures served { IfOk result (λ status. Serves (seen change) told status session.old session.new (E.contents err.old) (E.contents err.new)) }
+    ensures range { IfOk result (λ status. status ≤ 2) }
+    ensures stop { IfErr result (λ stop. (stop ≡ Stop.CannotTell) ⊎ (stop ≡ Stop.NoMemory) ⊎ (stop ≡ Stop.HistoryFull)) }
+{
+    match change {
+        Change::Types(types) => {
+            session.put_types(rt, types.into_arc())?;
+            Ok(0)
+        }
+        Change::Put(name, unit) => {
+            let reply = session.put(rt, name, unit.into_arc())?;
+            if write_refusal(&name, reply, err).is_err() {
+                return Err(Stop::CannotTell);
+            }
+            Ok(put_status(reply))
+        }
+    }
+}
+
+/// Asks a name, and prints its report in this form. The status of the outcome.
+fn make_ask<R: Wait, N: Ending, O: Write>(
+    rt: &R,
+    alloc: Global,
+    session: &mut Session<N>,
+    providers: &Providers,
+    form: &Form<'_>,
+    name: &Name,
+    out: &mut O,
+) -> Result<u8, Stop>
+    ensures still { IsStill session.old session.new }
+    ensures refused { IfErr result (λ stop. is_refused stop ≡ true → IsAtMostOneMore session.old session.new × Keeps (O.contents out.old) (O.contents out.new)) }
+    ensures unwritten { IsErrOf result Stop.CannotWrite → Makes session.old session.new (calls.Ask name.now) }
+    ensures served { IfOk result (λ status. Serves (calls.Ask name.now) (shown form.now) status session.old session.new (O.contents out.old) (O.contents out.new)) }
+    ensures range { IfOk result (λ status. status ≤ 2) }
+    ensures stop { IfErr result (λ stop. (stop ≡ Stop.CannotWrite) ⊎ (stop ≡ Stop.NoMemory) ⊎ (stop ≡ Stop.HistoryFull)) }
+{
+    let outcome = session.ask(rt, name, providers)?;
+    write_answer(alloc, form, name, &outcome, out)?;
+    Ok(outcome_status(&outcome))
+}
+
+/// Makes the changes in order. The greatest status of the calls.
+fn make_changes<R: Wait, N: Ending, E: Write>(
+    rt: &R,
+    session: &mut Session<N>,
+    changes: Vec<Change>,
+    err: &mut E,
+) -> Result<u8, Stop>
+    ensures served { IfOk result (λ status. Served (map seen changes.items) told status session.old session.new (E.contents err.old) (E.contents err.new)) }
+    ensures still { IsStill session.old session.new }
+    ensures refused { IfErr result (λ stop. is_refused stop ≡ true → ServedPart (map seen changes.items) told session.old session.new (E.contents err.old) (E.contents err.new)) }
+    ensures untold { IsErrOf result Stop.CannotTell → OwesLast (λ events. Adds events session.old session.new) (map seen changes.items) }
+    ensures range { IfOk result (λ status. status ≤ 2) }
+    ensures stop { IfErr result (λ stop. (stop ≡ Stop.CannotTell) ⊎ (stop ≡ Stop.NoMemory) ⊎ (stop ≡ Stop.HistoryFull)) }
+{
+    let mut status: u8 = 0;
+    for change in changes {
+        status = status.max(make_change(rt, session, change, err)?);
+    }
+    Ok(status)
+}
+
+/// How the names of a file are asked: by which providers, in which form each answer is printed, and which names, in their order.
+#[derive(Drop)]
+struct Asking<'a, 'b> {
+    providers: &'a Providers,
+    form: &'a Form<'b>,
+    names: &'a BTreeSet<Name>,
+}
+
+/// Asks the names in order, and prints their reports. The greatest status of the outcomes.
+fn make_asks<R: Wait, N: Ending, O: Write>(
+    rt: &R,
+    alloc: Global,
+    session: &mut Session<N>,
+    asking: &Asking<'_, '_>,
+    out: &mut O,
+) -> Result<u8, Stop>
+    ensures served { IfOk result (λ status. Served (map calls.Ask asking.now.names.now.keys) (shown asking.now.form.now) status session.old session.new (O.contents out.old) (O.contents out.new)) }
+    ensures still { IsStill session.old session.new }
+    ensures refused { IfErr result (λ stop. is_refused stop ≡ true → ServedPart (map calls.Ask asking.now.names.now.keys) (shown asking.now.form.now) session.old session.new (O.contents out.old) (O.contents out.new)) }
+    ensures range { IfOk result (λ status. status ≤ 2) }
+    ensures stop { IfErr result (λ stop. (stop ≡ Stop.CannotWrite) ⊎ (stop ≡ Stop.NoMemory) ⊎ (stop ≡ Stop.HistoryFull)) }
+{
+    let mut status: u8 = 0;
+    for name in asking.names {
+        let asked = make_ask(rt, alloc, session, asking.providers, asking.form, name, out)?;
+        status = status.max(asked);
+    }
+    Ok(status)
+}
+
+/// Whether standard output failed.
+fn is_unwritten(made: &Result<u8, Stop>) -> bool
+    ensures { IsTrue result ↔ (made.now ≡ Err Stop.CannotWrite) }
+{
+    match made {
+        Err(Stop::CannotWrite) => true,
+        Ok(_)
+        | Err(
+            Stop::WrongUse
+            | Stop::CannotRead
+            | Stop::CannotTell
+            | Stop::NoMemory
+            | Stop::File(_)
+            | Stop::TooManyCalls
+            | Stop::HistoryFull
+            | Stop::Foreign
+            | Stop::Audit,
+        ) => false,
+    }
+}
+
+/// Hands on what the buffer holds of the reports, but where the writer behind it failed already. What the Asks came to,
+/// and `CannotWrite` where the writer fails here.
+fn hand_on<O: Write + Drop>(asked: Result<u8, Stop>, out: &mut BufWriter<O>) -> Result<u8, Stop>
+    ensures asked { (result ≡ asked) ⊎ (result ≡ Err Stop.CannotWrite) }
+    ensures kept { Keeps (writer_contents O.contents out.old) (writer_contents O.contents out.new) }
+    ensures handed_on { (result ≡ Err Stop.CannotWrite) ⊎ (writer_buffer out.new ≡ []) }
+{
+    if is_unwritten(&asked) {
+        return asked;
+    }
+    match out.flush() {
+        Ok(()) => asked,
+        Err(_) => Err(Stop::CannotWrite),
+    }
+}
+
+/// Asks the names in order, and hands on what is printed of them, also where this stops before its end. The greatest
+/// status of the outcomes.
+fn answer_all<R: Wait, N: Ending, O: Write + Drop>(
+    rt: &R,
+    alloc: Global,
+    session: &mut Session<N>,
+    asking: &Asking<'_, '_>,
+    out: &mut BufWriter<O>,
+) -> Result<u8, Stop>
+    ensures served { IfOk result (λ status. Served (map calls.Ask asking.now.names.now.keys) (shown asking.now.form.now) status session.old session.new (writer_contents O.contents out.old) (writer_contents O.contents out.new)) }
+    ensures still { IsStill session.old session.new }
+    ensures refused { IfErr result (λ stop. is_refused stop ≡ true → ServedPart (map calls.Ask asking.now.names.now.keys) (shown asking.now.form.now) session.old session.new (writer_contents O.contents out.old) (writer_contents O.contents out.new)) }
+    ensures range { IfOk result (λ status. status ≤ 2) }
+    ensures stop { IfErr result (λ stop. (stop ≡ Stop.CannotWrite) ⊎ (stop ≡ Stop.NoMemory) ⊎ (stop ≡ Stop.HistoryFull)) }
+    ensures handed_on { (result ≡ Err Stop.CannotWrite) ⊎ (writer_buffer out.new ≡ []) }
+{
+    let asked = make_asks(rt, alloc, session, asking, out);
+    hand_on(asked, out)
+}
+
+/// Makes the changes in order, and then asks the names in order; what is printed of these is handed on. The greatest status
+/// of the calls.
+fn make_all<R: Wait, N: Ending, O: Write + Drop, E: Write>(
+    rt: &R,
+    alloc: Global,
+    session: &mut Session<N>,
+    changes: Vec<Change>,
+    asking: &Asking<'_, '_>,
+    out: &mut BufWriter<O>,
+    err: &mut E,
+) -> Result<u8, Stop>
+    ensures served { IfOk result (λ status. ServedAll asking.now.form.now (map seen changes.items) asking.now.names.now.keys status session.old session.new (writer_contents O.contents out.old) (writer_contents O.contents out.new) (E.contents err.old) (E.contents err.new)) }
+    ensures still { IsStill session.old session.new }
+    ensures refused { IfErr result (λ stop. is_refused stop ≡ true → ServedFirst asking.now.form.now (map seen changes.items) asking.now.names.now.keys session.old session.new (writer_contents O.contents out.old) (writer_contents O.contents out.new) (E.contents err.old) (E.contents err.new)) }
+    ensures untold { IsErrOf result Stop.CannotTell → OwesLast (λ events. Adds events session.old session.new) (map seen changes.items) }
+    ensures silent { IsErrOf result Stop.CannotTell → Keeps (writer_contents O.contents out.old) (writer_contents O.contents out.new) }
+    ensures unwritten { IsErrOf result Stop.CannotWrite → ServedThen (map seen changes.items) told session.old (E.contents err.old) (E.contents err.new) }
+    ensures range { IfOk result (λ status. status ≤ 2) }
+    ensures stop { IfErr result (λ stop. (stop ≡ Stop.CannotTell) ⊎ (stop ≡ Stop.CannotWrite) ⊎ (stop ≡ Stop.NoMemory) ⊎ (stop ≡ Stop.HistoryFull)) }
+    ensures handed_on { writer_buffer out.old ≡ [] → (result ≡ Err Stop.CannotWrite) ⊎ (writer_buffer out.new ≡ []) }
+{
+    let changed = make_changes(rt, session, changes, err)?;
+    let asked = answer_all(rt, alloc, session, asking, out)?;
+    Ok(changed.max(asked))
+}
+
+/// How many entries the history may have: one for each change and each further call, and one at least. `TooManyCalls` exactly
+/// where there are more than `MOST_ENTRIES` of them. (Own.)
+pub fn find_capacity(changes: usize, names: usize) -> Result<u32, Stop>
+    ensures fits { IfOk result (λ capacity. (capacity ≡ max 1 (changes + names)) × (changes + names ≤ MOST_ENTRIES)) }
+    ensures stop { IfErr result (λ stop. (stop ≡ Stop.TooManyCalls) × (MOST_ENTRIES < changes + names)) }
+{
+    let most = MOST_ENTRIES as usize;
+    if changes > most || names > most - changes {
+        return Err(Stop::TooManyCalls);
+    }
+    Ok((changes + names).max(1) as u32)
+}
+
+/// Opens a database, makes the changes in order, asks the names in order, and closes, also where a call is refused or a
+/// writer fails. The greatest status of the calls, whose reports the writer behind `out` then has. `TooManyCalls` exactly
+/// where there are more than `MOST_ENTRIES` of them.
+///
+/// That `out` failed is said before all else, and a fault of the close before a refused call and a line that was not told.
+fn serve<R: Wait, O: Write + Drop, E: Write>(
+    rt: &R,
+    alloc: Global,
+    changes: Vec<Change>,
+    asking: &Asking<'_, '_>,
+    out: &mut BufWriter<O>,
+    err: &mut E,
+) -> Result<u8, Stop>
+    ensures done { IfOk result (λ status. Runs asking.now.form.now (map seen changes.items) asking.now.names.now.keys status (writer_contents O.contents out.old) (writer_contents O.contents out.new) (E.contents err.old) (E.contents err.new)) }
+    ensures range { IfOk result (λ status. status ≤ 2) }
+    ensures too_many { IsErrOf result Stop.TooManyCalls → (MOST_ENTRIES < length changes.items + length asking.now.names.now.keys) × Keeps (writer_contents O.contents out.old) (writer_contents O.contents out.new) × Keeps (E.contents err.old) (E.contents err.new) }
+    ensures few { (result ≡ Err Stop.TooManyCalls) ⊎ (length changes.items + length asking.now.names.now.keys ≤ MOST_ENTRIES) }
+    ensures refused { IfErr result (λ stop. is_refused stop ≡ true → Begins AreLegal asking.now.form.now (map seen changes.items) asking.now.names.now.keys (writer_contents O.contents out.old) (writer_contents O.contents out.new) (E.contents err.old) (E.contents err.new)) }
+    ensures untold { IsErrOf result Stop.CannotTell → OwesLast AreLegal (map seen changes.items) }
+    ensures silent { IsErrOf result Stop.CannotTell → Keeps (writer_contents O.contents out.old) (writer_contents O.contents out.new) }
+    ensures unwritten { IsErrOf result Stop.CannotWrite → Prints (map seen changes.items) told (E.contents err.old) (E.contents err.new) }
+    ensures audited { IsErrOf result Stop.Audit → Begins AreReplied asking.now.form.now (map seen changes.items) asking.now.names.now.keys (writer_contents O.contents out.old) (writer_contents O.contents out.new) (E.contents err.old) (E.contents err.new) ⊎ (OwesLast AreReplied (map seen changes.items) × Keeps (writer_contents O.contents out.old) (writer_contents O.contents out.new)) }
+    ensures other { IfErr result (λ stop. is_of_calls stop ≡ true) }
+    ensures handed_on { writer_buffer out.old ≡ [] → (result ≡ Err Stop.CannotWrite) ⊎ (writer_buffer out.new ≡ []) }
+{
+    let capacity = find_capacity(changes.len(), asking.names.len())?;
+    let (db, mut sessions) = Db::open(alloc, Waiting::new(rt), 0, capacity, 1)?;
+    let Some(mut session) = sessions.pop() else {
+        unreachable!()
+    };
+    let made = make_all(rt, alloc, &mut session, changes, asking, out, err);
+    sessions.push_reserved(session);
+    let closed = db.close(rt, sessions);
+    if is_unwritten(&made) {
+        return made;
+    }
+    closed?;
+    made
+}
+
+/// Reads the whole input, makes its changes and asks its names, and prints what belongs to each call: of an Ask its line and its
+/// report, or one line that has both where the line asks for JSON. The greatest status of the calls. A buffer that held nothing holds nothing then, but
+/// where the writer behind it failed. (Own.)
+///
+/// Stops with `CannotRead` where the input cannot be read or is over 16 MiB; with `File` at its first fault; with
+/// `TooManyCalls` where it makes more than 1,000,000 calls; with `CannotWrite` or `CannotTell` where a writer
+/// fails; with `NoMemory` where there is no room; with `HistoryFull` where a call finds a full history, and with `Audit` where the
+/// history does not agree with the session at the close.
+pub fn check<R: Wait, I: Read, O: Write + Drop, E: Write>(
+    rt: &R,
+    alloc: Global,
+    providers: &Providers,
+    line: &CheckLine,
+    input: &mut I,
+    out: &mut BufWriter<O>,
+    err: &mut E,
+) -> Result<u8, Stop>
+    ensures done { IfOk result (λ status. OfFile (I.remaining input.old) (λ file. Checked line.now file status (writer_contents O.contents out.old) (writer_contents O.contents out.new) (E.contents err.old) (E.contents err.new))) }
+    ensures range { IfOk result (λ status. status ≤ 2) }
+    ensures stopped { IfErr result (λ stop. Leaves line.now stop (I.remaining input.old) (writer_contents O.contents out.old) (writer_contents O.contents out.new) (E.contents err.old) (E.contents err.new)) }
+    ensures handed_on { writer_buffer out.old ≡ [] → (result ≡ Err Stop.CannotWrite) ⊎ (writer_buffer out.new ≡ []) }
+{
+    let file = read_whole(alloc, input)?;
+    let changes = read_told_changes(alloc, line.positions(), &file)?;
+    let names = find_asked(alloc, &changes)?;
+    let form = find_form(alloc, line, &file, &changes)?;
+    let asking = Asking {
+        providers,
+        form: &form,
+        names: &names,
+    };
+    serve(rt, alloc, changes, &asking, out, err)
+}
+
+/// The whole command `check` on the input of the file that the line names: writes reports on
+/// `out` and faults on `err`, and gives the exit status, the greatest that applies (own). Before a line on `err` says why the command
+/// stops, `out` has handed on what was printed; after `cannot write` it still holds what the writer behind it did not take.
+///
+/// 0 where no report has an error; 1 where one has; 2 where the file has a fault, a put stores nothing or an
+/// outcome is no report; 3 where the command stops for another reason, which is the last line on `err`. The fault of
+/// `err` where that line cannot be written: then nothing more can be said.
+pub fn check_and_tell<R: Wait, I: Read, O: Write + Drop, E: Write>(
+    rt: &R,
+    alloc: Global,
+    providers: &Providers,
+    line: &CheckLine,
+    input: &mut I,
+    out: &mut BufWriter<O>,
+    err: &mut E,
+) -> io::Result<u8>
+    ensures range { IfOk result (λ status. status ≤ 3) }
+    ensures ended { IfOk result (λ status. IsEnd line.now (I.remaining input.old) status (writer_contents O.contents out.old) (writer_contents O.contents out.new) (E.contents err.old) (E.contents err.new)) }
+    ensures handed_on { writer_buffer out.old ≡ [] → IfOk result (λ status. status < 3 → writer_buffer out.new ≡ []) }
+{
+    match check(rt, alloc, providers, line, input, out, err) {
+        Ok(status) => Ok(status),
+        Err(stop) => stop_with(line.file(), &stop, err),
+    }
+}
+
+/// The whole command `check` on the input of the file that the line names; it asks that the line is one of `check`. As
+/// `check_and_tell`, with status 3 where standard error fails (own).
+pub fn check_over<R: Wait, I: Read, O: Write + Drop, E: Write>(
+    rt: &R,
+    alloc: Global,
+    providers: &Providers,
+    line: &Line,
+    input: &mut I,
+    out: &mut BufWriter<O>,
+    err: &mut E,
+) -> u8
+    requires { is_check line.now ≡ true }
+    ensures range { result ≤ 3 }
+    ensures ended { result < 3 → IsEndOf line.now (I.remaining input.old) result (writer_contents O.contents out.old) (writer_contents O.contents out.new) (E.contents err.old) (E.contents err.new) }
+    ensures handed_on { writer_buffer out.old ≡ [] → result < 3 → writer_buffer out.new ≡ [] }
+{
+    let Line::Check(line) = line else {
+        unreachable!()
+    };
+    match check_and_tell(rt, alloc, providers, line, input, out, err) {
+        Ok(status) => status,
+        Err(_) => 3,
+    }
+}

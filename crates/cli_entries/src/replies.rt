@@ -1,0 +1,59 @@
+//! The JSON values of what calls were answered.
+ghost use Rattle.std.specs.Prelude.{◌≡◌, List, IfOk};
+ghost use Rattle.std.specs.List.{AllZip};
+ghost use Rattle.serde_json.specs.Data.{Data, array};
+ghost use Rattle.serde_json.specs.View.{items_of, view as data_of};
+ghost use Rattle.cli_entries.specs.Replies.{reply_key, IsReplyData, IsRoot};
+
+use crate::words::{put_word, remove_word};
+use bc_calls::Event;
+use bc_json::outcome_value;
+use bc_prov::{Outcome, Shared};
+use bc_text::Name;
+use serde_json::{ToValue, Value, json};
+use std::alloc::{AllocError, Global};
+
+/// The value of a root's name and its outcome.
+fn root_value(alloc: Global, name: &Name, outcome: &Outcome) -> Result<Value, AllocError>
+    ensures { IfOk result (λ value. IsRoot (name.now, outcome.now) (data_of value)) }
+{
+    let name = format!(in alloc; "{name}")?;
+    let outcome = outcome_value(alloc, outcome)?;
+    let value = json!(in alloc; {"name": name, "outcome": outcome})?;
+    Ok(value)
+}
+
+/// The array of roots with their outcomes, in order.
+fn roots_value(alloc: Global, rows: &[(Name, Shared<Outcome>)]) -> Result<Value, AllocError>
+    ensures { IfOk result (λ value. (roots : List Data) × AllZip IsRoot rows.now roots × (data_of value ≡ array (items_of roots))) }
+{
+    let mut values = Vec::new(alloc);
+    for (name, outcome) in rows {
+        values.push(root_value(alloc, name, outcome.get())?)?;
+    }
+    Ok(Value::Array(values))
+}
+
+/// The key of what a call was answered.
+pub(crate) fn reply_key(event: &Event) -> &'static str
+    ensures { result.now ≡ reply_key event.now }
+{
+    match event {
+        Event::Types(_) | Event::Put(_, _, _) | Event::Remove(_, _) => "reply",
+        Event::Ask(_, _) => "outcome",
+        Event::All(_) => "roots",
+    }
+}
+
+/// The value of what a call was answered.
+pub(crate) fn reply_value(alloc: Global, event: &Event) -> Result<Value, AllocError>
+    ensures { IfOk result (λ value. IsReplyData event.now (data_of value)) }
+{
+    match event {
+        Event::Types(_) => "stored".to_value(alloc),
+        Event::Put(_, _, reply) => put_word(*reply).to_value(alloc),
+        Event::Remove(_, reply) => remove_word(*reply).to_value(alloc),
+        Event::Ask(_, outcome) => outcome_value(alloc, outcome.get()),
+        Event::All(listing) => roots_value(alloc, listing.get().as_slice()),
+    }
+}

@@ -1,0 +1,38 @@
+-- Pieces of a line, as an input shows them.
+use Rattle.std.specs.Prelude.{◌≡◌, ◌≢◌, ℕ, ◌≤◌, List, [], ◌∷◌, ◌++◌, length, take, Option, OnSome}
+use Rattle.std.specs.List.{All}
+use Rattle.std.specs.Io.KnownBytes.{Consumes, IsAtEnd}
+use Rattle.cli_input.specs.declared.piece.Met.{Met}
+use Rattle.cli_input.specs.declared.piece.Met.TheVariants.{More, LineFeed, End}
+
+abbrev pub HasNoFeed : List ℕ → Type 0
+HasNoFeed bytes = All (λ b. b ≢ 10) bytes
+
+-- what ends a piece
+abbrev pub feed_of : Met → List ℕ
+feed_of More = []
+feed_of LineFeed = 10 ∷ []
+feed_of End = []
+
+-- some bytes are cut behind their first line feed, or as a whole
+pub record IsCut (bytes : List ℕ) (piece through : ℕ) (met : Met) : Type 0 where
+  pub within : through ≤ length bytes
+  pub shorter : piece ≤ through
+  pub clean : HasNoFeed (take piece bytes)
+  pub cut : take through bytes ≡ take piece bytes ++ feed_of met
+  pub here : met ≢ End
+
+-- a piece of a line was taken from an input, and kept up to so many bytes of the line
+pub record TakesPiece (most : ℕ) (known known' : Option (List ℕ)) (line line' : List ℕ) (met : Met) : Type 0 where
+  pub piece : List ℕ
+  pub clean : HasNoFeed piece
+  pub kept : line' ≡ take most (line ++ piece)
+  pub taken : Consumes known known' (piece ++ feed_of met)
+  pub ended : met ≡ End → OnSome known (IsAtEnd known')
+
+-- of a line these bytes were taken from an input, and kept up to so many
+pub record HasBegun (most : ℕ) (known known' : Option (List ℕ)) (line : List ℕ) : Type 0 where
+  pub bytes : List ℕ
+  pub clean : HasNoFeed bytes
+  pub kept : line ≡ take most bytes
+  pub taken : Consumes known known' bytes

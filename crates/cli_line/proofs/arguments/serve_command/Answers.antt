@@ -1,0 +1,11 @@
+use Rattle.std.proofs.lemmas.Result.{IfOk-weaker}
+use Rattle.cli_line.specs.Commands.{serve_app}
+use Rattle.cli_line.proofs.Telling.{argument_told}
+use Rattle.cli_line.proofs.arguments.serve_command.Goals as goal
+
+pub returns : goal.returns
+unfolding serve_app
+returns c =
+    let one = argument_told _ _ _ _ _ (c.new.ensures.app, c.new.ensures.local) c.in_ok-arg.ensures c.sessions_option.ensures.rule c.sessions_option.ensures.local in
+    let two = argument_told _ _ _ _ _ one c.in_ok-arg-2.ensures c.capacity_option.ensures.rule c.capacity_option.ensures.local in
+    IfOk-weaker c.arg-3.result _ _ (λ r h. argument_told _ _ _ _ _ two h c.solver_option.ensures.rule c.solver_option.ensures.local) c.arg-3.ensures

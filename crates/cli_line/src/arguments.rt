@@ -1,0 +1,142 @@
+//! The commands and their arguments, as the parser is told of them.
+ghost use Rattle.std.specs.Prelude.{◌≡◌, IfOk, false};
+ghost use Rattle.clap.specs.Words.{rule_of};
+ghost use Rattle.cli_line.specs.Commands.{IsCommand, capacity_rule, check_app, file_rule, json_rule, nlldb, program};
+ghost use Rattle.cli_line.specs.Commands.{positions_rule, print_app, run_app, serve_app, sessions_rule, solver_rule, source_rule};
+
+use crate::usage::VERSION;
+use clap::{Arg, ArgAction, Command};
+use std::alloc::{AllocError, Global};
+
+// FILE, which must stand.
+fn file_argument<'a>(alloc: Global) -> Arg<'a>
+    ensures rule { rule_of result ≡ file_rule }
+    ensures local { result.global ≡ false }
+{
+    Arg::new(alloc, "FILE").required(true)
+}
+
+// `--json`.
+fn json_option<'a>(alloc: Global) -> Arg<'a>
+    ensures rule { rule_of result ≡ json_rule }
+    ensures local { result.global ≡ false }
+{
+    Arg::new(alloc, "json")
+        .long("json")
+        .action(ArgAction::SetTrue)
+}
+
+// `--source`.
+fn source_option<'a>(alloc: Global) -> Arg<'a>
+    ensures rule { rule_of result ≡ source_rule }
+    ensures local { result.global ≡ false }
+{
+    Arg::new(alloc, "source")
+        .long("source")
+        .action(ArgAction::SetTrue)
+}
+
+// `--positions`.
+fn positions_option<'a>(alloc: Global) -> Arg<'a>
+    ensures rule { rule_of result ≡ positions_rule }
+    ensures local { result.global ≡ false }
+{
+    Arg::new(alloc, "positions")
+        .long("positions")
+        .action(ArgAction::SetTrue)
+}
+
+// `--sessions N`.
+fn sessions_option<'a>(alloc: Global) -> Arg<'a>
+    ensures rule { rule_of result ≡ sessions_rule }
+    ensures local { result.global ≡ false }
+{
+    Arg::new(alloc, "sessions")
+        .long("sessions")
+        .default_value("1")
+}
+
+// `--solver S`.
+fn solver_option<'a>(alloc: Global) -> Arg<'a>
+    ensures rule { rule_of result ≡ solver_rule }
+    ensures local { result.global ≡ false }
+{
+    Arg::new(alloc, "solver")
+        .long("solver")
+        .default_value("components")
+}
+
+// `--capacity C`.
+fn capacity_option<'a>(alloc: Global) -> Arg<'a>
+    ensures rule { rule_of result ≡ capacity_rule }
+    ensures local { result.global ≡ false }
+{
+    Arg::new(alloc, "capacity")
+        .long("capacity")
+        .default_value("1000000")
+}
+
+// `check FILE [--json] [--source] [--positions] [--solver S]`. That `--json` and `--source` do not both stand is looked at behind the parser.
+fn check_command<'a>(alloc: Global) -> Result<Command<'a>, AllocError>
+    ensures { IfOk result (IsCommand check_app) }
+{
+    Command::new(alloc, "check")
+        .arg(file_argument(alloc))?
+        .arg(json_option(alloc))?
+        .arg(source_option(alloc))?
+        .arg(positions_option(alloc))?
+        .arg(solver_option(alloc))
+}
+
+// `run FILE [--json] [--positions] [--sessions N] [--solver S]`.
+fn run_command<'a>(alloc: Global) -> Result<Command<'a>, AllocError>
+    ensures { IfOk result (IsCommand run_app) }
+{
+    Command::new(alloc, "run")
+        .arg(file_argument(alloc))?
+        .arg(json_option(alloc))?
+        .arg(positions_option(alloc))?
+        .arg(sessions_option(alloc))?
+        .arg(solver_option(alloc))
+}
+
+// `serve [--sessions N] [--capacity C] [--solver S]`.
+fn serve_command<'a>(alloc: Global) -> Result<Command<'a>, AllocError>
+    ensures { IfOk result (IsCommand serve_app) }
+{
+    Command::new(alloc, "serve")
+        .arg(sessions_option(alloc))?
+        .arg(capacity_option(alloc))?
+        .arg(solver_option(alloc))
+}
+
+// `print FILE [--positions]`.
+fn print_command<'a>(alloc: Global) -> Result<Command<'a>, AllocError>
+    ensures { IfOk result (IsCommand print_app) }
+{
+    Command::new(alloc, "print")
+        .arg(file_argument(alloc))?
+        .arg(positions_option(alloc))
+}
+
+// The program, before it has its commands.
+fn program<'a>(alloc: Global) -> Command<'a>
+    ensures { IsCommand program result }
+{
+    Command::new(alloc, "nlldb")
+        .no_binary_name(true)
+        .subcommand_required(true)
+        .disable_help_subcommand(true)
+        .version(VERSION)
+}
+
+/// The program's command, whose words are those behind its own name. `AllocError` only where memory was refused. (Own.)
+pub(crate) fn nlldb_command<'a>(alloc: Global) -> Result<Command<'a>, AllocError>
+    ensures { IfOk result (IsCommand nlldb) }
+{
+    program(alloc)
+        .subcommand(check_command(alloc)?)?
+        .subcommand(run_command(alloc)?)?
+        .subcommand(serve_command(alloc)?)?
+        .subcommand(print_command(alloc)?)
+}

@@ -1,0 +1,209 @@
+//! Words are read as a line.
+ghost use Rattle.std.specs.Prelude.{◌≡◌, IfOk, option_map, map};
+ghost use Rattle.clap.specs.Words.{first_of, found_of, rows_of};
+ghost use Rattle.cli_line.specs.Values.{capacity_named, is_capacity, is_session_count, sessions_named};
+ghost use Rattle.cli_line.specs.Lines.{IsInRange};
+ghost use Rattle.cli_line.specs.Written.{asks_for_both, is_set, solver_given, sessions_given, capacity_given, check_given, print_given, run_given, serve_given};
+ghost use Rattle.cli_line.specs.Written.{line_given, GivesLine, GivesParts};
+
+use crate::arguments::nlldb_command;
+use crate::solver::solver_named;
+use crate::topic::topic_of;
+use crate::{
+    CheckLine, Line, LineFault, MOST_CAPACITY, MOST_SESSIONS, PrintLine, RunLine, ServeLine, Solver,
+};
+use clap::ArgMatches;
+use std::alloc::Global;
+
+// The first value of an argument.
+fn value_of<'a>(matches: &ArgMatches<'a>, id: &str) -> Option<&'a str>
+    ensures { option_map (λ text. text.now) result ≡ first_of id.now (rows_of (found_of matches.now)) }
+{
+    matches.get_str(id)
+}
+
+// Whether a flag stands: its value is then `true`, and else `false`.
+fn is_set(matches: &ArgMatches<'_>, id: &str) -> bool
+    ensures { result ≡ is_set id.now (rows_of (found_of matches.now)) }
+{
+    match value_of(matches, id) {
+        Some(text) => text == "true",
+        None => false,
+    }
+}
+
+// Whether there may be so many sessions.
+fn is_session_count(count: u8) -> bool
+    ensures { result ≡ is_session_count count }
+{
+    1 <= count && count <= MOST_SESSIONS
+}
+
+// The number that a word writes, where there may be so many sessions. A word that writes no number counts as 0.
+fn sessions_named(word: &str) -> Option<u8>
+    ensures { result ≡ sessions_named word.now }
+{
+    let count = word.parse::<u8>().unwrap_or(0);
+    if is_session_count(count) {
+        Some(count)
+    } else {
+        None
+    }
+}
+
+// Whether a history may have so many entries.
+fn is_capacity(count: u32) -> bool
+    ensures { result ≡ is_capacity count }
+{
+    1 <= count && count <= MOST_CAPACITY
+}
+
+// The number that a word writes, where a history may have so many entries. A word that writes no number counts as 0.
+fn capacity_named(word: &str) -> Option<u32>
+    ensures { result ≡ capacity_named word.now }
+{
+    let count = word.parse::<u32>().unwrap_or(0);
+    if is_capacity(count) {
+        Some(count)
+    } else {
+        None
+    }
+}
+
+// The solver that the arguments name.
+fn solver_given(matches: &ArgMatches<'_>) -> Option<Solver>
+    ensures { result ≡ solver_given (rows_of (found_of matches.now)) }
+{
+    solver_named(value_of(matches, "solver")?)
+}
+
+// The number of sessions that the arguments name.
+fn sessions_given(matches: &ArgMatches<'_>) -> Option<u8>
+    ensures { result ≡ sessions_given (rows_of (found_of matches.now)) }
+{
+    sessions_named(value_of(matches, "sessions")?)
+}
+
+// The capacity that the arguments name.
+fn capacity_given(matches: &ArgMatches<'_>) -> Option<u32>
+    ensures { result ≡ capacity_given (rows_of (found_of matches.now)) }
+{
+    capacity_named(value_of(matches, "capacity")?)
+}
+
+// Whether the arguments ask for JSON and for sources.
+fn asks_for_both(matches: &ArgMatches<'_>) -> bool
+    ensures { result ≡ asks_for_both (rows_of (found_of matches.now)) }
+{
+    is_set(matches, "json") && is_set(matches, "source")
+}
+
+// The line of `check` with these arguments.
+fn read_check(alloc: Global, matches: &ArgMatches<'_>) -> Result<CheckLine, LineFault>
+    ensures { GivesParts (check_given (rows_of (found_of matches.now))) result }
+{
+    let Some(file) = value_of(matches, "FILE") else {
+        return Err(LineFault::WrongUse);
+    };
+    let Some(solver) = solver_given(matches) else {
+        return Err(LineFault::WrongUse);
+    };
+    if asks_for_both(matches) {
+        return Err(LineFault::WrongUse);
+    }
+    let json = is_set(matches, "json");
+    let source = is_set(matches, "source");
+    let positions = is_set(matches, "positions");
+    let file = String::from_str(alloc, file)?;
+    Ok(CheckLine::new(file, json, source, positions, solver))
+}
+
+// The line of `run` with these arguments.
+fn read_run(alloc: Global, matches: &ArgMatches<'_>) -> Result<RunLine, LineFault>
+    ensures { GivesParts (run_given (rows_of (found_of matches.now))) result }
+{
+    let Some(file) = value_of(matches, "FILE") else {
+        return Err(LineFault::WrongUse);
+    };
+    let Some(sessions) = sessions_given(matches) else {
+        return Err(LineFault::WrongUse);
+    };
+    let Some(solver) = solver_given(matches) else {
+        return Err(LineFault::WrongUse);
+    };
+    let json = is_set(matches, "json");
+    let positions = is_set(matches, "positions");
+    let file = String::from_str(alloc, file)?;
+    Ok(RunLine::new(file, json, positions, sessions, solver))
+}
+
+// The line of `serve` with these arguments.
+fn read_serve(matches: &ArgMatches<'_>) -> Result<ServeLine, LineFault>
+    ensures { GivesParts (serve_given (rows_of (found_of matches.now))) result }
+{
+    let Some(sessions) = sessions_given(matches) else {
+        return Err(LineFault::WrongUse);
+    };
+    let Some(capacity) = capacity_given(matches) else {
+        return Err(LineFault::WrongUse);
+    };
+    let Some(solver) = solver_given(matches) else {
+        return Err(LineFault::WrongUse);
+    };
+    Ok(ServeLine::new(sessions, capacity, solver))
+}
+
+// The line of `print` with these arguments.
+fn read_print(alloc: Global, matches: &ArgMatches<'_>) -> Result<PrintLine, LineFault>
+    ensures { GivesParts (print_given (rows_of (found_of matches.now))) result }
+{
+    let Some(file) = value_of(matches, "FILE") else {
+        return Err(LineFault::WrongUse);
+    };
+    let positions = is_set(matches, "positions");
+    let file = String::from_str(alloc, file)?;
+    Ok(PrintLine::new(file, positions))
+}
+
+// The line of the command of this name.
+fn read_command(alloc: Global, name: &str, matches: &ArgMatches<'_>) -> Result<Line, LineFault>
+    ensures line { GivesParts (line_given (name.now, rows_of (found_of matches.now))) result }
+    ensures range { IfOk result IsInRange }
+{
+    if name == "check" {
+        Ok(Line::Check(read_check(alloc, matches)?))
+    } else if name == "run" {
+        Ok(Line::Run(read_run(alloc, matches)?))
+    } else if name == "serve" {
+        Ok(Line::Serve(read_serve(matches)?))
+    } else if name == "print" {
+        Ok(Line::Print(read_print(alloc, matches)?))
+    } else {
+        Err(LineFault::WrongUse)
+    }
+}
+
+/// Reads the words of the command line, those behind the program's own name: `check FILE [--json | --source] [--positions] [--solver S]`,
+/// `run FILE [--json] [--positions] [--sessions N] [--solver S]`, `serve [--sessions N] [--solver S] [--capacity C]` or
+/// `print FILE [--positions]`, where S is `plain` or `components` (the default), N is 1 to 16 (1 by default) and C is 1 to 1,000,000 (which is the default).
+/// Options stand behind the command, before FILE or behind it, and take their value as the next word or behind a `=`. N and C are
+/// written in decimal digits, with leading zeros or none and a `+` before them or none. Behind a word `--` each word is FILE,
+/// so that its name may begin with `-`. (Own; how words are split into options and values is the rule of the crate `clap`.)
+///
+/// `Help` where the words ask for it by `--help` or `-h`, also behind a command, before a word that is wrong: on the command that the first word
+/// names, or else on the program. `Version` where they ask for it by `--version` or `-V`, which stands before a command. `NoMemory` only
+/// where memory was refused. `WrongUse` where the words write no line: no words, another command, no FILE or one too many, `--json` beside
+/// `--source`, an option that the command does not have, that stands twice, or whose value is missing or none of those above.
+pub fn read_line<'a>(alloc: Global, words: &'a [&'a str]) -> Result<Line, LineFault>
+    ensures line { GivesLine (map (λ word. word.now) words.now) result }
+    ensures range { IfOk result IsInRange }
+{
+    let matches = match nlldb_command(alloc)?.try_get_matches_from(words) {
+        Ok(matches) => matches,
+        Err(error) => return Err(LineFault::of_refusal(topic_of(words), &error)),
+    };
+    match matches.subcommand() {
+        Some((name, matches)) => read_command(alloc, name, matches),
+        None => Err(LineFault::WrongUse),
+    }
+}

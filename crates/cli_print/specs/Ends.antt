@@ -1,0 +1,40 @@
+-- How the command ends, and what it leaves where it stops.
+use Rattle.std.specs.Prelude.{◌≡◌, ◌⊎◌, ℕ, Option, List}
+use Rattle.std.specs.Io.KnownBytes.{Appends, Keeps}
+use Rattle.bc_calls.specs.declared.call.Call.{Call}
+use Rattle.cli_line.specs.Parts.{PrintParts}
+use Rattle.cli_check.specs.declared.stop.Stop.{Stop}
+use Rattle.cli_check.specs.declared.stop.Stop.TheVariants.{WrongUse, CannotRead, CannotWrite, CannotTell, NoMemory, File, TooManyCalls, HistoryFull, Foreign, Audit}
+use Rattle.cli_check.specs.Parts.{sections_of}
+use Rattle.cli_check.specs.Changes.{MakeAll, IsToldFault}
+use Rattle.cli_check.specs.Ends.{OfFile, StopsWith}
+use Rattle.cli_print.specs.Printed.{file_text}
+
+-- a file without a fault
+abbrev pub IsGood : List ℕ → Type 0
+IsGood file = (made : List Call) × MakeAll (sections_of file) made
+
+-- each section makes a call, and was printed with what that puts
+pub record Printed (file : List ℕ) (out out' : Option (List ℕ)) : Type 0 where
+  pub made : List Call
+  pub good : MakeAll (sections_of file) made
+  pub output : Appends out out' (file_text (sections_of file) made)
+
+-- What the command finds and leaves where it stops. What a writer that failed took is not known.
+abbrev pub Leaves : PrintParts → Stop → Option (List ℕ) → Option (List ℕ) → Option (List ℕ) → Type 0
+Leaves line WrongUse known out out' = ⊥
+Leaves line CannotRead known out out' = Keeps out out'
+Leaves line CannotWrite known out out' = OfFile known IsGood
+Leaves line CannotTell known out out' = ⊥
+Leaves line NoMemory known out out' = Keeps out out'
+Leaves line (File fault) known out out' = OfFile known (λ file. IsToldFault line.positions file fault) × Keeps out out'
+Leaves line TooManyCalls known out out' = ⊥
+Leaves line HistoryFull known out out' = ⊥
+Leaves line Foreign known out out' = ⊥
+Leaves line Audit known out out' = ⊥
+
+-- the command on the file that its line names ended with this status: at its end, where standard error has nothing, or where it stopped
+abbrev pub IsEnd : PrintParts → Option (List ℕ) → ℕ → Option (List ℕ) → Option (List ℕ) → Option (List ℕ) → Option (List ℕ) → Type 0
+IsEnd line known exit out out' err err' =
+    ((exit ≡ 0) × OfFile known (λ file. Printed file out out') × Keeps err err')
+    ⊎ StopsWith (λ stop told. Leaves line stop known out out' × Keeps err told) line.file exit err'

@@ -1,0 +1,80 @@
+//! The command on a file.
+ghost use Rattle.std.specs.Prelude.{◌≡◌, ◌≤◌, ◌<◌, ◌⊎◌, [], Err, IfOk, IfErr, OnOk};
+ghost use Rattle.std.specs.Io.Buffered.{writer_buffer, writer_contents};
+ghost use Rattle.cli_check.specs.Ends.{OfFile};
+ghost use Rattle.cli_print.specs.Ends.{Printed, Leaves, IsEnd};
+
+use crate::sections::print_sections;
+use cli_check::{Stop, read_told_changes, read_whole, stop_with};
+use cli_line::PrintLine;
+use std::alloc::Global;
+use std::io;
+use std::io::{BufWriter, Read, Write};
+
+/// Reads the whole input, and prints its sections: of each its header line as it stands, and behind it its text in its one spelling, the
+/// tokens with one space between two and a line feed behind the last. A buffer that held nothing holds nothing then, but where the
+/// writer behind it failed. Nothing is printed before the whole file is read.
+///
+/// Stops with `CannotRead` where the input cannot be read or is over 16 MiB; with `File` at its first fault, which is that of `check`;
+/// with `NoMemory` where there is no room, and with `CannotWrite` where the writer fails.
+pub fn print<I: Read, O: Write + Drop>(
+    alloc: Global,
+    line: &PrintLine,
+    input: &mut I,
+    out: &mut BufWriter<O>,
+) -> Result<(), Stop>
+    ensures done { OnOk result (OfFile (I.remaining input.old) (λ file. Printed file (writer_contents O.contents out.old) (writer_contents O.contents out.new))) }
+    ensures stopped { IfErr result (λ stop. Leaves line.now stop (I.remaining input.old) (writer_contents O.contents out.old) (writer_contents O.contents out.new)) }
+    ensures handed_on { writer_buffer out.old ≡ [] → (result ≡ Err Stop.CannotWrite) ⊎ (writer_buffer out.new ≡ []) }
+{
+    let file = read_whole(alloc, input)?;
+    let changes = read_told_changes(alloc, line.positions(), &file)?;
+    if print_sections(&file, &changes, out).is_err() {
+        return Err(Stop::CannotWrite);
+    }
+    match out.flush() {
+        Ok(()) => Ok(()),
+        Err(_) => Err(Stop::CannotWrite),
+    }
+}
+
+/// The whole command `print` on the input of the file that the line names: writes its sections on `out`, and gives the exit status (own). Before
+/// a line on `err` says why the command stops, `out` has handed on what was printed; after `cannot write` it still holds what the writer
+/// behind it did not take.
+///
+/// 0 where the sections are printed; 2 where the file has a fault; 3 where the command stops for another reason. Why it stops is one line
+/// on `err`, and its fault where that line cannot be written: then nothing more can be said.
+pub fn print_and_tell<I: Read, O: Write + Drop, E: Write>(
+    alloc: Global,
+    line: &PrintLine,
+    input: &mut I,
+    out: &mut BufWriter<O>,
+    err: &mut E,
+) -> io::Result<u8>
+    ensures range { IfOk result (λ status. status ≤ 3) }
+    ensures ended { IfOk result (λ status. IsEnd line.now (I.remaining input.old) status (writer_contents O.contents out.old) (writer_contents O.contents out.new) (E.contents err.old) (E.contents err.new)) }
+    ensures handed_on { writer_buffer out.old ≡ [] → IfOk result (λ status. status < 3 → writer_buffer out.new ≡ []) }
+{
+    match print(alloc, line, input, out) {
+        Ok(()) => Ok(0),
+        Err(stop) => stop_with(line.file(), &stop, err),
+    }
+}
+
+/// The whole command `print` on the input of the file that the line names. As `print_and_tell`, with status 3 where standard error fails (own).
+pub fn print_over<I: Read, O: Write + Drop, E: Write>(
+    alloc: Global,
+    line: &PrintLine,
+    input: &mut I,
+    out: &mut BufWriter<O>,
+    err: &mut E,
+) -> u8
+    ensures range { result ≤ 3 }
+    ensures ended { result < 3 → IsEnd line.now (I.remaining input.old) result (writer_contents O.contents out.old) (writer_contents O.contents out.new) (E.contents err.old) (E.contents err.new) }
+    ensures handed_on { writer_buffer out.old ≡ [] → result < 3 → writer_buffer out.new ≡ [] }
+{
+    match print_and_tell(alloc, line, input, out, err) {
+        Ok(status) => status,
+        Err(_) => 3,
+    }
+}

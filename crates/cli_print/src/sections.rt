@@ -1,0 +1,45 @@
+//! Sections as they are printed.
+ghost use Rattle.std.specs.Prelude.{OnOk, map};
+ghost use Rattle.std.specs.Io.KnownBytes.{Appends};
+ghost use Rattle.cli_check.specs.Changes.{seen};
+ghost use Rattle.cli_check.specs.Parts.{sections_of};
+ghost use Rattle.cli_print.specs.Printed.{text_of, section_text, file_text};
+
+use bc_print::{print_types, print_unit};
+use cli_check::{Change, Sections};
+use std::io;
+use std::io::Write;
+
+/// Writes the declarations or the body that a change puts, in their one spelling.
+fn print_change<O: Write>(change: &Change, out: &mut O) -> io::Result<()>
+    ensures { OnOk result (Appends (O.contents out.old) (O.contents out.new) (text_of (seen change.now))) }
+{
+    match change {
+        Change::Types(types) => Ok(print_types(types.get(), out)?),
+        Change::Put(_, unit) => Ok(print_unit(unit.get(), out)?),
+    }
+}
+
+/// Writes a section: its header line, and behind it what its change puts.
+fn print_section<O: Write>(header: &[u8], change: &Change, out: &mut O) -> io::Result<()>
+    ensures { OnOk result (Appends (O.contents out.old) (O.contents out.new) (section_text header.now (seen change.now))) }
+{
+    out.write_all(header)?;
+    out.write_all(b"\n")?;
+    print_change(change, out)
+}
+
+/// Writes the sections of a file, each with its change.
+pub fn print_sections<O: Write>(file: &[u8], changes: &[Change], out: &mut O) -> io::Result<()>
+    ensures { OnOk result (Appends (O.contents out.old) (O.contents out.new) (file_text (sections_of file.now) (map seen changes.now))) }
+{
+    let mut rest = changes;
+    for section in Sections::of(file) {
+        let Some((change, others)) = rest.split_first() else {
+            return Ok(());
+        };
+        print_section(section.header, change, out)?;
+        rest = others;
+    }
+    Ok(())
+}

@@ -1,0 +1,23 @@
+-- What printed files keep.
+use Rattle.std.specs.Prelude.{◌≡◌, ℕ, ◌≤◌, List, length}
+use Rattle.std.specs.List.{All}
+use Rattle.bc_calls.specs.declared.call.Call.{Call}
+use Rattle.cli_check.specs.Parts.{sections_of}
+use Rattle.cli_check.specs.Changes.{MakeAll}
+use Rattle.cli_print.specs.Printed.{text_of, file_text}
+
+-- what is printed of a file that makes these calls
+abbrev pub printed_file : List ℕ → List Call → List ℕ
+printed_file file made = file_text (sections_of file) made
+
+-- what is printed of each call is no longer than texts are
+abbrev pub AreShort : List Call → Type 0
+AreShort made = All (λ call. length (text_of call) ≤ 1048576) made
+
+-- and then the printed file makes these calls again
+abbrev pub PrintedFilesAreRead : Type 0
+PrintedFilesAreRead = (file : List ℕ) (made : List Call) → MakeAll (sections_of file) made → AreShort made → MakeAll (sections_of (printed_file file made)) made
+
+-- what is printed of a printed file is that file again
+abbrev pub PrintedFilesArePrintedAlike : Type 0
+PrintedFilesArePrintedAlike = (file : List ℕ) (made : List Call) → MakeAll (sections_of file) made → printed_file (printed_file file made) made ≡ printed_file file made

@@ -1,0 +1,14 @@
+//! What printed files keep, as the contract of a function that does nothing.
+ghost use Rattle.cli_print_laws.specs.Laws.{PrintedFilesAreRead, PrintedFilesArePrintedAlike};
+
+use bc_text_laws::{printed_types_are_read, printed_units_are_read};
+
+/// A printed file makes the calls of the file that it was printed of, in their order, where none of its texts is longer than a text may
+/// be; and it is printed as itself.
+pub fn printed_files_are_read()
+    ensures again { PrintedFilesAreRead }
+    ensures alike { PrintedFilesArePrintedAlike }
+{
+    printed_units_are_read();
+    printed_types_are_read();
+}

@@ -1,0 +1,28 @@
+//! What is printed is handed on in the end.
+ghost use Rattle.std.specs.Prelude.{◌≡◌, ◌≤◌, ◌<◌, [], IfOk};
+ghost use Rattle.std.specs.Io.Buffered.{writer_buffer, writer_contents};
+ghost use Rattle.std.specs.Io.KnownBytes.{Keeps};
+ghost use Rattle.cli_program.specs.Ends.{HandsOn};
+
+use cli_check::{Stop, stop_with};
+use std::io;
+use std::io::{BufWriter, Write};
+
+/// Hands on what the buffer holds, where nothing has failed yet, and tells that standard output failed where it does here.
+pub(crate) fn hand_on<O: Write + Drop, E: Write>(
+    status: u8,
+    out: &mut BufWriter<O>,
+    err: &mut E,
+) -> io::Result<u8>
+    requires { status ≤ 3 }
+    ensures range { IfOk result (λ exit. exit ≤ 3) }
+    ensures kept { Keeps (writer_contents O.contents out.old) (writer_contents O.contents out.new) }
+    ensures ended { IfOk result (λ exit. HandsOn status exit (E.contents err.old) (E.contents err.new)) }
+    ensures handed_on { IfOk result (λ exit. exit < 3 → writer_buffer out.new ≡ []) }
+{
+    if status == 3 || out.flush().is_ok() {
+        Ok(status)
+    } else {
+        stop_with("", &Stop::CannotWrite, err)
+    }
+}

@@ -1,0 +1,170 @@
+//! The program over any inputs and outputs.
+ghost use Rattle.std.specs.Prelude.{◌≡◌, ◌≤◌, ◌<◌, [], IfOk, OnErr, map};
+ghost use Rattle.std.specs.Io.Buffered.{writer_buffer, writer_contents};
+ghost use Rattle.cli_check.specs.Words.{Answers};
+ghost use Rattle.cli_program.specs.Ends.{IsEndOfLine, IsEndOfWords};
+
+use crate::handing::hand_on;
+use crate::{Inputs, obey_line};
+use bc_analyses::{find_plain_values, providers};
+use cli_check::{Stop, answer_words, stop_with};
+use cli_line::{Line, LineFault, Solver, read_line};
+use std::alloc::AllocError;
+use std::io;
+use std::io::{BufRead, BufWriter, Write};
+use std::sync::Wait;
+use std::thread::Threads;
+
+/// Has the C library keep what a body's analysis gives back, for the next body, and not hand it to the system each time: it keeps
+/// what is smaller than the greatest block that it was ever given back (mallopt(3), `M_MMAP_THRESHOLD`), which is this one.
+fn keep_memory<R: AllocGlobal>(rt: &R) {
+    let block: Result<Vec<u8>, AllocError> = Vec::with_capacity(rt.alloc(), 1 << 24);
+    drop(block);
+}
+
+/// Does what a line says with the solver by components. `AllocError`, with nothing done, where there is no room for the providers.
+fn obey_by_components<
+    R: AllocGlobal + Threads + Wait + Sync,
+    S: Inputs,
+    I: BufRead,
+    O: Write + Drop + Send,
+    E: Write,
+>(
+    rt: &R,
+    line: &Line,
+    inputs: &S,
+    standard: &mut I,
+    out: &mut BufWriter<O>,
+    err: &mut E,
+) -> Result<io::Result<u8>, AllocError>
+    ensures range { IfOk result (λ ended. IfOk ended (λ status. status ≤ 3)) }
+    ensures ended { IfOk result (λ ended. IfOk ended (λ status. IsEndOfLine (S.bytes_of inputs.now) (I.remaining standard.old) line.now status (writer_contents O.contents out.old) (writer_contents O.contents out.new) (E.contents err.old) (E.contents err.new))) }
+    ensures handed_on { writer_buffer out.old ≡ [] → IfOk result (λ ended. IfOk ended (λ status. status < 3 → writer_buffer out.new ≡ [])) }
+    ensures nothing { OnErr result ((out.new ≡ out.old) × (err.new ≡ err.old)) }
+{
+    let providers = providers!(rt.alloc());
+    Ok(obey_line(rt, &providers, line, inputs, standard, out, err))
+}
+
+/// Does what a line says with the plain solver. `AllocError`, with nothing done, where there is no room for the providers.
+fn obey_plainly<
+    R: AllocGlobal + Threads + Wait + Sync,
+    S: Inputs,
+    I: BufRead,
+    O: Write + Drop + Send,
+    E: Write,
+>(
+    rt: &R,
+    line: &Line,
+    inputs: &S,
+    standard: &mut I,
+    out: &mut BufWriter<O>,
+    err: &mut E,
+) -> Result<io::Result<u8>, AllocError>
+    ensures range { IfOk result (λ ended. IfOk ended (λ status. status ≤ 3)) }
+    ensures ended { IfOk result (λ ended. IfOk ended (λ status. IsEndOfLine (S.bytes_of inputs.now) (I.remaining standard.old) line.now status (writer_contents O.contents out.old) (writer_contents O.contents out.new) (E.contents err.old) (E.contents err.new))) }
+    ensures handed_on { writer_buffer out.old ≡ [] → IfOk result (λ ended. IfOk ended (λ status. status < 3 → writer_buffer out.new ≡ [])) }
+    ensures nothing { OnErr result ((out.new ≡ out.old) × (err.new ≡ err.old)) }
+{
+    let providers = providers!(rt.alloc(), find_plain_values);
+    Ok(obey_line(rt, &providers, line, inputs, standard, out, err))
+}
+
+/// Does what a line says with the solver that it names. `AllocError`, with nothing done, where there is no room for the providers.
+fn obey_by_its_solver<
+    R: AllocGlobal + Threads + Wait + Sync,
+    S: Inputs,
+    I: BufRead,
+    O: Write + Drop + Send,
+    E: Write,
+>(
+    rt: &R,
+    line: &Line,
+    inputs: &S,
+    standard: &mut I,
+    out: &mut BufWriter<O>,
+    err: &mut E,
+) -> Result<io::Result<u8>, AllocError>
+    ensures range { IfOk result (λ ended. IfOk ended (λ status. status ≤ 3)) }
+    ensures ended { IfOk result (λ ended. IfOk ended (λ status. IsEndOfLine (S.bytes_of inputs.now) (I.remaining standard.old) line.now status (writer_contents O.contents out.old) (writer_contents O.contents out.new) (E.contents err.old) (E.contents err.new))) }
+    ensures handed_on { writer_buffer out.old ≡ [] → IfOk result (λ ended. IfOk ended (λ status. status < 3 → writer_buffer out.new ≡ [])) }
+    ensures nothing { OnErr result ((out.new ≡ out.old) × (err.new ≡ err.old)) }
+{
+    match line.solver() {
+        Solver::Components => obey_by_components(rt, line, inputs, standard, out, err),
+        Solver::Plain => obey_plainly(rt, line, inputs, standard, out, err),
+    }
+}
+
+/// Does what a line says, or tells that there is no room for the providers.
+fn obey<
+    R: AllocGlobal + Threads + Wait + Sync,
+    S: Inputs,
+    I: BufRead,
+    O: Write + Drop + Send,
+    E: Write,
+>(
+    rt: &R,
+    line: &Line,
+    inputs: &S,
+    standard: &mut I,
+    out: &mut BufWriter<O>,
+    err: &mut E,
+) -> io::Result<u8>
+    ensures range { IfOk result (λ status. status ≤ 3) }
+    ensures ended { IfOk result (λ status. IsEndOfLine (S.bytes_of inputs.now) (I.remaining standard.old) line.now status (writer_contents O.contents out.old) (writer_contents O.contents out.new) (E.contents err.old) (E.contents err.new)) }
+    ensures handed_on { writer_buffer out.old ≡ [] → IfOk result (λ status. status < 3 → writer_buffer out.new ≡ []) }
+{
+    keep_memory(rt);
+    match obey_by_its_solver(rt, line, inputs, standard, out, err) {
+        Ok(ended) => ended,
+        Err(_) => stop_with("", &Stop::NoMemory, err),
+    }
+}
+
+/// Answers words that write no line, and hands on what is printed.
+fn answer<O: Write + Drop, E: Write>(
+    fault: LineFault,
+    out: &mut BufWriter<O>,
+    err: &mut E,
+) -> io::Result<u8>
+    ensures range { IfOk result (λ status. status ≤ 3) }
+    ensures answered { IfOk result (λ status. Answers fault status (writer_contents O.contents out.old) (writer_contents O.contents out.new) (E.contents err.old) (E.contents err.new)) }
+    ensures handed_on { IfOk result (λ status. status < 3 → writer_buffer out.new ≡ []) }
+{
+    match answer_words(fault, out, err) {
+        Ok(status) => hand_on(status, out, err),
+        Err(failed) => Err(failed),
+    }
+}
+
+/// The whole program for the words behind its own name, over any inputs and outputs: obeys the line that they write, or answers words that
+/// write none, and gives the exit status (own). What is printed goes to `out`, which has handed it on where the status is below 3, and what
+/// is told to `err`; `inputs` opens the file that a line names, and `standard` is standard input.
+///
+/// 0 where no report has an error, and for help and the version; 1 where a report has one; 2 where the file has a fault, a put stores
+/// nothing or an outcome is no report; 3 for wrong use, a file that cannot be opened or read, want of memory, a failed output, and the
+/// other stops of the commands. The fault of `err` where the last line there cannot be written: then nothing more can be said.
+pub fn run_program<
+    R: AllocGlobal + Threads + Wait + Sync,
+    S: Inputs,
+    I: BufRead,
+    O: Write + Drop + Send,
+    E: Write,
+>(
+    rt: &R,
+    words: &[&str],
+    inputs: &S,
+    standard: &mut I,
+    out: &mut BufWriter<O>,
+    err: &mut E,
+) -> io::Result<u8>
+    ensures range { IfOk result (λ status. status ≤ 3) }
+    ensures ended { IfOk result (λ status. IsEndOfWords (S.bytes_of inputs.now) (I.remaining standard.old) (map (λ word. word.now) words.now) status (writer_contents O.contents out.old) (writer_contents O.contents out.new) (E.contents err.old) (E.contents err.new)) }
+    ensures handed_on { writer_buffer out.old ≡ [] → IfOk result (λ status. status < 3 → writer_buffer out.new ≡ []) }
+{
+    match read_line(rt.alloc(), words) {
+        Ok(line) => obey(rt, &line, inputs, standard, out, err),
+        Err(fault) => answer(fault, out, err),
+    }
+}

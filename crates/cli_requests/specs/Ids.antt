@@ -1,0 +1,14 @@
+-- What the answer to a request repeats of it.
+use Rattle.std.specs.Prelude.{codes, unwrap_or}
+use Rattle.serde_json.specs.Data.{Data, null}
+use Rattle.serde_json.specs.Find.{get}
+use Rattle.serde_json.specs.View.{view}
+use Rattle.cli_requests.specs.declared.id.Id.{Id}
+
+-- the data of an id
+abbrev pub told : Id → Data
+told id = view id.value
+
+-- the member `id`, or null where there is none
+abbrev pub id_of : Data → Data
+id_of value = unwrap_or (get (codes "id") value) null

@@ -1,0 +1,42 @@
+//! What the answer to a request repeats of it.
+ghost use Rattle.std.specs.Prelude.{◌≡◌, IfOk};
+ghost use Rattle.serde_json.specs.Data.{null};
+ghost use Rattle.serde_json.specs.View.{view as data_of};
+ghost use Rattle.cli_requests.specs.Ids.{told, id_of};
+
+use serde_json::Value;
+use std::alloc::AllocError;
+
+/// The `id` of a request, which is any JSON value. Contracts see its data by `told`.
+#[derive(Drop)]
+pub struct Id {
+    value: Value,
+}
+
+impl Id {
+    /// The id of a request that has none: `null`.
+    pub fn none() -> Id
+        ensures { told result ≡ null }
+    {
+        Id { value: Value::Null }
+    }
+
+    /// The member `id` of a request, or `null` where it has none. `AllocError` only where memory was refused.
+    pub(crate) fn of(value: &Value) -> Result<Id, AllocError>
+        ensures { IfOk result (λ id. told id ≡ id_of (data_of value.now)) }
+    {
+        match value.get("id") {
+            Some(value) => Ok(Id {
+                value: value.clone()?,
+            }),
+            None => Ok(Id::none()),
+        }
+    }
+
+    /// The JSON value.
+    pub fn value(&self) -> &Value
+        ensures { data_of result.now ≡ told self.now }
+    {
+        &self.value
+    }
+}

@@ -1,0 +1,23 @@
+//! The members of a request.
+ghost use Rattle.std.specs.Prelude.{◌≡◌, codes, true, IfOk, IfErr, IfSome, IfNone, option_map};
+ghost use Rattle.serde_json.specs.View.{view as data_of};
+ghost use Rattle.bc_text.specs.Names.{NameParts};
+ghost use Rattle.cli_requests.specs.Asking.{HasName, word};
+
+use bc_text::Name;
+use serde_json::Value;
+
+/// The member of this name, where it is a string.
+pub(crate) fn find_word<'a>(value: &'a Value, key: &str) -> Option<&'a str>
+    ensures { option_map (λ text. text.now) result ≡ word key.now (data_of value.now) }
+{
+    value.get(key).and_then(Value::as_str)
+}
+
+/// The name in the member `name`, or `None` exactly where that is no string or spells no name.
+pub(crate) fn find_name(value: &Value) -> Option<Name>
+    ensures found { IfSome result (HasName (data_of value.now)) }
+    ensures none { IfNone result ((name : NameParts) → ¬ HasName (data_of value.now) name) }
+{
+    Name::read(find_word(value, "name")?.as_bytes())
+}

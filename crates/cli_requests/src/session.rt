@@ -1,0 +1,46 @@
+//! The session that a line names.
+ghost use Rattle.std.specs.Prelude.{◌≡◌, ◌<◌, codes, IfOk, IfSome};
+ghost use Rattle.serde_json.specs.Find.{get};
+ghost use Rattle.serde_json.specs.View.{view as data_of};
+ghost use Rattle.cli_requests.specs.Sessions.{number_of, session_at, session_in};
+
+use crate::fault::Stop;
+use crate::line::read_line;
+use serde_json::Value;
+use std::alloc::{AllocError, Global};
+
+/// The number that a value names in its member `session`, which is 0 where there is none.
+fn find_number(value: &Value) -> Option<u64>
+    ensures { result ≡ number_of (get (codes "session") (data_of value.now)) }
+{
+    match value.get("session") {
+        Some(member) => member.as_u64(),
+        None => Some(0),
+    }
+}
+
+/// The session that a value names, of so many.
+pub(crate) fn session_of(value: &Value, sessions: u8) -> Option<u8>
+    ensures which { result ≡ session_at sessions (data_of value.now) }
+    ensures below { IfSome result (λ session. session < sessions) }
+{
+    let number = find_number(value)?;
+    if number >= u64::from(sessions) {
+        return None;
+    }
+    Some(number as u8)
+}
+
+/// The session that a line names, of so many: the number in its member `session`, or 0 where the line is JSON without that member.
+/// `None` exactly where the line has more than `MOST_REQUEST_BYTES` bytes, is no JSON (RFC 8259) in UTF-8, nests deeper than 127, or names
+/// no whole number below `sessions`. `AllocError` only where memory was refused.
+pub fn find_session(alloc: Global, line: &[u8], sessions: u8) -> Result<Option<u8>, AllocError>
+    ensures which { IfOk result (λ found. found ≡ session_in sessions line.now) }
+    ensures below { IfOk result (λ found. IfSome found (λ session. session < sessions)) }
+{
+    match read_line(alloc, line) {
+        Ok(value) => Ok(session_of(&value, sessions)),
+        Err(Stop::Fault(_)) => Ok(None),
+        Err(Stop::NoMemory) => Err(AllocError),
+    }
+}

@@ -1,0 +1,8 @@
+use Rattle.cli_check.specs.Parts.{sections_of}
+use Rattle.cli_check.specs.Left.{left}
+use Rattle.cli_check.proofs.Reading.{HasRead}
+use Rattle.cli_run.specs.Calls.{Gives}
+use Rattle.cli_run.proofs.file.read_calls.Given as goal
+
+abbrev pub invariant-loop-section : goal.invariant-loop-section
+invariant-loop-section l = HasRead (Gives l.sessions) (sections_of l.file) (left l.section-iterator) l.calls.items

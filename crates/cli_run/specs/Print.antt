@@ -1,0 +1,68 @@
+-- What is printed of a history, and of sessions that did not end.
+use Rattle.std.specs.Prelude.{◌≡◌, ℕ, ◌+◌, Bool, true, Option, List, [], ◌∷◌, ◌++◌, length, codes, decimal, if◌then◌else◌}
+use Rattle.std.specs.List.{flat_map}
+use Rattle.std.specs.Io.KnownBytes.{Appends}
+use Rattle.bc_text.specs.Names.{NameParts, name_text}
+use Rattle.bc_prov.specs.declared.outcome.Outcome.{Outcome}
+use Rattle.bc_calls.specs.declared.call.Entry.{Entry}
+use Rattle.bc_calls.specs.declared.call.Event.{Event}
+use Rattle.bc_calls.specs.declared.call.Event.TheVariants.{Types, Put, Remove, Ask, All as EveryRoot}
+use Rattle.bc_book.specs.declared.ledger.Refusal.{Refusal}
+use Rattle.bc_book.specs.declared.ledger.Refusal.TheVariants as refusals
+use Rattle.bc_scripts.specs.declared.run.End.{End}
+use Rattle.bc_scripts.specs.declared.run.End.TheVariants.{Done, Stopped}
+use Rattle.cli_entries.specs.Words.{put_word, remove_word}
+use Rattle.cli_entries.specs.Json.{entry_json}
+use Rattle.bc_report.specs.Text.{line}
+use Rattle.bc_report.specs.Report.{report}
+
+-- a call with its reply, in words
+abbrev pub event_text : Event → List ℕ
+event_text (Types types) = codes "types stored"
+event_text (Put name body reply) = codes "put " ++ name_text name ++ codes " " ++ put_word reply
+event_text (Remove name reply) = codes "remove " ++ name_text name ++ codes " " ++ remove_word reply
+event_text (Ask name outcome) = codes "ask " ++ name_text name
+event_text (EveryRoot rows) = codes "askall " ++ decimal (length rows)
+
+-- the line of an entry: the session, how many calls it had made before, and the call
+abbrev pub entry_line : Entry → List ℕ
+entry_line entry = decimal entry.session ++ codes " " ++ decimal entry.number ++ codes " " ++ line (event_text entry.event)
+
+-- the lines of a root that an Ask for all lists: its name, and its report
+abbrev pub root_lines : NameParts × Outcome → List ℕ
+root_lines row = line (codes "root " ++ name_text row.0) ++ report row.1
+
+-- the report of an Ask, and the lines of the roots of an Ask for all
+abbrev pub outcome_lines : Event → List ℕ
+outcome_lines (Types types) = []
+outcome_lines (Put name body reply) = []
+outcome_lines (Remove name reply) = []
+outcome_lines (Ask name outcome) = report outcome
+outcome_lines (EveryRoot rows) = flat_map root_lines rows
+
+-- an entry: its line and what it answers, or where JSON is wanted one line that has both
+abbrev pub entry_lines : Bool → Entry → List ℕ
+entry_lines json entry = if json then line (entry_json entry) else entry_line entry ++ outcome_lines entry.event
+
+-- a beginning of some entries is printed as JSON, without the next of them
+pub record PrintsPart (entries : List Entry) (out out' : Option (List ℕ)) : Type 0 where
+  pub front : List Entry
+  pub next : Entry
+  pub ahead : List Entry
+  pub cut : front ++ next ∷ ahead ≡ entries
+  pub printed : Appends out out' (flat_map (entry_lines true) front)
+
+-- why a call was refused
+abbrev pub refusal_text : Refusal → List ℕ
+refusal_text refusals.NoMemory = codes "no memory"
+refusal_text refusals.HistoryFull = codes "history full"
+
+-- the line of a session that did not end
+abbrev pub stopped_line : ℕ → End → List ℕ
+stopped_line session Done = []
+stopped_line session (Stopped number refusal) = line (codes "session " ++ decimal session ++ codes " stopped: " ++ refusal_text refusal)
+
+-- the lines of the sessions that did not end, of which the first has this number
+abbrev pub stopped_lines : ℕ → List End → List ℕ
+stopped_lines session [] = []
+stopped_lines session (end ∷ ends) = stopped_line session end ++ stopped_lines (session + 1) ends

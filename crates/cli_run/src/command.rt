@@ -1,0 +1,184 @@
+//! The command `run`.
+ghost use Rattle.std.specs.Prelude.{◌≡◌, ◌≤◌, ◌<◌, ◌⊎◌, [], true, Err, OnOk, OnErr, IfOk, IfErr, IsErrOf, length, max};
+ghost use Rattle.std.specs.List.{flat_map};
+ghost use Rattle.std.specs.Io.Buffered.{writer_buffer, writer_contents};
+ghost use Rattle.std.specs.Io.KnownBytes.{Appends, Keeps};
+ghost use Rattle.cli_line.specs.Lines.{is_run};
+ghost use Rattle.cli_check.specs.Run.{greatest};
+ghost use Rattle.cli_check.specs.Ends.{OfFile};
+ghost use Rattle.cli_run.specs.Runs.{events_of, end_status, greatest_end};
+ghost use Rattle.cli_run.specs.Print.{entry_lines, stopped_lines, PrintsPart};
+ghost use Rattle.cli_run.specs.Ends.{Ran, Leaves, IsEnd, IsEndOf};
+
+use crate::file::read_told_calls;
+use crate::make::make_calls;
+use crate::print::{write_all_stopped, write_history};
+use bc_calls::Entry;
+use bc_prov::Providers;
+use bc_scripts::End;
+use bc_share::History;
+use cli_check::{Stop, event_status, read_whole, stop_with};
+use cli_line::{Line, RunLine};
+use std::alloc::Global;
+use std::io;
+use std::io::{BufWriter, Read, Write};
+use std::sync::Wait;
+use std::thread::Threads;
+
+/// Prints a history, as text or as JSON, and hands on what the buffer holds of it, also where there is no room for the JSON of an entry.
+fn show<O: Write + Drop>(
+    alloc: Global,
+    json: bool,
+    history: &History,
+    out: &mut BufWriter<O>,
+) -> Result<(), Stop>
+    ensures shown { OnOk result (Appends (writer_contents O.contents out.old) (writer_contents O.contents out.new) (flat_map (entry_lines json) history.now)) }
+    ensures no_memory { IsErrOf result Stop.NoMemory → (json ≡ true) × PrintsPart history.now (writer_contents O.contents out.old) (writer_contents O.contents out.new) }
+    ensures handed_on { (result ≡ Err Stop.CannotWrite) ⊎ (writer_buffer out.new ≡ []) }
+    ensures stop { IfErr result (λ stop. (stop ≡ Stop.CannotWrite) ⊎ (stop ≡ Stop.NoMemory)) }
+{
+    let Ok(made) = write_history(alloc, json, history.entries(), out) else {
+        return Err(Stop::CannotWrite);
+    };
+    if out.flush().is_err() {
+        return Err(Stop::CannotWrite);
+    }
+    match made {
+        Ok(()) => Ok(()),
+        Err(_) => Err(Stop::NoMemory),
+    }
+}
+
+/// Tells of the sessions that did not end.
+fn tell<E: Write>(ends: &[End], err: &mut E) -> Result<(), Stop>
+    requires { length ends.now ≤ 16 }
+    ensures told { OnOk result (Appends (E.contents err.old) (E.contents err.new) (stopped_lines 0 ends.now)) }
+    ensures owed { OnErr result (greatest_end ends.now ≡ 3) }
+    ensures stop { IfErr result (λ stop. stop ≡ Stop.CannotTell) }
+{
+    if write_all_stopped(ends, err).is_err() {
+        return Err(Stop::CannotTell);
+    }
+    Ok(())
+}
+
+/// The greatest status of the calls of a history.
+fn history_status(entries: &[Entry]) -> u8
+    ensures value { result ≡ greatest (events_of entries.now) }
+    ensures range { result ≤ 2 }
+{
+    let mut status: u8 = 0;
+    for entry in entries {
+        status = status.max(event_status(&entry.event));
+    }
+    status
+}
+
+/// The status of a session by how it ended.
+fn end_status(end: &End) -> u8
+    ensures value { result ≡ end_status end.now }
+    ensures range { result ≤ 3 }
+{
+    match end {
+        End::Done => 0,
+        End::Stopped {
+            number: _,
+            refusal: _,
+        } => 3,
+    }
+}
+
+/// The greatest status of some sessions.
+fn ends_status(ends: &[End]) -> u8
+    ensures value { result ≡ greatest_end ends.now }
+    ensures range { result ≤ 3 }
+{
+    let mut status: u8 = 0;
+    for end in ends {
+        status = status.max(end_status(end));
+    }
+    status
+}
+
+/// Reads the whole input, has each of the line's sessions make its calls on a thread of its own, and prints the history: a line for each
+/// entry, the report behind the line of an Ask, and each root with its report behind that of an Ask for all; or as JSON one object a line
+/// for each entry. Then it tells of each session that did not end. The greatest status of the calls, and 3 where a session did not end. A
+/// buffer that held nothing holds nothing then, but where the writer behind it failed. (Own.)
+///
+/// Stops with `CannotRead` where the input cannot be read or is over 16 MiB; with `File` at its first fault; with
+/// `TooManyCalls` where it has more than 1,000,000 calls; with `CannotWrite` or `CannotTell` where a writer
+/// fails; with `NoMemory` where there is no room, and with `Audit` where the history does not agree with the sessions at the close, both
+/// before anything is printed, but that as JSON a beginning of the history is printed where there is no room for the line of the next entry.
+pub fn run<R: Threads + Wait + Sync, I: Read, O: Write + Drop, E: Write>(
+    rt: &R,
+    alloc: Global,
+    providers: &Providers,
+    line: &RunLine,
+    input: &mut I,
+    out: &mut BufWriter<O>,
+    err: &mut E,
+) -> Result<u8, Stop>
+    ensures done { IfOk result (λ status. OfFile (I.remaining input.old) (λ file. Ran line.now.json line.now.sessions file status (writer_contents O.contents out.old) (writer_contents O.contents out.new) (E.contents err.old) (E.contents err.new))) }
+    ensures range { IfOk result (λ status. status ≤ 3) }
+    ensures stopped { IfErr result (λ stop. Leaves line.now stop (I.remaining input.old) (writer_contents O.contents out.old) (writer_contents O.contents out.new) (E.contents err.old) (E.contents err.new)) }
+    ensures handed_on { writer_buffer out.old ≡ [] → (result ≡ Err Stop.CannotWrite) ⊎ (writer_buffer out.new ≡ []) }
+{
+    let file = read_whole(alloc, input)?;
+    let sessions = line.sessions();
+    let calls = read_told_calls(alloc, sessions, line.positions(), &file)?;
+    let made = make_calls(rt, alloc, providers, &calls, sessions)?;
+    show(alloc, line.json(), &made.history, out)?;
+    tell(&made.ends, err)?;
+    Ok(history_status(made.history.entries()).max(ends_status(&made.ends)))
+}
+
+/// The whole command `run` on the input of the file that the line names: writes the history on `out` and faults on `err`, and gives the
+/// exit status, the greatest that applies (own). Before a line on `err` says why the command stops, `out` has handed on what was
+/// printed; after `cannot write` it still holds what the writer behind it did not take.
+///
+/// 0 where no report has an error; 1 where one has; 2 where the file has a fault, a put stored nothing or an outcome is no report; 3
+/// where a session did not end, or the command stops for another reason, which is the last line on `err`. The fault of `err` where that
+/// line cannot be written: then nothing more can be said.
+pub fn run_and_tell<R: Threads + Wait + Sync, I: Read, O: Write + Drop, E: Write>(
+    rt: &R,
+    alloc: Global,
+    providers: &Providers,
+    line: &RunLine,
+    input: &mut I,
+    out: &mut BufWriter<O>,
+    err: &mut E,
+) -> io::Result<u8>
+    ensures range { IfOk result (λ status. status ≤ 3) }
+    ensures ended { IfOk result (λ status. IsEnd line.now (I.remaining input.old) status (writer_contents O.contents out.old) (writer_contents O.contents out.new) (E.contents err.old) (E.contents err.new)) }
+    ensures handed_on { writer_buffer out.old ≡ [] → IfOk result (λ status. status < 3 → writer_buffer out.new ≡ []) }
+{
+    match run(rt, alloc, providers, line, input, out, err) {
+        Ok(status) => Ok(status),
+        Err(stop) => stop_with(line.file(), &stop, err),
+    }
+}
+
+/// The whole command `run` on the input of the file that the line names; it asks that the line is one of `run`. As `run_and_tell`,
+/// with status 3 where standard error fails (own).
+pub fn run_over<R: Threads + Wait + Sync, I: Read, O: Write + Drop, E: Write>(
+    rt: &R,
+    alloc: Global,
+    providers: &Providers,
+    line: &Line,
+    input: &mut I,
+    out: &mut BufWriter<O>,
+    err: &mut E,
+) -> u8
+    requires { is_run line.now ≡ true }
+    ensures range { result ≤ 3 }
+    ensures ended { result < 3 → IsEndOf line.now (I.remaining input.old) result (writer_contents O.contents out.old) (writer_contents O.contents out.new) (E.contents err.old) (E.contents err.new) }
+    ensures handed_on { writer_buffer out.old ≡ [] → result < 3 → writer_buffer out.new ≡ [] }
+{
+    let Line::Run(line) = line else {
+        unreachable!()
+    };
+    match run_and_tell(rt, alloc, providers, line, input, out, err) {
+        Ok(status) => status,
+        Err(_) => 3,
+    }
+}

@@ -1,0 +1,141 @@
+//! The calls of a file, each with the session that is to make it.
+ghost use Rattle.std.specs.Prelude.{◌≡◌, ◌≤◌, ◌==◌, ◌||◌};
+ghost use Rattle.cli_check.specs.Parts.{sections_of};
+ghost use Rattle.cli_check.specs.Left.{part_of};
+ghost use Rattle.std.specs.List.{list_all};
+ghost use Rattle.cli_run.specs.Calls.{GivesText, GivesOne, GivesAll, GivesTold};
+
+use crate::header::read_header;
+use bc_calls::Call;
+use bc_text::Name;
+use cli_check::{
+    FaultKind, Heading, Section, Sections, Stop, locate, read_body, read_declarations, stop_at,
+    text_stop,
+};
+use std::alloc::Global;
+
+/// A call of a file, and the session that is to make it. (Own.)
+#[derive(Drop)]
+pub struct SessionCall {
+    pub session: u8,
+    pub call: Call,
+}
+
+/// Whether a byte is a space or a line feed.
+fn is_blank_byte(byte: u8) -> bool
+    ensures { result ≡ (byte == 32 || byte == 10) }
+{
+    byte == b' ' || byte == b'\n'
+}
+
+/// Whether a text has only spaces and line feeds.
+fn is_blank(text: &[u8]) -> bool
+    ensures { result ≡ list_all (λ b. b == 32 || b == 10) text.now }
+{
+    text.iter().all(|byte| is_blank_byte(*byte))
+}
+
+/// The call that stores the declarations of a section.
+fn read_stored(alloc: Global, section: &Section<'_>) -> Result<Call, Stop>
+    ensures { GivesText Heading.Types (part_of section.now) result }
+{
+    match read_declarations(alloc, section.text) {
+        Ok(types) => Ok(Call::Types(types)),
+        Err(fault) => Err(text_stop(section.line, fault)),
+    }
+}
+
+/// The call that puts the body of a section under a name.
+fn read_put(alloc: Global, section: &Section<'_>, name: Name) -> Result<Call, Stop>
+    ensures { GivesText (Heading.Put name) (part_of section.now) result }
+{
+    match read_body(alloc, section.text) {
+        Ok(unit) => Ok(Call::Put(name, unit)),
+        Err(fault) => Err(text_stop(section.line, fault)),
+    }
+}
+
+/// The call that takes the body of a name away, of a section without a text.
+fn read_remove(section: &Section<'_>, name: Name) -> Result<Call, Stop>
+    ensures { GivesText (Heading.Remove name) (part_of section.now) result }
+{
+    if !is_blank(section.text) {
+        return Err(stop_at(section, FaultKind::TextAfterCall));
+    }
+    Ok(Call::Remove(name))
+}
+
+/// The call that asks a name, of a section without a text.
+fn read_ask(section: &Section<'_>, name: Name) -> Result<Call, Stop>
+    ensures { GivesText (Heading.Ask name) (part_of section.now) result }
+{
+    if !is_blank(section.text) {
+        return Err(stop_at(section, FaultKind::TextAfterCall));
+    }
+    Ok(Call::Ask(name))
+}
+
+/// The call that asks for all, of a section without a text.
+fn read_all(section: &Section<'_>) -> Result<Call, Stop>
+    ensures { GivesText Heading.All (part_of section.now) result }
+{
+    if !is_blank(section.text) {
+        return Err(stop_at(section, FaultKind::TextAfterCall));
+    }
+    Ok(Call::All)
+}
+
+/// The call that the text of a section gives behind this heading.
+fn read_text(alloc: Global, section: &Section<'_>, heading: Heading) -> Result<Call, Stop>
+    ensures { GivesText heading (part_of section.now) result }
+{
+    match heading {
+        Heading::Types => read_stored(alloc, section),
+        Heading::Put(name) => read_put(alloc, section, name),
+        Heading::Remove(name) => read_remove(section, name),
+        Heading::Ask(name) => read_ask(section, name),
+        Heading::All => read_all(section),
+    }
+}
+
+/// The call of a section, and which of so many sessions is to make it.
+fn read_call(alloc: Global, section: &Section<'_>, sessions: u8) -> Result<SessionCall, Stop>
+    requires { sessions ≤ 16 }
+    ensures { GivesOne sessions (part_of section.now) result }
+{
+    let Some((session, heading)) = read_header(section.header, sessions) else {
+        return Err(stop_at(section, FaultKind::BadHeader));
+    };
+    let call = read_text(alloc, section, heading)?;
+    Ok(SessionCall { session, call })
+}
+
+/// The calls of a file of so many sessions, in the order of its sections; `File` with its first fault where it has one,
+/// `NoMemory` where there is no room.
+pub fn read_calls(alloc: Global, file: &[u8], sessions: u8) -> Result<Vec<SessionCall>, Stop>
+    requires { sessions ≤ 16 }
+    ensures { GivesAll sessions (sections_of file.now) result }
+{
+    let mut calls = Vec::new(alloc);
+    for section in Sections::of(file) {
+        calls.push(read_call(alloc, &section, sessions)?)?;
+    }
+    Ok(calls)
+}
+
+/// The calls of a file of so many sessions, in the order of its sections; `File` with its first fault where it has one, and with the
+/// position of this in the file where positions are asked for; `NoMemory` where there is no room.
+pub fn read_told_calls(
+    alloc: Global,
+    sessions: u8,
+    positions: bool,
+    file: &[u8],
+) -> Result<Vec<SessionCall>, Stop>
+    requires { sessions ≤ 16 }
+    ensures { GivesTold sessions positions file.now result }
+{
+    match read_calls(alloc, file, sessions) {
+        Ok(calls) => Ok(calls),
+        Err(stop) => Err(locate(positions, file, stop)),
+    }
+}

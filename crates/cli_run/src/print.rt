@@ -1,0 +1,182 @@
+//! What is printed of a history, and of sessions that did not end.
+ghost use Rattle.std.specs.Prelude.{◌≡◌, ◌≤◌, true, false, IfOk, OnOk, OnErr, length};
+ghost use Rattle.std.specs.List.{flat_map};
+ghost use Rattle.std.specs.Io.KnownBytes.{Appends, Keeps};
+ghost use Rattle.bc_report.specs.Text.{line};
+ghost use Rattle.cli_run.specs.Runs.{end_status, greatest_end};
+ghost use Rattle.cli_run.specs.Print.{event_text, entry_line, root_lines, outcome_lines, refusal_text, entry_lines, stopped_line, stopped_lines, PrintsPart};
+
+use bc_book::Refusal;
+use bc_calls::{Entry, Event};
+use bc_prov::{Outcome, Shared};
+use bc_report::write_report;
+use bc_scripts::End;
+use bc_text::Name;
+use cli_entries::{entry_line, put_word, remove_word};
+use std::alloc::{AllocError, Global};
+use std::io;
+use std::io::Write;
+
+/// Writes the words of a call with its reply, to the end of the line.
+fn write_event<O: Write>(event: &Event, out: &mut O) -> io::Result<()>
+    ensures { OnOk result (Appends (O.contents out.old) (O.contents out.new) (line (event_text event.now))) }
+{
+    match event {
+        Event::Types(_) => writeln!(out, "types stored"),
+        Event::Put(name, _, reply) => {
+            let word = put_word(*reply);
+            writeln!(out, "put {name} {word}")
+        }
+        Event::Remove(name, reply) => {
+            let word = remove_word(*reply);
+            writeln!(out, "remove {name} {word}")
+        }
+        Event::Ask(name, _) => writeln!(out, "ask {name}"),
+        Event::All(listing) => {
+            let count = listing.get().len();
+            writeln!(out, "askall {count}")
+        }
+    }
+}
+
+/// Writes the line of an entry.
+fn write_line<O: Write>(entry: &Entry, out: &mut O) -> io::Result<()>
+    ensures { OnOk result (Appends (O.contents out.old) (O.contents out.new) (entry_line entry.now)) }
+{
+    let session = entry.session;
+    let number = entry.number;
+    write!(out, "{session} {number} ")?;
+    write_event(&entry.event, out)
+}
+
+/// Writes a root with its report.
+fn write_root<O: Write>(row: &(Name, Shared<Outcome>), out: &mut O) -> io::Result<()>
+    ensures { OnOk result (Appends (O.contents out.old) (O.contents out.new) (root_lines row.now)) }
+{
+    let name = &row.0;
+    writeln!(out, "root {name}")?;
+    Ok(write_report(row.1.get(), out)?)
+}
+
+/// Writes roots with their reports, in their order.
+fn write_roots<O: Write>(rows: &[(Name, Shared<Outcome>)], out: &mut O) -> io::Result<()>
+    ensures { OnOk result (Appends (O.contents out.old) (O.contents out.new) (flat_map root_lines rows.now)) }
+{
+    for row in rows {
+        write_root(row, out)?;
+    }
+    Ok(())
+}
+
+/// Writes the report of an Ask, and the roots of an Ask for all with their reports; nothing of another call.
+fn write_outcome<O: Write>(event: &Event, out: &mut O) -> io::Result<()>
+    ensures { OnOk result (Appends (O.contents out.old) (O.contents out.new) (outcome_lines event.now)) }
+{
+    match event {
+        Event::Types(_) | Event::Put(_, _, _) | Event::Remove(_, _) => Ok(()),
+        Event::Ask(_, outcome) => Ok(write_report(outcome.get(), out)?),
+        Event::All(listing) => write_roots(listing.get().as_slice(), out),
+    }
+}
+
+/// Writes the line of an entry, and behind the line of an Ask what it answers.
+fn write_text<O: Write>(entry: &Entry, out: &mut O) -> io::Result<()>
+    ensures { OnOk result (Appends (O.contents out.old) (O.contents out.new) (entry_lines false entry.now)) }
+{
+    write_line(entry, out)?;
+    write_outcome(&entry.event, out)
+}
+
+/// Writes the JSON line of an entry. `AllocError`, with nothing written, where there is no room for it.
+fn write_json<O: Write>(
+    alloc: Global,
+    entry: &Entry,
+    out: &mut O,
+) -> io::Result<Result<(), AllocError>>
+    ensures written { IfOk result (λ made. OnOk made (Appends (O.contents out.old) (O.contents out.new) (entry_lines true entry.now))) }
+    ensures no_memory { IfOk result (λ made. OnErr made (Keeps (O.contents out.old) (O.contents out.new))) }
+{
+    match entry_line(alloc, entry) {
+        Ok(text) => {
+            writeln!(out, "{text}")?;
+            Ok(Ok(()))
+        }
+        Err(refused) => Ok(Err(refused)),
+    }
+}
+
+/// Writes an entry as text, or as JSON. `AllocError`, with nothing written, where there is no room for its JSON.
+fn write_entry<O: Write>(
+    alloc: Global,
+    json: bool,
+    entry: &Entry,
+    out: &mut O,
+) -> io::Result<Result<(), AllocError>>
+    ensures written { IfOk result (λ made. OnOk made (Appends (O.contents out.old) (O.contents out.new) (entry_lines json entry.now))) }
+    ensures no_memory { IfOk result (λ made. OnErr made ((json ≡ true) × Keeps (O.contents out.old) (O.contents out.new))) }
+{
+    if json {
+        return write_json(alloc, entry, out);
+    }
+    write_text(entry, out)?;
+    Ok(Ok(()))
+}
+
+/// Writes the entries of a history in their order, as text or as JSON, exactly their bytes, or answers the writer's fault. `AllocError`
+/// at the first entry for whose JSON there is no room: of it and of those behind it nothing is written. Text wants no room.
+pub fn write_history<O: Write>(
+    alloc: Global,
+    json: bool,
+    entries: &[Entry],
+    out: &mut O,
+) -> io::Result<Result<(), AllocError>>
+    ensures written { IfOk result (λ made. OnOk made (Appends (O.contents out.old) (O.contents out.new) (flat_map (entry_lines json) entries.now))) }
+    ensures no_memory { IfOk result (λ made. OnErr made ((json ≡ true) × PrintsPart entries.now (O.contents out.old) (O.contents out.new))) }
+{
+    for entry in entries {
+        match write_entry(alloc, json, entry, out)? {
+            Ok(()) => {}
+            Err(refused) => return Ok(Err(refused)),
+        }
+    }
+    Ok(Ok(()))
+}
+
+/// Why a call was refused.
+fn refusal_word(refusal: Refusal) -> &'static str
+    ensures { result.now ≡ refusal_text refusal }
+{
+    match refusal {
+        Refusal::NoMemory => "no memory",
+        Refusal::HistoryFull => "history full",
+    }
+}
+
+/// Writes that a session did not end, where it did not. It fails only there.
+fn write_stopped<E: Write>(session: u8, end: &End, err: &mut E) -> io::Result<()>
+    ensures written { OnOk result (Appends (E.contents err.old) (E.contents err.new) (stopped_line session end.now)) }
+    ensures owed { OnErr result (end_status end.now ≡ 3) }
+{
+    match end {
+        End::Done => Ok(()),
+        End::Stopped { number: _, refusal } => {
+            let why = refusal_word(*refusal);
+            writeln!(err, "session {session} stopped: {why}")
+        }
+    }
+}
+
+/// Writes which sessions did not end, in the order of the sessions, which are at most 16; or answers the writer's fault, and
+/// only where a session did not.
+pub fn write_all_stopped<E: Write>(ends: &[End], err: &mut E) -> io::Result<()>
+    requires { length ends.now ≤ 16 }
+    ensures written { OnOk result (Appends (E.contents err.old) (E.contents err.new) (stopped_lines 0 ends.now)) }
+    ensures owed { OnErr result (greatest_end ends.now ≡ 3) }
+{
+    let mut session: u8 = 0;
+    for end in ends {
+        write_stopped(session, end, err)?;
+        session += 1;
+    }
+    Ok(())
+}

@@ -1,0 +1,5 @@
+use Rattle.cli_talk.specs.Counted.{CountsSoFar}
+use Rattle.cli_serve.proofs.talk.route_all.Given as goal
+
+abbrev pub invariant-lines : goal.invariant-lines
+invariant-lines g l = CountsSoFar l.sessions l.counts.items g.L.Talk.lines (g.I.Read.remaining l.input)

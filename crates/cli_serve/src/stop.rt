@@ -1,0 +1,66 @@
+//! Why the command stops.
+ghost use Rattle.std.specs.Prelude.{◌≡◌, IsOk, OnOk};
+ghost use Rattle.std.specs.Io.KnownBytes.{Appends};
+ghost use Rattle.cli_serve.specs.Stops.{stop_line, stop_of};
+
+use cli_talk::TalkFault;
+use std::io;
+use std::io::Write;
+
+/// Why the command stops before the end of its input, or is not well at its end.
+#[derive(Clone, Copy, Debug, PartialEq, Eq)]
+pub enum ServeStop {
+    /// The input failed.
+    CannotRead,
+    /// The output failed.
+    CannotWrite,
+    /// Memory was refused.
+    NoMemory,
+    /// The system starts no thread more.
+    NoThread,
+    /// A session did not answer each line that names it, and nothing else was wrong. No run is known to end so.
+    LostLine,
+    /// The history does not agree with the sessions.
+    Audit,
+}
+
+/// Why the command stops, where a conversation does.
+pub(crate) fn stop_of(fault: TalkFault) -> ServeStop
+    ensures { result ≡ stop_of fault }
+{
+    match fault {
+        TalkFault::CannotRead => ServeStop::CannotRead,
+        TalkFault::CannotWrite => ServeStop::CannotWrite,
+        TalkFault::NoMemory => ServeStop::NoMemory,
+        TalkFault::OutOfTurn => ServeStop::LostLine,
+    }
+}
+
+/// Whether all is well so far: where it is not, the first that was wrong, but a lost line only where nothing else was.
+pub(crate) fn both(
+    before: Result<(), ServeStop>,
+    now: Result<(), ServeStop>,
+) -> Result<(), ServeStop>
+    ensures before { OnOk result (IsOk before) }
+    ensures now { OnOk result (IsOk now) }
+{
+    match (before, now) {
+        (Ok(()), told) => told,
+        (Err(ServeStop::LostLine), Err(stop)) => Err(stop),
+        (Err(stop), _) => Err(stop),
+    }
+}
+
+/// Writes why the command stops: one line.
+pub(crate) fn write_stop<E: Write>(stop: ServeStop, err: &mut E) -> io::Result<()>
+    ensures { OnOk result (Appends (E.contents err.old) (E.contents err.new) (stop_line stop)) }
+{
+    match stop {
+        ServeStop::CannotRead => writeln!(err, "cannot read"),
+        ServeStop::CannotWrite => writeln!(err, "cannot write"),
+        ServeStop::NoMemory => writeln!(err, "no memory"),
+        ServeStop::NoThread => writeln!(err, "cannot start a thread"),
+        ServeStop::LostLine => writeln!(err, "a line was lost"),
+        ServeStop::Audit => writeln!(err, "close: audit"),
+    }
+}

@@ -1,0 +1,265 @@
+//! The conversation: the router on this thread, and a worker for each session on a thread of its own.
+ghost use Rattle.std.specs.Prelude.{◌≡◌, ◌≤◌, [], IfOk, length, option_map};
+ghost use Rattle.std.specs.List.{All};
+ghost use Rattle.cli_input.specs.Lines.{lines_of};
+ghost use Rattle.bc_share.specs.Sessions.{new_session};
+ghost use Rattle.cli_talk.specs.Counted.{CountsAll};
+ghost use Rattle.cli_serve.specs.Talked.{IsTalk};
+
+use crate::ends::{Inbox, Printer};
+use crate::output::Output;
+use crate::stop::{ServeStop, both, stop_of};
+use crate::worker::{Worker, join, start, wait};
+use bc_prov::Providers;
+use bc_share::Session;
+use bc_versions::Ending;
+use cli_talk::{Message, Talk, no_counts, route_line};
+use crossbeam_channel::{SendError, Sender, unbounded};
+use std::alloc::Global;
+use std::io::{BufRead, Write};
+use std::marker::Brand;
+use std::sync::{Mutex, Wait};
+use std::thread;
+use std::thread::{Scope, Threads};
+
+/// The sessions of a conversation, in their order, and how it ended.
+#[derive(Drop)]
+pub(crate) struct Talked<N: Ending> {
+    pub sessions: Vec<Session<N>>,
+    pub ended: Result<(), ServeStop>,
+}
+
+// Puts a message into the queue of its session. `LostLine` where nobody takes it: its worker stopped, and knows why.
+fn send<L: Talk + Drop, R: Wait>(
+    rt: &R,
+    queues: &[Sender<Message<L>>],
+    message: Message<L>,
+) -> Result<(), ServeStop> {
+    let Some(queue) = queues.get(usize::from(message.session)) else {
+        return Err(ServeStop::LostLine);
+    };
+    match queue.send(rt, message) {
+        Ok(()) => Ok(()),
+        Err(SendError::OutOfMemory(_)) => Err(ServeStop::NoMemory),
+        Err(SendError::Disconnected(_)) => Err(ServeStop::LostLine),
+    }
+}
+
+// Routes each line of an input to the worker of its session, until the input ends; how many lines each session had.
+fn route_all<'b, L: Talk + Drop, I: BufRead, R: Wait, O: Write + Drop>(
+    rt: &R,
+    alloc: Global,
+    input: &mut I,
+    sessions: u8,
+    queues: &[Sender<Message<L>>],
+    out: &Mutex<Output<'b, O>>,
+) -> Result<Vec<u64>, ServeStop>
+    requires sessions { sessions ≡ L.sessions }
+    requires lines { L.lines ≡ option_map lines_of (I.remaining input.old) }
+    ensures { IfOk result (λ counts. CountsAll sessions counts.items L.lines) }
+{
+    let mut counts = match no_counts::<L, I>(alloc, input, sessions) {
+        Ok(counts) => counts,
+        Err(fault) => return Err(stop_of(fault)),
+    };
+    let mut printer = Printer { rt, out };
+    'lines: for _ in 0..u64::MAX {
+        match route_line::<L, I, _>(alloc, input, sessions, &mut printer, &mut counts) {
+            Ok(None) => return Ok(counts),
+            Ok(Some(None)) => {}
+            Ok(Some(Some(message))) => {
+                if let Err(stop) = send(rt, queues, message) {
+                    return Err(stop);
+                }
+            }
+            Err(fault) => return Err(stop_of(fault)),
+        }
+    }
+    Err(ServeStop::CannotRead)
+}
+
+// Joins the workers, and puts their sessions into `done`, which is empty and has room for them. `LostLine` where one is missing.
+fn join_all<L: Talk + Drop, N: Ending, R: Threads>(
+    rt: &R,
+    sessions: u8,
+    workers: Vec<Worker<L, N>>,
+    mut done: Vec<Session<N>>,
+    routed: &Result<Vec<u64>, ServeStop>,
+) -> Result<Talked<N>, ServeStop>
+    requires sessions { sessions ≡ L.sessions }
+    requires none { done.items ≡ [] }
+    requires counts { IfOk routed.now (λ counts. CountsAll sessions counts.items L.lines) }
+    ensures { IfOk result (λ talked. IsTalk L.sessions L.lines talked.sessions.items talked.ended) }
+{
+    let mut ended = Ok(());
+    'workers: for worker in workers {
+        let Some(joined) = join(rt, sessions, worker, done.len(), routed) else {
+            return Err(ServeStop::LostLine);
+        };
+        let (session, told) = joined;
+        ended = both(ended, told);
+        match done.push(session) {
+            Ok(()) => {}
+            Err(_) => return Err(ServeStop::NoMemory),
+        }
+    }
+    if done.len() != usize::from(sessions) {
+        return Err(ServeStop::LostLine);
+    }
+    Ok(Talked {
+        sessions: done,
+        ended,
+    })
+}
+
+// Waits for the workers, whatever they did.
+fn end_all<L: Talk + Drop, N: Ending, R: Threads>(rt: &R, workers: Vec<Worker<L, N>>) {
+    for worker in workers {
+        wait(rt, worker);
+    }
+}
+
+// Starts a worker for each session, with its queue.
+fn start_all<'s, 'b, V, L, N, R, O>(
+    scope: &Scope<'s, V>,
+    rt: &'s R,
+    alloc: Global,
+    providers: &'s Providers,
+    count: u8,
+    sessions: Vec<Session<N>>,
+    out: &'s Mutex<Output<'b, O>>,
+    queues: &mut Vec<Sender<Message<L>>>,
+    workers: &mut Vec<Worker<L, N>>,
+) -> Result<(), ServeStop>
+where
+    L: Talk + Drop + Send + 's,
+    N: Ending + Send + 's,
+    R: Wait + Sync,
+    O: Write + Drop + Send,
+    requires sessions { count ≡ L.sessions }
+    requires are_new { All (λ s. s ≡ new_session 0 s.number) sessions.items }
+{
+    'sessions: for session in sessions {
+        let number = session.number();
+        let Ok((to, from)) = unbounded(alloc) else {
+            return Err(ServeStop::NoMemory);
+        };
+        let inbox = Inbox { rt, messages: from };
+        let printer = Printer { rt, out };
+        let Some(worker) = start::<V, L, N, _, _, R>(
+            scope, rt, alloc, providers, count, number, inbox, session, printer,
+        ) else {
+            return Err(ServeStop::NoThread);
+        };
+        if queues.push(to).is_err() || workers.push(worker).is_err() {
+            return Err(ServeStop::NoMemory);
+        }
+    }
+    Ok(())
+}
+
+// The conversation, in a scope.
+fn converse_in<'s, 'b, V, L, N, R, I, O>(
+    scope: &Scope<'s, V>,
+    rt: &'s R,
+    alloc: Global,
+    providers: &'s Providers,
+    input: &mut I,
+    sessions: Vec<Session<N>>,
+    out: &'s Mutex<Output<'b, O>>,
+) -> Result<Talked<N>, ServeStop>
+where
+    L: Talk + Drop + Send + 's,
+    N: Ending + Send + 's,
+    R: Threads + Wait + Sync,
+    I: BufRead,
+    O: Write + Drop + Send,
+    requires few { length sessions.items ≤ 16 }
+    requires sessions { length sessions.items ≡ L.sessions }
+    requires are_new { All (λ s. s ≡ new_session 0 s.number) sessions.items }
+    requires lines { L.lines ≡ option_map lines_of (I.remaining input.old) }
+    ensures { IfOk result (λ talked. IsTalk L.sessions L.lines talked.sessions.items talked.ended) }
+{
+    let count = sessions.len() as u8;
+    let mut queues = Vec::new(alloc);
+    let mut workers = Vec::new(alloc);
+    let Ok(done) = Vec::with_capacity(alloc, sessions.len()) else {
+        return Err(ServeStop::NoMemory);
+    };
+    if let Err(stop) = start_all::<V, L, N, R, O>(
+        scope,
+        rt,
+        alloc,
+        providers,
+        count,
+        sessions,
+        out,
+        &mut queues,
+        &mut workers,
+    ) {
+        drop(queues);
+        end_all(rt, workers);
+        return Err(stop);
+    }
+    let routed = route_all::<L, I, R, O>(rt, alloc, input, count, &queues, out);
+    drop(queues);
+    join_all(rt, count, workers, done, &routed)
+}
+
+// The conversation about the lines of an input.
+fn converse_about<'b, L, N, R, I, O>(
+    rt: &R,
+    alloc: Global,
+    providers: &Providers,
+    input: &mut I,
+    sessions: Vec<Session<N>>,
+    out: &Mutex<Output<'b, O>>,
+) -> Result<Talked<N>, ServeStop>
+where
+    L: Talk + Drop + Send + 'static,
+    N: Ending + Send,
+    R: Threads + Wait + Sync,
+    I: BufRead,
+    O: Write + Drop + Send,
+    requires few { length sessions.items ≤ 16 }
+    requires sessions { length sessions.items ≡ L.sessions }
+    requires are_new { All (λ s. s ≡ new_session 0 s.number) sessions.items }
+    requires lines { L.lines ≡ option_map lines_of (I.remaining input.old) }
+    ensures { IfOk result (λ talked. IsTalk L.sessions L.lines talked.sessions.items talked.ended) }
+{
+    thread::scope(
+        thread::scope_env(),
+        rt,
+        |scope| -> Result<Talked<N>, ServeStop>
+            requires { (length sessions.items ≤ 16) × (length sessions.items ≡ L.sessions) × All (λ s. s ≡ new_session 0 s.number) sessions.items × (L.lines ≡ option_map lines_of (I.remaining input.now)) }
+            ensures { IfOk result (λ talked. IsTalk L.sessions L.lines talked.sessions.items talked.ended) }
+        { converse_in::<_, L, N, R, I, O>(scope, rt, alloc, providers, input, sessions, out) },
+    )
+}
+
+/// Has each of some new sessions of a database of the tag 0 answer the lines of an input that name it, on a thread of its own, until the
+/// input ends: the sessions, in their order, and how the conversation ended. The answers are printed on the output, a line each, and each
+/// is handed on.
+///
+/// The sessions come back also where the input or the output fails, or memory is refused, meanwhile. An error where the workers cannot
+/// all be started: `NoThread` where no thread can be made, `NoMemory` where there is no room; no line was read then. It asks for at most
+/// 16 sessions.
+pub(crate) fn converse<'b, N, R, I, O>(
+    rt: &R,
+    alloc: Global,
+    providers: &Providers,
+    input: &mut I,
+    sessions: Vec<Session<N>>,
+    out: &Mutex<Output<'b, O>>,
+) -> Result<Talked<N>, ServeStop>
+where
+    N: Ending + Send,
+    R: Threads + Wait + Sync,
+    I: BufRead,
+    O: Write + Drop + Send,
+    requires few { length sessions.items ≤ 16 }
+    requires are_new { All (λ s. s ≡ new_session 0 s.number) sessions.items }
+    ensures { IfOk result (λ talked. IsTalk (length sessions.items) (option_map lines_of (I.remaining input.old)) talked.sessions.items talked.ended) }
+{
+    converse_about::<Brand, N, R, I, O>(rt, alloc, providers, input, sessions, out)
+}

@@ -1,0 +1,23 @@
+use Rattle.std.proofs.Common.{inl, inr, refl}
+use Rattle.cli_talk.specs.Turns.{IsLineAnswered}
+use Rattle.cli_talk.proofs.worker.serve_line.Goals as goal
+
+pub returns-in-Ok-give_or_tell-clause-answered : goal.returns-in-Ok-give_or_tell-clause-answered
+returns-in-Ok-give_or_tell-clause-answered g c =
+    let made : IsLineAnswered c.args.sessions c.args.line.items c.answer_request-answered.result c.args.session.now c.answer_request-answered.new.session = record {
+      request = c.in-Ok.request;
+      is = c.in-Ok.ensures.reading c.args.line.items (refl, c.requires);
+      answers = c.answer_request-answered.ensures;
+    } in
+    (c.in-Ok-give_or_tell.ensures.0, inl (c.answer_request-answered.result, made, c.in-Ok-give_or_tell.ensures.1), c.in-Ok-give_or_tell.ensures.2)
+
+pub returns-clause-stopped : goal.returns-clause-stopped
+returns-clause-stopped g c =
+    inr (
+      c.answer_request-answered.result,
+      record {
+        request = c.in-Ok.request;
+        is = c.in-Ok.ensures.reading c.args.line.items (refl, c.requires);
+        answers = c.answer_request-answered.ensures;
+      },
+    )

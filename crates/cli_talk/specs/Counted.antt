@@ -1,0 +1,24 @@
+-- How many lines each session has.
+use Rattle.std.specs.Prelude.{◌≡◌, ℕ, ◌<◌, List, ◌++◌, length, slice_index, Option, Some, None, ⊤}
+use Rattle.cli_input.specs.Lines.{lines_of}
+use Rattle.cli_requests.specs.Sessions.{lines_for}
+
+-- there are so many lines of each session
+abbrev pub Counts : ℕ → List ℕ → List (List ℕ) → Type 0
+Counts sessions counts lines = (k : ℕ) → k < sessions → slice_index counts k ≡ length (lines_for sessions k lines)
+
+-- the same, where the lines are known
+abbrev pub CountsAll : ℕ → List ℕ → Option (List (List ℕ)) → Type 0
+CountsAll sessions counts None = ⊤
+CountsAll sessions counts (Some lines) = Counts sessions counts lines
+
+-- a beginning of the lines was counted
+pub record HasCounted (sessions : ℕ) (counts : List ℕ) (lines left : List (List ℕ)) : Type 0 where
+  pub front : List (List ℕ)
+  pub cut : lines ≡ front ++ left
+  pub counted : Counts sessions counts front
+
+abbrev pub CountsSoFar : ℕ → List ℕ → Option (List (List ℕ)) → Option (List ℕ) → Type 0
+CountsSoFar sessions counts None left = ⊤
+CountsSoFar sessions counts (Some lines) None = ⊥
+CountsSoFar sessions counts (Some lines) (Some left) = HasCounted sessions counts lines (lines_of left)

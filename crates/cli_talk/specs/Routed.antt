@@ -1,0 +1,26 @@
+-- Where lines go.
+use Rattle.std.specs.Prelude.{◌≡◌, ℕ, List, [], ◌∷◌, Option, Some, None, ⊤}
+use Rattle.cli_input.specs.Lines.{lines_of}
+use Rattle.cli_requests.specs.Sessions.{session_in}
+use Rattle.cli_talk.specs.Wires.{TakesAll}
+use Rattle.cli_talk.specs.Turns.{IsTold}
+
+-- a line goes to the session that it names, and nothing is answered here; or it names none, and is answered here by one text
+abbrev pub GoesTo : ℕ → List ℕ → Option (ℕ × List ℕ) → List (List ℕ) → Type 0
+GoesTo sessions line None texts = (session_in sessions line ≡ None) × ((text : List ℕ) × (texts ≡ text ∷ []) × IsTold sessions line text)
+GoesTo sessions line (Some message) texts = (session_in sessions line ≡ Some message.0) × (message.1 ≡ line) × (texts ≡ [])
+
+-- the first of some lines went to its session, or was answered
+pub record RoutesFirst (sessions : ℕ) (lines left : List (List ℕ)) (message : Option (ℕ × List ℕ)) (given given' : Option (List (List ℕ))) : Type 0 where
+  pub line : List ℕ
+  pub cut : lines ≡ line ∷ left
+  pub texts : List (List ℕ)
+  pub goes : GoesTo sessions line message texts
+  pub told : TakesAll given given' texts
+
+-- the first line of an input whose bytes are known was routed, or there is none
+abbrev pub RoutesNext : ℕ → Option (List ℕ) → Option (List ℕ) → Option (Option (ℕ × List ℕ)) → Option (List (List ℕ)) → Option (List (List ℕ)) → Type 0
+RoutesNext sessions None left routed given given' = ⊤
+RoutesNext sessions (Some bytes) None routed given given' = ⊥
+RoutesNext sessions (Some bytes) (Some left) None given given' = (lines_of bytes ≡ []) × (lines_of left ≡ []) × TakesAll given given' []
+RoutesNext sessions (Some bytes) (Some left) (Some message) given given' = RoutesFirst sessions (lines_of bytes) (lines_of left) message given given'

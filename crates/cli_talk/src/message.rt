@@ -1,0 +1,43 @@
+//! Messages: lines of the input, numbered for their sessions.
+ghost use Rattle.std.specs.Prelude.{◌≤◌, length};
+ghost use Rattle.cli_requests.specs.declared.request.TheConstants.{MOST_REQUEST_BYTES};
+ghost use Rattle.cli_talk.specs.Talks.{IsLineOf};
+
+use std::marker::{Brand, PhantomData};
+
+/// What a conversation is about: how many sessions there are, and the lines of the input, where these are known. The call that begins
+/// a conversation picks both.
+pub trait Talk {
+    ghost use Rattle.std.specs.Prelude.{ℕ, List, Option};
+
+    ghost sessions: { ℕ };
+
+    ghost lines: { Option (List (List ℕ)) };
+}
+
+impl Talk for Brand {
+    ghost use Rattle.std.specs.Prelude.{None};
+
+    ghost sessions = { 0 };
+
+    ghost lines = { None };
+}
+
+/// A line of the input that names a session, and its number among the lines that name this session, from 0. The type keeps that this is
+/// the line of that number, where the lines of the input are known.
+#[derive(Drop)]
+pub struct Message<L: Talk> {
+    pub session: u8,
+    pub number: u64,
+    pub line: Vec<u8>,
+    pub of: PhantomData<L>,
+    ghost short: { length line.items ≤ MOST_REQUEST_BYTES },
+    ghost is_of: { IsLineOf L.sessions session number line.items L.lines },
+}
+
+/// Where the messages of a session come from. Nothing is asked of it: a message that is not the next of its session is found by its
+/// number.
+pub trait Messages<L: Talk> {
+    /// The next message, or `None` where no more will come.
+    fn next(&mut self) -> Option<Message<L>>;
+}

@@ -1,7 +1,0 @@
-use Rattle.bc_cons.specs.Facts.{ArePairsWithin}
-use Rattle.nlldb_bench.proofs.chains.pairs_of.Given as goal
-
-abbrev pub invariant-loop-turn : goal.invariant-loop-turn
-invariant-loop-turn l = record {
-  within : ArePairsWithin 1040 l.pairs.items;
-}

@@ -1,5 +1,0 @@
-use Rattle.bc_cons.specs.Facts.{ArePairsWithin}
-use Rattle.nlldb_explain.proofs.graphs.pairs.Given as goal
-
-abbrev pub invariant-loop-turn : goal.invariant-loop-turn
-invariant-loop-turn l = ArePairsWithin 7 l.pairs.items

@@ -1,0 +1,66 @@
+//! Two sessions of `run` that are inside a provider at once.
+use crate::command::leave_with;
+use crate::runs::TWO;
+use bc_analyses::{find_values, providers};
+use bc_cons::Facts;
+use std::alloc::Global;
+use std::sync::Arc;
+use std::sync::atomic::AtomicU32;
+use std::sync::atomic::Ordering::SeqCst;
+use std::test::Fail;
+use std::thread;
+use std::time::{Clock, Duration};
+use test_devices::SOUND;
+
+/// Each of two sessions puts a body of its own and asks for it.
+const FILE: &[u8] =
+    b"@0 put f\nfn()->int{bb0{_0=1;return;}}\n@0 ask f\n@1 put g\nfn()->int{bb0{_0=1;return;}}\n@1 ask g\n";
+
+/// How many turns of a millisecond a session waits at most.
+const MOST_TURNS: u32 = 10_000;
+
+/// How many have come to the solver, and how many waited there in vain.
+#[derive(Drop)]
+struct Meeting {
+    came: AtomicU32,
+    late: AtomicU32,
+}
+
+impl Meeting {
+    fn new() -> Meeting {
+        Meeting {
+            came: AtomicU32::new(0),
+            late: AtomicU32::new(0),
+        }
+    }
+
+    /// Comes to the solver, and waits there until another one has come.
+    fn meet<C: Clock>(&self, clock: &C) {
+        self.came.fetch_add(1, SeqCst);
+        for _turn in 0..MOST_TURNS {
+            if self.came.load(SeqCst) >= 2 {
+                return;
+            }
+            thread::sleep(clock, Duration::from_millis(1));
+        }
+        self.late.fetch_add(1, SeqCst);
+    }
+}
+
+/// Catches sessions that make their calls one after another: each waits in its solver until the other is in its own.
+#[test]
+fn two_sessions_are_in_a_provider_at_once(rt: HostRuntime) -> Result<(), Fail> {
+    let Ok(meeting) = Arc::new(rt.alloc(), Meeting::new()) else {
+        return Err("memory")?;
+    };
+    let to_solve = Arc::try_clone(&meeting)?;
+    let providers = providers!(rt.alloc(), move |alloc: Global, facts: &Facts| {
+        to_solve.meet(&rt);
+        find_values(alloc, facts)
+    });
+    let left = leave_with(&rt, &providers, TWO, FILE, SOUND)?;
+    assert_eq!(rt; left.status, 0);
+    assert_eq!(rt; meeting.came.load(SeqCst), 2, "each body is solved once");
+    assert_eq!(rt; meeting.late.load(SeqCst), 0, "nobody waits too long");
+    Ok(())
+}

@@ -1,0 +1,28 @@
+//! What the command leaves over readers and writers in memory.
+use bc_analyses::providers;
+use cli_serve::serve_over;
+use std::io;
+use std::io::{BufReader, BufWriter};
+use std::sync::Wait;
+use std::thread::Threads;
+use test_devices::{Devices, Input, Left, Output};
+
+/// What one session of the command leaves of this input over these devices, with the providers of the program, as that runs it: what it prints
+/// is behind a buffer, of which what is not written is let go.
+pub fn leave<R: AllocGlobal + Threads + Wait + Sync>(
+    rt: &R,
+    input: &[u8],
+    devices: Devices,
+) -> io::Result<Left> {
+    let alloc = rt.alloc();
+    let providers = providers!(alloc);
+    let mut input = BufReader::new(alloc, Input::new(input, devices))?;
+    let out = Output::new(alloc, devices.write);
+    let mut out = BufWriter::with_capacity(alloc, devices.room, out)?;
+    let mut err = Output::new(alloc, devices.tell);
+    let status = serve_over(
+        rt, alloc, &providers, 1, 1000, &mut input, &mut out, &mut err,
+    );
+    let (out, _unwritten) = out.into_parts();
+    Ok(Left::of(status, input.get_ref(), out, err))
+}
