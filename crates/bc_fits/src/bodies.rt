@@ -12,7 +12,8 @@ use bc_syntax::{
     is_word,
 };
 
-/// What may be named: region variables or not, so many universal regions, and so many locals. Own.
+/// What may be named in a place of a text: region variables or none, the universal regions below a number, and the locals below
+/// another.
 #[derive(Clone, Copy)]
 pub struct Limits {
     pub variables: bool,
@@ -20,7 +21,7 @@ pub struct Limits {
     pub locals: usize,
 }
 
-/// Whether a struct or an extern function may have this name: a word of at most 32 bytes that is no keyword (own).
+/// Returns whether a struct or an extern function may have this name: a word of at most 32 bytes that is no keyword.
 pub fn item_fits(name: &ItemName) -> bool
     ensures { result ≡ spec.item_fits name.now }
 {
@@ -28,7 +29,7 @@ pub fn item_fits(name: &ItemName) -> bool
     is_word(bytes) && bytes.len() <= 32
 }
 
-/// Whether these regions may be declared one behind the other: names of at most 16 bytes, none twice and not `'static` (own).
+/// Returns whether these regions may be declared one after the other: names of at most 16 bytes, none twice and not `'static`.
 pub fn are_new(names: &[RegionName]) -> bool
     ensures { result ≡ spec.are_new [] names.now }
 {
@@ -87,7 +88,7 @@ fn each_clause_fits(universals: usize, clauses: &[Outlives]) -> bool
         .all(|clause| clause_fits(universals, *clause))
 }
 
-/// Whether these are at most 32 clauses between regions below this number of universal ones (own).
+/// Returns whether these are at most 32 clauses between regions below this number of universal ones.
 pub fn clauses_fit(universals: usize, clauses: &[Outlives]) -> bool
     ensures { result ≡ spec.clauses_fit universals clauses.now }
 {
@@ -118,8 +119,8 @@ fn references_fit(limits: Limits, references: &[Reference]) -> bool
         .all(|reference| reference_fits(limits, *reference))
 }
 
-/// Whether a type has a spelling within the limits: at most seven references, regions that may stand there, and a base
-/// that has one (own).
+/// Returns whether a type has a spelling within the limits: at most seven references, regions that may be named there, and a base
+/// that has a spelling.
 pub fn ty_fits(limits: Limits, ty: &Ty) -> bool
     ensures { result ≡ spec.ty_fits limits.variables limits.universals ty.now }
 {
@@ -127,7 +128,7 @@ pub fn ty_fits(limits: Limits, ty: &Ty) -> bool
     references_fit(limits, references) && references.len() <= 7 && base_fits(limits, &ty.base)
 }
 
-/// Whether each of these types has a spelling within the limits (own).
+/// Returns whether each of these types has a spelling within the limits.
 pub fn tys_fit(limits: Limits, tys: &[Ty]) -> bool
     ensures { result ≡ list_all (spec.ty_fits limits.variables limits.universals) tys.now }
 {
@@ -368,7 +369,7 @@ fn header_limits(regions: &[RegionName]) -> Limits
     }
 }
 
-/// Whether a signature has a spelling where it may declare at most so many regions.
+/// Returns whether a signature has a spelling where it may declare at most so many regions.
 pub(crate) fn signature_fits(signature: &Signature, limit: usize) -> bool
     requires { limit ≤ 15 }
     ensures { result ≡ spec.signature_fits limit signature.now }
@@ -413,7 +414,7 @@ fn header_fits(header: &Header) -> bool
 }
 
 /// Whether a body has a spelling: its numbers are within their limits, its regions and locals are declared, and its
-/// names are words. Own.
+/// names are words.
 fn fits(body: &Body) -> bool
     ensures { IsTrue result ↔ Fits body.now }
 {
@@ -434,9 +435,9 @@ fn fits(body: &Body) -> bool
         && blocks_fit(limits, blocks)
 }
 
-/// The unit of a body, or `None` exactly where no text spells it: a number or a count is past its limit, a region is declared
-/// twice, is declared as `'static` or is not declared, a local is not declared, a name is none, a variable stands in a header, a
-/// closure stands where none may, a function has captures, or there is no block. Own.
+/// Makes the unit of a body, or returns `None` exactly where no text spells it: a number or a count is past its limit, a region
+/// is declared twice, is declared as `'static` or is not declared, a local is not declared, a name is not well formed, a header
+/// has a region variable, a closure is where none may be, a function has captures, or there is no block.
 pub fn unit_of(body: Body) -> Option<Unit>
     ensures body { IfSome result (λ unit. unit ≡ body) }
     ensures fits { IfSome result (λ _. Fits body) }

@@ -71,9 +71,9 @@ fn fit(declarations: &[Declaration]) -> bool
     structs <= 64 && declarations.len() - structs <= 64 && each_fits(declarations)
 }
 
-/// The types of declarations, or `None` exactly where no text spells them: a number or a count is past its limit, a name is
-/// none, a region is declared twice, is declared as `'static` or is not declared, a struct has not one variance for each region,
-/// or a variable or a closure stands in a type. Own.
+/// Makes `Types` of declarations, or returns `None` exactly where no text spells them: a number or a count is past its limit, a
+/// name is not well formed, a region is declared twice, is declared as `'static` or is not declared, a struct has not one
+/// variance for each region, or a type has a region variable or a closure.
 pub fn types_of(declarations: Sequence<Declaration>) -> Option<Types>
     ensures declarations { IfSome result (λ types. types ≡ declarations) }
     ensures fit { IfSome result (λ _. TypesFit declarations) }

@@ -4,7 +4,7 @@ ghost use Rattle.std.specs.Prelude.{◌≡◌, IfOk};
 use std::alloc::{AllocError, Global};
 use std::marker::Model;
 
-/// A value that is rare and large, and so lies apart from what holds it, which stays small. Own.
+/// A value in its own allocation, so that what holds it stays small. It is for values that are rare and large.
 #[derive(Drop)]
 pub struct Apart<T> {
     value: Box<T>,
@@ -17,7 +17,7 @@ impl<T> Model for Apart<T> {
 }
 
 impl<T> Apart<T> {
-    /// The value. Own.
+    /// Returns the value.
     pub fn get(&self) -> &T
         ensures { result.now ≡ self.now }
     {
@@ -26,7 +26,7 @@ impl<T> Apart<T> {
 }
 
 impl<T: Drop> Apart<T> {
-    /// The value, laid apart. Answers `AllocError` only where memory was refused. Own.
+    /// Stores a value in an allocation of its own. Returns `AllocError` only where memory was refused.
     pub fn new(alloc: Global, value: T) -> Result<Self, AllocError>
         ensures { IfOk result (λ made. made ≡ value) }
     {

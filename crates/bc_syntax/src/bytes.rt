@@ -5,21 +5,21 @@ ghost use Rattle.std.specs.Str.{bytes_eq};
 ghost use Rattle.bc_syntax.specs.Bytes.{is_run_byte, run};
 ghost use Rattle.bc_syntax.specs.Words.{is_region_byte};
 
-/// The byte at an index, or 0 past the end. Own.
+/// Returns the byte at an index, or 0 past the end.
 pub fn byte_at(bytes: &[u8], index: usize) -> u8
     ensures { result ≡ slice_index bytes.now index }
 {
     bytes.get(index).copied().unwrap_or(0)
 }
 
-/// The bytes from an index on. Own.
+/// Returns the bytes from an index on, none past the end.
 pub fn from(bytes: &[u8], index: usize) -> &[u8]
     ensures { result.now ≡ drop index bytes.now }
 {
     bytes.get(index..).unwrap_or(&[])
 }
 
-/// The bytes behind so many, of which there are enough. Own.
+/// Returns the bytes after the first `count`. There must be at least that many.
 pub fn behind(bytes: &[u8], count: usize) -> &[u8]
     requires { count ≤ length bytes.now }
     ensures { result.now ≡ drop count bytes.now }
@@ -27,14 +27,14 @@ pub fn behind(bytes: &[u8], count: usize) -> &[u8]
     &bytes[count..]
 }
 
-/// Whether the byte is a letter, a digit or `_`. Own.
+/// Returns whether the byte is a letter, a digit or `_`.
 pub fn is_run_byte(byte: u8) -> bool
     ensures { result ≡ is_run_byte byte }
 {
     matches!(byte, b'0'..=b'9' | b'A'..=b'Z' | b'_' | b'a'..=b'z')
 }
 
-/// How many lowercase letters, digits and `_` stand at the front. Own.
+/// Returns how many lowercase letters, digits and `_` the bytes begin with.
 pub fn region_len(bytes: &[u8]) -> usize
     ensures count { result ≡ length (take_while is_region_byte bytes.now) }
     ensures within { result ≤ length bytes.now }
@@ -45,7 +45,7 @@ pub fn region_len(bytes: &[u8]) -> usize
         .count()
 }
 
-/// How many letters, digits and `_` stand at the front. Own.
+/// Returns how many letters, digits and `_` the bytes begin with.
 pub fn run_len(bytes: &[u8]) -> usize
     ensures count { result ≡ length (run bytes.now) }
     ensures within { result ≤ length bytes.now }
@@ -53,7 +53,7 @@ pub fn run_len(bytes: &[u8]) -> usize
     bytes.iter().take_while(|byte| is_run_byte(**byte)).count()
 }
 
-/// The letters, digits and `_` that stand at the front. Own.
+/// Returns the letters, digits and `_` that the bytes begin with.
 pub fn run(bytes: &[u8]) -> &[u8]
     ensures run { result.now ≡ run bytes.now }
     ensures within { length result.now ≤ length bytes.now }
@@ -78,7 +78,7 @@ fn begins_with(bytes: &[u8], word: &[u8]) -> bool
     true
 }
 
-/// Whether the letters, digits and `_` at the front are this word, which has no others.
+/// Returns whether the letters, digits and `_` that the bytes begin with are this word, which has no others.
 #[inline(always)]
 pub(crate) fn runs_as(bytes: &[u8], word: &[u8]) -> bool
     requires { list_all is_run_byte word.now ≡ true }

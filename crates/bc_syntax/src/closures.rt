@@ -6,7 +6,7 @@ ghost use Rattle.bc_syntax.specs.Children.{AreMarked, children_of, closures_of, 
 use crate::syntax::{Base, Block, Body, Rvalue, Statement, Ty};
 use std::alloc::{AllocError, Global};
 
-/// How many numbers a closure may have (own).
+/// How many numbers a closure may have.
 const CLOSURES: usize = 64;
 
 /// Marks a closure. A number past the last one has no mark.
@@ -92,8 +92,9 @@ impl Body {
         marks
     }
 
-    /// The body's children: the numbers of the closures in the types of its `let` locals and of those that it creates, each
-    /// once, ascending, 0 to 63. `AllocError` only where memory was refused; none is asked for where there is no child. Own.
+    /// Returns the body's children: the numbers of the closures in the types of its `let` locals and of those that it creates,
+    /// each once, ascending, 0 to 63. Returns `AllocError` only where memory was refused; none is asked for where there is no
+    /// child.
     pub fn children(&self, alloc: Global) -> Result<Vec<u8>, AllocError>
         ensures value { IfOk result (λ children. children.items ≡ children_of self.now) }
         ensures numbers { IfOk result (λ children. list_all (λ number. nat_le number 63) children.items ≡ true) }

@@ -7,7 +7,7 @@ use crate::sequence::Sequence;
 use crate::syntax::Declaration;
 use std::marker::Model;
 
-/// Whether the declaration is that of a struct. Own.
+/// Returns whether the declaration is that of a struct.
 pub fn is_struct(declaration: &Declaration) -> bool
     ensures { result ≡ spec.is_struct declaration.now }
 {
@@ -18,7 +18,7 @@ pub fn is_struct(declaration: &Declaration) -> bool
 }
 
 /// Declarations that have a spelling: at most 64 structs and 64 extern functions, names that are words of at most 32
-/// bytes, at most 8 regions each with names of their own, at most 16 fields. Own.
+/// bytes, at most 8 regions each with names of their own, at most 16 fields.
 #[derive(PartialEq)]
 pub struct Types {
     declarations: Sequence<Declaration>,
@@ -46,7 +46,7 @@ impl Model for Types {
 }
 
 impl Types {
-    /// The types of declarations that are known to have a spelling. Own.
+    /// Makes `Types` of declarations that are known to have a spelling.
     pub fn of_fitting(declarations: Sequence<Declaration>) -> Types
         requires { TypesFit declarations }
         ensures { result ≡ declarations }
@@ -54,7 +54,7 @@ impl Types {
         Types { declarations }
     }
 
-    /// The declarations, in order. Own.
+    /// Returns the declarations, in order.
     pub fn declarations(&self) -> &[Declaration]
         ensures value { result.now ≡ self.now }
         ensures fit { TypesFit self.now }

@@ -21,8 +21,8 @@ fn push_types(types: &mut Vec<Ty>, more: &[Ty]) -> Result<(), AllocError>
 }
 
 impl Header {
-    /// The number of the first `let` local, which is how many locals the header declares: the result, the captures and the
-    /// parameters. (rustc-dev-guide, "The MIR".)
+    /// Returns the number of the first `let` local, which is how many locals the header declares: the result, the captures and
+    /// the parameters. (rustc-dev-guide, "The MIR").
     pub fn first_let(&self) -> usize
         ensures { result ≡ first_let self.now }
     {
@@ -31,8 +31,8 @@ impl Header {
 }
 
 impl Body {
-    /// The types of the locals in order: the result, the captures, the parameters, the `let` locals. `AllocError` only where
-    /// memory was refused. (rustc-dev-guide, "The MIR".)
+    /// Returns the types of the locals in order: the result, the captures, the parameters, the `let` locals. Returns `AllocError`
+    /// only where memory was refused. (rustc-dev-guide, "The MIR").
     pub fn local_types(&self, alloc: Global) -> Result<Vec<Ty>, AllocError>
         ensures { IfOk result (λ types. types.items ≡ locals_of self.now) }
     {

@@ -1,6 +1,6 @@
 //! What the numbers in a text count.
 
-/// What a number counts. Own.
+/// What a number counts.
 #[derive(Clone, Copy, Debug, PartialEq, Eq)]
 pub enum Numbering {
     Number,

@@ -29,7 +29,7 @@ impl Model for Projections {
 }
 
 impl Projections {
-    /// No projection. Own.
+    /// Returns a list of no projections.
     pub fn new() -> Self
         ensures { result ≡ [] }
     {
@@ -39,14 +39,14 @@ impl Projections {
         }
     }
 
-    /// The projections, in order. Own.
+    /// Returns the projections, in order.
     pub fn as_slice(&self) -> &[Projection]
         ensures { result.now ≡ self.now }
     {
         &self.steps[..usize::from(self.count)]
     }
 
-    /// Puts a projection behind the others, of which there are at most seven. Own.
+    /// Appends a projection to the others, of which there are at most seven.
     #[inline(always)]
     pub fn push(&mut self, projection: Projection)
         requires { length self.old < 8 }

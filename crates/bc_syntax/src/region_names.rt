@@ -14,8 +14,8 @@ fn is_among(before: &[RegionName], name: &[u8]) -> bool
     before.iter().any(|other| other.bytes.as_slice() == name)
 }
 
-/// Whether a region may be declared where those before it are: its name is well formed, has at most 16 bytes, is not
-/// `static` and not among them. Own.
+/// Returns whether a region may be declared after those before it: its name is well formed, has at most 16 bytes, is not `static`
+/// and not among them.
 pub fn is_new(before: &[RegionName], name: &RegionName) -> bool
     ensures { result ≡ spec.is_new before.now name.now }
 {

@@ -7,7 +7,7 @@ use std::alloc::{AllocError, Global};
 use std::default::MadeWith;
 use std::marker::Model;
 
-/// A list. Own.
+/// A list of items, which grows.
 #[derive(Drop)]
 pub struct Sequence<T> {
     items: Vec<T>,
@@ -20,7 +20,7 @@ impl<T> Model for Sequence<T> {
 }
 
 impl<T> Sequence<T> {
-    /// The empty list. It takes no memory. Own.
+    /// Returns the empty list. It takes no memory.
     pub fn new(alloc: Global) -> Self
         ensures { result ≡ [] }
     {
@@ -29,21 +29,21 @@ impl<T> Sequence<T> {
         }
     }
 
-    /// The items, in order. Own.
+    /// Returns the items, in order.
     pub fn as_slice(&self) -> &[T]
         ensures { result.now ≡ self.now }
     {
         &self.items
     }
 
-    /// How many items there are. Own.
+    /// Returns how many items there are.
     pub fn len(&self) -> usize
         ensures { result ≡ length self.now }
     {
         self.items.len()
     }
 
-    /// Whether there is no item. Own.
+    /// Returns whether there is no item.
     pub fn is_empty(&self) -> bool
         ensures { IsTrue result ↔ (self.now ≡ []) }
     {
@@ -52,7 +52,7 @@ impl<T> Sequence<T> {
 }
 
 impl<T: Drop> Sequence<T> {
-    /// Puts an item behind the others. Where memory is refused, the list stays as it was. Own.
+    /// Appends an item to the list. Returns `AllocError` only where memory was refused; then the list stays as it was.
     #[inline(always)]
     pub fn push(&mut self, item: T) -> Result<(), AllocError>
         ensures ok { OnOk result (self.new ≡ self.old ++ item ∷ []) }
@@ -98,7 +98,7 @@ impl<T: PartialEq> PartialEq for Sequence<T> {
     }
 }
 
-/// A list of at most `N` items as a rule, which then lie in the value itself. Own.
+/// A list that holds up to `N` items in the value itself, and allocates memory for more.
 #[derive(Drop)]
 pub struct ShortSequence<T, const N: usize> {
     items: SmallVec<T, N>,
@@ -111,7 +111,7 @@ impl<T, const N: usize> Model for ShortSequence<T, N> {
 }
 
 impl<T, const N: usize> ShortSequence<T, N> {
-    /// The items, in order. Own.
+    /// Returns the items, in order.
     pub fn as_slice(&self) -> &[T]
         ensures { result.now ≡ self.now }
     {
@@ -134,7 +134,7 @@ fn make_room<T: Default + Drop, const N: usize>(
 }
 
 impl<T: Default + Drop, const N: usize> ShortSequence<T, N> {
-    /// The empty list. It takes no memory. Own.
+    /// Returns the empty list. It takes no memory.
     pub fn new(alloc: Global) -> Self
         ensures { result ≡ [] }
     {
@@ -143,8 +143,8 @@ impl<T: Default + Drop, const N: usize> ShortSequence<T, N> {
         }
     }
 
-    /// Puts an item behind the others. Where memory is refused, which can be only from item `N` on, the list
-    /// stays as it was. Own.
+    /// Appends an item to the list. Returns `AllocError` only where memory was refused, which can be only from item `N` on; then
+    /// the list stays as it was.
     #[inline(always)]
     pub fn push(&mut self, item: T) -> Result<(), AllocError>
         ensures ok { OnOk result (self.new ≡ self.old ++ item ∷ []) }
@@ -160,7 +160,8 @@ impl<T: Default + Drop, const N: usize> ShortSequence<T, N> {
 }
 
 impl<T: Copy + Default, const N: usize> ShortSequence<T, N> {
-    /// A list of these items. It takes memory only where there are more than `N`. Own.
+    /// Returns a list of these items. It takes memory only where there are more than `N`, and returns `AllocError` only where
+    /// that was refused.
     pub fn of(alloc: Global, items: &[T]) -> Result<Self, AllocError>
         ensures { IfOk result (λ list. list ≡ items.now) }
     {

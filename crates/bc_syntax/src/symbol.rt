@@ -8,7 +8,7 @@ ghost use Rattle.bc_syntax.specs.Likely.{likely_c, likely_i, likely_keyword};
 
 use crate::bytes::{byte_at, runs_as};
 
-/// A keyword or a sign. Own.
+/// A keyword or a sign.
 #[derive(Clone, Copy, Debug, PartialEq, Eq)]
 pub enum Symbol {
     Fn,
@@ -50,7 +50,7 @@ pub enum Symbol {
     Arrow,
 }
 
-/// The symbols that are written as words. Own.
+/// The symbols that are written as words.
 pub const KEYWORDS: [Symbol; 20] = [
     Symbol::Fn,
     Symbol::Closure,
@@ -74,7 +74,7 @@ pub const KEYWORDS: [Symbol; 20] = [
     Symbol::Extern,
 ];
 
-/// The signs of one byte. Own.
+/// The signs of one byte.
 pub const SIGNS: [Symbol; 16] = [
     Symbol::OpenParen,
     Symbol::CloseParen,
@@ -94,7 +94,7 @@ pub const SIGNS: [Symbol; 16] = [
     Symbol::Star,
 ];
 
-/// Whether two symbols are one. Own.
+/// Returns whether two symbols are equal.
 #[tactic(auto, unfolding(crate::specs::Symbol::same))]
 pub fn same(a: Symbol, b: Symbol) -> bool
     ensures { result ≡ same a b }
@@ -103,7 +103,7 @@ pub fn same(a: Symbol, b: Symbol) -> bool
 }
 
 impl Symbol {
-    /// How the symbol is spelled. Own.
+    /// Returns how the symbol is spelled.
     #[inline(always)]
     #[tactic(auto, unfolding(crate::specs::Symbol::text))]
     pub fn text(self) -> &'static [u8]
@@ -150,7 +150,7 @@ impl Symbol {
         }
     }
 
-    /// The keyword that a word is. Own.
+    /// Returns the keyword that a word is, or `None` where it is none.
     pub fn of_word(word: &[u8]) -> Option<Symbol>
         ensures { result ≡ keyword_of word.now }
     {
@@ -158,7 +158,8 @@ impl Symbol {
         (keyword.text() == word).then_some(keyword)
     }
 
-    /// The keyword that the letters, digits and `_` at the front of a text are. They are not gone over for it. Own.
+    /// Returns the keyword that the letters, digits and `_` at the front of a text are, or `None` where they are none. It does
+    /// not go over all of them.
     #[inline(always)]
     pub fn of_run(bytes: &[u8]) -> Option<Symbol>
         ensures value { result ≡ keyword_of (run bytes.now) }
@@ -168,8 +169,8 @@ impl Symbol {
         runs_as_keyword(bytes, keyword).then_some(keyword)
     }
 
-    /// The sign that a byte below `?` is: most signs of a text are. They lie so near one another that a table tells
-    /// them. Own.
+    /// Returns the sign that a byte below `?` is, or `None` where it is none. Most signs of a text are such. They lie so near one
+    /// another that a table finds them.
     #[inline(always)]
     #[tactic(auto, unfolding(crate::specs::Symbol::sign_of, crate::specs::Symbol::text))]
     pub fn of_low_sign(byte: u8) -> Option<Symbol>
@@ -192,7 +193,7 @@ impl Symbol {
         }
     }
 
-    /// The sign that a byte is. Own.
+    /// Returns the sign that a byte is, or `None` where it is none.
     #[inline(always)]
     #[tactic(auto, unfolding(crate::specs::Symbol::sign_of, crate::specs::Symbol::text))]
     pub fn of_sign(byte: u8) -> Option<Symbol>

@@ -22,7 +22,7 @@ impl Default for Region {
     }
 }
 
-/// Whether a reference, or a borrow, is shared or mutable. Own.
+/// Whether a reference, or a borrow, is shared or mutable.
 #[derive(Clone, Copy, Debug, Default, PartialEq, Eq)]
 pub enum Mutability {
     #[default]
@@ -30,34 +30,34 @@ pub enum Mutability {
     Mutable,
 }
 
-/// One layer of a type, `&R` or `&R mut`; in a borrow, what is borrowed for. Own.
+/// One layer of a type, `&R` or `&R mut`; in a borrow, what is borrowed for.
 #[derive(Clone, Copy, Debug, Default, PartialEq, Eq)]
 pub struct Reference {
     pub region: Region,
     pub mutability: Mutability,
 }
 
-/// The name of a struct or of an extern function. Own.
+/// The name of a struct or of an extern function.
 #[derive(Clone, Drop, PartialEq)]
 pub struct ItemName {
     pub bytes: ShortSequence<u8, 16>,
 }
 
-/// A declared struct or extern function with regions for its own, in their order. Own.
+/// A declared struct or extern function with regions for its own, in their order.
 #[derive(Clone, Drop, PartialEq)]
 pub struct Instance {
     pub name: ItemName,
     pub regions: ShortSequence<Region, 4>,
 }
 
-/// A closure of the unit, by its number, with regions for its external ones, in their order. Own.
+/// A closure of the unit, by its number, with regions for its external ones, in their order.
 #[derive(Clone, Drop, PartialEq)]
 pub struct ClosureInstance {
     pub number: u8,
     pub regions: ShortSequence<Region, 4>,
 }
 
-/// What stands behind all references of a type. Own.
+/// What a type's references lead to.
 #[derive(Clone, Drop, PartialEq)]
 pub enum Base {
     Int,
@@ -65,7 +65,7 @@ pub enum Base {
     Closure(ClosureInstance),
 }
 
-/// A type: its references, the outermost first, and what they lead to. Own.
+/// A type: its references, the outermost first, and what they lead to.
 #[derive(Clone, Drop, PartialEq)]
 pub struct Ty {
     pub references: ShortSequence<Reference, 7>,
@@ -87,7 +87,7 @@ pub struct Place {
     pub projections: Projections,
 }
 
-/// What an rvalue or a terminator reads. (rustc-dev-guide, "The MIR".)
+/// What an rvalue or a terminator reads: a copy or a move of a place, or a number. (rustc-dev-guide, "The MIR").
 #[derive(Clone, Copy, PartialEq)]
 pub enum Operand {
     Copy(Place),
@@ -106,21 +106,21 @@ impl Default for Operand {
     }
 }
 
-/// `&R P` or `&R mut P`. Own.
+/// `&R P` or `&R mut P`.
 #[derive(Clone, Copy, PartialEq)]
 pub struct Borrow {
     pub reference: Reference,
     pub place: Place,
 }
 
-/// A struct made from its fields, in their order. Own.
+/// A struct made from its fields, in their order.
 #[derive(Clone, Drop, PartialEq)]
 pub struct Aggregate {
     pub instance: Instance,
     pub operands: ShortSequence<Operand, 2>,
 }
 
-/// A closure made from what it captures, in the order of its captures. Own.
+/// A closure made from what it captures, in the order of its captures.
 #[derive(Clone, Drop, PartialEq)]
 pub struct Creation {
     pub closure: ClosureInstance,
@@ -153,7 +153,7 @@ pub enum Statement {
     Nop,
 }
 
-/// `if operand then otherwise`, two labels. Own.
+/// `if operand then otherwise`, two labels.
 #[derive(Clone, Copy, PartialEq)]
 pub struct Condition {
     pub operand: Operand,
@@ -161,7 +161,7 @@ pub struct Condition {
     pub otherwise: u8,
 }
 
-/// `destination = call function(operands) target`, where the target is a label. Own.
+/// `destination = call function(operands) target`, where the target is a label.
 #[derive(Clone, Drop, PartialEq)]
 pub struct Call {
     pub destination: Place,
@@ -171,7 +171,7 @@ pub struct Call {
 }
 
 /// `destination = invoke closure<regions>(operands) target`: the closure in a place is called, with regions for its local
-/// ones in their order, and used up. The target is a label. Own.
+/// ones in their order, and used up. The target is a label.
 #[derive(Clone, Drop, PartialEq)]
 pub struct Invocation {
     pub destination: Place,
@@ -199,20 +199,20 @@ pub struct Block {
     pub terminator: Terminator,
 }
 
-/// A `where` clause between universal regions: the value of `longer` contains that of `shorter`. Own.
+/// A `where` clause between universal regions: the value of `longer` contains that of `shorter`.
 #[derive(Clone, Copy, Debug, PartialEq, Eq)]
 pub struct Outlives {
     pub longer: u8,
     pub shorter: u8,
 }
 
-/// The name of a declared region, without its `'`. Own.
+/// The name of a declared region, without its `'`.
 #[derive(Clone, Drop, PartialEq)]
 pub struct RegionName {
     pub bytes: ShortSequence<u8, 16>,
 }
 
-/// What a unit is. Own.
+/// The kind of a unit.
 #[derive(Clone, Copy, Debug, PartialEq, Eq)]
 pub enum UnitKind {
     Function,
@@ -220,7 +220,7 @@ pub enum UnitKind {
 }
 
 /// The regions and clauses that a unit or an extern function declares, what it takes and what it returns. The regions'
-/// numbers are 1 and up, in this order. Own.
+/// numbers are 1 and up, in this order.
 #[derive(Clone, Drop, PartialEq)]
 pub struct Signature {
     pub regions: Sequence<RegionName>,
@@ -229,7 +229,7 @@ pub struct Signature {
     pub result: Ty,
 }
 
-/// What stands before a unit's body. A function has no captures. Own.
+/// A unit's header, which comes before its body. A function has no captures.
 #[derive(Clone, Drop, PartialEq)]
 pub struct Header {
     pub kind: UnitKind,
@@ -255,7 +255,7 @@ pub enum Variance {
 }
 
 /// `struct NAME<regions> drop { fields }`: the regions' numbers in the fields' types are 1 and up, in this order, and
-/// each has its variance. Own.
+/// each has its variance.
 #[derive(Clone, Drop, PartialEq)]
 pub struct StructDeclaration {
     pub name: ItemName,
@@ -265,14 +265,14 @@ pub struct StructDeclaration {
     pub fields: Sequence<Ty>,
 }
 
-/// `extern NAME<regions> where clauses (parameters) -> result`. Own.
+/// `extern NAME<regions> where clauses (parameters) -> result`.
 #[derive(Drop, PartialEq)]
 pub struct ExternDeclaration {
     pub name: ItemName,
     pub signature: Signature,
 }
 
-/// A struct, or a function that is declared alone. Own.
+/// A struct, or a function that is declared alone.
 #[derive(Drop, PartialEq)]
 pub enum Declaration {
     Struct(StructDeclaration),

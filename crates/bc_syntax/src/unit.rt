@@ -8,7 +8,7 @@ use std::marker::Model;
 /// A body that has a spelling: its numbers are within their limits (at most 256 locals, 256 blocks and one at least,
 /// 4,096 points, 15 declared regions, 32 clauses, 16 captures, parameters and operands in a list, closures up to 63,
 /// region variables up to 1,023), its regions and locals are declared, and its names are words. A function captures
-/// nothing, and closure types are those of whole `let` locals alone. Own.
+/// nothing, and closure types are those of whole `let` locals alone.
 #[derive(PartialEq)]
 pub struct Unit {
     body: Body,
@@ -35,7 +35,7 @@ impl Model for Unit {
 }
 
 impl Unit {
-    /// The unit of a body that is known to have a spelling. Own.
+    /// Makes the unit of a body that is known to have a spelling.
     pub fn of_fitting(body: Body) -> Unit
         requires { Fits body }
         ensures { result ≡ body }
@@ -43,7 +43,7 @@ impl Unit {
         Unit { body }
     }
 
-    /// What the unit is made of. Own.
+    /// Returns the body that the unit is made of, with its header.
     pub fn body(&self) -> &Body
         ensures value { result.now ≡ self.now }
         ensures fits { Fits self.now }

@@ -20,14 +20,14 @@ fn are_region_bytes(bytes: &[u8]) -> bool
     bytes.iter().all(|byte| byte.is_ascii_lowercase() || byte.is_ascii_digit() || *byte == b'_')
 }
 
-/// Whether each of these bytes is a letter, a digit or `_`. Own.
+/// Returns whether each of these bytes is a letter, a digit or `_`.
 pub fn are_run_bytes(bytes: &[u8]) -> bool
     ensures { result ≡ list_all is_run_byte bytes.now }
 {
     bytes.iter().all(|byte| is_run_byte(*byte))
 }
 
-/// Whether bytes are `0`, or digits without a leading zero, where it is known whether they are digits. Own.
+/// Returns whether bytes are `0`, or digits without a leading zero. The caller knows whether they are digits.
 #[inline(always)]
 #[tactic(auto, unfolding(crate::specs::Words::is_number))]
 pub fn is_number_of(digits: &[u8], are_digits: bool) -> bool
@@ -37,15 +37,15 @@ pub fn is_number_of(digits: &[u8], are_digits: bool) -> bool
     are_digits && !digits.is_empty() && (digits.len() == 1 || byte_at(digits, 0) != b'0')
 }
 
-/// Whether bytes are `0`, or digits without a leading zero. Own.
+/// Returns whether bytes are `0`, or digits without a leading zero.
 pub fn is_number(digits: &[u8]) -> bool
     ensures { result ≡ is_number digits.now }
 {
     is_number_of(digits, are_digits(digits))
 }
 
-/// Whether bytes are the name of a region without its `'`, where it is known whether they are lower-case letters, digits
-/// and `_`. Own.
+/// Returns whether bytes are the name of a region without its `'`. The caller knows whether they are lower-case letters, digits
+/// and `_`.
 #[tactic(auto, unfolding(crate::specs::Words::is_region_name))]
 pub fn is_region_name_of(name: &[u8], are_region_bytes: bool) -> bool
     requires { are_region_bytes ≡ list_all is_region_byte name.now }
@@ -54,7 +54,7 @@ pub fn is_region_name_of(name: &[u8], are_region_bytes: bool) -> bool
     byte_at(name, 0).is_ascii_lowercase() && are_region_bytes
 }
 
-/// Whether bytes are the name of a region without its `'`: a lower-case letter, then such letters, digits and `_`. Own.
+/// Returns whether bytes are the name of a region without its `'`: a lower-case letter, then such letters, digits and `_`.
 pub fn is_region_name(name: &[u8]) -> bool
     ensures { result ≡ is_region_name name.now }
 {
@@ -74,8 +74,8 @@ fn is_keyword(word: &[u8]) -> bool
     Symbol::of_word(word).is_some()
 }
 
-/// Whether bytes are a word that may name a struct or an extern function: letters, digits and `_` that begin with a
-/// letter and are no label and no keyword. Own.
+/// Returns whether bytes are a word that may name a struct or an extern function: letters, digits and `_` that begin with a
+/// letter and are no label and no keyword.
 #[tactic(auto, unfolding(crate::specs::Words::is_word))]
 pub fn is_word(bytes: &[u8]) -> bool
     ensures { result ≡ is_word bytes.now }

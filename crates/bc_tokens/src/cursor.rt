@@ -16,7 +16,7 @@ use crate::token::{
 use bc_syntax::{Numbering, Symbol, behind, byte_at, same};
 use std::marker::Model;
 
-/// The tokens of a text from one of them on. Own.
+/// A position in a text before one of its tokens, which reads the tokens from there on.
 #[derive(Drop)]
 pub struct Cursor<'a> {
     token: Token<'a>,
@@ -72,7 +72,7 @@ fn same_numbering(a: Numbering, b: Numbering) -> bool
 }
 
 impl<'a> Cursor<'a> {
-    /// The tokens of a text that lies at a place. Own.
+    /// Makes the cursor at the first token of a text, which lies at the byte `at` of a whole.
     pub fn new(text: &'a [u8], at: usize) -> Cursor<'a>
         requires { at + length text.now < 2 ^ 64 }
         ensures { result ≡ tokens 0 at text.now }
@@ -87,15 +87,15 @@ impl<'a> Cursor<'a> {
         cursor
     }
 
-    /// Where the next token begins. Own.
+    /// Returns the byte at which the next token begins.
     pub fn position(&self) -> usize
         ensures { result ≡ spec.position self.now }
     {
         self.at
     }
 
-    /// The fault of the next token, where the grammar does not allow it: `NotAscii` and `Token` of what is no token, else
-    /// `Grammar`. Own.
+    /// Returns why the next token is refused where the grammar does not allow it: `NotAscii` or `Token` where it is no token,
+    /// else `Grammar`.
     #[tactic(auto, unfolding(crate::specs::Parser::fault))]
     pub fn fault(&self) -> Refusal
         ensures value { result ≡ spec.fault self.now }
@@ -111,7 +111,7 @@ impl<'a> Cursor<'a> {
         }
     }
 
-    /// Goes past the next token. Own.
+    /// Moves the cursor past the next token.
     #[inline(never)]
     pub fn take(&mut self)
         requires { (first self.old).token ≢ End }
@@ -241,7 +241,7 @@ impl<'a> Cursor<'a> {
         self.rest = behind(text, len);
     }
 
-    /// Whether this symbol comes next. Own.
+    /// Returns whether this symbol comes next.
     #[tactic(auto, unfolding(crate::specs::Parser::sees))]
     pub fn sees(&self, symbol: Symbol) -> bool
         ensures value { result ≡ spec.sees symbol self.now }
@@ -258,7 +258,7 @@ impl<'a> Cursor<'a> {
         }
     }
 
-    /// Takes this symbol, if it comes next, and answers whether it did. Own.
+    /// Moves past this symbol if it comes next, and returns whether it did.
     #[tactic(auto, unfolding(crate::specs::Parser::after_symbol))]
     pub fn eat(&mut self, symbol: Symbol) -> bool
         ensures found { result ≡ spec.sees symbol self.old }
@@ -271,7 +271,7 @@ impl<'a> Cursor<'a> {
         found
     }
 
-    /// Takes this symbol, or refuses what comes in its place. Own.
+    /// Moves past this symbol, or returns the refusal of what comes in its place.
     #[tactic(auto, unfolding(crate::specs::Parser::expect))]
     pub fn expect(&mut self, symbol: Symbol) -> Result<(), Refusal>
         ensures reads { Reads (spec.expect symbol self.old) result self.new }
@@ -296,8 +296,8 @@ impl<'a> Cursor<'a> {
         }
     }
 
-    /// A number, a local, a label or a variable, by its number. `Limit` where the number is above the limit; the fault of
-    /// what comes in its place. Own.
+    /// Reads a number, local, label or variable, and returns its number. Returns `Limit` where the number is above the limit,
+    /// else the refusal of what comes in its place.
     #[tactic(auto, unfolding(crate::specs::Parser::numbered))]
     pub fn numbered(&mut self, numbering: Numbering, limit: u32) -> Result<u32, Refusal>
         ensures reads { Reads (spec.numbered numbering limit self.old) result self.new }
@@ -325,7 +325,7 @@ impl<'a> Cursor<'a> {
         }
     }
 
-    /// Whether the next token is of this numbering. Own.
+    /// Returns whether the next token is of this numbering.
     #[tactic(auto, unfolding(crate::specs::Parser::sees_numbered))]
     pub fn sees_numbered(&self, numbering: Numbering) -> bool
         ensures { result ≡ spec.sees_numbered numbering self.now }
@@ -348,7 +348,8 @@ impl<'a> Cursor<'a> {
         }
     }
 
-    /// A region, by its name. `Limit` where it has more than 16 bytes; the fault of what comes in its place. Own.
+    /// Reads the name of a region and returns its bytes. Returns `Limit` where it has more than 16 bytes, else the refusal of
+    /// what comes in its place.
     #[tactic(auto, unfolding(crate::specs::Parser::region_name))]
     pub fn region_name(&mut self) -> Result<&'a [u8], Refusal>
         ensures reads { ReadsAs (λ name. name.now) (spec.region_name self.old) result self.new }
@@ -364,7 +365,7 @@ impl<'a> Cursor<'a> {
         Ok(name)
     }
 
-    /// Whether a region's name comes next. Own.
+    /// Returns whether a region's name comes next.
     #[tactic(auto, unfolding(crate::specs::Parser::sees_region))]
     pub fn sees_region(&self) -> bool
         ensures { result ≡ spec.sees_region self.now }
@@ -387,7 +388,7 @@ impl<'a> Cursor<'a> {
         }
     }
 
-    /// Whether a word that is no keyword comes next. Own.
+    /// Returns whether a word that is no keyword comes next.
     #[tactic(auto, unfolding(crate::specs::Parser::sees_word))]
     pub fn sees_word(&self) -> bool
         ensures { result ≡ spec.sees_word self.now }
@@ -395,7 +396,8 @@ impl<'a> Cursor<'a> {
         self.plain_word().is_some()
     }
 
-    /// A word that is no keyword. `Limit` where it has more than 32 bytes; the fault of what comes in its place. Own.
+    /// Reads a word that is no keyword and returns its bytes. Returns `Limit` where it has more than 32 bytes, else the refusal
+    /// of what comes in its place.
     #[tactic(auto, unfolding(crate::specs::Parser::word))]
     pub fn word(&mut self) -> Result<&'a [u8], Refusal>
         ensures reads { ReadsAs (λ name. name.now) (spec.word self.old) result self.new }
@@ -411,7 +413,7 @@ impl<'a> Cursor<'a> {
         Ok(name)
     }
 
-    /// That nothing more comes, or the fault of the next token. Own.
+    /// Returns `Ok` where no more tokens come, else the refusal of the next one.
     #[tactic(auto, unfolding(crate::specs::Parser::at_end))]
     pub fn at_end(&self) -> Result<(), Refusal>
         ensures reads { Reads (spec.at_end self.now) result self.now }

@@ -4,9 +4,9 @@ ghost use Rattle.bc_tokens.specs.declared.refusal.Refusal.TheVariants.{NoMemory}
 
 use std::alloc::AllocError;
 
-/// Why the grammar stopped: the first bad token, by its kind and its place, or want of memory. `NotAscii`, a byte that is
-/// not ASCII; `Token`, what is no token; `Grammar`, a token that may not stand there; `Limit`, one too many, or a number
-/// or name past its limit. Own.
+/// Why reading a text stopped: the first bad token, by its kind and its place, or out of memory. `NotAscii`, a byte that is not
+/// ASCII; `Token`, what is no token; `Grammar`, a token that may not be there; `Limit`, one too many, or a number or name past
+/// its limit.
 #[derive(Debug, Drop)]
 pub enum Refusal {
     NotAscii { at: usize },

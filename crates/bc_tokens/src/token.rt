@@ -13,7 +13,7 @@ use bc_syntax::{
     run, run_len,
 };
 
-/// What a token is. Own.
+/// The kind of a token.
 #[derive(Clone, Copy, Debug, PartialEq, Eq)]
 pub enum Kind {
     Fixed(Symbol),
@@ -25,7 +25,7 @@ pub enum Kind {
     End,
 }
 
-/// A token: its kind, the digits or the name in it, and what the digits count. Own.
+/// A token: its kind, the digits or the name in it, and what the digits count.
 #[derive(Clone, Copy, Debug)]
 pub struct Token<'a> {
     pub kind: Kind,
@@ -35,7 +35,7 @@ pub struct Token<'a> {
 }
 
 impl<'a> Token<'a> {
-    /// A token of which there is no more to say than its kind. Own.
+    /// Makes a token that has a kind alone, without digits or a name.
     pub fn bare(kind: Kind) -> Token<'a>
         ensures kind { result.kind ≡ kind }
         ensures keeps { Keeps result.kind result.text.now result.number }
@@ -256,7 +256,7 @@ fn sign_token<'a>(byte: u8) -> Token<'a>
     }
 }
 
-/// The token at the front of a text that begins with a digit, and how many bytes it has. Own.
+/// Returns the token at the front of a text that begins with a digit, and how many bytes it has.
 #[inline(always)]
 pub fn number_lexeme(bytes: &[u8]) -> (Token<'_>, usize)
     requires { is_ascii_digit (slice_index bytes.now 0) ≡ true }
@@ -269,7 +269,7 @@ pub fn number_lexeme(bytes: &[u8]) -> (Token<'_>, usize)
     number_token(Numbering::Number, bytes)
 }
 
-/// The token at the front of a text that begins with `_`, and how many bytes it has. Own.
+/// Returns the token at the front of a text that begins with `_`, and how many bytes it has.
 #[inline(always)]
 pub fn local_lexeme(bytes: &[u8]) -> (Token<'_>, usize)
     requires { slice_index bytes.now 0 ≡ 95 }
@@ -283,7 +283,7 @@ pub fn local_lexeme(bytes: &[u8]) -> (Token<'_>, usize)
     (token, 1 + len)
 }
 
-/// The keyword at the front of a text that begins with a letter, if one is there, and how many bytes it has. Own.
+/// Returns the keyword at the front of a text that begins with a letter, if one is there, and how many bytes it has.
 #[inline(always)]
 pub fn keyword_lexeme(bytes: &[u8]) -> Option<(Token<'_>, usize)>
     requires { is_ascii_alphabetic (slice_index bytes.now 0) ≡ true }
@@ -303,7 +303,7 @@ pub fn keyword_lexeme(bytes: &[u8]) -> Option<(Token<'_>, usize)>
     }
 }
 
-/// The token at the front of a text that begins with a letter, and how many bytes it has. Own.
+/// Returns the token at the front of a text that begins with a letter, and how many bytes it has.
 #[inline(always)]
 pub fn letter_lexeme(bytes: &[u8]) -> (Token<'_>, usize)
     requires { is_ascii_alphabetic (slice_index bytes.now 0) ≡ true }
@@ -316,7 +316,7 @@ pub fn letter_lexeme(bytes: &[u8]) -> (Token<'_>, usize)
     letter_token(bytes)
 }
 
-/// The token at the front of a text that begins with `'`, and how many bytes it has. Own.
+/// Returns the token at the front of a text that begins with `'`, and how many bytes it has.
 #[inline(always)]
 pub fn quoted_lexeme(bytes: &[u8]) -> (Token<'_>, usize)
     requires { slice_index bytes.now 0 ≡ 39 }
@@ -330,7 +330,7 @@ pub fn quoted_lexeme(bytes: &[u8]) -> (Token<'_>, usize)
     (token, 1 + len)
 }
 
-/// The token at the front of any other text, and how many bytes it has. Own.
+/// Returns the token at the front of any other text, and how many bytes it has.
 #[inline(always)]
 pub fn sign_lexeme(bytes: &[u8]) -> (Token<'_>, usize)
     requires some { 0 < length bytes.now }
