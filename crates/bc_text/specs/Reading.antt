@@ -580,6 +580,7 @@ abbrev pub Answers : {A : Type 0} → Result A ReadFault → Result A ReadFault 
 Answers (Ok a) answer = answer ≡ Ok a
 Answers (Err e) answer = e ≢ NoMemory → answer ≡ Err e
 
--- the same for the regions of a struct, which are kept apart from their variances
+-- what a function returned, the regions and variances of a struct zipped together, is what the parser gives, unless memory ran
+-- out
 abbrev pub ReadsMarks : Outcome Marks → Result InMemory Refusal → Tokens → Type 0
 ReadsMarks outcome result later = ReadsAs (λ (m : InMemory). zip m.variances m.regions) outcome result later

@@ -93,7 +93,7 @@ fn block(
     }
 }
 
-/// The blocks of a body: at least one. Own.
+/// Reads the blocks of a body: at least one.
 #[tactic(auto, unfolding(crate::specs::Reading::blocks, crate::specs::Reading::blocks_turn))]
 pub fn blocks(
     alloc: Global,

@@ -250,9 +250,8 @@ fn read_whole_types(alloc: Global, bytes: &[u8]) -> Result<Types, ReadFault>
     Ok(Types::of_fitting(types(alloc, &mut cursor)?))
 }
 
-/// The declarations that a text spells. `TooLong` comes exactly where the text has more than 1,048,576 bytes; `NotAscii`,
-/// `Token`, `Grammar` and `Limit` tell the kind and the place of the first bad token; `NoMemory` comes only where
-/// memory was refused. (Own.)
+/// Reads the declarations that a text spells. Returns `TooLong` exactly where the text has more than 1,048,576 bytes; `NotAscii`,
+/// `Token`, `Grammar` and `Limit` with the place of the first bad token; and `NoMemory` only where memory was refused.
 #[tactic(auto, unfolding(crate::specs::Reading::read_types))]
 pub fn read_types(alloc: Global, bytes: &[u8]) -> Result<Types, ReadFault>
     // What is read is spelled so.

@@ -14,7 +14,7 @@ use std::marker::Model;
 
 /// A name: a root of 1 to 32 letters, digits and `_` that does not begin with a digit, and up to seven segments,
 /// numbers from 0 to 63. Names are ordered by root bytes, then by segments as numbers, a beginning before what goes
-/// on. Own.
+/// on.
 #[derive(Clone, Copy, Debug)]
 pub struct Name {
     root: [u8; 32],
@@ -67,8 +67,8 @@ fn first_segment(bytes: &[u8]) -> Option<(u8, usize)>
 }
 
 impl Name {
-    /// The name that the bytes spell: a root, then a `/` and a number for each segment. `None` exactly where they
-    /// spell none. Own.
+    /// Returns the name that the bytes spell: a root, then a `/` and a number for each segment. Returns `None` exactly where they
+    /// spell none.
     pub fn read(bytes: &[u8]) -> Option<Name>
         // What is answered is spelled so.
         ensures found { IfSome result (λ name. IsName name × (bytes.now ≡ name_text name)) }
@@ -102,8 +102,8 @@ impl Name {
         })
     }
 
-    /// The name of a closure of this one, by its number; `None` exactly where the number is above 63 or this name
-    /// has seven segments. Own.
+    /// Returns the name of a closure of this one, by its number, or `None` exactly where the number is above 63 or this name has
+    /// seven segments.
     pub fn child(self, number: u8) -> Option<Name>
         ensures { result ≡ (if nat_le number 63 && nat_lt (length self.segments) 7 then Some (record { root = self.root; segments = self.segments ++ number ∷ [] }) else None) }
     {
@@ -116,7 +116,7 @@ impl Name {
         Some(child)
     }
 
-    /// The bytes of the root. Own.
+    /// Returns the bytes of the root.
     pub fn root(&self) -> &[u8]
         ensures value { result.now ≡ self.now.root }
         ensures name { IsName self.now }
@@ -124,35 +124,35 @@ impl Name {
         &self.root[..usize::from(self.root_len)]
     }
 
-    /// The root as text. Own.
+    /// Returns the root as text.
     pub fn root_str(&self) -> &str
         ensures { result.now ≡ self.now.root }
     {
         str::from_utf8(self.root()).unwrap()
     }
 
-    /// The segments, as numbers. Own.
+    /// Returns the segments, as numbers.
     pub fn segments(&self) -> &[u8]
         ensures { result.now ≡ self.now.segments }
     {
         &self.segments[..usize::from(self.depth)]
     }
 
-    /// How many segments the name has. Own.
+    /// Returns how many segments the name has.
     pub fn depth(&self) -> usize
         ensures { result ≡ length self.now.segments }
     {
         self.segments().len()
     }
 
-    /// Whether another name is this one, or begins with it and `/`. Own.
+    /// Returns whether another name is this one, or begins with it and `/`.
     pub fn holds(&self, other: &Name) -> bool
         ensures { result ≡ is_within self.now other.now }
     {
         self.root() == other.root() && other.segments().starts_with(self.segments())
     }
 
-    /// The name with the first segments alone, so many, or all where it has no more. Own.
+    /// Returns the name with its first `depth` segments alone, or with all where it has no more.
     pub fn beginning(&self, depth: usize) -> Name
         ensures { result ≡ record { root = self.now.root; segments = take depth self.now.segments } }
     {

@@ -12,7 +12,7 @@ use bc_syntax::{
 use bc_tokens::{Cursor, Refusal};
 use std::alloc::Global;
 
-/// A local that was declared. Own.
+/// Reads a local that is declared.
 #[inline(always)]
 #[tactic(auto, unfolding(crate::specs::Reading::local))]
 pub fn local(cursor: &mut Cursor<'_>, locals: u16) -> Result<u8, Refusal>
@@ -69,7 +69,7 @@ fn projections(cursor: &mut Cursor<'_>) -> Result<Projections, Refusal>
     }
 }
 
-/// A place. Own.
+/// Reads a place.
 #[inline(always)]
 #[tactic(auto, unfolding(crate::specs::Reading::place))]
 pub fn place(cursor: &mut Cursor<'_>, locals: u16) -> Result<Place, Refusal>
@@ -92,7 +92,7 @@ fn moved(cursor: &mut Cursor<'_>, locals: u16) -> Result<Operand, Refusal>
     }
 }
 
-/// An operand. Own.
+/// Reads an operand.
 #[inline(always)]
 #[tactic(auto, unfolding(crate::specs::Reading::operand))]
 pub fn operand(cursor: &mut Cursor<'_>, locals: u16) -> Result<Operand, Refusal>
@@ -130,7 +130,7 @@ fn some_operands(
     Err(refuse_past(begins_operand(cursor), cursor))
 }
 
-/// Operands, with their parentheses. Own.
+/// Reads operands, with their parentheses.
 #[tactic(auto, unfolding(bc_tokens::specs::Parser::closed_list, crate::specs::Reading::operands))]
 pub fn operands(
     alloc: Global,
@@ -189,7 +189,7 @@ fn creation(
     Ok(Creation { closure, operands })
 }
 
-/// What an assignment computes. Own.
+/// Reads what an assignment computes.
 #[tactic(auto, unfolding(crate::specs::Reading::rvalue, crate::specs::Reading::computed, crate::specs::Reading::created, crate::specs::Reading::captured))]
 pub fn rvalue(
     alloc: Global,

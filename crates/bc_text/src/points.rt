@@ -12,14 +12,14 @@ use bc_syntax::{
 use bc_tokens::{Cursor, Refusal};
 use std::alloc::Global;
 
-/// A statement or a terminator. Own.
+/// A statement or a terminator.
 #[derive(Drop)]
 pub enum Point {
     Statement(Statement),
     Terminator(Terminator),
 }
 
-/// A label, by its number. Own.
+/// Reads a label, and returns its number.
 #[tactic(auto, unfolding(crate::specs::Reading::label))]
 pub fn label(cursor: &mut Cursor<'_>) -> Result<u8, Refusal>
     ensures { Reads (spec.label cursor.old) result cursor.new }
@@ -139,7 +139,7 @@ fn statement(
     assignment(alloc, cursor, regions, locals)
 }
 
-/// A statement or a terminator. Own.
+/// Reads a statement or a terminator.
 #[tactic(auto, unfolding(crate::specs::Reading::point, crate::specs::Reading::stopping, crate::specs::Reading::going, crate::specs::Reading::branching))]
 pub fn read_point(
     alloc: Global,

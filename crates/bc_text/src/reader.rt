@@ -104,7 +104,7 @@ fn behind_regions(
     function_ty(alloc, cursor, regions, clauses)
 }
 
-/// A signature that declares at most so many regions. Own.
+/// Reads a signature that declares at most `limit` regions.
 #[tactic(auto, unfolding(crate::specs::Reading::signature))]
 pub fn signature(alloc: Global, cursor: &mut Cursor<'_>, limit: u8) -> Result<Signature, Refusal>
     requires { limit ≤ 15 }
@@ -272,12 +272,12 @@ fn read_whole(alloc: Global, bytes: &[u8]) -> Result<Unit, ReadFault>
     Ok(Unit::of_fitting(body(alloc, &mut cursor)?))
 }
 
-/// How many bytes a text may have. Own.
+/// How many bytes a text may have.
 pub const MAX_TEXT: usize = 1_048_576;
 
-/// The unit that a text spells. `TooLong` comes exactly where the text has more than 1,048,576 bytes; `NotAscii`,
-/// `Token`, `Grammar` and `Limit` tell the kind and the place of the first bad token; `NoMemory` comes only where
-/// memory was refused. (Own: a textual form of the MIR of the rustc-dev-guide, "The MIR".)
+/// Reads the unit that a text spells. Returns `TooLong` exactly where the text has more than 1,048,576 bytes; `NotAscii`,
+/// `Token`, `Grammar` and `Limit` with the place of the first bad token; and `NoMemory` only where memory was refused. (A textual
+/// form of the MIR of the rustc-dev-guide, "The MIR".)
 #[tactic(auto, unfolding(crate::specs::Reading::read))]
 pub fn read_unit(alloc: Global, bytes: &[u8]) -> Result<Unit, ReadFault>
     // What is read is spelled so.

@@ -12,7 +12,7 @@ use bc_syntax::{
 use bc_tokens::{Cursor, Refusal};
 use std::alloc::Global;
 
-/// The refusal of an item that is one too many, or of what is no item. Own.
+/// Returns the refusal of an item that is one too many, or of what is no item.
 pub fn refuse_past(begins: bool, cursor: &Cursor<'_>) -> Refusal
     ensures { result ≡ (if begins then Limit (position cursor.now) else fault cursor.now) }
 {
@@ -25,7 +25,7 @@ pub fn refuse_past(begins: bool, cursor: &Cursor<'_>) -> Refusal
     }
 }
 
-/// A universal region, by its number. Own.
+/// Reads a universal region, and returns its number.
 #[tactic(auto, unfolding(crate::specs::Reading::universal))]
 pub fn universal(cursor: &mut Cursor<'_>, regions: &[RegionName]) -> Result<u8, Refusal>
     requires { length regions.now ≤ 15 }
@@ -39,7 +39,7 @@ pub fn universal(cursor: &mut Cursor<'_>, regions: &[RegionName]) -> Result<u8, 
     }
 }
 
-/// A region, by its number. Own.
+/// Reads a region, and returns it by its number.
 #[tactic(auto, unfolding(crate::specs::Reading::region))]
 pub fn region(
     cursor: &mut Cursor<'_>,
@@ -62,7 +62,7 @@ fn begins_region(cursor: &Cursor<'_>, variables: bool) -> bool
     cursor.sees_region() || (variables && cursor.sees_numbered(Numbering::Variable))
 }
 
-/// A region that is declared here, where those before it are. Own.
+/// Reads a region that is declared here, after those before it.
 #[tactic(auto, unfolding(crate::specs::Reading::new_region))]
 pub fn new_region(
     alloc: Global,
@@ -100,7 +100,7 @@ fn some_new_regions(
     Err(refuse_past(cursor.sees_region(), cursor))
 }
 
-/// The regions that are declared here, at most so many. Own.
+/// Reads the regions that are declared here, at most so many.
 #[tactic(auto, unfolding(bc_tokens::specs::Parser::declared_list))]
 pub fn new_regions(
     alloc: Global,
@@ -118,7 +118,7 @@ pub fn new_regions(
     Ok(found)
 }
 
-/// The name of a struct or of an extern function. Own.
+/// Reads the name of a struct or of an extern function.
 #[tactic(auto, unfolding(crate::specs::Reading::item_name))]
 pub fn item_name(alloc: Global, cursor: &mut Cursor<'_>) -> Result<ItemName, Refusal>
     ensures { Reads (spec.item_name cursor.old) result cursor.new }
@@ -152,7 +152,7 @@ fn some_regions(
     Err(refuse_past(begins_region(cursor, variables), cursor))
 }
 
-/// Regions in `<` and `>`, or none where no `<` comes. Own.
+/// Reads regions in `<` and `>`, or none where no `<` comes.
 #[tactic(auto, unfolding(bc_tokens::specs::Parser::declared_list))]
 pub fn arguments(
     alloc: Global,
@@ -171,7 +171,7 @@ pub fn arguments(
     Ok(found)
 }
 
-/// A declared item with regions for its own. Own.
+/// Reads a declared item, with regions for those that it declares.
 #[tactic(auto, unfolding(crate::specs::Reading::instance))]
 pub fn instance(
     alloc: Global,
@@ -187,7 +187,7 @@ pub fn instance(
     Ok(Instance { name, regions })
 }
 
-/// A closure of the unit with regions for its own, behind its word. Own.
+/// Reads a closure of the unit behind its word, with regions for those that it declares.
 #[tactic(auto, unfolding(crate::specs::Reading::closure_instance))]
 pub fn closure_instance(
     alloc: Global,

@@ -19,7 +19,7 @@ fn mutability(cursor: &mut Cursor<'_>) -> Mutability
     }
 }
 
-/// What stands behind a `&`: a region, and `mut` or not. Own.
+/// Reads a reference behind its `&`: a region, and `mut` or not.
 #[tactic(auto, unfolding(crate::specs::Reading::reference))]
 pub fn reference(
     cursor: &mut Cursor<'_>,
@@ -34,7 +34,7 @@ pub fn reference(
     Ok(Reference { region, mutability })
 }
 
-/// Whether a type may begin here. Own.
+/// Returns whether a type may begin here.
 pub fn begins_ty(cursor: &Cursor<'_>) -> bool
     ensures { result ≡ spec.begins_ty cursor.now }
 {
@@ -58,7 +58,7 @@ fn base(
     }
 }
 
-/// A type. Own.
+/// Reads a type.
 #[tactic(auto, unfolding(crate::specs::Reading::ty))]
 pub fn ty(
     alloc: Global,
@@ -80,7 +80,7 @@ pub fn ty(
     Err(refuse_past(begins_ty(cursor), cursor))
 }
 
-/// The type of a `let` local: a closure alone, or a type as it may stand anywhere in a body. Own.
+/// Reads the type of a `let` local: a closure alone, or a type that may be anywhere in a body.
 #[tactic(auto, unfolding(crate::specs::Reading::let_type))]
 pub fn let_type(
     alloc: Global,
@@ -117,7 +117,7 @@ fn some_tys(
     Err(refuse_past(begins_ty(cursor), cursor))
 }
 
-/// The types of parameters, with their parentheses. Own.
+/// Reads the types of parameters, with their parentheses.
 #[tactic(auto, unfolding(bc_tokens::specs::Parser::closed_list, crate::specs::Reading::parameters))]
 pub fn parameters(
     alloc: Global,
@@ -137,7 +137,7 @@ pub fn parameters(
     Ok(found)
 }
 
-/// The types that a closure captures, with their brackets. Own.
+/// Reads the types that a closure captures, with their brackets.
 #[tactic(auto, unfolding(bc_tokens::specs::Parser::closed_list, crate::specs::Reading::captures))]
 pub fn captures(
     alloc: Global,

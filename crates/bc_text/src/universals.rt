@@ -17,7 +17,7 @@ fn declared_at(regions: &[RegionName], name: &[u8]) -> Option<usize>
         .position(|other| other.bytes.as_slice() == name)
 }
 
-/// The universal region of a name. Own.
+/// Returns the number of the universal region of a name, or `None` where none has it.
 #[tactic(auto, unfolding(crate::specs::Universals::number_of))]
 pub fn number_of(regions: &[RegionName], name: &[u8]) -> Option<u8>
     requires { length regions.now ≤ 15 }

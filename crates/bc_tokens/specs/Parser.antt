@@ -120,7 +120,7 @@ abbrev pub Reads : {A : Type 0} → Outcome A → Result A Refusal → Tokens �
 Reads outcome (Ok a) new = outcome ≡ Ok (a, new)
 Reads outcome (Err e) new = e ≢ faults.NoMemory → outcome ≡ Err e
 
--- the same, where the value is seen by `view`
+-- what a function returned, seen by `view`, is what the parser gives, unless memory ran out
 abbrev pub ReadsAs : {A B : Type 0} → (B → A) → Outcome A → Result B Refusal → Tokens → Type 0
 ReadsAs view outcome (Ok b) new = outcome ≡ Ok (view b, new)
 ReadsAs view outcome (Err e) new = e ≢ faults.NoMemory → outcome ≡ Err e
