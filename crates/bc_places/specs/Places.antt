@@ -16,7 +16,7 @@ abbrev pub before_points : List RegionName → ℕ → List Statement → List �
 before_points regions count [] = count ∷ []
 before_points regions count (st ∷ sts) = count ∷ before_points regions (count + length (line regions st)) sts
 
--- The same of blocks, the first of which has this label, where so many stand in front of it.
+-- How many tokens stand in front of each point of blocks, the first of which has this label, where so many stand in front of it.
 abbrev pub before_blocks : List RegionName → (count number : ℕ) → List Block → List ℕ
 before_blocks regions count number [] = []
 before_blocks regions count number (b ∷ bs) =

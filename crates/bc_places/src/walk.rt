@@ -47,7 +47,8 @@ fn note(cursor: &Cursor<'_>, opened: bool, places: &mut Vec<usize>) -> Result<()
     Ok(())
 }
 
-/// The places of the tokens that begin points, by the tokens in front of them, in one walk over the text.
+/// Returns the places of the tokens that begin points, found by the tokens before them in one walk over the text. Returns
+/// `AllocError` only where memory was refused.
 pub fn noted_places(alloc: Global, text: &[u8]) -> Result<Vec<usize>, AllocError>
     requires { length text.now < 2 ^ 64 }
     ensures { IfOk result (λ places. places.items ≡ noted false [] (tokens 0 0 text.now)) }

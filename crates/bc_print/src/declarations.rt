@@ -189,8 +189,8 @@ fn write_all_declarations<W: Write>(
     Ok(())
 }
 
-/// Writes the text of declarations: exactly the tokens of their spelling, with one space between two and a line feed
-/// behind the last. Answers `WriterFault` only where a write failed. It takes no memory. Own.
+/// Writes the text of declarations: exactly the tokens of their spelling, with one space between two and a line feed behind the
+/// last. Returns `WriterFault` only where a write failed. It takes no memory.
 pub fn print_types<W: Write>(types: &Types, out: &mut W) -> Result<(), WriterFault>
     ensures { OnOk result (Appends (W.contents out.old) (W.contents out.new) (printed (spell.types types.now))) }
 {

@@ -19,7 +19,7 @@ impl From<WriterFault> for io::Error {
     }
 }
 
-/// Writes all bytes. Answers `WriterFault` where the writer does not take them all.
+/// Writes all bytes. Returns `WriterFault` where the writer does not take them all.
 pub(crate) fn put<W: Write>(bytes: &[u8], out: &mut W) -> Result<(), WriterFault>
     ensures { OnOk result (Appends (W.contents out.old) (W.contents out.new) bytes.now) }
 {

@@ -28,7 +28,7 @@ fn universal_name(regions: &[RegionName], number: u8) -> &[u8]
     }
 }
 
-/// Writes a universal region. Own.
+/// Writes a universal region.
 pub fn write_universal<W: Write>(
     regions: &[RegionName],
     number: u8,
@@ -39,7 +39,7 @@ pub fn write_universal<W: Write>(
     write_named(universal_name(regions, number), out)
 }
 
-/// Writes a region. Own.
+/// Writes a region.
 pub fn write_region<W: Write>(
     regions: &[RegionName],
     region: Region,
@@ -53,7 +53,7 @@ pub fn write_region<W: Write>(
     }
 }
 
-/// Writes the name of a struct or of an extern function. Own.
+/// Writes the name of a struct or of an extern function.
 pub fn write_item_name<W: Write>(name: &ItemName, out: &mut W) -> Result<(), WriterFault>
     ensures { OnOk result (Writes (W.contents out.old) (W.contents out.new) (spell.item_name name.now)) }
 {
@@ -98,7 +98,7 @@ impl Spelled for Outlives {
     }
 }
 
-/// Writes a declared item with regions for its own. Own.
+/// Writes a declared item with regions for its own.
 pub fn write_instance<W: Write>(
     regions: &[RegionName],
     instance: &Instance,
@@ -122,7 +122,7 @@ fn write_closure_number<W: Write>(
     write_angled(regions, closure.regions.as_slice(), out)
 }
 
-/// Writes a closure of the unit with regions for its own. Own.
+/// Writes a closure of the unit with regions for its own.
 pub fn write_closure_instance<W: Write>(
     regions: &[RegionName],
     closure: &ClosureInstance,
@@ -143,7 +143,7 @@ fn write_mutability<W: Write>(mutability: Mutability, out: &mut W) -> Result<(),
     }
 }
 
-/// Writes what stands behind a `&`: a region, and `mut` or not. Own.
+/// Writes a reference without its `&`: a region, and `mut` or not.
 pub fn write_reference<W: Write>(
     regions: &[RegionName],
     reference: Reference,
@@ -179,7 +179,7 @@ fn write_base<W: Write>(regions: &[RegionName], base: &Base, out: &mut W) -> Res
     }
 }
 
-/// Writes a type. Own.
+/// Writes a type.
 pub fn write_ty<W: Write>(regions: &[RegionName], ty: &Ty, out: &mut W) -> Result<(), WriterFault>
     ensures { OnOk result (Writes (W.contents out.old) (W.contents out.new) (spell.ty regions.now ty.now)) }
 {

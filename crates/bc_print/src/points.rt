@@ -289,7 +289,7 @@ fn write_braced<W: Write>(
     write_symbol(Symbol::CloseBrace, out)
 }
 
-/// Writes blocks, the first of which has label 0. Own.
+/// Writes blocks, the first of which has label 0.
 pub fn write_blocks<W: Write>(
     regions: &[RegionName],
     blocks: &[Block],

@@ -9,7 +9,7 @@ use bc_syntax::{Numbering, RegionName, Symbol};
 use itoa::Buffer;
 use std::io::Write;
 
-/// Writes a space and a symbol. Own.
+/// Writes a space and a symbol.
 #[tactic(auto, unfolding(crate::specs::Printing::spaced))]
 pub fn write_symbol<W: Write>(symbol: Symbol, out: &mut W) -> Result<(), WriterFault>
     ensures { OnOk result (Writes (W.contents out.old) (W.contents out.new) (spell.symbol symbol)) }
@@ -31,7 +31,7 @@ fn spaced_mark(numbering: Numbering) -> &'static [u8]
     }
 }
 
-/// Writes a space and a number, local, label or region variable. Own.
+/// Writes a space and a number, local, label or region variable.
 #[tactic(auto, unfolding(crate::specs::Printing::spaced))]
 pub fn write_numbered<W: Write>(
     numbering: Numbering,
@@ -44,7 +44,7 @@ pub fn write_numbered<W: Write>(
     put(Buffer::new().format(number).as_bytes(), out)
 }
 
-/// Writes a space and a word. Own.
+/// Writes a space and a word.
 #[tactic(auto, unfolding(crate::specs::Printing::spaced))]
 pub fn write_word<W: Write>(name: &[u8], out: &mut W) -> Result<(), WriterFault>
     ensures { OnOk result (Writes (W.contents out.old) (W.contents out.new) (Word name.now ∷ [])) }
@@ -53,7 +53,7 @@ pub fn write_word<W: Write>(name: &[u8], out: &mut W) -> Result<(), WriterFault>
     put(name, out)
 }
 
-/// Writes a space and a region, by its name. Own.
+/// Writes a space and a region, by its name.
 #[tactic(auto, unfolding(crate::specs::Printing::spaced))]
 pub fn write_named<W: Write>(name: &[u8], out: &mut W) -> Result<(), WriterFault>
     ensures { OnOk result (Writes (W.contents out.old) (W.contents out.new) (Region name.now ∷ [])) }
@@ -62,7 +62,7 @@ pub fn write_named<W: Write>(name: &[u8], out: &mut W) -> Result<(), WriterFault
     put(name, out)
 }
 
-/// What has a spelling where these regions are declared. Own.
+/// A value that has a spelling where these regions are declared.
 pub trait Spelled {
     ghost use Rattle.std.specs.Prelude.{List};
     ghost use Rattle.bc_syntax.specs.declared.syntax.RegionName.{RegionName};
@@ -89,7 +89,7 @@ fn write_next<T: Spelled, W: Write>(
     Ok(())
 }
 
-/// Writes items with commas between. Own.
+/// Writes items with commas between.
 pub fn write_commas<T: Spelled, W: Write>(
     regions: &[RegionName],
     items: &[T],
@@ -104,7 +104,7 @@ pub fn write_commas<T: Spelled, W: Write>(
     Ok(())
 }
 
-/// Writes items with commas between, in `<` and `>`, or nothing where there is none. Own.
+/// Writes items with commas between, in `<` and `>`, or nothing where there is none.
 pub fn write_angled<T: Spelled, W: Write>(
     regions: &[RegionName],
     items: &[T],

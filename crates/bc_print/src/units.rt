@@ -16,7 +16,7 @@ use bc_syntax::{
 };
 use std::io::Write;
 
-/// Writes the clauses behind `where`, or nothing where there is none. Own.
+/// Writes `where` and the clauses, or nothing where there are none.
 pub fn write_clauses<W: Write>(
     regions: &[RegionName],
     clauses: &[Outlives],
@@ -31,7 +31,7 @@ pub fn write_clauses<W: Write>(
     write_commas(regions, clauses, out)
 }
 
-/// Writes the types of parameters, with their parentheses. Own.
+/// Writes the types of parameters, with their parentheses.
 pub fn write_parameters<W: Write>(
     regions: &[RegionName],
     parameters: &[Ty],
@@ -54,7 +54,7 @@ fn write_function_ty<W: Write>(signature: &Signature, out: &mut W) -> Result<(),
     write_ty(regions, &signature.result, out)
 }
 
-/// Writes an extern function behind its name. Own.
+/// Writes the signature of an extern function, which comes after its name.
 pub fn write_signature<W: Write>(signature: &Signature, out: &mut W) -> Result<(), WriterFault>
     ensures { OnOk result (Writes (W.contents out.old) (W.contents out.new) (spell.signature signature.now)) }
 {
@@ -156,8 +156,8 @@ fn write_body<W: Write>(body: &Body, out: &mut W) -> Result<(), WriterFault>
     write_symbol(Symbol::CloseBrace, out)
 }
 
-/// Writes the text of a unit: exactly the tokens of its spelling, with one space between two and a line feed behind
-/// the last. Answers `WriterFault` only where a write failed. It takes no memory. Own.
+/// Writes the text of a unit: exactly the tokens of its spelling, with one space between two and a line feed behind the last.
+/// Returns `WriterFault` only where a write failed. It takes no memory.
 pub fn print_unit<W: Write>(unit: &Unit, out: &mut W) -> Result<(), WriterFault>
     ensures { OnOk result (Appends (W.contents out.old) (W.contents out.new) (printed (spell.unit unit.now))) }
 {
