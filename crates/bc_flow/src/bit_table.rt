@@ -13,8 +13,8 @@ use std::marker::Model;
 /// A table of sets of numbers below a size: one set, a row, for each node. The size and the number of the rows are fixed when
 /// the table is made.
 ///
-/// Contracts see it as the list of its rows, each the list that says of each number whether it is a member.
-/// (After `BitMatrix` of `rustc_index`; the clauses are own.)
+/// Contracts see it as the list of its rows, each the list that says of each number whether it is a member. (After `BitMatrix` of
+/// `rustc_index`.)
 #[derive(Drop)]
 pub struct BitTable {
     words: Vec<u64>,
@@ -39,7 +39,7 @@ impl Clone for BitTable {
 
     ghost is_clone = { λ s t. t ≡ s };
 
-    /// Another table with the same rows. The only error is want of memory. (Own.)
+    /// Returns another table with the same rows. Returns `AllocError` only where memory was refused.
     fn clone(&self) -> Result<Self, AllocError> {
         let words = self.words.clone()?;
         Ok(Self {
@@ -51,9 +51,9 @@ impl Clone for BitTable {
     }
 }
 
-/// A row of a table, lent.
+/// A row of a table, borrowed from it.
 ///
-/// Contracts see it as the list that says of each number whether it is a member. (Own.)
+/// Contracts see it as the list that says of each number whether it is a member.
 #[derive(Drop)]
 pub struct BitRow<'a> {
     words: &'a [u64],
@@ -78,7 +78,7 @@ impl<'a> Clone for BitRow<'a> {
 
     ghost is_infallible = { λ _. ⊤ };
 
-    /// The same row, lent once more. It takes no memory, and so there is no error. (Own.)
+    /// The row, lent once more. It takes no memory, and so there is no error.
     fn clone(&self) -> Result<Self, AllocError> {
         Ok(Self {
             words: self.words,
@@ -88,7 +88,7 @@ impl<'a> Clone for BitRow<'a> {
 }
 
 impl<'a> BitRow<'a> {
-    /// Whether a number is a member, also where it is not below the size. It takes no memory. (Own.)
+    /// Returns whether a number is a member, also where it is not below the size. It takes no memory.
     pub fn has(&self, element: usize) -> bool
         ensures { result ≡ has self.now element }
     {
@@ -98,7 +98,7 @@ impl<'a> BitRow<'a> {
         self.words[element / 64] >> (element % 64) & 1 == 1
     }
 
-    /// The least member that is `from` or greater. It takes no memory. (Own.)
+    /// Returns the least member that is `from` or greater, or `None` where there is none. It takes no memory.
     pub fn next_member(&self, from: usize) -> Option<usize>
         ensures { MatchOption result ((i : ℕ) → from ≤ i → has self.now i ≡ false) (λ member. IsNextMember self.now from member) }
     {
@@ -107,7 +107,7 @@ impl<'a> BitRow<'a> {
 }
 
 impl BitTable {
-    /// The table of empty rows. The only error is want of memory. (Own.)
+    /// Makes a table of empty rows. Returns `AllocError` only where memory was refused.
     pub fn new(alloc: Global, rows: usize, size: usize) -> Result<Self, AllocError>
         ensures rows { IfOk result (λ table. length table ≡ rows) }
         ensures size { IfOk result (λ table. HaveSize size table) }
@@ -126,14 +126,15 @@ impl BitTable {
         })
     }
 
-    /// The number of the rows. (Own.)
+    /// Returns the number of the rows.
     pub fn len(&self) -> usize
         ensures { result ≡ length self.now }
     {
         self.rows
     }
 
-    /// Whether the row of a node has a fact. A node that has no row and a fact past the size give false. It takes no memory. (Own.)
+    /// Returns whether the row of a node has a fact. For a node that has no row, and for a fact past the size, it is false. It
+    /// takes no memory.
     pub fn holds(&self, node: usize, fact: usize) -> bool
         ensures { result ≡ holds self.now node fact }
     {
@@ -146,7 +147,7 @@ impl BitTable {
         self.words[node * self.width + fact / 64] >> (fact % 64) & 1 == 1
     }
 
-    /// The row of a node, or none past the last. It takes no memory. (Own.)
+    /// Returns the row of a node, or `None` past the last. It takes no memory.
     pub fn get(&self, node: usize) -> Option<BitRow<'_>>
         ensures row { MatchOption result ((f : ℕ) → holds self.now node f ≡ false) (λ found. found ≡ row self.now node) }
         ensures within { MatchOption result (length self.now ≤ node) (λ _. node < length self.now) }
@@ -158,7 +159,7 @@ impl BitTable {
         }
     }
 
-    /// The row of a node. It takes no memory. (Own.)
+    /// Returns the row of a node, which has one. It takes no memory.
     pub fn row(&self, node: usize) -> BitRow<'_>
         requires { node < length self.now }
         ensures { result ≡ row self.now node }
@@ -194,7 +195,7 @@ impl BitTable {
         self.words[at] = value;
     }
 
-    /// Adds a number to a row. The answer is whether it was not there. (Own.)
+    /// Adds a number to a row, and returns whether it was not there.
     pub fn insert(&mut self, node: usize, element: usize) -> bool
         requires node { node < length self.old }
         requires element { element < length (row self.old node) }
@@ -211,7 +212,7 @@ impl BitTable {
         added
     }
 
-    /// Adds each number below `count` to a row. (Own.)
+    /// Adds each number below `count` to a row.
     pub fn insert_below(&mut self, node: usize, count: usize)
         requires node { node < length self.old }
         requires count { count ≤ length (row self.old node) }
@@ -221,7 +222,7 @@ impl BitTable {
         fill_below(&mut self.words[at..at + self.width], count);
     }
 
-    /// Adds the members of `from`, a row of the same size. (Own.)
+    /// Adds to a row the members of `from`, a row of the same size.
     pub fn union_row(&mut self, node: usize, from: &BitRow<'_>)
         requires node { node < length self.old }
         requires from { length from.now ≡ length (row self.old node) }
@@ -230,7 +231,7 @@ impl BitTable {
         self.union_row_below(node, from, self.size);
     }
 
-    /// Adds the members of `from` below `count`. The rows may differ in size. (Own.)
+    /// Adds to a row the members of `from` below `count`. The rows may differ in size.
     pub fn union_row_below(&mut self, node: usize, from: &BitRow<'_>, count: usize)
         requires node { node < length self.old }
         requires count { count ≤ length (row self.old node) }
@@ -305,7 +306,7 @@ fn union_within(words: &mut [u64], to: usize, from: usize, count: usize) -> bool
     changed
 }
 
-/// The same, without the bits of words of another block.
+/// Adds the words of one block to another, without the bits of words of a third. Answers whether that changed any.
 fn union_within_without(
     words: &mut [u64],
     to: usize,

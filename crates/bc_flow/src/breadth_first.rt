@@ -10,9 +10,9 @@ use crate::graph::Edge;
 use std::alloc::{AllocError, Global};
 use std::mem;
 
-/// The level of each node: 1 for the sources, one more for each edge on the shortest way from one of them, and 0 for a node to
-/// which no way leads. So the level is the number of nodes on the shortest way. It takes time in proportion to the nodes and
-/// the edges that leave those reached. Answers `AllocError` only where memory was refused.
+/// Returns the level of each node: 1 for the sources, one more for each edge on the shortest way from one of them, and 0 for a
+/// node to which no way leads. So the level is the number of nodes on the shortest way. It takes time in proportion to the nodes
+/// and the edges that leave those reached. Returns `AllocError` only where memory was refused.
 pub fn levels(
     alloc: Global,
     nodes: usize,

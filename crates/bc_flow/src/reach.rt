@@ -13,7 +13,7 @@ use crate::graph::Edge;
 use std::alloc::AllocError;
 
 /// Adds a fact to the set of each node to which an edge goes from `node` and that `allowed` has. Those that did not have it are
-/// appended to `pending`. The only error is want of memory. (Own.)
+/// appended to `pending`. Returns `AllocError` only where memory was refused.
 pub fn spread(
     rows: &mut BitTable,
     pending: &mut Vec<usize>,

@@ -11,18 +11,18 @@ ghost use Rattle.bc_groups.specs.Spread.{IsSpread, AreOpened, spread_work};
 use bc_flow::{Edge, EdgeChains, edge_chains, every_node, postorder, reversed};
 use std::alloc::{AllocError, Global};
 
-/// For each node the number of its group, and how many groups there are. (Own.)
+/// Nodes in groups: for each node the number of its group, and how many groups there are.
 #[derive(Drop)]
 pub struct Grouping {
     pub group_of: Vec<usize>,
     pub groups: usize,
 }
 
-/// Puts the nodes in groups: edges lead from each node of a group to each other of it.
+/// Returns the strong components of a graph: from each node of a group edges lead to each other node of it.
 ///
-/// The groups are the strong components, by a search in postorder and one back along the edges (Kosaraju's), and a third
-/// search shows it: a node that it does not find again is in a group of its own. Groups are numbered along the edges between
-/// them, which only the time of a caller depends on. The only error is want of memory. (The search is Kosaraju's; that a third shows it is own.)
+/// The search is Kosaraju's: one in postorder and one back along the edges. A third search shows the groups: a node that it does
+/// not find again is in a group of its own. Groups are numbered along the edges between them, which only the time of a caller
+/// depends on. Returns `AllocError` only where memory was refused.
 pub fn strong_components(
     alloc: Global,
     nodes: usize,

@@ -8,8 +8,8 @@ ghost use Rattle.bc_groups.specs.Groups.{group_edge, AreGathered};
 use bc_flow::{BitTable, Edge};
 use std::alloc::{AllocError, Global};
 
-/// Each edge between nodes as one between their groups, in the same order. Answers `AllocError` only where memory was
-/// refused. (Own.)
+/// Returns each edge between nodes as one between their groups, in the same order. Returns `AllocError` only where memory was
+/// refused.
 pub fn group_edges(
     alloc: Global,
     edges: &[Edge],
@@ -28,7 +28,7 @@ pub fn group_edges(
     Ok(condensed)
 }
 
-/// For each group the set of all facts of its nodes. Answers `AllocError` only where memory was refused. (Own.)
+/// Returns for each group the set of all facts of its nodes. Returns `AllocError` only where memory was refused.
 pub fn gathered(
     alloc: Global,
     rows: &BitTable,

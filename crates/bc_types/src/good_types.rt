@@ -19,8 +19,7 @@ use std::alloc::{AllocError, Global};
 use std::marker::Model;
 use thiserror::Error;
 
-/// Why declarations are not taken.
-/// (Own.)
+/// Why declarations are refused: one is bad, by its number from 0, or memory was refused.
 #[derive(Clone, Copy, Debug, PartialEq, Eq, Error)]
 pub enum DeclFault {
     #[error("declaration {index} is bad")]
@@ -66,8 +65,8 @@ fn fill(alloc: Global, declarations: &[Declaration]) -> Result<Table, DeclFault>
 }
 
 /// Declarations of which none is bad: no name is used twice by structs or twice by extern functions, each struct that is
-/// mentioned is an earlier declaration and has its number of regions, and no parameter marked `+` stands in an invariant
-/// position of a field (rustc-dev-guide, "Variance"). It borrows nothing.
+/// mentioned is an earlier declaration and has its number of regions, and no parameter marked `+` is in an invariant position of
+/// a field (rustc-dev-guide, "Variance"). It borrows nothing.
 pub struct GoodTypes {
     table: Table,
 }
@@ -91,8 +90,7 @@ impl Model for GoodTypes {
     ghost invariant = { λ t. first_bad t.table ≡ None };
 }
 
-/// What has declarations, and tells good ones from bad ones.
-/// (Own.)
+/// A value that has declarations, and can check that none of them is bad.
 pub trait CheckTypes {
     ghost use Rattle.std.specs.Prelude.{List};
     ghost use Rattle.bc_syntax.specs.declared.syntax.Declaration.{Declaration};
@@ -100,8 +98,8 @@ pub trait CheckTypes {
     // The declarations of a value.
     ghost declarations: { Self → List Declaration };
 
-    /// Takes declarations where none is bad. It answers `BadDecl` with the number of the first bad one, counted from 0,
-    /// where there is one, and `NoMemory` only where memory was refused.
+    /// Returns the declarations as `GoodTypes` where none is bad. Returns `BadDecl` with the number of the first bad one, counted
+    /// from 0, where there is one, and `NoMemory` only where memory was refused.
     fn check(&self, alloc: Global) -> Result<GoodTypes, DeclFault>
         ensures ok { IfOk result (λ good. good ≡ declarations self.now) }
         ensures good { OnOk result (first_bad (declarations self.now) ≡ None) }
@@ -118,8 +116,7 @@ impl CheckTypes for Types {
 }
 
 impl GoodTypes {
-    /// The struct of a name; `None` where none has it.
-    /// (Own.)
+    /// Returns the struct of a name, or `None` where none has it.
     pub fn struct_of(&self, name: &ItemName) -> Option<&StructDeclaration>
         ensures found { option_copied result ≡ struct_of self.now name.now }
         ensures good { first_bad self.now ≡ None }
@@ -127,8 +124,7 @@ impl GoodTypes {
         self.table.struct_of(name)
     }
 
-    /// The extern function of a name; `None` where none has it.
-    /// (Own.)
+    /// Returns the extern function of a name, or `None` where none has it.
     pub fn extern_of(&self, name: &ItemName) -> Option<&ExternDeclaration>
         ensures found { option_copied result ≡ extern_of self.now name.now }
         ensures good { first_bad self.now ≡ None }
@@ -136,33 +132,29 @@ impl GoodTypes {
         self.table.extern_of(name)
     }
 
-    /// Whether a type holds a drop: it is a struct that is marked `drop`, or has a field whose type holds one.
-    /// (Own.)
+    /// Returns whether a type holds a drop: it is a struct that is marked `drop`, or has a field whose type holds one.
     pub fn holds_drop(&self, ty: &Ty) -> bool
         ensures { result ≡ holding self.now ty.now }
     {
         self.table.holds_drop(ty)
     }
 
-    /// The type of a field as its struct declares it; `None` where there is no such struct or field.
-    /// (Own.)
+    /// Returns the type of a field as its struct declares it, or `None` where there is no such struct or field.
     pub fn declared_field(&self, name: &ItemName, field: u8) -> Option<&Ty>
         ensures { option_copied result ≡ field_there self.now name.now field }
     {
         declared_field(&self.table, name, field)
     }
 
-    /// Whether each struct that types mention is declared with its number of regions.
-    /// (Own.)
+    /// Returns whether each struct that types mention is declared with its number of regions.
     pub fn declares(&self, types: &[Ty]) -> bool
         ensures { result ≡ list_all (declared_base (reverse self.now)) types.now }
     {
         have_declared_bases(&self.table, types)
     }
 
-    /// The type of a field of a struct, with the struct's regions in it; `None` where there is no such struct or field. The
-    /// error is want of memory alone.
-    /// (Own.)
+    /// Returns the type of a field of a struct, with the struct's regions in it, or `None` where there is no such struct or
+    /// field. Returns `AllocError` only where memory was refused.
     pub fn field_type(
         &self,
         alloc: Global,
@@ -178,8 +170,8 @@ impl GoodTypes {
     }
 
     /// Appends what a well-formed type demands: each region that is written behind a reference outlives that of the reference,
-    /// and a struct demands what the types of its fields do, with its regions in them. It looks into no closure. The error is
-    /// want of memory alone. (Rust Reference, "Trait and lifetime bounds"; RFC 1214.)
+    /// and a struct demands what the types of its fields do, with its regions in them. It looks into no closure. Returns
+    /// `AllocError` only where memory was refused. (Rust Reference, "Trait and lifetime bounds"; RFC 1214.)
     pub fn push_well_formed(
         &self,
         constraints: &mut Vec<Constraint>,
@@ -191,7 +183,7 @@ impl GoodTypes {
     }
 
     /// Appends what well-formed types of a declaration or of a header demand, in order, with the declared regions replaced by
-    /// arguments. The error is want of memory alone. (RFC 1214.)
+    /// arguments. Returns `AllocError` only where memory was refused. (RFC 1214.)
     pub fn push_replaced_well_formed(
         &self,
         alloc: Global,

@@ -4,8 +4,7 @@ ghost use Rattle.bc_types.specs.Mutabilities.{is_mutable as mutable};
 
 use bc_syntax::Mutability;
 
-/// Whether something is mutable.
-/// (Own.)
+/// Returns whether a reference or a borrow is mutable.
 pub fn is_mutable(mutability: Mutability) -> bool
     ensures { result ≡ mutable mutability }
 {

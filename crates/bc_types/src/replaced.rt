@@ -21,9 +21,8 @@ pub(crate) fn argument_of(arguments: &[Region], number: usize) -> Region
     }
 }
 
-/// A region of a declaration where the declared ones are replaced by arguments, the first by the first: `'static` stays. What
-/// has no argument becomes `'static`, so that nothing comes in but `'static` and the arguments.
-/// (Own.)
+/// Returns the region by which a region of a declaration is replaced: the first declared one by the first argument, and so on;
+/// `'static` stays. A region that has no argument becomes `'static`, so that nothing comes in but `'static` and the arguments.
 pub fn replace_region(arguments: &[Region], region: Region) -> Region
     ensures value { result ≡ replaced_region arguments.now region }
     ensures given { Contains (Region.Universal 0 ∷ arguments.now) result }
@@ -109,8 +108,7 @@ fn replace_base(alloc: Global, arguments: &[Region], base: &Base) -> Result<Base
     }
 }
 
-/// A type of a declaration with each region replaced. The error is want of memory alone.
-/// (Own.)
+/// Returns a type of a declaration with each region replaced. Returns `AllocError` only where memory was refused.
 pub fn replace_ty(alloc: Global, arguments: &[Region], ty: &Ty) -> Result<Ty, AllocError>
     ensures { IfOk result (λ replaced. replaced ≡ replaced_ty arguments.now ty.now) }
 {

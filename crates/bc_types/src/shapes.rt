@@ -13,16 +13,14 @@ fn is_same_name(first: &ItemName, second: &ItemName) -> bool
     first.bytes.as_slice() == second.bytes.as_slice()
 }
 
-/// Whether both are shared or both mutable.
-/// (Own.)
+/// Returns whether both are shared or both mutable.
 pub fn is_same_mutability(first: Mutability, second: Mutability) -> bool
     ensures { result ≡ same_mutability first second }
 {
     first == second
 }
 
-/// Whether instances have one name and one number of regions.
-/// (Own.)
+/// Returns whether instances have one name and one number of regions.
 pub fn are_alike(first: &Instance, second: &Instance) -> bool
     ensures { result ≡ alike first.now second.now }
 {
@@ -30,7 +28,7 @@ pub fn are_alike(first: &Instance, second: &Instance) -> bool
         && first.regions.as_slice().len() == second.regions.as_slice().len()
 }
 
-/// Whether closures have one number and one number of regions. (Own.)
+/// Returns whether closures have one number and one number of regions.
 pub fn are_alike_closures(first: &ClosureInstance, second: &ClosureInstance) -> bool
     ensures { result ≡ alike_closures first.now second.now }
 {
@@ -54,8 +52,7 @@ fn are_alike_bases(first: &Base, second: &Base) -> bool
     }
 }
 
-/// Whether two types, each given by its references and what they lead to, are equal once regions are blanked.
-/// (Own.)
+/// Returns whether two types, each given by its references and what they lead to, are equal once regions are blanked.
 pub fn are_alike_types(
     references: &[Reference],
     first: &Base,
@@ -88,8 +85,7 @@ fn is_int_base(base: &Base) -> bool
     }
 }
 
-/// Whether these references to what they lead to are `int`.
-/// (Own.)
+/// Returns whether these references to what they lead to are `int`.
 pub fn is_int_behind(references: &[Reference], base: &Base) -> bool
     ensures { result ≡ int_behind references.now base.now }
 {
@@ -99,8 +95,8 @@ pub fn is_int_behind(references: &[Reference], base: &Base) -> bool
     }
 }
 
-/// Whether `copy` may take a value of the type of these references to what they lead to: it is `int` or a shared reference.
-/// (Own.)
+/// Returns whether `copy` may take a value of the type of these references to what they lead to: it is `int` or a shared
+/// reference.
 pub fn is_copyable_behind(references: &[Reference], base: &Base) -> bool
     ensures { result ≡ copyable_behind references.now base.now }
 {
@@ -110,8 +106,7 @@ pub fn is_copyable_behind(references: &[Reference], base: &Base) -> bool
     }
 }
 
-/// Whether `copy` may take a value of the type: it is `int` or a shared reference.
-/// (Own.)
+/// Returns whether `copy` may take a value of the type: it is `int` or a shared reference.
 pub fn is_copyable_type(ty: &Ty) -> bool
     ensures { result ≡ copyable_type ty.now }
 {

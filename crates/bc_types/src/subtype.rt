@@ -13,15 +13,14 @@ pub struct Constraint {
     pub shorter: Region,
 }
 
-/// Whether two regions are one.
+/// Returns whether two regions are equal.
 pub fn is_same_region(first: Region, second: Region) -> bool
     ensures { result ≡ same_region first second }
 {
     first == second
 }
 
-/// Appends that a region outlives another. The error is want of memory alone.
-/// (RFC 2094, "Subtyping".)
+/// Appends that a region outlives another. Returns `AllocError` only where memory was refused. (RFC 2094, "Subtyping".)
 pub fn push_outlives(
     constraints: &mut Vec<Constraint>,
     longer: Region,

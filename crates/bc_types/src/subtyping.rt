@@ -140,9 +140,8 @@ fn push_related_types(
     }
 }
 
-/// Appends what makes the first type a subtype of the second, where both have one shape. The error is want of memory
-/// alone.
-/// (RFC 2094, "Subtyping".)
+/// Appends what makes the first type a subtype of the second, where both have one shape. Returns `AllocError` only where memory
+/// was refused. (RFC 2094, "Subtyping".)
 pub fn push_sub(
     constraints: &mut Vec<Constraint>,
     types: &GoodTypes,
@@ -162,9 +161,8 @@ pub fn push_sub(
     )
 }
 
-/// Appends what makes a reference to the first type a subtype of the second, where both have one shape. The error is want of
-/// memory alone.
-/// (RFC 2094, "Subtyping".)
+/// Appends what makes a reference to the first type a subtype of the second, where both have one shape. Returns `AllocError` only
+/// where memory was refused. (RFC 2094, "Subtyping".)
 pub fn push_sub_reference(
     constraints: &mut Vec<Constraint>,
     types: &GoodTypes,

@@ -64,14 +64,14 @@ fn copy_names(names: &Sequence<RegionName>) -> Result<Sequence<RegionName>, Allo
     names.clone()
 }
 
-/// The same types again. `AllocError` only where memory was refused. (Own.)
+/// Returns a copy of a list of types. Returns `AllocError` only where memory was refused.
 pub fn copy_types(types: &Sequence<Ty>) -> Result<Sequence<Ty>, AllocError>
     ensures { IfOk result (λ copy. copy ≡ types.now) }
 {
     types.clone()
 }
 
-/// The same clauses again. `AllocError` only where memory was refused. (Own.)
+/// Returns a copy of a list of clauses. Returns `AllocError` only where memory was refused.
 pub fn copy_clauses(clauses: &Sequence<Outlives>) -> Result<Sequence<Outlives>, AllocError>
     ensures { IfOk result (λ copy. copy ≡ clauses.now) }
 {
@@ -84,7 +84,7 @@ fn copy_type(ty: &Ty) -> Result<Ty, AllocError>
     ty.clone()
 }
 
-/// The same signature again. `AllocError` only where memory was refused. (Own.)
+/// Returns a copy of a signature. Returns `AllocError` only where memory was refused.
 pub fn copy_signature(signature: &Signature) -> Result<Signature, AllocError>
     ensures { IfOk result (λ copy. copy ≡ signature.now) }
 {
@@ -105,8 +105,7 @@ fn copy_extern(declaration: &ExternDeclaration) -> Result<ExternDeclaration, All
     })
 }
 
-/// Whether a struct has as many regions as an instance gives it.
-/// (Own.)
+/// Returns whether a struct has as many regions as an instance gives it.
 pub fn takes_regions(instance: &Instance, declaration: &StructDeclaration) -> bool
     ensures { result ≡ takes instance.now declaration.now }
 {

@@ -6,8 +6,8 @@ use crate::shapes::is_copyable_behind;
 use bc_syntax::{Base, Reference, Ty};
 use std::marker::Model;
 
-/// A type that is lent: its references, the outermost first, and what they lead to, where they stand. It takes no memory, and
-/// contracts see it as the type. (Own.)
+/// A type that is borrowed: its references, the outermost first, and what they lead to, from where they are stored. It takes no
+/// memory, and contracts see it as the type.
 #[derive(Drop)]
 pub struct TyRef<'a> {
     references: &'a [Reference],
@@ -23,7 +23,7 @@ impl<'a> Model for TyRef<'a> {
 }
 
 impl<'a> TyRef<'a> {
-    /// A type, lent. (Own.)
+    /// Borrows a type.
     pub fn of(ty: &'a Ty) -> TyRef<'a>
         ensures { result ≡ ty.now }
     {
@@ -33,28 +33,28 @@ impl<'a> TyRef<'a> {
         }
     }
 
-    /// The type of these references to what they lead to. (Own.)
+    /// Makes the type of these references to what they lead to.
     pub fn behind(references: &'a [Reference], base: &'a Base) -> TyRef<'a>
         ensures { result ≡ record { references = references.now; base = base.now } }
     {
         TyRef { references, base }
     }
 
-    /// The references of the type, the outermost first. (Own.)
+    /// Returns the references of the type, the outermost first.
     pub fn references(&self) -> &'a [Reference]
         ensures { result.now ≡ self.now.references }
     {
         self.references
     }
 
-    /// What the references of the type lead to. (Own.)
+    /// Returns what the references of the type lead to.
     pub fn base(&self) -> &'a Base
         ensures { result.now ≡ self.now.base }
     {
         self.base
     }
 
-    /// Whether `copy` may take a value of the type: it is `int` or a shared reference. (Own.)
+    /// Returns whether `copy` may take a value of the type: it is `int` or a shared reference.
     pub fn is_copyable(&self) -> bool
         ensures { result ≡ is_copyable_type self.now }
     {
