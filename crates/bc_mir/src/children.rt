@@ -11,7 +11,7 @@ use bc_types::{copy_signature, copy_types};
 use std::alloc::{AllocError, Global};
 use std::marker::Model;
 
-/// A child of a unit: its number, and the header of its unit. (Own.)
+/// A child of a unit: its number, and the header of its unit.
 #[derive(Drop)]
 pub struct Child {
     pub number: u8,
@@ -19,7 +19,6 @@ pub struct Child {
 }
 
 /// The number of a child, and the header of its unit, which is a closure: what typing has to know of it. It takes no memory.
-/// (Own.)
 #[derive(Drop)]
 pub struct KidHeader<'a> {
     number: u8,
@@ -60,7 +59,7 @@ impl<'a> Clone for KidHeader<'a> {
 }
 
 impl<'a> KidHeader<'a> {
-    /// What typing has to know of the child of a number. (Own.)
+    /// Makes what typing has to know of the child of a number.
     pub fn of(number: u8, unit: &'a Unit) -> KidHeader<'a>
         requires number { number ≤ 63 }
         requires kind { unit.now.header.kind ≡ Closure }
@@ -207,8 +206,9 @@ fn push_arguments(
     }
 }
 
-/// A region for each that a child's header declares, in the order of the header: for an external one the next that its closure
-/// has, for a local one the next that the call gives; `'static` where none is left. The error is want of memory alone. (Own.)
+/// Returns a region for each that a child's header declares, in the order of the header: for an external one the next that its
+/// closure has, for a local one the next that the call gives; `'static` where none is left. Returns `AllocError` only where
+/// memory was refused.
 pub fn arguments(
     alloc: Global,
     header: &Header,
@@ -236,8 +236,8 @@ fn is_outer(captures: &[Ty], number: u8) -> bool
     number == 0 || is_external(captures, usize::from(number))
 }
 
-/// Whether a clause of a child is between its external regions and `'static` alone, so that it is known where its closure is
-/// created. (Own.)
+/// Returns whether a clause of a child is between its external regions and `'static` alone, so that it is known where its closure
+/// is created.
 pub fn is_outer_clause(captures: &[Ty], clause: Outlives) -> bool
     ensures { result ≡ outer_clause captures.now clause }
 {

@@ -83,9 +83,9 @@ impl Draft {
 }
 
 impl Typed {
-    /// The edges between points, each of which joins two of the unit's points: from a point to the next of its
-    /// block, and from a terminator to the first point of each of its labels. The error is want of memory alone.
-    /// (RFC 2094, "Control-flow graph".)
+    /// Returns the edges between points, each of which joins two of the unit's points: from a point to the next of its block, and
+    /// from a terminator to the first point of each of its labels. Returns `AllocError` only where memory was refused. (RFC 2094,
+    /// "Control-flow graph".)
     pub fn edges(&self, alloc: Global) -> Result<Vec<Edge>, AllocError>
         ensures value { IfOk result (λ edges. edges.items ≡ edges_of self.now) }
         ensures within { AreWithin (edges_of self.now) (length self.now.steps) }

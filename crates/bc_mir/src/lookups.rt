@@ -25,16 +25,16 @@ fn any_holds_drop(types: &GoodTypes, captures: &[Ty]) -> bool
 }
 
 impl Typed {
-    /// The type of a place: that of its local, behind each projection in turn; `None` where it has none. The error is want of
-    /// memory alone. (rustc-dev-guide, "The MIR".)
+    /// Returns the type of a place: that of its local, behind each projection in turn; `None` where it has none. Returns
+    /// `AllocError` only where memory was refused. (rustc-dev-guide, "The MIR".)
     pub fn place_type(&self, alloc: Global, place: &Place) -> Result<Option<Ty>, AllocError>
         ensures { IfOk result (λ ty. ty ≡ place_there self.now place.now) }
     {
         type_of_place(alloc, &self.draft, place)
     }
 
-    /// The type of a place that has one and goes through no field, as it stands in the type of its local; `None` for any other.
-    /// It takes no memory. (rustc-dev-guide, "The MIR".)
+    /// Returns the type of a place that has one and goes through no field, borrowed from the type of its local; `None` for any
+    /// other place. It takes no memory. (rustc-dev-guide, "The MIR".)
     pub fn lent_type_of_place(&self, place: &Place) -> Option<TyRef<'_>>
         ensures value { MatchOption result ⊤ (λ ty. place_there self.now place.now ≡ Some ty) }
         ensures found { has_no_field place.now ≡ true → result ≡ place_there self.now place.now }
@@ -43,8 +43,7 @@ impl Typed {
     }
 
     /// Appends the references that a place dereferences, the first dereference first; none for a local that is not declared.
-    /// The error is want of memory alone.
-    /// (RFC 2094, "Reborrow constraints".)
+    /// Returns `AllocError` only where memory was refused. (RFC 2094, "Reborrow constraints".)
     pub fn push_references_of_place(
         &self,
         alloc: Global,
@@ -56,8 +55,7 @@ impl Typed {
         push_references_of_place(alloc, out, &self.draft, place)
     }
 
-    /// The type of an operand, or `None` where it breaks a rule. The error is want of memory alone.
-    /// (Own.)
+    /// Returns the type of an operand, or `None` where it breaks a rule. Returns `AllocError` only where memory was refused.
     pub fn type_of_operand(
         &self,
         alloc: Global,
@@ -68,8 +66,8 @@ impl Typed {
         type_of_operand(alloc, &self.draft, operand)
     }
 
-    /// The type of an operand that copies or moves a place which goes through no field, as it stands in the type of its local;
-    /// `None` for any other, and where it breaks a rule. It takes no memory. (Own.)
+    /// Returns the type of an operand that copies or moves a place which goes through no field, borrowed from the type of its
+    /// local; `None` for any other operand, and where it breaks a rule. It takes no memory.
     pub fn lent_type_of_operand(&self, operand: &Operand) -> Option<TyRef<'_>>
         ensures value { MatchOption result ⊤ (λ ty. operand_there self.now operand.now ≡ Some ty) }
         ensures found { takes_no_field operand.now ≡ true → result ≡ operand_there self.now operand.now }
@@ -77,8 +75,8 @@ impl Typed {
         lent_type_of_operand(&self.draft, operand)
     }
 
-    /// The type of a place that is borrowed, where it goes through no field, as it stands in the type of its local; `None` for
-    /// any other, and where the borrow breaks a rule. It takes no memory. (Own.)
+    /// Returns the type of a place that is borrowed, where it goes through no field, borrowed from the type of its local; `None`
+    /// for any other place, and where the borrow breaks a rule. It takes no memory.
     pub fn lent_type_to_borrow(&self, borrow: &Borrow) -> Option<TyRef<'_>>
         ensures value { MatchOption result ⊤ (λ ty. borrowed_there self.now borrow.now.reference.mutability borrow.now.place ≡ Some ty) }
         ensures found { has_no_field borrow.now.place ≡ true → result ≡ borrowed_there self.now borrow.now.reference.mutability borrow.now.place }
@@ -86,22 +84,22 @@ impl Typed {
         lent_type_to_borrow(&self.draft, borrow)
     }
 
-    /// The type of a borrow, or `None` where it breaks a rule. The error is want of memory alone. (Own.)
+    /// Returns the type of a borrow, or `None` where it breaks a rule. Returns `AllocError` only where memory was refused.
     pub fn type_of_borrow(&self, alloc: Global, borrow: &Borrow) -> Result<Option<Ty>, AllocError>
         ensures { IfOk result (λ ty. ty ≡ rvalue_there self.now (Rvalue.Borrow borrow.now)) }
     {
         type_of_borrow(alloc, &self.draft, borrow)
     }
 
-    /// The type of an rvalue, or `None` where it breaks a rule. The error is want of memory alone.
-    /// (Own.)
+    /// Returns the type of an rvalue, or `None` where it breaks a rule. Returns `AllocError` only where memory was refused.
     pub fn type_of_rvalue(&self, alloc: Global, rvalue: &Rvalue) -> Result<Option<Ty>, AllocError>
         ensures { IfOk result (λ ty. ty ≡ rvalue_there self.now rvalue.now) }
     {
         type_of_rvalue(alloc, &self.draft, rvalue)
     }
 
-    /// The closure in a place that may be invoked, or `None` where there is none. The error is want of memory alone. (Own.)
+    /// Returns the closure in a place that may be invoked, or `None` where there is none. Returns `AllocError` only where memory
+    /// was refused.
     pub fn closure_in(
         &self,
         alloc: Global,
@@ -121,7 +119,7 @@ impl Typed {
         }
     }
 
-    /// Whether a type holds a drop: it is a struct that does, or a closure that captures a value of a type that does. (Own.)
+    /// Returns whether a type holds a drop: it is a struct that does, or a closure that captures a value of a type that does.
     pub fn holds_drop(&self, ty: &Ty) -> bool
         ensures { result ≡ type_holds_drop self.now ty.now }
     {

@@ -4,8 +4,7 @@ ghost use Rattle.bc_mir.specs.Mentions.{regions_of_base};
 
 use bc_syntax::{Base, Region};
 
-/// The regions that stand in what the references of a type lead to: the arguments of a struct or a closure, and none in `int`.
-/// (Own.)
+/// Returns the regions in what the references of a type lead to: the arguments of a struct or a closure, and none in `int`.
 pub fn base_regions(base: &Base) -> &[Region]
     ensures { result.now ≡ regions_of_base base.now }
 {

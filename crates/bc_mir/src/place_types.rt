@@ -194,9 +194,8 @@ pub(crate) fn push_references_of_place(
     }
 }
 
-/// Whether projections of a type dereference mutable references alone. Regions do not tell, so a field is taken as it is
-/// declared.
-/// (RFC 2094, "Reborrow constraints".)
+/// Returns whether projections of a type dereference mutable references alone. This does not depend on regions, so a field is
+/// taken as it is declared. (RFC 2094, "Reborrow constraints".)
 pub fn passes_only_mutable(
     types: &GoodTypes,
     projections: &[Projection],

@@ -5,8 +5,7 @@ ghost use Rattle.bc_mir.specs.Places.{is_field, has_no_deref as no_deref};
 
 use bc_syntax::{Place, Projection};
 
-/// Whether projections are fields alone.
-/// (Own.)
+/// Returns whether projections are fields alone.
 pub fn are_fields(projections: &[Projection]) -> bool
     ensures { result ≡ list_all is_field projections.now }
 {

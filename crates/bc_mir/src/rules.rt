@@ -1,4 +1,4 @@
-//! The typing rules (own, over the language of the rustc-dev-guide, "The MIR").
+//! The typing rules, over the language of the rustc-dev-guide, "The MIR".
 ghost use Rattle.std.specs.Prelude.{◌≡◌, Some};
 ghost use Rattle.std.specs.List.{list_all};
 ghost use Rattle.std.specs.Option.{option_copied};

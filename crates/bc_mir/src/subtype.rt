@@ -8,9 +8,8 @@ use bc_types::{Constraint, TyRef, push_sub};
 use std::alloc::AllocError;
 
 impl Typed {
-    /// Appends what makes the first type a subtype of the second, where both have one shape. The error is want of memory
-    /// alone.
-    /// (RFC 2094, "Subtyping".)
+    /// Appends what makes the first type a subtype of the second, where both have one shape. Returns `AllocError` only where
+    /// memory was refused. (RFC 2094, "Subtyping".)
     pub fn push_subtype(
         &self,
         constraints: &mut Vec<Constraint>,

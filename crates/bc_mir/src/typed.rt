@@ -23,7 +23,6 @@ use std::sync::Arc;
 use thiserror::Error;
 
 /// Where a unit breaks a typing rule first: its header, else its least point.
-/// (Own.)
 #[derive(Clone, Copy, Debug, PartialEq, Eq)]
 pub enum Where {
     Header,
@@ -31,7 +30,6 @@ pub enum Where {
 }
 
 /// Why a unit is not typed.
-/// (Own.)
 #[derive(Clone, Copy, Debug, PartialEq, Eq, Error)]
 pub enum IllFault {
     #[error("a typing rule fails")]
@@ -72,7 +70,6 @@ fn misfit(draft: &Draft) -> Option<Where>
 }
 
 /// A unit that keeps every typing rule, with its points in one list. It borrows nothing.
-/// (Own.)
 pub struct Typed {
     pub(crate) draft: Draft,
 }
@@ -96,8 +93,7 @@ impl Model for Typed {
 }
 
 impl Typed {
-    /// How many universal regions there are, 1 to 16: `'static` and the declared ones.
-    /// (Own.)
+    /// Returns how many universal regions there are, 1 to 16: `'static` and the declared ones.
     pub fn universals(&self) -> u8
         ensures value { result ≡ self.now.universals }
         ensures typed { IsTyped self.now }
@@ -105,48 +101,42 @@ impl Typed {
         self.draft.universals
     }
 
-    /// The declarations over which the unit is typed.
-    /// (Own.)
+    /// Returns the declarations over which the unit is typed.
     pub fn types(&self) -> &GoodTypes
         ensures { result.now ≡ self.now.types }
     {
         &self.draft.types
     }
 
-    /// The headers of the children, ascending by their numbers.
-    /// (Own.)
+    /// Returns the headers of the children, ascending by their numbers.
     pub fn children(&self) -> &[Child]
         ensures { result.now ≡ self.now.children }
     {
         self.draft.children.as_slice()
     }
 
-    /// The header of the child of a number, or `None` where it is no child.
-    /// (Own.)
+    /// Returns the header of the child of a number, or `None` where it is no child.
     pub fn child(&self, number: u8) -> Option<&Header>
         ensures { option_copied result ≡ child_of self.now.children number }
     {
         self.draft.child(number)
     }
 
-    /// Whether the unit is a function or a closure.
-    /// (Own.)
+    /// Returns whether the unit is a function or a closure.
     pub fn kind(&self) -> UnitKind
         ensures { result ≡ self.now.kind }
     {
         self.draft.kind
     }
 
-    /// The external regions of a closure, by number, ascending: the declared ones that stand in the type of a capture.
-    /// (Own.)
+    /// Returns the external regions of a closure, by number, ascending: the declared ones in the types of its captures.
     pub fn externals(&self) -> &[usize]
         ensures { result.now ≡ self.now.externals }
     {
         self.draft.externals.as_slice()
     }
 
-    /// The `where` clauses, between universal regions.
-    /// (Own.)
+    /// Returns the `where` clauses, between universal regions.
     pub fn clauses(&self) -> &[Outlives]
         ensures value { result.now ≡ self.now.clauses }
         ensures declared { list_all (clause_fits self.now.universals) result.now ≡ true }
@@ -154,8 +144,7 @@ impl Typed {
         self.draft.clauses.as_slice()
     }
 
-    /// The types of the locals, 1 to 256, in which each region is declared.
-    /// (Own.)
+    /// Returns the types of the locals, 1 to 256, in which each region is declared.
     pub fn locals(&self) -> &[Ty]
         ensures value { result.now ≡ self.now.locals }
         ensures some { 1 ≤ length result.now }
@@ -165,7 +154,7 @@ impl Typed {
         self.draft.locals.as_slice()
     }
 
-    /// The types of the captures and the parameters, in order.
+    /// Returns the types of the captures and the parameters, in order.
     pub fn inputs(&self) -> &[Ty]
         ensures value { result.now ≡ input_types self.now }
         ensures declared { list_all (let_fits self.now.universals) result.now ≡ true }
@@ -174,15 +163,14 @@ impl Typed {
         &self.locals()[1..self.draft.first_let]
     }
 
-    /// The types of the `let` locals, in order.
+    /// Returns the types of the `let` locals, in order.
     pub fn lets(&self) -> &[Ty]
         ensures { result.now ≡ let_types self.now }
     {
         &self.draft.locals.as_slice()[self.draft.first_let..]
     }
 
-    /// The points in order, 1 to 4,096, each with what happens there. No rule fails at any of them.
-    /// (Own.)
+    /// Returns the points in order, 1 to 4,096, each with what happens there. No rule fails at any of them.
     pub fn steps(&self) -> &[Step]
         ensures value { result.now ≡ self.now.steps }
         ensures some { 1 ≤ length result.now }
@@ -201,10 +189,9 @@ fn share(types: &Arc<GoodTypes, Global>) -> Result<Arc<GoodTypes, Global>, Alloc
     Arc::try_clone(types)
 }
 
-/// Types a unit over declarations and the headers of its children, one for each closure that the unit names, ascending (the
-/// rules are own, over the language of the rustc-dev-guide, "The MIR"). It answers `Ill` with the place of the first misfit where a rule
-/// fails: the header if a header rule fails, else the least point at which a rule fails; and `NoMemory` only where memory was
-/// refused.
+/// Types a unit over declarations and the headers of its children, one for each closure that the unit names, ascending. Returns
+/// `Ill` with the place of the first misfit where a rule fails: the header if a header rule fails, else the least point at which
+/// a rule fails; and `NoMemory` only where memory was refused. (The language is that of the rustc-dev-guide, "The MIR".)
 pub fn type_unit(
     alloc: Global,
     types: &Arc<GoodTypes, Global>,

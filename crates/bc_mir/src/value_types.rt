@@ -1,4 +1,4 @@
-//! Types of operands and rvalues (own, over the language of the rustc-dev-guide, "The MIR").
+//! Types of operands and rvalues, over the language of the rustc-dev-guide, "The MIR".
 ghost use Rattle.std.specs.Prelude.{◌≡◌, ⊤, true, Some, IfOk, MatchOption};
 ghost use Rattle.bc_mir.specs.Places.{has_no_field, takes_no_field};
 ghost use Rattle.bc_mir.specs.Children.{closure_type as type_closure};

@@ -61,7 +61,7 @@ impl Typed {
 
     /// Appends what the types of the `let` locals demand, whatever is live or reached: each region that is written behind a
     /// reference outlives that of the reference, a struct demands what the types of its fields do, and a closure what the types
-    /// of its captures do. The error is want of memory alone. (RFC 1214.)
+    /// of its captures do. Returns `AllocError` only where memory was refused. (RFC 1214.)
     pub fn push_let_pairs(
         &self,
         alloc: Global,
@@ -72,8 +72,8 @@ impl Typed {
         self.push_pairs_of_types(alloc, constraints, self.lets())
     }
 
-    /// What the types of the captures and the parameters demand of whoever calls the unit, so that its body may count on it.
-    /// Each region is declared. The error is want of memory alone. (RFC 1214, "implied bounds".)
+    /// Returns what the types of the captures and the parameters demand of whoever calls the unit, so that its body may count on
+    /// it. Each region is declared. Returns `AllocError` only where memory was refused. (RFC 1214, "implied bounds".)
     pub fn implied_pairs(&self, alloc: Global) -> Result<Vec<Constraint>, AllocError>
         ensures value { IfOk result (λ pairs. pairs.items ≡ implied_pairs self.now) }
         ensures declared { IfOk result (λ pairs. list_all (is_declared_pair self.now.universals) pairs.items ≡ true) }
