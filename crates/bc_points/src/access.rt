@@ -198,9 +198,8 @@ fn push_terminator<'a>(
     }
 }
 
-/// Appends the accesses of a point of a unit in order, by what happens there, so that a list serves many
-/// points. The error is want of memory alone.
-/// (RFC 2094, "Borrow checker phase 2: reporting errors".)
+/// Appends the accesses of a point of a unit in order, by what happens there, so that a list serves many points. Returns
+/// `AllocError` only where memory was refused. (RFC 2094, "Borrow checker phase 2: reporting errors".)
 pub fn push_accesses<'a>(
     alloc: Global,
     accesses: &mut Vec<Access<'a>>,
@@ -217,9 +216,8 @@ pub fn push_accesses<'a>(
     }
 }
 
-/// The accesses of a point of a unit in order, by what happens there. The number of an access is its place
-/// in this list. The error is want of memory alone.
-/// (RFC 2094, "Borrow checker phase 2: reporting errors".)
+/// Returns the accesses of a point of a unit in order, by what happens there. The number of an access is its place in this list.
+/// Returns `AllocError` only where memory was refused. (RFC 2094, "Borrow checker phase 2: reporting errors".)
 pub fn accesses<'a>(
     alloc: Global,
     typed: &Typed,

@@ -72,9 +72,8 @@ fn push_drop(
     Ok(())
 }
 
-/// Appends the locals that a point of a unit uses, in the order in which it does; a local stands as often as it is
-/// used. A list serves many points. The error is want of memory alone.
-/// (RFC 2094, "Liveness".)
+/// Appends the locals that a point of a unit uses, in the order in which it does; a local is listed as often as it is used. A
+/// list serves many points. Returns `AllocError` only where memory was refused. (RFC 2094, "Liveness".)
 pub fn push_uses(
     alloc: Global,
     used: &mut Vec<u8>,
@@ -122,8 +121,7 @@ fn defined_by(target: &Place) -> Option<u8>
     }
 }
 
-/// The local that a point defines, if it defines one.
-/// (RFC 2094, "Liveness".)
+/// Returns the local that a point defines, if it defines one. (RFC 2094, "Liveness".)
 pub fn defines(instruction: &Instruction) -> Option<u8>
     ensures { result ≡ defines_of instruction.now }
 {

@@ -15,8 +15,8 @@ pub struct Loan<'a> {
     pub path: PlaceRef<'a>,
 }
 
-/// The loan that a point makes, or `None` where it is no borrow. It takes no memory.
-/// (RFC 2094, "Borrow checker phase 1: computing loans in scope".)
+/// Returns the loan that a point makes, or `None` where it is no borrow. It takes no memory. (RFC 2094, "Borrow checker phase 1:
+/// computing loans in scope".)
 pub fn loan_of(instruction: &Instruction) -> Option<Loan<'_>>
     ensures { result ≡ loan_made instruction.now }
 {

@@ -34,7 +34,7 @@ fn push_sub_place(
     }
 }
 
-/// The same of a reference to a value.
+/// Appends what makes a reference to a value a subtype of the type of a place, if the place has a type.
 fn push_sub_place_reference(
     alloc: Global,
     constraints: &mut Vec<Constraint>,
@@ -63,7 +63,7 @@ fn push_sub_place_reference(
     }
 }
 
-/// The same of a value that was built, if there is one.
+/// Appends what makes a value that was built, if there is one, a subtype of the type of a place, if it has one.
 fn push_sub_place_found(
     alloc: Global,
     constraints: &mut Vec<Constraint>,
@@ -79,7 +79,7 @@ fn push_sub_place_found(
     }
 }
 
-/// The same of an operand.
+/// Appends what makes the type of an operand a subtype of the type of a place, if both have one.
 fn push_sub_place_operand(
     alloc: Global,
     constraints: &mut Vec<Constraint>,
@@ -99,7 +99,7 @@ fn push_sub_place_operand(
     }
 }
 
-/// The same of a borrow.
+/// Appends what makes the type of a borrow a subtype of the type of a place, if both have one.
 fn push_sub_place_borrow(
     alloc: Global,
     constraints: &mut Vec<Constraint>,
@@ -127,7 +127,7 @@ fn push_sub_place_borrow(
     }
 }
 
-/// The same of an rvalue.
+/// Appends what makes the type of an rvalue a subtype of the type of a place, if both have one.
 fn push_sub_place_rvalue(
     alloc: Global,
     constraints: &mut Vec<Constraint>,
@@ -223,9 +223,9 @@ fn push_clause(
     push_outlives(constraints, longer, shorter)
 }
 
-/// Appends clauses of a function or a closure, or what a closure requires, with the declared regions replaced by arguments. The
-/// error is want of memory alone.
-/// (RFC 2094, "Subtyping"; rustc-dev-guide, "Propagating closure constraints".)
+/// Appends clauses of a function or a closure, or what a closure requires, with the declared regions replaced by arguments.
+/// Returns `AllocError` only where memory was refused. (RFC 2094, "Subtyping"; rustc-dev-guide, "Propagating closure
+/// constraints".)
 pub fn push_clauses(
     constraints: &mut Vec<Constraint>,
     arguments: &[Region],
@@ -331,8 +331,8 @@ fn push_field_pairs(
 }
 
 /// Appends what an assignment demands, beside what its reborrow does: the fields of a struct that is made, or the captures of a
-/// closure and those of its clauses that its creation meets, and that the value is a subtype of the target. The error is want of
-/// memory alone. (RFC 2094, "Subtyping"; the clauses: rustc-dev-guide, "Propagating closure constraints".)
+/// closure and those of its clauses that its creation meets, and that the value is a subtype of the target. Returns `AllocError`
+/// only where memory was refused. (RFC 2094, "Subtyping"; the clauses: rustc-dev-guide, "Propagating closure constraints".)
 pub fn push_assignment_pairs(
     alloc: Global,
     constraints: &mut Vec<Constraint>,
@@ -412,7 +412,7 @@ fn push_called_pairs(
 }
 
 /// Appends what a call demands: the operands are subtypes of the parameters, the parameters' types are well-formed, the
-/// function's clauses hold, and the result is a subtype of the destination. The error is want of memory alone.
+/// function's clauses hold, and the result is a subtype of the destination. Returns `AllocError` only where memory was refused.
 /// (RFC 2094, "Subtyping"; RFC 1214.)
 pub fn push_call_pairs(
     alloc: Global,
@@ -476,8 +476,8 @@ fn push_invoked_pairs(
 
 /// Appends what the call of a closure demands: the operands are subtypes of the parameters, the parameters' types are
 /// well-formed, the clauses of the closure hold that its creation does not demand, and the result is a subtype of the
-/// destination. The error is want of memory alone. (RFC 2094, "Subtyping"; RFC 1214; rustc-dev-guide, "Propagating closure
-/// constraints".)
+/// destination. Returns `AllocError` only where memory was refused. (RFC 2094, "Subtyping"; RFC 1214; rustc-dev-guide,
+/// "Propagating closure constraints".)
 pub fn push_invocation_pairs(
     alloc: Global,
     constraints: &mut Vec<Constraint>,

@@ -5,8 +5,8 @@ ghost use Rattle.bc_points.specs.Accesses.{local_place};
 use bc_syntax::{Place, Projection};
 use std::marker::Model;
 
-/// A place that is lent: its local, and its projections where they stand. It takes no memory, and contracts see it as the place.
-/// (After `PlaceRef` of rustc; rustc-dev-guide, "The MIR".)
+/// A place that is borrowed: its local, and its projections from where they are stored. It takes no memory, and contracts see it
+/// as the place. (After `PlaceRef` of rustc; rustc-dev-guide, "The MIR".)
 #[derive(Drop)]
 pub struct PlaceRef<'a> {
     local: u8,
@@ -22,7 +22,7 @@ impl<'a> Model for PlaceRef<'a> {
 }
 
 impl<'a> PlaceRef<'a> {
-    /// A place, lent. (Own.)
+    /// Borrows a place.
     pub fn of(place: &'a Place) -> PlaceRef<'a>
         ensures { result ≡ place.now }
     {
@@ -32,7 +32,7 @@ impl<'a> PlaceRef<'a> {
         }
     }
 
-    /// A local alone, as a place. (Own.)
+    /// Makes the place that is a local alone.
     pub fn of_local(local: u8) -> PlaceRef<'a>
         ensures { result ≡ local_place local }
     {
@@ -42,14 +42,14 @@ impl<'a> PlaceRef<'a> {
         }
     }
 
-    /// The local that the place begins with. (Own.)
+    /// Returns the local that the place begins with.
     pub fn local(&self) -> u8
         ensures { result ≡ self.now.local }
     {
         self.local
     }
 
-    /// What is projected from the local, in order. (Own.)
+    /// Returns what is projected from the local, in order.
     pub fn projections(&self) -> &'a [Projection]
         ensures { result.now ≡ self.now.projections }
     {

@@ -17,8 +17,8 @@ fn are_mutable(references: &[Reference]) -> bool
         .all(|reference| is_mutable(reference.mutability))
 }
 
-/// The references from the last shared one on, or all where none is shared. Of the references that a place
-/// dereferences these are the ones that its supporting prefixes dereference (RFC 2094, "Reborrow constraints").
+/// Returns the references from the last shared one on, or all where none is shared. Of the references that a place dereferences
+/// these are the ones that its supporting prefixes dereference (RFC 2094, "Reborrow constraints").
 pub fn from_last_shared(references: &[Reference]) -> &[Reference]
     ensures { result.now ≡ since_last_shared references.now }
 {
@@ -71,16 +71,16 @@ pub(crate) fn rest_of<'a>(prefix: &PlaceRef<'_>, place: &PlaceRef<'a>) -> Option
     rest_after(prefix.projections(), place.projections())
 }
 
-/// Whether the first place is the second, or what taking away last projections of the second gives.
-/// (RFC 2094, "Reborrow constraints".)
+/// Returns whether the first place is the second, or what taking away last projections of the second gives. (RFC 2094, "Reborrow
+/// constraints".)
 pub fn is_prefix(prefix: &PlaceRef<'_>, place: &PlaceRef<'_>) -> bool
     ensures { result ≡ prefix_test prefix.now place.now }
 {
     rest_of(prefix, place).is_some()
 }
 
-/// Whether the first place is a prefix of the second for which fields alone were taken away (RFC 2094,
-/// "Borrow checker phase 2": shallow prefixes).
+/// Returns whether the first place is a prefix of the second for which fields alone were taken away (RFC 2094, "Borrow checker
+/// phase 2": shallow prefixes).
 pub fn is_shallow_prefix(prefix: &PlaceRef<'_>, place: &PlaceRef<'_>) -> bool
     ensures { result ≡ shallow_test prefix.now place.now }
 {

@@ -5,8 +5,8 @@ ghost use Rattle.bc_points.specs.Regions.{region_number as number_of, region_of_
 
 use bc_syntax::Region;
 
-/// The number of a region among all regions of a unit with so many universal ones: universal region `u` is `u`,
-/// and variable `v` is `universals + v` (own).
+/// Returns the number of a region among all regions of a unit with so many universal ones: universal region `u` is `u`, and
+/// variable `v` is `universals + v`.
 pub fn region_number(universals: u8, region: Region) -> usize
     ensures value { result ≡ number_of universals region }
     ensures below { region_fits true universals region ≡ true → result < universals + 1024 }
@@ -18,9 +18,8 @@ pub fn region_number(universals: u8, region: Region) -> usize
     }
 }
 
-/// The region of a number in a unit with so many universal ones, as `region_number` numbers them: a number below
-/// `universals` is that of a universal region, and each other that of a variable. It asks for a number that a variable can
-/// have.
+/// Returns the region of a number in a unit with so many universal ones, as `region_number` numbers them: a number below
+/// `universals` is that of a universal region, and each other that of a variable. It asks for a number that a variable can have.
 pub fn region_of_number(universals: u8, number: usize) -> Region
     requires { number < universals + 65536 }
     ensures { result ≡ region_of universals number }

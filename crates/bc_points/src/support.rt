@@ -61,8 +61,8 @@ fn goes_on_mutable(typed: &Typed, prefix: &PlaceRef<'_>, rest: &[Projection]) ->
     supports_from(typed, prefix, rest)
 }
 
-/// Whether the first place is a prefix of the second for which no dereference of a shared reference was taken away.
-/// (RFC 2094, "Reborrow constraints".)
+/// Returns whether the first place is a prefix of the second for which no dereference of a shared reference was taken away. (RFC
+/// 2094, "Reborrow constraints".)
 pub fn supports(typed: &Typed, prefix: &PlaceRef<'_>, place: &PlaceRef<'_>) -> bool
     ensures { result ≡ support typed.now prefix.now place.now }
 {
