@@ -91,13 +91,13 @@ fn by_number(
         .collect(alloc)
 }
 
-/// What the values of a body's regions are made from, over the liveness that is handed in and what the body's children
+/// Returns what the values of a body's regions are made from, over the liveness that is handed in and what the body's children
 /// require, one entry for each child, ascending: the outlives constraints of its points and those that the types of its `let`
-/// locals demand to be well-formed, pairs of a region with itself left out, and the elements that each region starts with. What a child requires is demanded at each of its creations, with its
-/// external regions replaced by those of the creation. It asks that a child requires nothing of its local regions. Answers
-/// `AllocError` only where memory was refused. (RFC 2094, "Liveness", "Subtyping" and "Reborrow constraints"; RFC 1214;
-/// rustc-dev-guide, "Propagating closure constraints"; that constraints hold at every point, and that `'static` starts with all
-/// ends, is own.)
+/// locals demand to be well-formed, pairs of a region with itself left out, and the elements that each region starts with. What a
+/// child requires is demanded at each of its creations, with its external regions replaced by those of the creation. It asks that
+/// a child requires nothing of its local regions. Returns `AllocError` only where memory was refused. (RFC 2094, "Liveness",
+/// "Subtyping" and "Reborrow constraints"; RFC 1214; rustc-dev-guide, "Propagating closure constraints"; here constraints hold at
+/// every point, and `'static` starts with all ends.)
 pub fn constraints(
     alloc: Global,
     typed: &Typed,

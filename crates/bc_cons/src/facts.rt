@@ -39,8 +39,8 @@ impl Model for Facts {
 }
 
 impl Facts {
-    /// The facts of regions of which so many are universal, with these start rows, one of so many elements for each region, and
-    /// these constraints between them. It asks for no more regions than have numbers.
+    /// Makes the facts of regions of which so many are universal, with these start rows, one of so many elements for each region,
+    /// and these constraints between them. It asks for no more regions than have numbers.
     pub fn new(
         universals: u8,
         starts: BitTable,
@@ -63,22 +63,21 @@ impl Facts {
         }
     }
 
-    /// How many regions there are.
-    /// (Own.)
+    /// Returns how many regions there are.
     pub fn regions(&self) -> usize
         ensures { result ≡ length self.now.starts }
     {
         self.starts.len()
     }
 
-    /// How many of the regions are universal.
+    /// Returns how many of the regions are universal.
     pub fn universals(&self) -> u8
         ensures { result ≡ self.now.universals }
     {
         self.universals
     }
 
-    /// The region of a number, one of those that there are.
+    /// Returns the region of a number, one of those that there are.
     pub fn region(&self, number: usize) -> Region
         requires { number < length self.now.starts }
         ensures { result ≡ region_of self.now.universals number }
@@ -86,16 +85,14 @@ impl Facts {
         region_of_number(self.universals, number)
     }
 
-    /// How many elements there are.
-    /// (Own.)
+    /// Returns how many elements there are.
     pub fn elements(&self) -> usize
         ensures { result ≡ self.now.elements }
     {
         self.elements
     }
 
-    /// The start rows: for each region the set of the elements that it starts with.
-    /// (Own.)
+    /// Returns the start rows: for each region the set of the elements that it starts with.
     pub fn starts(&self) -> &BitTable
         ensures starts { result.now ≡ self.now.starts }
         ensures sizes { HaveSize self.now.elements self.now.starts }
@@ -103,8 +100,7 @@ impl Facts {
         &self.starts
     }
 
-    /// The constraints, each a pair of regions.
-    /// (Own.)
+    /// Returns the constraints, each a pair of regions.
     pub fn pairs(&self) -> &[NumberedConstraint]
         ensures pairs { result.now ≡ self.now.pairs }
         ensures within { ArePairsWithin (length self.now.starts) self.now.pairs }

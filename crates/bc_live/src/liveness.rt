@@ -25,15 +25,15 @@ impl Model for LiveSets {
 }
 
 impl LiveSets {
-    /// Whether a local is live on entry to a point, both by number. A number that is none of the unit's locals or
-    /// points gives false. Takes no memory. (Own.)
+    /// Returns whether a local is live on entry to a point, both by number. For a number that is none of the unit's locals or
+    /// points it is false. It takes no memory.
     pub fn live(&self, local: usize, point: usize) -> bool
         ensures { result ≡ holds self.now local point }
     {
         self.rows.holds(local, point)
     }
 
-    /// The points on whose entry each local is live: one set for each local, in order. (Own.)
+    /// Returns the points on whose entry each local is live: one set for each local, in order.
     pub fn rows(&self) -> &BitTable
         ensures { result.now ≡ self.now }
     {
@@ -41,8 +41,8 @@ impl LiveSets {
     }
 }
 
-/// The points on whose entry each local is live: a path from there leads to a use, and no point before it on
-/// that path defines the local. Answers `AllocError` only where memory was refused (RFC 2094, "Liveness").
+/// Returns the points on whose entry each local is live: a path from there leads to a use, and no point before it on that path
+/// defines the local. Returns `AllocError` only where memory was refused. (RFC 2094, "Liveness".)
 pub fn live(alloc: Global, typed: &Typed) -> Result<LiveSets, AllocError>
     ensures locals { IfOk result (λ sets. length sets ≡ length typed.now.locals) }
     ensures points { IfOk result (λ sets. HaveSize (length typed.now.steps) sets) }

@@ -32,7 +32,7 @@ abbrev pub ExplainsOver : ℕ → (ℕ → ℕ → Bool) → List NumberedConstr
 ExplainsOver universals starts pairs region element chain =
     (numbers : List ℕ) × IsFirstShortest starts pairs region element numbers × (chain ≡ map (region_of_number universals) numbers)
 
--- the same over facts
+-- regions explain why an element is in the value of a region, over facts
 abbrev pub Explains : RegionFacts → ℕ → ℕ → List Region → Type 0
 Explains facts region element chain = ExplainsOver facts.universals (holds facts.starts) facts.pairs region element chain
 

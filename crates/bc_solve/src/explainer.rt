@@ -17,8 +17,8 @@ use bc_syntax::Region;
 use std::alloc::{AllocError, Global};
 use std::marker::Model;
 
-/// What is needed to explain many elements of many regions over the same facts: it keeps the way to the element that was asked
-/// for last. Contracts see the facts.
+/// Explains many elements of many regions over the same facts: it keeps the way to the element that was asked for last. Contracts
+/// see the facts.
 #[derive(Drop)]
 pub struct Explainer<'a> {
     facts: &'a Facts,
@@ -39,7 +39,7 @@ impl<'a> Model for Explainer<'a> {
 }
 
 impl<'a> Explainer<'a> {
-    /// An explainer over facts. The only error is want of memory.
+    /// Makes an explainer over facts. Returns `AllocError` only where memory was refused.
     pub fn new(alloc: Global, facts: &'a Facts) -> Result<Explainer<'a>, AllocError>
         ensures { IfOk result (λ explainer. explainer ≡ facts.now) }
     {
@@ -53,8 +53,8 @@ impl<'a> Explainer<'a> {
         })
     }
 
-    /// The chain from a region to an element, both by number: the first of the shortest, or none exactly where there is no chain,
-    /// as for numbers of no region or no element. The only error is want of memory.
+    /// Returns the chain from a region to an element, both by number: the first of the shortest, or none exactly where there is
+    /// no chain, as for numbers of no region or no element. Returns `AllocError` only where memory was refused.
     ///
     /// The first chain to an element takes time in proportion to the regions and constraints, each further one to the same
     /// element only to its own length.
@@ -77,8 +77,8 @@ impl<'a> Explainer<'a> {
         Ok(chain)
     }
 
-    /// The chain from a region to an element of its value, both by number: the first of the shortest. The only error is want of
-    /// memory. It takes as long as `explain`.
+    /// Returns the chain from a region to an element of its value, both by number: the first of the shortest. Returns
+    /// `AllocError` only where memory was refused. It takes as long as `explain`.
     pub fn chain(
         &mut self,
         alloc: Global,
@@ -146,8 +146,8 @@ fn chain_of(
     Ok(Some(chain))
 }
 
-/// The chain from a region to an element, both by number: the first of the shortest, or none exactly where there is no chain. The
-/// only error is want of memory.
+/// Returns the chain from a region to an element, both by number: the first of the shortest, or none exactly where there is no
+/// chain. Returns `AllocError` only where memory was refused.
 pub fn explain(
     alloc: Global,
     facts: &Facts,
