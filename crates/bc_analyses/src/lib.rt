@@ -1,4 +1,4 @@
-//! The analyses of a body as this repository has them, stored as providers.
+//! The three analyses of a body, to be stored as providers.
 #![tactic(auto)]
 
 ghost use Rattle.std.specs.Prelude.{IfOk};
@@ -14,8 +14,8 @@ pub use bc_prov::Providers;
 use bc_solve::{Values, solve_components, solve_plain};
 use std::alloc::{AllocError, Global};
 
-/// The points on whose entry each local of a body is live: `bc_live::live`, with the fact that a provider owes. Answers
-/// `AllocError` only where memory was refused. (RFC 2094, "Liveness".)
+/// Returns the points on whose entry each local of a body is live, as `bc_live::live` does, with the contract that a provider
+/// owes. Returns `AllocError` only where memory was refused. (RFC 2094, "Liveness".)
 pub fn find_live(alloc: Global, typed: &Typed) -> Result<LiveSets, AllocError>
     ensures { IfOk result (AreLive typed.now) }
 {
@@ -23,8 +23,8 @@ pub fn find_live(alloc: Global, typed: &Typed) -> Result<LiveSets, AllocError>
     Ok(sets)
 }
 
-/// The values of regions: `bc_solve::solve_components`, with the fact that a provider owes. Answers `AllocError` only where
-/// memory was refused. (RFC 2094, "Solving constraints".)
+/// Returns the values of regions, as `bc_solve::solve_components` does, with the contract that a provider owes. Returns
+/// `AllocError` only where memory was refused. (RFC 2094, "Solving constraints".)
 pub fn find_values(alloc: Global, facts: &Facts) -> Result<Values, AllocError>
     ensures { IfOk result (AreValues facts.now) }
 {
@@ -32,8 +32,8 @@ pub fn find_values(alloc: Global, facts: &Facts) -> Result<Values, AllocError>
     Ok(values)
 }
 
-/// The values of regions: `bc_solve::solve_plain`, with the fact that a provider owes. Answers `AllocError` only where memory was
-/// refused. (RFC 2094, "Solving constraints".)
+/// Returns the values of regions, as `bc_solve::solve_plain` does, with the contract that a provider owes. Returns `AllocError`
+/// only where memory was refused. (RFC 2094, "Solving constraints".)
 pub fn find_plain_values(alloc: Global, facts: &Facts) -> Result<Values, AllocError>
     ensures { IfOk result (AreValues facts.now) }
 {
@@ -41,8 +41,8 @@ pub fn find_plain_values(alloc: Global, facts: &Facts) -> Result<Values, AllocEr
     Ok(values)
 }
 
-/// The loans in scope within the values of regions: `bc_loans::in_scope`, with the fact that a provider owes. Answers
-/// `AllocError` only where memory was refused. (RFC 2094, "Borrow checker phase 1: computing loans in scope".)
+/// Returns the loans in scope within the values of regions, as `bc_loans::in_scope` does, with the contract that a provider owes.
+/// Returns `AllocError` only where memory was refused. (RFC 2094, "Borrow checker phase 1: computing loans in scope".)
 pub fn find_scopes(alloc: Global, typed: &Typed, values: &Values) -> Result<Scopes, AllocError>
     ensures { IfOk result (AreScopes typed.now values.now) }
 {
@@ -50,9 +50,9 @@ pub fn find_scopes(alloc: Global, typed: &Typed, values: &Values) -> Result<Scop
     Ok(scopes)
 }
 
-/// The providers that call `find_live`, `find_scopes` and, where no other solver is named, `find_values`, made with the allocator that is
-/// named; answers `AllocError` from the function in which it stands, where memory was refused. It is a macro, since no function may hand
-/// out a closure that it stores. (rustc-dev-guide, "Queries": providers.)
+/// Makes the providers that call `find_live`, `find_scopes` and, where no other solver is named, `find_values`, with the allocator that
+/// is named. Where memory was refused, the function in which it is written returns `AllocError`. It is a macro, since no function may
+/// hand out a closure that it stores. (rustc-dev-guide, "Queries": providers.)
 #[macro_export]
 macro_rules! providers {
     ($alloc:expr) => {

@@ -42,7 +42,7 @@ fn apart<'a>(
     Ok((headers, requirements))
 }
 
-/// A unit as it is typed over declarations of which none is bad, and over the headers of its children. Answers `Ill` with the place of
+/// A unit as it is typed over declarations of which none is bad, and over the headers of its children. Returns `Ill` with the place of
 /// the first misfit where a typing rule fails, and `NoMemory` only where memory was refused.
 fn typed_over(
     alloc: Global,
@@ -77,11 +77,11 @@ fn numbered(
     take_kids(alloc, children, &mut required)
 }
 
-/// The piece of a unit over declarations of which none is bad, with the header of each child, ascending, and what the child requires.
-/// It asks that a child requires nothing of its local regions. It answers `Ill` with the place of the first misfit where a typing
-/// rule fails: the header if a header rule fails, else the least point at which a rule fails; and `NoMemory` only where memory was
-/// refused, as a provider may answer too. (Own; the errors are those of RFC 2094, "Borrow checker phase 2" and "Named lifetimes", the
-/// requirements those of the rustc-dev-guide, "Propagating closure constraints".)
+/// Types and judges a unit over declarations of which none is bad, with the header of each child, ascending, and what the child
+/// requires, and returns its piece. It asks that a child requires nothing of its local regions. Returns `Ill` with the place of the
+/// first misfit where a typing rule fails: the header if a header rule fails, else the least point at which a rule fails; and
+/// `NoMemory` only where memory was refused, as a provider may return too. (The errors are those of RFC 2094, "Borrow checker phase
+/// 2" and "Named lifetimes", the requirements those of the rustc-dev-guide, "Propagating closure constraints".)
 pub fn piece(
     alloc: Global,
     providers: &Providers,

@@ -76,10 +76,10 @@ fn worked_out(
     }
 }
 
-/// The outcome of the root of a snapshot, as `report` finds it, and with a report that is not carried the pieces of its bodies, one
-/// for each, in the order of the visit; with any other outcome none. A piece that the snapshot has is taken where all that it was
-/// found from is there; else one is made, by the providers. Answers `AllocError` only where memory was refused, as a provider may
-/// answer too. (rustc-dev-guide, "Queries" and "Incremental compilation"; the pieces are own.)
+/// Returns the outcome of the root of a snapshot, as `report` finds it, and with a report that is not carried the pieces of its
+/// bodies, one for each, in the order of the visit; with any other outcome none. A piece that the snapshot has is taken where all
+/// that it was found from is there; else one is made, by the providers. Returns `AllocError` only where memory was refused, as a
+/// provider may too. (rustc-dev-guide, "Queries" and "Incremental compilation".)
 pub fn report_pieces(
     alloc: Global,
     providers: &Providers,
@@ -94,14 +94,15 @@ pub fn report_pieces(
     }
 }
 
-/// The outcome of the root of a snapshot. Where the snapshot carries one, a copy of that, and no provider is called. Else, by
-/// the providers: `BadTypes` of the first bad declaration where one is bad, else `NoBody` where the root is absent. Else bodies
-/// are visited from the root on, each before its closures, and these ascending: at a body the least child that is absent gives
-/// `Missing`, then a typing rule that it breaks `Ill` with the least misfit. The first such fault is the outcome, and no
+/// Returns the outcome of the root of a snapshot. Where the snapshot carries one, it is a copy of that, and no provider is called.
+///
+/// Else it is, by the providers: `BadTypes` of the first bad declaration where one is bad, else `NoBody` where the root is absent.
+/// Else bodies are visited from the root on, each before its closures, and these ascending: at a body the least child that is absent
+/// gives `Missing`, then a typing rule that it breaks `Ill` with the least misfit. The first such fault is the outcome, and no
 /// provider is called; without one it is `Report`, with every visited body's errors. Where the snapshot has a piece of a body, and all
-/// that this was found from is there, the body's errors are the piece's, and no provider is called for it. Answers `AllocError` only
-/// where memory was refused, as a provider may answer too.
-/// (Own; the errors are RFC 2094's, "Borrow checker phase 1", "Borrow checker phase 2" and "Named lifetimes".)
+/// that this was found from is there, the body's errors are the piece's, and no provider is called for it. Returns `AllocError` only
+/// where memory was refused, as a provider may too. (The errors are RFC 2094's, "Borrow checker phase 1", "Borrow checker phase 2" and
+/// "Named lifetimes".)
 pub fn report(
     alloc: Global,
     providers: &Providers,
@@ -113,8 +114,8 @@ pub fn report(
     Ok(found.0)
 }
 
-/// What is found of a snapshot: the outcome of its name, which others may own too, and with a report the pieces of its bodies that the
-/// snapshot does not keep already, each under its body's name. (Own.)
+/// The outcome of a snapshot's name, which others may own too, and with a report the pieces of its bodies that the snapshot does not
+/// keep already, each under its body's name.
 #[derive(Drop)]
 pub struct Found {
     pub outcome: Shared<Outcome>,
@@ -122,7 +123,7 @@ pub struct Found {
 }
 
 impl Found {
-    /// An outcome for which no piece was made. It takes no memory. (Own.)
+    /// Wraps an outcome for which no piece was made. It takes no memory.
     pub fn without_pieces(outcome: Shared<Outcome>) -> Found
         ensures outcome { result.outcome ≡ outcome }
         ensures pieces { result.pieces ≡ None }
@@ -134,9 +135,9 @@ impl Found {
     }
 }
 
-/// The outcome of the root of a snapshot: the one that it carries, as one more owner, and no provider is called; else the one that
-/// `report` finds, with the pieces that were made for it. Answers `AllocError` only where memory was refused, as a provider may answer
-/// too, or where the carried one has too many owners. (Own.)
+/// Returns the outcome of the root of a snapshot: the one that it carries, as one more owner, and no provider is called; else the one
+/// that `report` finds, with the pieces that were made for it. Returns `AllocError` only where memory was refused, as a provider may
+/// too, or where the carried one has too many owners.
 pub fn find_outcome(
     alloc: Global,
     providers: &Providers,

@@ -44,7 +44,7 @@ pub(crate) fn copy_requirements(requirements: &Requirements) -> Result<Requireme
 impl Held<'_> {
     /// The pieces of the bodies that were visited from the root on, in that order. A body comes after its creator, so they are
     /// judged from the last on: what they require, and no creator took yet, lies in a list with that of the next one in front.
-    /// Answers `AllocError` only where memory was refused, as a provider may answer too.
+    /// Returns `AllocError` only where memory was refused, as a provider may answer too.
     pub(crate) fn pieces_of(
         &self,
         alloc: Global,

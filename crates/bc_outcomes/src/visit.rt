@@ -45,7 +45,7 @@ impl Visit {
         }
     }
 
-    /// The visit of a body that a piece was found from. Answers `AllocError` only where one more owner was refused.
+    /// The visit of a body that a piece was found from. Returns `AllocError` only where one more owner was refused.
     pub(crate) fn kept(name: Name, piece: &Shared<Piece>) -> Result<Visit, AllocError>
         ensures { IfOk result (λ visit. visit ≡ record { name = name; unit = piece.now.unit; typed = piece.now.mir }) }
     {
@@ -68,7 +68,7 @@ impl Visit {
     }
 
     /// The piece of the body, whose children require so much, under its name: the one that is kept where its children required the
-    /// same, else a new one. Answers `AllocError` only where memory was refused, as a provider may answer too.
+    /// same, else a new one. Returns `AllocError` only where memory was refused, as a provider may answer too.
     pub(crate) fn judged(
         self,
         alloc: Global,

@@ -108,7 +108,7 @@ fn piece_with<'a>(held: &Held<'a>, name: &Name, kids: &[Kid<'_>]) -> Option<&'a 
 }
 
 /// The visit of a body with these closures: as a piece of it has it, if one is kept that was found from closures with their headers,
-/// else typed. Answers `Ill` with the place of the first misfit where a typing rule fails, and `NoMemory` only where memory was
+/// else typed. Returns `Ill` with the place of the first misfit where a typing rule fails, and `NoMemory` only where memory was
 /// refused.
 fn visited(
     alloc: Global,

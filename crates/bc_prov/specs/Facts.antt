@@ -15,16 +15,16 @@ use Rattle.bc_loans.specs.Scope.{AreScopes}
 abbrev pub AreLive : Mir → List (List Bool) → Type 0
 AreLive mir sets = Tells (holds sets) (IsLive mir)
 
--- what a closure answers for a body is its liveness, or want of memory; `post` tells what it may answer
+-- what a closure returns for a body is its liveness, or `AllocError`; `post` says what it may return
 abbrev pub AnswersLiveness : (Global → Bor Mir → Result (List (List Bool)) AllocError → Type 0) → Type 0
 AnswersLiveness post = (alloc : Global) (typed : Bor Mir) (sets : Result (List (List Bool)) AllocError) → post alloc typed sets → ForOk sets (AreLive typed.now)
 
--- the same for the values over facts of regions
+-- what a closure returns for facts of regions is their values, or `AllocError`; `post` says what it may return
 abbrev pub AnswersValues : (Global → Bor RegionFacts → Result (List (List Bool)) AllocError → Type 0) → Type 0
 AnswersValues post =
     (alloc : Global) (facts : Bor RegionFacts) (values : Result (List (List Bool)) AllocError) → post alloc facts values → ForOk values (AreValues facts.now)
 
--- the same for the loans in scope of a body within values
+-- what a closure returns for a body and values is the body's loans in scope within these, or `AllocError`; `post` says what it may return
 abbrev pub AnswersScopes : (Global → Bor Mir → Bor (List (List Bool)) → Result (List (List Bool)) AllocError → Type 0) → Type 0
 AnswersScopes post =
     (alloc : Global) (typed : Bor Mir) (values : Bor (List (List Bool))) (scopes : Result (List (List Bool)) AllocError) → post alloc typed values scopes

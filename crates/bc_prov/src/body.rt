@@ -10,7 +10,7 @@ use bc_mir::Typed;
 use std::alloc::{AllocError, Global};
 
 /// The verdict on a typed body, where each child, ascending, requires so much: liveness, outlives constraints, region values,
-/// loans in scope, and what conflicts or fails. Answers `AllocError` only where memory was refused, as a provider may answer
+/// loans in scope, and what conflicts or fails. Returns `AllocError` only where memory was refused, as a provider may answer
 /// too. (RFC 2094 as a whole.)
 pub(crate) fn verdict_on(
     alloc: Global,

@@ -9,14 +9,14 @@ use std::alloc::{AllocError, Global};
 use std::marker::Model;
 use std::sync::Arc;
 
-/// What the check of declarations found: declarations of which none is bad, or the first bad one, counted from 0. (Own.)
+/// The result of checking declarations: none of them is bad, or the first bad one, counted from 0.
 #[derive(Drop)]
 pub enum Check {
     Good(Arc<GoodTypes, Global>),
     Bad(usize),
 }
 
-/// Declarations with what their check found, so that they are checked once. Contracts see the declarations. (Own.)
+/// Declarations with the result of their check, so that they are checked once. Contracts see the declarations.
 pub struct Declared {
     types: Shared<Types>,
     check: Check,
@@ -69,7 +69,7 @@ fn first_bad(alloc: Global, types: &Types) -> Result<Check, AllocError>
 }
 
 impl Declared {
-    /// Declarations, checked. Answers `AllocError` only where memory was refused. (Own.)
+    /// Checks declarations, and returns them with the result. Returns `AllocError` only where memory was refused.
     pub fn of(alloc: Global, types: Shared<Types>) -> Result<Declared, AllocError>
         ensures { IfOk result (λ declared. declared ≡ types) }
     {
@@ -77,7 +77,7 @@ impl Declared {
         Ok(Declared { types, check })
     }
 
-    /// What their check found. Own.
+    /// Returns the result of the check.
     pub fn found(&self) -> &Check
         ensures { IsCheckOf self.now result.now }
     {

@@ -18,13 +18,12 @@ use std::alloc::{AllocError, Global};
 use std::marker::Model;
 
 /// Pieces of bodies, each under its body's name.
-/// (Own.)
 pub type Pieces = Vec<(Name, Shared<Piece>)>;
 
 /// The errors and the requirements of one body, with all that they were found from: the declarations, the unit, copies of the
 /// headers of its children (the unit was typed over them), and what these require. Its type keeps that they are those of the body by
-/// definition, and nothing else makes one. (Own; rustc-dev-guide, "Queries": a query's result is taken again where all that it was
-/// found from is the same.)
+/// definition, and nothing else makes one. (rustc-dev-guide, "Queries": a query's result is taken again where all that it was found
+/// from is the same.)
 pub struct Piece {
     types: Shared<Declared>,
     unit: Shared<Unit>,
@@ -35,13 +34,12 @@ pub struct Piece {
 }
 
 /// Pieces of bodies that were found from the same declarations, with these, so that whoever takes them compares the declarations once.
-/// (Own.)
 pub struct PieceSet {
     types: Shared<Declared>,
     rows: Pieces,
 }
 
-/// One more owner of each of these pieces, in their order. Answers `AllocError` only where memory was refused. (Own.)
+/// Makes one more owner of each of these pieces, in their order. Returns `AllocError` only where memory was refused.
 pub fn share_pieces(alloc: Global, pieces: &[(Name, Shared<Piece>)]) -> Result<Pieces, AllocError>
     ensures { IfOk result (λ shares. shares.items ≡ pieces.now) }
 {
@@ -95,7 +93,7 @@ impl Model for PieceSet {
 }
 
 impl PieceSet {
-    /// These pieces, with the declarations that each of them was found from, which it asks of its caller. It takes no memory. (Own.)
+    /// Makes a set of these pieces and of the declarations, from which it asks that each piece was found. It takes no memory.
     pub fn of(types: Shared<Declared>, rows: Pieces) -> PieceSet
         requires { AreOver types rows.items }
         ensures { result ≡ record { types = types; rows = rows.items } }
@@ -103,14 +101,14 @@ impl PieceSet {
         PieceSet { types, rows }
     }
 
-    /// Whether the pieces were found from these declarations, which are compared as values. It takes no memory. (Own.)
+    /// Returns whether the pieces were found from these declarations, which are compared as values. It takes no memory.
     pub fn is_over(&self, types: &Shared<Declared>) -> bool
         ensures { IsTrue result ↔ (self.now.types ≡ types.now) }
     {
         self.types == *types
     }
 
-    /// The pieces, each under its body's name. (Own.)
+    /// Returns the pieces, each under its body's name.
     pub fn rows(&self) -> &[(Name, Shared<Piece>)]
         ensures rows { result.now ≡ self.now.rows }
         ensures over { AreOver self.now.types self.now.rows }
@@ -118,7 +116,7 @@ impl PieceSet {
         &self.rows
     }
 
-    /// The pieces, taken out. It takes no memory. (Own.)
+    /// Takes the pieces out of the set. It takes no memory.
     pub fn into_rows(self) -> Pieces
         ensures rows { result.items ≡ self.rows }
         ensures over { AreOver self.types self.rows }
@@ -127,8 +125,8 @@ impl PieceSet {
         rows
     }
 
-    /// Puts the pieces of another set, over the same declarations, which it asks of its caller, behind its own. Answers `AllocError` only
-    /// where memory was refused, and then has what it had. (Own.)
+    /// Appends the pieces of another set to this one. It asks that both sets are over the same declarations. Returns `AllocError` only
+    /// where memory was refused, and then the set is unchanged.
     pub fn append(&mut self, other: PieceSet) -> Result<(), AllocError>
         requires { other.types ≡ self.old.types }
         ensures taken { OnOk result (self.new ≡ record { types = self.old.types; rows = self.old.rows ++ other.rows }) }
@@ -139,7 +137,7 @@ impl PieceSet {
         Ok(())
     }
 
-    /// One more owner of the declarations and of each piece. Answers `AllocError` only where memory was refused. (Own.)
+    /// Makes one more owner of the declarations and of each piece. Returns `AllocError` only where memory was refused.
     pub fn copy(&self, alloc: Global) -> Result<PieceSet, AllocError>
         ensures { IfOk result (λ copy. copy ≡ self.now) }
     {
@@ -150,21 +148,21 @@ impl PieceSet {
 }
 
 impl Piece {
-    /// The declarations. Own.
+    /// Returns the declarations.
     pub fn types(&self) -> &Shared<Declared>
         ensures { result.now ≡ self.now.types }
     {
         &self.types
     }
 
-    /// The unit. Own.
+    /// Returns the unit.
     pub fn unit(&self) -> &Shared<Unit>
         ensures { result.now ≡ self.now.unit }
     {
         &self.unit
     }
 
-    /// The errors of the body, in order, to be lent or shared. Own.
+    /// Returns the errors of the body, in order, to be lent or shared.
     pub fn errors(&self) -> &Shared<Sequence<BorrowError>>
         ensures value { result.now ≡ self.now.verdict.errors }
         ensures right { IsPiece self.now }
@@ -172,7 +170,7 @@ impl Piece {
         &self.errors
     }
 
-    /// What the body requires of its creator. Own.
+    /// Returns what the body requires of its creator.
     pub fn requirements(&self) -> &Requirements
         ensures value { result.now ≡ self.now.verdict.requirements }
         ensures right { IsPiece self.now }
@@ -180,7 +178,7 @@ impl Piece {
         &self.requirements
     }
 
-    /// The unit as it was typed. Own.
+    /// Returns the unit as it was typed.
     pub fn typed(&self) -> &Shared<Typed>
         ensures value { result.now ≡ self.now.mir }
         ensures right { IsPiece self.now }
@@ -188,14 +186,14 @@ impl Piece {
         &self.typed
     }
 
-    /// Whether it was found from these declarations and this unit. They are compared as values. Own.
+    /// Returns whether the piece was found from these declarations and this unit. They are compared as values.
     pub fn is_over(&self, types: &Shared<Declared>, unit: &Shared<Unit>) -> bool
         ensures { IsTrue result ↔ ((self.now.types ≡ types.now) × (self.now.unit ≡ unit.now)) }
     {
         self.types == *types && self.unit == *unit
     }
 
-    /// The numbers of the unit's children, ascending. Answers `AllocError` only where memory was refused. (Own.)
+    /// Returns the numbers of the unit's children, ascending. Returns `AllocError` only where memory was refused.
     pub fn children(&self, alloc: Global) -> Result<Vec<u8>, AllocError>
         ensures value { IfOk result (λ numbers. numbers.items ≡ children_of self.now.unit) }
         ensures low { IfOk result (λ numbers. list_all (λ number. nat_le number 63) numbers.items ≡ true) }
@@ -208,7 +206,7 @@ impl Piece {
         Ok(numbers)
     }
 
-    /// Whether its children required so much. Own.
+    /// Returns whether the piece was found from children that required exactly this.
     pub fn is_from(&self, kids: &[(u8, Requirements)]) -> bool
         ensures same { IsTrue result ↔ (self.now.kids ≡ kids.now) }
         ensures right { IsPiece self.now }
@@ -263,9 +261,9 @@ fn same_kids(one: &[(u8, Requirements)], other: &[(u8, Requirements)]) -> bool
     }
 }
 
-/// The piece of a unit that was typed over declarations and the headers of its children, where these require so much. It asks that the
-/// unit was typed so, and that a child requires nothing of its local regions. Answers `AllocError` only where memory was refused, as a
-/// provider may answer too. (Own; the errors are those of RFC 2094, "Borrow checker phase 2" and "Named lifetimes".)
+/// Judges a unit that was typed over declarations and the headers of its children, where these require so much, and returns its
+/// piece. It asks that the unit was typed so, and that a child requires nothing of its local regions. Returns `AllocError` only where
+/// memory was refused, as a provider may too. (The errors are those of RFC 2094, "Borrow checker phase 2" and "Named lifetimes".)
 pub fn piece_of(
     alloc: Global,
     providers: &Providers,

@@ -11,19 +11,19 @@ use bc_mir::Typed;
 use bc_solve::Values;
 use std::alloc::{AllocError, Global};
 
-/// The points on whose entry each local of a body is live, by a closure. (RFC 2094, "Liveness".)
+/// A stored closure that finds the points on whose entry each local of a body is live. (RFC 2094, "Liveness".)
 pub type Liveness = Box<dyn Fn(Global, &Typed) -> Result<LiveSets, AllocError> + Send + Sync>;
 
-/// The values of regions, by a closure. (RFC 2094, "Solving constraints".)
+/// A stored closure that finds the values of regions. (RFC 2094, "Solving constraints".)
 pub type Solver = Box<dyn Fn(Global, &Facts) -> Result<Values, AllocError> + Send + Sync>;
 
-/// The loans in scope within the values of regions, by a closure. (RFC 2094, "Borrow checker phase 1: computing loans in
-/// scope".)
+/// A stored closure that finds the loans in scope within the values of regions. (RFC 2094, "Borrow checker phase 1: computing
+/// loans in scope".)
 pub type Scoping = Box<dyn Fn(Global, &Typed, &Values) -> Result<Scopes, AllocError> + Send + Sync>;
 
-/// The closures by which bodies are analysed. Their facts stand in the type: each may be called on every value of its input,
-/// and answers only what its definition says, or want of memory. Threads share one by reference. (rustc-dev-guide,
-/// "Queries": providers, which are installed from outside.)
+/// The three analyses of a body, as stored closures. The type keeps that each may be called on every value of its input, and
+/// returns only what its definition says, or `AllocError`. Threads share one by reference. (rustc-dev-guide, "Queries":
+/// providers, which are installed from outside.)
 #[derive(Drop)]
 pub struct Providers {
     live: Liveness,
@@ -38,8 +38,8 @@ pub struct Providers {
 }
 
 impl Providers {
-    /// The providers that call these closures. It takes no memory. It asks that each closure may be called on every value of
-    /// its input, and answers only liveness, values or loans in scope as they are defined, or want of memory. (Own.)
+    /// Stores these closures as providers. It takes no memory. It asks that each closure may be called on every value of its
+    /// input, and returns only liveness, values or loans in scope as they are defined, or `AllocError`.
     pub fn new(live: Liveness, solve: Solver, in_scope: Scoping) -> Providers
         requires live_callable { Liveness.IsAlwaysCallable live }
         requires live_right { AnswersLiveness (Liveness.post live) }

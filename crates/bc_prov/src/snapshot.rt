@@ -1,4 +1,4 @@
-//! Parts of what is held: what the outcome of one name rests on.
+//! Snapshots: the part of what is stored that the outcome of one name rests on.
 ghost use Rattle.std.specs.Prelude.{◌≡◌, ◌≢◌, ◌<◌, ◌++◌, [], true, length, map, nat_le, Some, None, IfOk, IfSome, IsTrue, OnOk};
 ghost use Rattle.std.specs.List.{list_all};
 ghost use Rattle.std.specs.List.Sorted.{IsPermutation};
@@ -18,8 +18,8 @@ use bc_text::Name;
 use std::alloc::{AllocError, Global};
 use std::marker::Model;
 
-/// Declarations, a name, and the units held at that name and at names that begin with it and `/`. A name that is not in the list
-/// is absent. A snapshot may carry the outcome of its name, and pieces of its bodies. (Own.)
+/// The declarations and the units that the outcome of one name rests on: the units held at that name and at names that begin with
+/// it and `/`. A name that is not in the list is absent. A snapshot may carry the outcome of its name, and pieces of its bodies.
 pub struct Snapshot {
     types: Shared<Declared>,
     root: Name,
@@ -88,9 +88,9 @@ fn is_kept(kept: &Option<Pieces>, entry: &(Name, Shared<Piece>)) -> bool
 }
 
 impl Snapshot {
-    /// The snapshot of a name that has these declarations and these units. It takes no memory. It asks that the names ascend
-    /// strictly, that each is the root or begins with it and `/`, that a function has a name without segments and a closure
-    /// any other, and that no unit at a name of seven segments has a child. The list may be empty. No outcome is carried. (Own.)
+    /// Makes the snapshot of a name from these declarations and these units. It takes no memory. It asks that the names ascend
+    /// strictly, that each is the root or begins with it and `/`, that a function has a name without segments and a closure any
+    /// other, and that no unit at a name of seven segments has a child. The list may be empty. No outcome is carried.
     pub fn of(types: Shared<Declared>, root: Name, units: Vec<(Name, Shared<Unit>)>) -> Snapshot
         requires { IsSnapshot root units.items }
         ensures { result ≡ record { types = types; root = root; units = units.items; carried = None } }
@@ -105,8 +105,8 @@ impl Snapshot {
         }
     }
 
-    /// The snapshot with pieces that are kept of its bodies. It takes no memory. It asks that each was found from its declarations and
-    /// from the unit at its name; one is found again where their names ascend. (Own.)
+    /// Adds pieces that are kept of the snapshot's bodies. It takes no memory. It asks that each was found from the declarations
+    /// and from the unit at its name; `piece` finds one where their names ascend.
     pub fn keep_pieces(self, pieces: Pieces) -> Snapshot
         requires { ArePieces self.types self.units pieces.items }
         ensures { result ≡ self }
@@ -129,9 +129,9 @@ impl Snapshot {
         }
     }
 
-    /// The snapshot with pieces, which a report takes where all that they were found from is there, before any that are kept. It takes
-    /// no memory, and asks nothing of its caller: those that were found from other declarations or from another unit than that at
-    /// their name are left out. Those that are taken stand in the order of their names, in whatever order they were handed in. (Own.)
+    /// Adds pieces that a report takes, before any that are kept, where all that they were found from is there. It takes no memory,
+    /// and asks nothing of its caller: those that were found from other declarations or from another unit than that at their name are
+    /// left out. The others are put in the order of their names, in whatever order they were handed in.
     pub fn carry_pieces(self, pieces: Pieces) -> Snapshot
         ensures { result ≡ self }
     {
@@ -139,10 +139,9 @@ impl Snapshot {
         self.with_offered(pieces)
     }
 
-    /// The snapshot with the pieces of a set, which a report takes where all that they were found from is there, before any that are kept.
-    /// It takes no memory, and asks nothing of its caller: of a set over other declarations none is taken, and of one over its own those
-    /// that were found from the unit at their name. Those that are taken stand in the order of their names, in whatever order the set has
-    /// them. (Own.)
+    /// Adds the pieces of a set, which a report takes, before any that are kept, where all that they were found from is there. It takes
+    /// no memory, and asks nothing of its caller: of a set over other declarations none is taken, and of one over the snapshot's own
+    /// those that were found from the unit at their name. They are put in the order of their names, in whatever order the set has them.
     pub fn offer(self, set: PieceSet) -> Snapshot
         ensures { result ≡ self }
     {
@@ -228,7 +227,7 @@ impl Snapshot {
         }
     }
 
-    /// A piece of the body at a name, if one is carried or kept. It takes no memory. (Own.)
+    /// Returns a piece of the body at a name, if one is carried or kept. It takes no memory.
     pub fn piece(&self, name: &Name) -> Option<&Shared<Piece>>
         ensures { IfSome result (λ piece. IsPieceFor self.now.types (at_name self.now.units name.now) piece.now) }
     {
@@ -238,7 +237,8 @@ impl Snapshot {
         }
     }
 
-    /// Those of these pieces that are not kept already, in their order. Which of them are kept is not told. It takes no memory. (Own.)
+    /// Returns those of these pieces that are not kept already, in their order. The contract does not say which of them are kept. It
+    /// takes no memory.
     pub fn without_kept(&self, pieces: Pieces) -> Pieces
         ensures { AreSomeOf pieces.items result.items }
     {
@@ -247,8 +247,7 @@ impl Snapshot {
         pieces
     }
 
-    /// The snapshot with the outcome of its name, which its caller knows. It takes no memory. It asks that this is the outcome.
-    /// (Own.)
+    /// Adds the outcome of the snapshot's name, which its caller knows. It takes no memory. It asks that this is the outcome.
     pub fn carry(self, outcome: Shared<Outcome>) -> Snapshot
         requires { IsOutcomeIn (state_of self.types self.units) self.root outcome }
         ensures { result ≡ record self { carried = Some outcome } }
@@ -271,7 +270,7 @@ impl Snapshot {
         }
     }
 
-    /// The outcome of its name that it carries, if it does. It takes no memory. (Own.)
+    /// Returns the outcome of its name that the snapshot carries, if it does. It takes no memory.
     pub fn carried(&self) -> Option<&Shared<Outcome>>
         ensures value { option_copied result ≡ self.now.carried }
         ensures right { IfSome result (λ outcome. IsOutcomeIn (state_of self.now.types self.now.units) self.now.root outcome.now) }
@@ -279,21 +278,21 @@ impl Snapshot {
         self.carried.as_ref()
     }
 
-    /// The declarations. (Own.)
+    /// Returns the declarations.
     pub fn types(&self) -> &Shared<Declared>
         ensures { result.now ≡ self.now.types }
     {
         &self.types
     }
 
-    /// The name. (Own.)
+    /// Returns the name whose outcome rests on this snapshot.
     pub fn root(&self) -> &Name
         ensures { result.now ≡ self.now.root }
     {
         &self.root
     }
 
-    /// The units, each under its name, in the order of these. (Own.)
+    /// Returns the units, each under its name, in the order of the names.
     pub fn units(&self) -> &[(Name, Shared<Unit>)]
         ensures units { result.now ≡ self.now.units }
         ensures snapshot { IsSnapshot self.now.root self.now.units }
@@ -301,7 +300,7 @@ impl Snapshot {
         &self.units
     }
 
-    /// The unit of a name, if it is in the list. It takes no memory. (Own.)
+    /// Returns the unit of a name, if it is in the list. It takes no memory.
     pub fn unit(&self, name: &Name) -> Option<&Shared<Unit>>
         ensures unit { option_copied result ≡ at_name self.now.units name.now }
         ensures suited { AreSuited (at_name self.now.units) }
@@ -312,9 +311,9 @@ impl Snapshot {
         }
     }
 
-    /// The numbers of the children of a unit, each once, ascending: those that a piece of it has, if one is carried or kept, else
-    /// those that are found in it. It asks that this unit is held under this name. Answers `AllocError` only where memory was
-    /// refused. (Own.)
+    /// Returns the numbers of the children of a unit, each once, ascending: those that a piece of the unit has, if one is carried
+    /// or kept, else those that are found in the unit. It asks that this unit is held under this name. Returns `AllocError` only
+    /// where memory was refused.
     pub fn children_of(
         &self,
         alloc: Global,
@@ -331,8 +330,8 @@ impl Snapshot {
         }
     }
 
-    /// The names on which its outcome rests: its own, and that of each closure that one of its units has, held or absent, in the
-    /// order of the units. Answers `AllocError` only where memory was refused. (Own.)
+    /// Returns the names on which the snapshot's outcome rests: its own, and that of each closure that one of its units has, held
+    /// or absent, in the order of the units. Returns `AllocError` only where memory was refused.
     pub fn used(&self, alloc: Global) -> Result<Vec<Name>, AllocError>
         ensures { IfOk result (λ names. names.items ≡ names_used self.now.root self.now.units) }
     {
