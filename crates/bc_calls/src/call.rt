@@ -9,11 +9,11 @@ use bc_syntax::{Types, Unit};
 use bc_text::Name;
 use std::alloc::AllocError;
 
-/// How many bodies may be held (own).
+/// The most bodies that a database holds.
 pub const MOST_BODIES: usize = 1024;
 
-/// What a session asks for: to store declarations in place of those before, to put a unit under a name, to take the unit of a name
-/// away, the outcome of a name, or the outcomes of all held names without segments.
+/// A call of a session: to store declarations in place of those before, to put a unit under a name, to take the unit of a name
+/// away, to ask for the outcome of a name, or to ask for the outcomes of all held names without segments.
 #[derive(Drop)]
 pub enum Call {
     Types(Shared<Types>),
@@ -23,8 +23,8 @@ pub enum Call {
     All,
 }
 
-/// The reply to a put: the body is new, or in place of another; or the name is new and `MOST_BODIES` are held; or
-/// the name is not one for such a unit. The last two store nothing.
+/// The reply to a put. The body is new, or it replaces another; or the name is new and `MOST_BODIES` are held; or the name is not
+/// one for such a unit. The last two store nothing.
 #[derive(Clone, Copy, Debug, PartialEq, Eq)]
 pub enum PutReply {
     Added,
@@ -41,7 +41,7 @@ pub enum RemoveReply {
 }
 
 impl PutReply {
-    /// Whether the put stored its body.
+    /// Returns whether the put stored its body.
     pub fn stores(self) -> bool
         ensures { result ≡ stores self }
     {
@@ -53,7 +53,7 @@ impl PutReply {
 }
 
 impl RemoveReply {
-    /// Whether the removal took a body away.
+    /// Returns whether the removal took a body away.
     pub fn takes(self) -> bool
         ensures { result ≡ takes self }
     {
@@ -75,7 +75,7 @@ pub enum Event {
     All(Shared<Listing>),
 }
 
-/// An event of a session, and how many events that session had before it.
+/// An entry of a history: an event of a session, and how many events that session had before it.
 #[derive(Drop)]
 pub struct Entry {
     pub session: u8,
@@ -84,7 +84,7 @@ pub struct Entry {
 }
 
 impl Entry {
-    /// A copy of the entry, which is one more owner of what it brings. `AllocError` only where memory was refused.
+    /// Makes one more owner of what the entry brings. Returns `AllocError` only where memory was refused.
     pub fn copy(&self) -> Result<Entry, AllocError>
         ensures { IfOk result (λ copy. copy ≡ self.now) }
     {
@@ -96,7 +96,7 @@ impl Entry {
         })
     }
 
-    /// Whether it is this event of this session, and the session had so many entries before it.
+    /// Returns whether the entry is this event of this session, and the session had so many entries before it.
     pub fn is(&self, session: u8, number: usize, event: &Event) -> bool
         ensures { IsTrue result ↔ (self.now ≡ record { session = session; number = number; event = event.now }) }
     {
@@ -105,14 +105,14 @@ impl Entry {
 }
 
 impl Event {
-    /// Whether another event has the same call and the same reply.
+    /// Returns whether another event has the same call and the same reply.
     pub fn is(&self, other: &Event) -> bool
         ensures { IsTrue result ↔ (self.now ≡ other.now) }
     {
         self == other
     }
 
-    /// A copy of the event, which is one more owner of what it brings. `AllocError` only where memory was refused.
+    /// Makes one more owner of what the event brings. Returns `AllocError` only where memory was refused.
     pub fn copy(&self) -> Result<Event, AllocError>
         ensures { IfOk result (λ copy. copy ≡ self.now) }
     {
@@ -125,7 +125,7 @@ impl Event {
         }
     }
 
-    /// Whether it is an accepted write: declarations that were stored, or a body that was added, replaced or removed.
+    /// Returns whether the event is an accepted write: declarations that were stored, or a body that was added, replaced or removed.
     pub fn writes(&self) -> bool
         ensures { result ≡ writes self.now }
     {
@@ -138,7 +138,8 @@ impl Event {
         }
     }
 
-    /// What it changes in what is held, as one more owner of what it brings. `AllocError` only where memory was refused.
+    /// Returns the change that the event makes to what is held, as one more owner of what it brings. Returns `AllocError` only
+    /// where memory was refused.
     pub fn change(&self) -> Result<Change, AllocError>
         ensures { IfOk result (λ change. change ≡ change_of self.now) }
     {

@@ -1,11 +1,11 @@
-//! Declarations as they are held: with what their check found.
+//! Declarations as they are held: with the result of their check.
 ghost use Rattle.std.specs.Prelude.{◌≡◌, [], IfOk};
 
 use bc_prov::{Declared, Shared, share};
 use bc_syntax::{Sequence, Types};
 use std::alloc::{AllocError, Global};
 
-/// Declarations with what their check finds. Answers `AllocError` only where memory was refused.
+/// Checks declarations, and returns them with the result, shared. Returns `AllocError` only where memory was refused.
 pub fn checked(alloc: Global, types: Shared<Types>) -> Result<Shared<Declared>, AllocError>
     ensures { IfOk result (λ declared. declared ≡ types) }
 {
@@ -13,7 +13,7 @@ pub fn checked(alloc: Global, types: Shared<Types>) -> Result<Shared<Declared>, 
     share(alloc, declared)
 }
 
-/// No declarations, checked: those that a database opens with. Answers `AllocError` only where memory was refused.
+/// Returns the declarations that a database opens with: none, checked and shared. Returns `AllocError` only where memory was refused.
 pub fn no_declarations(alloc: Global) -> Result<Shared<Declared>, AllocError>
     ensures { IfOk result (λ declared. declared ≡ []) }
 {

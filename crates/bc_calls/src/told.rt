@@ -1,12 +1,12 @@
-//! What is answered to a call that was entered.
+//! The two owners of an event: one for its session's list, one for its caller.
 ghost use Rattle.std.specs.Prelude.{◌≡◌, IfOk};
 
 use crate::call::Event;
 use std::alloc::AllocError;
 use std::marker::Model;
 
-/// A call that was entered, with its reply, twice: for the list of the session that made it, and for who called the session. Contracts see
-/// one event, since the type keeps that both are the same.
+/// Two owners of an event: one for the list of the session that made the call, and one for who called the session. Contracts see one
+/// event, since the type keeps that both are the same.
 #[derive(Drop)]
 pub struct Told {
     listed: Event,
@@ -25,7 +25,7 @@ impl Model for Told {
 }
 
 impl Told {
-    /// Two more owners of an event. Answers `AllocError` only where memory was refused.
+    /// Makes two more owners of an event. Returns `AllocError` only where memory was refused.
     pub fn of(event: &Event) -> Result<Told, AllocError>
         ensures { IfOk result (λ told. told ≡ event.now) }
     {
@@ -34,7 +34,7 @@ impl Told {
         Ok(Told { listed, answered })
     }
 
-    /// Both owners of the event: for the session's list, and for its caller. It takes no memory.
+    /// Returns both owners of the event: for the session's list, and for its caller. It takes no memory.
     pub fn into_owners(self) -> (Event, Event)
         ensures listed { result.0 ≡ self }
         ensures answered { result.1 ≡ self }

@@ -16,7 +16,8 @@ use bc_text::Name;
 use std::alloc::{AllocError, Global};
 use std::marker::Model;
 
-/// A name's part of what was held, with the revisions of its declarations and of its units. Contracts see the snapshot.
+/// A snapshot to be worked on: a name's part of what was held, with the revisions of its declarations and of its units. Contracts
+/// see the snapshot.
 #[derive(Drop)]
 pub struct Begun {
     snapshot: Snapshot,
@@ -32,8 +33,8 @@ impl Model for Begun {
     ghost view = { λ b. b.snapshot };
 }
 
-/// A snapshot with its revisions and its outcome, and the pieces of its bodies that were made for it: found from its declarations, which the
-/// type keeps. Contracts see all but the pieces.
+/// A snapshot with its revisions and its outcome, and the pieces of its bodies that were made for it. The type keeps that these were found
+/// from its declarations. Contracts see all but the pieces.
 #[derive(Drop)]
 pub struct Work {
     snapshot: Snapshot,
@@ -55,8 +56,8 @@ impl Model for Work {
 }
 
 impl Begun {
-    /// A part, which carries an answer of its name where there is one: the part's outcome, which it asks of its caller. It takes no
-    /// memory.
+    /// Begins a part, which then carries the answer of its name where there is one. It asks that this is the outcome of the part's
+    /// name. It takes no memory.
     pub fn carrying(part: Part, answer: Option<Shared<Outcome>>) -> Begun
         requires { IfSome answer (IsOutcomeIn (state_of part.snapshot.types part.snapshot.units) part.snapshot.root) }
         ensures part { (result.types ≡ part.snapshot.types) × (result.root ≡ part.snapshot.root) × (result.units ≡ part.snapshot.units) }
@@ -78,8 +79,8 @@ impl Begun {
         }
     }
 
-    /// What was begun, with the pieces of a set, if there is one, which are taken where all that they were found from is there. It takes no
-    /// memory, and asks nothing of its caller.
+    /// Adds the pieces of a set, if there is one, to what was begun; they are taken where all that they were found from is there. It takes
+    /// no memory, and asks nothing of its caller.
     pub fn offer(self, pieces: Option<PieceSet>) -> Begun
         ensures { result ≡ self }
     {
@@ -98,9 +99,9 @@ impl Begun {
         }
     }
 
-    /// The outcome of the snapshot's name in the snapshot: the one that the snapshot carries, without a provider, else the one that the
-    /// providers and the pieces of its bodies give, with the pieces that were made for it. Answers `AllocError` only where memory was
-    /// refused, as a provider may answer too.
+    /// Returns the outcome of the snapshot's name in the snapshot: the one that the snapshot carries, without a provider, else the one
+    /// that the providers and the pieces of its bodies give, with the pieces that were made for it. Returns `AllocError` only where
+    /// memory was refused, as a provider may too.
     pub fn find(&self, alloc: Global, providers: &Providers) -> Result<Found, AllocError>
         ensures outcome { IfOk result (λ found. IsOutcomeIn (state_of self.now.types self.now.units) self.now.root found.outcome) }
         ensures pieces { IfOk result (λ found. AreAmongPiecesOf (state_of self.now.types self.now.units) self.now.root self.now.carried found.outcome (rows_of found.pieces)) }
@@ -111,8 +112,8 @@ impl Begun {
     }
 
     /// Finds the outcome of the snapshot's name: the one that the snapshot carries, without a provider, else the one that the providers
-    /// give. It is that of the name in each state of which the snapshot is the name's part. Nothing is held meanwhile.
-    /// Answers `AllocError` only where memory was refused, as a provider may answer too.
+    /// give. It is that of the name in each state of which the snapshot is the name's part. No lock is held meanwhile. Returns
+    /// `AllocError` only where memory was refused, as a provider may too.
     pub fn work(self, alloc: Global, providers: &Providers) -> Result<Work, AllocError>
         ensures same { IfOk result (λ work. work.snapshot ≡ self) }
         ensures outcome { (name : NameParts) (state : State) → IsPartOf self name state → IfOk result (λ work. IsOutcomeIn state name work.outcome) }
@@ -129,14 +130,14 @@ impl Begun {
 }
 
 impl Work {
-    /// The name whose outcome it is.
+    /// Returns the name that was worked on.
     pub fn name(&self) -> &Name
         ensures { result.now ≡ self.now.snapshot.root }
     {
         self.snapshot.root()
     }
 
-    /// Its outcome.
+    /// Returns the outcome that was found.
     pub fn outcome(&self) -> &Outcome
         ensures value { result.now ≡ self.now.outcome }
         ensures right { IsOutcomeIn (state_of self.now.snapshot.types self.now.snapshot.units) self.now.snapshot.root self.now.outcome }
@@ -144,8 +145,8 @@ impl Work {
         self.outcome.get()
     }
 
-    /// What it found, exactly where its snapshot has the revisions that a shelf has and is what the shelf holds: its outcome, with the
-    /// pieces that were made for it. Else these pieces are handed back alone. It takes no memory.
+    /// Returns the outcome that the work found, with the pieces that were made for it, exactly where its snapshot has the revisions
+    /// that a shelf has and is what the shelf holds. Else these pieces are handed back alone. It takes no memory.
     pub fn standing(self, shelf: &Shelf) -> Result<Found, Option<PieceSet>>
         ensures own { IfOk result (λ found. Stood shelf.now.held self found.outcome) }
         ensures over { IfOk result (λ found. IfSome found.pieces (λ set. set.types ≡ shelf.now.held.types)) }

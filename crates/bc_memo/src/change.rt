@@ -3,7 +3,8 @@ use bc_prov::{Declared, Listing, Outcome, Shared};
 use bc_syntax::Unit;
 use bc_text::Name;
 
-/// New declarations, a unit at a name, no unit there, an answer for it, answers for many names, or nothing. (Own.)
+/// The change that a call makes to what is held: new declarations, a unit at a name, no unit there, an answer for it, answers for
+/// many names, or no change.
 #[derive(Drop)]
 pub enum Change {
     Types(Shared<Declared>),

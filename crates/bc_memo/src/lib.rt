@@ -1,4 +1,4 @@
-//! What is held, with revisions, and answers that are remembered while the revisions of all that they were found from stand.
+//! What is held, with revisions, and answers that are remembered while all that they were found from has the revisions that it had.
 #![tactic(auto)]
 
 mod change;

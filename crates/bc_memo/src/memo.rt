@@ -1,4 +1,4 @@
-//! Outcomes of names, with the revisions of all that they were found from.
+//! The remembered outcomes of names, each with the revisions of all that it was found from.
 ghost use Rattle.std.specs.Prelude.{◌≡◌, ◌↔◌, ◌+◌, ◌<◌, ◌≤◌, [], ◌∷◌, IfNone, IfOk, IfSome, IsOk, IsSome, IsTrue, OnErr, OnOk, Some};
 ghost use Rattle.std.specs.BTreeMap.{insert_entry, is_at};
 ghost use Rattle.std.specs.Map.{remove_entry};
@@ -15,7 +15,7 @@ use bc_text::Name;
 use std::alloc::{AllocError, Global};
 use std::marker::Model;
 
-/// An outcome, with the revisions of the declarations and of each name that it was found from; an absent name has none. (Own.)
+/// A remembered outcome, with the revisions of the declarations and of each name that it was found from; an absent name has none.
 #[derive(Drop)]
 pub struct Remembered {
     pub types: u32,
@@ -23,7 +23,8 @@ pub struct Remembered {
     pub outcome: Shared<Outcome>,
 }
 
-/// What is remembered. Contracts see the rows, in the order of their names, and for how many more names there is memory. (Own.)
+/// The remembered outcomes, one for each name at most. Contracts see the rows, in the order of their names, and for how many more
+/// names there is memory.
 pub struct Memo {
     rows: Vec<(Name, Remembered)>,
 }
@@ -48,8 +49,8 @@ impl Model for Memo {
 }
 
 impl Remembered {
-    /// An outcome with the revisions that a shelf has of its declarations and of these names. Answers `AllocError` only where
-    /// memory was refused. (Own.)
+    /// Records an outcome with the revisions that a shelf has of its declarations and of these names. Returns `AllocError` only
+    /// where memory was refused.
     pub fn of(
         alloc: Global,
         shelf: &Shelf,
@@ -68,7 +69,7 @@ impl Remembered {
 }
 
 impl Memo {
-    /// Nothing is remembered. (Own.)
+    /// Returns a memo that remembers nothing.
     pub fn new(alloc: Global) -> Memo
         ensures { result.rows ≡ [] }
     {
@@ -77,8 +78,9 @@ impl Memo {
         }
     }
 
-    /// The outcome that is remembered for a name, where the declarations and all names that it was found from have the revisions
-    /// that they had; `None` exactly where nothing is remembered for the name or something changed since. It takes no memory. (Own.)
+    /// Returns the outcome that is remembered for a name, where the declarations and all names that it was found from still have
+    /// the revisions that they had; `None` exactly where nothing is remembered for the name or something changed since. It takes
+    /// no memory.
     pub fn lookup(&self, shelf: &Shelf, name: &Name) -> Option<&Shared<Outcome>>
         ensures stands { IfSome result (λ outcome. (row : Remembered) × (at_name self.now.rows name.now ≡ Some row) × Stands shelf.now.held row × (outcome.now ≡ row.outcome)) }
         ensures none { IfNone result ((row : Remembered) → at_name self.now.rows name.now ≡ Some row → Stands shelf.now.held row → ⊥) }
@@ -96,8 +98,8 @@ impl Memo {
         }
     }
 
-    /// Makes room for so many more names, and changes nothing else. It takes no memory where there is some for as many. Answers
-    /// `AllocError` only where memory was refused. (Own.)
+    /// Makes room for so many more names, and changes nothing else. It takes no memory where there is some for as many. Returns
+    /// `AllocError` only where memory was refused.
     pub fn reserve(&mut self, names: usize) -> Result<(), AllocError>
         ensures same { self.new.rows ≡ self.old.rows }
         ensures room { OnOk result (names ≤ self.new.room) }
@@ -107,7 +109,7 @@ impl Memo {
     }
 
     /// Remembers a row for a name, in the place of what was remembered for it. It takes no memory: it asks for room for one name, and
-    /// leaves that for as many as before but for one. (Own.)
+    /// leaves that for as many as before but for one.
     pub fn put(&mut self, name: Name, row: Remembered)
         requires { 0 < self.old.room }
         ensures rows { self.new.rows ≡ insert_entry name_order self.old.rows name row }
@@ -116,7 +118,7 @@ impl Memo {
         put(&mut self.rows, name, row);
     }
 
-    /// Forgets what is remembered for a name, if anything is. It takes no memory. (Own.)
+    /// Forgets what is remembered for a name, if anything is. It takes no memory.
     pub fn forget(&mut self, name: &Name)
         ensures { self.new.rows ≡ remove_entry (is_at (name_order name.now)) self.old.rows }
     {
@@ -124,7 +126,7 @@ impl Memo {
     }
 
     /// Remembers an outcome for a name that is held, with the revisions that a shelf has of its declarations, of the name and of these
-    /// names. Answers `AllocError` only where memory was refused, and then remembers what it did before. (Own.)
+    /// names. Returns `AllocError` only where memory was refused, and then remembers what it did before.
     pub fn install(
         &mut self,
         alloc: Global,

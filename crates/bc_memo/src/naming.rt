@@ -27,8 +27,8 @@ fn has_room(alloc: Global, unit: &Unit, name: &Name) -> Result<bool, AllocError>
     Ok(children.is_empty())
 }
 
-/// Whether a unit may be held at a name: a function's is a root, a closure's any other, and a name of seven segments is none for a unit
-/// with a child. Answers `AllocError` only where memory was refused. (Own.)
+/// Returns whether a unit may be held at a name: a function's name is a root, a closure's any other, and a name of seven segments
+/// suits no unit with a child. Returns `AllocError` only where memory was refused.
 pub fn suits(alloc: Global, unit: &Unit, name: &Name) -> Result<bool, AllocError>
     ensures { IfOk result (λ suits. IsTrue suits ↔ Suits unit.now name.now) }
 {

@@ -13,8 +13,8 @@ use bc_text::Name;
 use std::alloc::{AllocError, Global};
 use std::marker::Model;
 
-/// The pieces that are kept of bodies, one for each name at most. Contracts see them in the order of their names, and for how many more
-/// there is memory. (Own; rustc-dev-guide, "Incremental compilation": what is found of a part stands while that part stands.)
+/// The kept pieces of bodies, one for each name at most. Contracts see them in the order of their names, and for how many more there is
+/// memory. (rustc-dev-guide, "Incremental compilation": what is found of a part stays valid while that part is unchanged.)
 #[derive(Drop)]
 pub struct PieceMemo {
     rows: Vec<(Name, Shared<Piece>)>,
@@ -32,7 +32,7 @@ impl Model for PieceMemo {
 }
 
 impl PieceMemo {
-    /// No piece is kept, and there is memory for so many. Answers `AllocError` only where memory was refused. (Own.)
+    /// Returns a memo that keeps no piece, with memory for so many. Returns `AllocError` only where memory was refused.
     pub fn new(alloc: Global, names: usize) -> Result<PieceMemo, AllocError>
         ensures rows { IfOk result (λ memo. memo.rows ≡ []) }
         ensures room { IfOk result (λ memo. names ≤ memo.room) }
@@ -43,7 +43,7 @@ impl PieceMemo {
     }
 
     /// Keeps the piece of a name, in the place of one that was kept for it. It takes no memory where there is some for one piece more, and
-    /// gives none back. Answers `AllocError` only where memory was refused, and then keeps what it kept before. (Own.)
+    /// gives none back. Returns `AllocError` only where memory was refused, and then keeps what it kept before.
     pub fn keep(&mut self, name: Name, piece: Shared<Piece>) -> Result<(), AllocError>
         ensures kept { OnOk result (self.new.rows ≡ insert_entry name_order self.old.rows name piece) }
         ensures refused { OnErr result (self.new.rows ≡ self.old.rows) }
@@ -55,7 +55,7 @@ impl PieceMemo {
         Ok(())
     }
 
-    /// The piece that is kept for a name, if one is. It takes no memory. (Own.)
+    /// Returns the piece that is kept for a name, if one is. It takes no memory.
     pub fn kept(&self, name: &Name) -> Option<&Shared<Piece>>
         ensures { option_copied result ≡ at_name self.now.rows name.now }
     {
@@ -65,15 +65,15 @@ impl PieceMemo {
         }
     }
 
-    /// The pieces that are kept for a name and for names that begin with it and `/`, as further owners. Answers `AllocError` only where
-    /// memory was refused. (Own.)
+    /// Returns one more owner of each piece that is kept for a name or for a name that begins with it and `/`. Returns `AllocError`
+    /// only where memory was refused.
     pub fn part(&self, alloc: Global, root: &Name) -> Result<Pieces, AllocError>
         ensures { IfOk result (λ pieces. pieces.items ≡ part_in root.now self.now.rows) }
     {
         share_pieces(alloc, within(&self.rows, root))
     }
 
-    /// The pieces that are kept, as further owners. Answers `AllocError` only where an owner or memory was refused. (Own.)
+    /// Makes one more owner of each piece that is kept. Returns `AllocError` only where an owner or memory was refused.
     pub fn copy(&self, alloc: Global) -> Result<PieceMemo, AllocError>
         ensures { IfOk result (λ copy. copy.rows ≡ self.now.rows) }
     {
@@ -82,7 +82,7 @@ impl PieceMemo {
         })
     }
 
-    /// Keeps no piece for a name. It takes no memory, and leaves that for as many pieces as before. (Own.)
+    /// Drops the piece of a name, if one is kept. It takes no memory, and leaves that for as many pieces as before.
     pub fn forget(&mut self, name: &Name)
         ensures rows { self.new.rows ≡ remove_entry (is_at (name_order name.now)) self.old.rows }
         ensures memory { most_rows self.new ≡ most_rows self.old }
@@ -90,7 +90,7 @@ impl PieceMemo {
         take(&mut self.rows, name);
     }
 
-    /// Keeps no piece. It takes no memory, and leaves that for as many pieces as before. (Own.)
+    /// Drops all pieces. It takes no memory, and leaves that for as many pieces as before.
     pub fn forget_all(&mut self)
         ensures rows { self.new.rows ≡ [] }
         ensures memory { most_rows self.new ≡ most_rows self.old }

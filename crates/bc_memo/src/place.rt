@@ -5,7 +5,8 @@ use bc_prov::{Outcome, Shared};
 use bc_syntax::Unit;
 use std::alloc::AllocError;
 
-/// The unit of a name, the revision at which it was put there, and the outcome that was found for the name, if there is one. (Own.)
+/// A body as it is held: the unit of a name, the revision at which it was put there, and the outcome that was found for the name,
+/// if there is one.
 #[derive(Drop)]
 pub struct Place {
     pub unit: Shared<Unit>,
@@ -14,7 +15,7 @@ pub struct Place {
 }
 
 impl Place {
-    /// One more owner of the unit and of the outcome, with the revision. Answers `AllocError` only where an owner was refused. (Own.)
+    /// Makes one more owner of the unit and of the outcome, with the revision. Returns `AllocError` only where an owner was refused.
     pub fn copy(&self) -> Result<Place, AllocError>
         ensures { IfOk result (λ copy. copy ≡ self.now) }
     {

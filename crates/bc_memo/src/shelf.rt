@@ -18,9 +18,10 @@ use bc_text::Name;
 use std::alloc::{AllocError, Global};
 use std::marker::Model;
 
-/// What is held. Contracts see the declarations with their revision, the places in the order of their names, the pieces that are kept of
-/// the bodies, in the order of these, the outcomes that are ready for a change, and for how many more of each there is memory. Each piece was
-/// found from the declarations and from the unit at its name: the type keeps it. (Own.)
+/// The stored declarations and bodies with their answers: all places, in the order of their names. Contracts see the declarations with
+/// their revision, the places, the pieces that are kept of the bodies, both in that order, the outcomes that are ready for a change, and
+/// for how many more of each there is memory. The type keeps that each piece was found from the declarations and from the unit at its
+/// name.
 pub struct Shelf {
     types: Shared<Declared>,
     types_revision: u32,
@@ -53,7 +54,7 @@ impl Model for Shelf {
     ghost invariant = { λ s. IsShelf s.types s.places.items s.pieces.rows };
 }
 
-/// A name's part of what is held: a snapshot, with the revisions of its declarations and of its units. (Own.)
+/// A name's part of what is held: a snapshot, with the revisions of its declarations and of its units.
 #[derive(Drop)]
 pub struct Part {
     pub snapshot: Snapshot,
@@ -62,8 +63,8 @@ pub struct Part {
 }
 
 impl Shelf {
-    /// A shelf that holds these declarations, at revision 0, and no unit, with memory for so many places, and for a piece and an outcome of each.
-    /// Answers `AllocError` only where memory was refused. (Own.)
+    /// Returns a shelf that holds these declarations, at revision 0, and no unit, with memory for so many places, and for a piece and an
+    /// outcome of each. Returns `AllocError` only where memory was refused.
     pub fn new(alloc: Global, types: Shared<Declared>, places: usize) -> Result<Shelf, AllocError>
         ensures held { IfOk result (λ shelf. shelf.held ≡ empty_shelf types) }
         ensures pieces { IfOk result (λ shelf. shelf.pieces ≡ []) }
@@ -82,7 +83,7 @@ impl Shelf {
     }
 
     /// Makes room for one more place, and changes nothing else. It takes no memory where there is some for one place more, and gives none
-    /// back. Answers `AllocError` only where memory was refused. (Own.)
+    /// back. Returns `AllocError` only where memory was refused.
     pub fn reserve(&mut self) -> Result<(), AllocError>
         ensures same { self.new.held ≡ self.old.held }
         ensures pieces { self.new.pieces ≡ self.old.pieces }
@@ -94,9 +95,9 @@ impl Shelf {
         self.places.reserve(1)
     }
 
-    /// Makes ready what a change moves into the places for many names: one more owner of each outcome, in the place of what was ready before.
-    /// Nothing else is changed, and no memory given back; it takes none where there is some for as many outcomes. Answers `AllocError` only where
-    /// an owner or memory was refused. (Own.)
+    /// Makes ready what a change moves into the places for many names: one more owner of each outcome, in the place of what was ready
+    /// before. Nothing else is changed, and no memory given back; it takes none where there is some for as many outcomes. Returns
+    /// `AllocError` only where an owner or memory was refused.
     pub fn prepare(&mut self, change: &Change) -> Result<(), AllocError>
         ensures same { self.new.held ≡ self.old.held }
         ensures pieces { self.new.pieces ≡ self.old.pieces }
@@ -114,7 +115,7 @@ impl Shelf {
         }
     }
 
-    /// Whether a unit is held under a name. (Own.)
+    /// Returns whether a unit is held under a name.
     pub fn is_held(&self, name: &Name) -> bool
         ensures { result ≡ is_some (at_name self.now.held.places name.now) }
     {
@@ -124,7 +125,7 @@ impl Shelf {
         }
     }
 
-    /// How many units are held. (Own.)
+    /// Returns how many units are held.
     pub fn count(&self) -> usize
         ensures count { result ≡ length self.now.held.places }
         ensures ordered { AreOrdered self.now.held.places }
@@ -132,21 +133,21 @@ impl Shelf {
         self.places.len()
     }
 
-    /// The declarations, to be lent or shared. (Own.)
+    /// Returns the declarations, to be lent or shared.
     pub fn types(&self) -> &Shared<Declared>
         ensures { result.now ≡ self.now.held.types }
     {
         &self.types
     }
 
-    /// The revision of the declarations. (Own.)
+    /// Returns the revision of the declarations.
     pub fn types_revision(&self) -> u32
         ensures { result ≡ self.now.held.types_revision }
     {
         self.types_revision
     }
 
-    /// The revision of the unit of a name; `None` exactly where none is held. (Own.)
+    /// Returns the revision of the unit of a name; `None` exactly where none is held.
     pub fn revision(&self, name: &Name) -> Option<u32>
         ensures { result ≡ revision_at self.now.held name.now }
     {
@@ -156,7 +157,7 @@ impl Shelf {
         }
     }
 
-    /// The answer that is kept for a name, if one is. It takes no memory. (Own.)
+    /// Returns the answer that is kept for a name, if one is. It takes no memory.
     pub fn answer(&self, name: &Name) -> Option<&Shared<Outcome>>
         ensures { option_copied result ≡ answer_of (at_name self.now.held.places name.now) }
     {
@@ -166,8 +167,8 @@ impl Shelf {
         }
     }
 
-    /// A name's part: the declarations, and the units of the name and of the names that begin with it and `/`, all with their
-    /// revisions, and with the pieces that are kept of them; no outcome is carried. Answers `AllocError` only where memory was refused. (Own.)
+    /// Returns a name's part: the declarations, and the units of the name and of the names that begin with it and `/`, all with their
+    /// revisions, and with the pieces that are kept of them; no outcome is carried. Returns `AllocError` only where memory was refused.
     pub fn part(&self, alloc: Global, root: &Name) -> Result<Part, AllocError>
         ensures snapshot { IfOk result (λ part. (part.snapshot.types ≡ self.now.held.types) × (part.snapshot.root ≡ root.now) × (part.snapshot.units ≡ units_in root.now self.now.held.places)) }
         ensures revisions { IfOk result (λ part. (part.types_revision ≡ self.now.held.types_revision) × (part.revisions.items ≡ revisions_in root.now self.now.held.places)) }
@@ -184,9 +185,9 @@ impl Shelf {
         })
     }
 
-    /// Whether a snapshot has what is held at its root and at names that begin with it and `/`, and the declarations that are held,
-    /// and whether these are all their revisions. It makes no list and takes no memory; values are compared only where the revisions
-    /// are the same. (Own.)
+    /// Returns whether a snapshot is what is held at its root and at names that begin with it and `/`, with the declarations that
+    /// are held, and whether these are all their revisions. It makes no list and takes no memory; values are compared only where the
+    /// revisions are the same.
     pub fn holds(&self, snapshot: &Snapshot, types_revision: u32, revisions: &[u32]) -> bool
         ensures { IsTrue result ↔ IsHeld self.now.held snapshot.now types_revision revisions.now }
     {
@@ -197,11 +198,12 @@ impl Shelf {
             && are_units(part, snapshot.units())
     }
 
-    /// Changes what is held, and gives what it writes this revision. Declarations make all answers void; a unit that is put or
-    /// taken away makes void the answers of its name and of those with which this begins, up to a `/`. Declarations drop all pieces; a
-    /// unit that is put or taken away drops the one of its name alone. It takes no memory, and leaves that for as many places and pieces
-    /// as before: it asks for room for one place, that a unit suits the name at which it is put, as `suits` tells, and that answers for many
-    /// names are ready, as `prepare` makes them. (Own.)
+    /// Applies a change to what is held, and gives what it writes this revision. Declarations make all answers void; a unit that is put
+    /// or taken away makes void the answers of its name and of those with which this begins, up to a `/`. Declarations drop all pieces; a
+    /// unit that is put or taken away drops the one of its name alone.
+    ///
+    /// It takes no memory, and leaves that for as many places and pieces as before. It asks for room for one place, that a unit suits the
+    /// name at which it is put, as `suits` reports, and that answers for many names are ready, as `prepare` makes them.
     pub fn change(&mut self, change: Change, revision: u32)
         requires room { 0 < self.old.room }
         requires suited { MayChange change }
@@ -239,9 +241,9 @@ impl Shelf {
         }
     }
 
-    /// Keeps the pieces of a set in their order, as one more owner of each, where they were found from the declarations and from the
-    /// unit at their name that are held; the others are left out. The declarations are compared once. Answers `AllocError` only where an
-    /// owner or memory was refused: then it stopped at that piece, and nothing is lost with the others but the work to make them again. (Own.)
+    /// Keeps one more owner of each piece of a set, in their order, where it was found from the declarations and from the unit at its
+    /// name that are held; the others are left out. The declarations are compared once. Returns `AllocError` only where an owner or
+    /// memory was refused: then it stopped at that piece, and nothing is lost with the others but the work to make them again.
     pub fn keep_all(&mut self, set: &PieceSet) -> Result<(), AllocError>
         ensures held { self.new.held ≡ self.old.held }
         ensures room { self.new.room ≡ self.old.room }
@@ -291,8 +293,8 @@ impl Shelf {
         Ok(())
     }
 
-    /// All that is held, and the pieces that are kept of it, as further owners. Answers `AllocError` only where an owner or memory was
-    /// refused. (Own.)
+    /// Makes one more owner of all that is held, and of the pieces that are kept of it. Returns `AllocError` only where an owner or
+    /// memory was refused.
     pub fn copy(&self, alloc: Global) -> Result<Shelf, AllocError>
         ensures held { IfOk result (λ copy. copy.held ≡ self.now.held) }
         ensures pieces { IfOk result (λ copy. copy.pieces ≡ self.now.pieces) }
@@ -306,7 +308,7 @@ impl Shelf {
         })
     }
 
-    /// The names without segments that are held, in their order. Answers `AllocError` only where memory was refused. (Own.)
+    /// Returns the names without segments that are held, in their order. Returns `AllocError` only where memory was refused.
     pub fn roots(&self, alloc: Global) -> Result<Vec<Name>, AllocError>
         ensures { IfOk result (λ names. names.items ≡ roots_in self.now.held.places) }
     {

@@ -1,22 +1,23 @@
-//! What ends the writer of a published table.
+//! The ending of the writer of a published table.
 use crate::rule::TableWriter;
 use std::sync::Wait;
 
-/// What ends the writer of a published table. What holds the writer may be dropped anywhere, also where nothing may wait; the last
-/// reader, for which the writer's end has to wait, is waited for by this value, which is handed in when the writer is made.
+/// The value that ends the writer of a published table. The writer's end has to wait for the last reader, but what holds the
+/// writer may be dropped anywhere, also where nothing may wait. So this value, which is handed in when the writer is made, does
+/// the waiting.
 pub trait Ending: Drop {
     /// Ends the writer, once nobody reads what it published.
     fn end(&self, writer: TableWriter);
 }
 
-/// Ends a writer by waiting.
+/// An ending that waits by a runtime.
 #[derive(Drop)]
 pub struct Waiting<R: Wait + Drop> {
     runtime: R,
 }
 
 impl<R: Wait + Drop> Waiting<R> {
-    /// Waits by this runtime.
+    /// Returns an ending that waits by this runtime.
     pub fn new(runtime: R) -> Waiting<R> {
         Waiting { runtime }
     }

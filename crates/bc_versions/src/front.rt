@@ -1,4 +1,4 @@
-//! What a session has seen of the published table. Reading waits for nobody.
+//! The readers of the published table, each with what it has seen. Reading waits for nobody.
 ghost use Rattle.std.specs.Prelude.{◌≡◌, [], Some, IfOk, IfSome, IsTrue};
 ghost use Rattle.left_right.specs.Sides.{view};
 ghost use Rattle.bc_prov.specs.Snapshots.{IsPartOf};
@@ -19,7 +19,7 @@ use std::alloc::{AllocError, Global};
 use std::marker::Model;
 use std::sync::Wait;
 
-/// What makes fronts, as many as the press was opened for.
+/// The maker of readers of the published table, as many as the press was opened for.
 pub struct Fronts {
     factory: Factory<Table, Seen, Published>,
 }
@@ -37,7 +37,7 @@ impl Fronts {
         Fronts { factory }
     }
 
-    /// A front that has seen nothing. Answers `AllocError` where an owner, or one reader more than there may be, is refused.
+    /// Makes a reader that has seen nothing. Returns `AllocError` where an owner, or one reader more than there may be, is refused.
     pub fn front(&self) -> Result<Front, AllocError>
         ensures { IfOk result (λ front. front ≡ []) }
     {
@@ -80,8 +80,8 @@ impl Front {
         Front { reader }
     }
 
-    /// The answer that is published for a name: its outcome, where it is answered, else none. What was seen only grows. Answers
-    /// `AllocError` where the reading or an owner is refused, as once the writer is gone. It waits for nobody.
+    /// Returns the answer that is published for a name: its outcome, where it is answered, else none. What was seen only grows.
+    /// Returns `AllocError` where the reading or an owner is refused, as once the writer is gone. It waits for nobody.
     pub fn glance(&mut self, name: &Name) -> Result<Option<Shared<Outcome>>, AllocError>
         ensures later { StartsWith self.new self.old }
         ensures legal { IsLegal self.new }
@@ -90,8 +90,8 @@ impl Front {
         replace_with(&mut self.reader, *name, read_answer).ok_or(AllocError)
     }
 
-    /// A name's part of what is published, which carries the name's answer if one is published. What was seen only grows. Answers
-    /// `AllocError` where memory or the reading is refused, as once the writer is gone. It waits for nobody.
+    /// Begins a name: returns its part of what is published, which carries the name's answer if one is published. What was seen
+    /// only grows. Returns `AllocError` where memory or the reading is refused, as once the writer is gone. It waits for nobody.
     pub fn begin(&mut self, alloc: Global, name: &Name) -> Result<Begun, AllocError>
         ensures later { StartsWith self.new self.old }
         ensures legal { IsLegal self.new }
@@ -101,9 +101,9 @@ impl Front {
         replace_with(&mut self.reader, (alloc, *name), read_part).ok_or(AllocError)
     }
 
-    /// The parts of all held names without segments, in the order of the names, each as `begin` gives it. They are parts of what one
-    /// reading found, which copies it and is over before they are made. What was seen only grows. Answers `AllocError` where memory or
-    /// the reading is refused, as once the writer is gone. It waits for nobody.
+    /// Begins all held names without segments: returns their parts in the order of the names, each as `begin` gives it. They are
+    /// parts of what one reading found, which copies it and is over before they are made. What was seen only grows. Returns
+    /// `AllocError` where memory or the reading is refused, as once the writer is gone. It waits for nobody.
     pub fn begin_all(&mut self, alloc: Global) -> Result<Vec<Begun>, AllocError>
         ensures later { StartsWith self.new self.old }
         ensures legal { IsLegal self.new }

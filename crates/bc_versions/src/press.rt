@@ -1,4 +1,4 @@
-//! What publishes: the writer of the table.
+//! The writer of the published table.
 ghost use Rattle.std.specs.Prelude.{◌≡◌, ◌<◌, ◌^◌, [], ◌++◌, drop, fold, IfOk, MatchResult};
 ghost use Rattle.left_right.specs.Sides.{view};
 ghost use Rattle.bc_memo.specs.Places.{empty_shelf};
@@ -18,8 +18,8 @@ use std::alloc::{AllocError, Global};
 use std::marker::Model;
 use std::sync::Wait;
 
-/// The writer of the published table, and what ends it. Contracts see the entries that were published, and what is held after them
-/// with its revisions and its answers.
+/// The writer of the published table, with what ends it. Contracts see the entries that were published, and what is held after
+/// them with its revisions and its answers.
 pub struct Press<E: Ending> {
     writer: TableWriter,
     ending: E,
@@ -46,8 +46,9 @@ impl<E: Ending> Model for Press<E> {
 }
 
 impl<E: Ending> Press<E> {
-    /// A press that has published nothing: no declarations, which are handed in for each of the two copies of the table, and no body, with
-    /// memory for all bodies and a piece of each. There may be so many readers at most; what ends the writer is handed in. Answers `AllocError` only where memory was refused.
+    /// Opens a table in which nothing is published, and returns its writer. It holds no declarations, which are handed in for each of
+    /// the two copies of the table, and no body, and has memory for all bodies and a piece of each. It has at most so many readers;
+    /// what ends the writer is handed in. Returns `AllocError` only where memory was refused.
     pub fn open(
         alloc: Global,
         ending: E,
@@ -67,13 +68,13 @@ impl<E: Ending> Press<E> {
         })
     }
 
-    /// What makes the fronts at which this is read. Answers `AllocError` only where one more owner of it was refused.
+    /// Returns the maker of the readers of this table. Returns `AllocError` only where one more owner of it was refused.
     pub fn fronts(&self) -> Result<Fronts, AllocError> {
         Ok(Fronts::new(self.writer.factory().another()?))
     }
 
     /// Publishes the entry that comes next, with the revision that it gives to what it writes, and with pieces of bodies that were made
-    /// for an Ask, if it is one; it waits for those who still read what was published before. Answers `AllocError` only where memory for
+    /// for an Ask, if it is one; it waits for those who still read what was published before. Returns `AllocError` only where memory for
     /// it was refused, and then nothing is published; what can be refused behind that is tried again until it is not.
     pub fn add<R: Wait>(
         &mut self,

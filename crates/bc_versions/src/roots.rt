@@ -10,8 +10,8 @@ use bc_memo::Shelf;
 use bc_text::Name;
 use std::alloc::{AllocError, Global};
 
-/// The part of each held name without segments, in the order of the names, each with the name's answer. `AllocError` only where memory
-/// was refused.
+/// The part of each held name without segments, in the order of the names, each with the name's answer. Returns `AllocError` only
+/// where memory was refused.
 pub(crate) fn begin_roots(alloc: Global, held: &Shelf) -> Result<Vec<Begun>, AllocError>
     requires { (h : List Entry) × IsShelfOf held.now.held h }
     ensures { (h : List Entry) → IsShelfOf held.now.held h → IfOk result (λ begun. AreAllBegun h begun.items) }

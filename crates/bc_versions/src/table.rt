@@ -14,8 +14,8 @@ use left_right::Absorb;
 use std::alloc::{AllocError, Global};
 use std::marker::Model;
 
-/// An entry that is to be published, with the revision that it gives to what it writes, and pieces that were made for an Ask. Contracts
-/// see the entry and the revision.
+/// The update that takes an entry into a published table: the entry, the revision that it gives to what it writes, and pieces that were
+/// made for an Ask. Contracts see the entry and the revision.
 #[derive(Drop)]
 pub struct Update {
     entry: Entry,
@@ -50,8 +50,8 @@ impl Update {
     }
 }
 
-/// The last entry, and what is held after it with its answers. Contracts see both. There is memory for all places and one to spare, for
-/// a piece of each and one more, and for as many answers that a change brings at once: the type keeps it.
+/// The published table: the last entry, and what is held after it with its answers. Contracts see both. The type keeps that there is
+/// memory for all places and one to spare, for a piece of each and one more, and for as many answers as a change brings at once.
 #[derive(Drop)]
 pub struct Table {
     last: Option<Entry>,
@@ -91,14 +91,14 @@ impl Table {
         &self.last
     }
 
-    /// One more owner of the answer of a name, if it has one. `AllocError` only where that is refused.
+    /// One more owner of the answer of a name, if it has one. Returns `AllocError` only where that is refused.
     pub(crate) fn answer(&self, name: &Name) -> Result<Option<Shared<Outcome>>, AllocError>
         ensures { IfOk result (λ answer. answer ≡ answer_of (at_name self.now.shelf.places name.now)) }
     {
         answer_in(&self.shelf, name)
     }
 
-    /// A name's part. `AllocError` only where memory was refused.
+    /// A name's part. Returns `AllocError` only where memory was refused.
     pub(crate) fn part(&self, alloc: Global, root: &Name) -> Result<Part, AllocError>
         ensures snapshot { IfOk result (λ part. (part.snapshot.types ≡ self.now.shelf.types) × (part.snapshot.root ≡ root.now) × (part.snapshot.units ≡ units_in root.now self.now.shelf.places) × (part.snapshot.carried ≡ None)) }
         ensures revisions { IfOk result (λ part. (part.types_revision ≡ self.now.shelf.types_revision) × (part.revisions.items ≡ revisions_in root.now self.now.shelf.places)) }
@@ -106,7 +106,7 @@ impl Table {
         self.shelf.part(alloc, root)
     }
 
-    /// A copy of what is held. `AllocError` only where memory was refused.
+    /// A copy of what is held. Returns `AllocError` only where memory was refused.
     pub(crate) fn copy_held(&self, alloc: Global) -> Result<Shelf, AllocError>
         ensures { IfOk result (λ copy. copy.held ≡ self.now.shelf) }
     {
@@ -131,7 +131,7 @@ impl Table {
     }
 }
 
-/// One more owner of the answer of a name in what is held, if it has one. `AllocError` only where that is refused.
+/// One more owner of the answer of a name in what is held, if it has one. Returns `AllocError` only where that is refused.
 pub(crate) fn answer_in(held: &Shelf, name: &Name) -> Result<Option<Shared<Outcome>>, AllocError>
     ensures { IfOk result (λ answer. answer ≡ answer_of (at_name held.now.held.places name.now)) }
 {
