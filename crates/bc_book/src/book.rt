@@ -45,7 +45,7 @@ impl Findings {
         }
     }
 
-    /// Outcomes that are to be remembered, and pieces that are to be kept and published, if there are any. Answers `AllocError` only
+    /// Outcomes that are to be remembered, and pieces that are to be kept and published, if there are any. Returns `AllocError` only
     /// where memory was refused.
     fn of(
         alloc: Global,
@@ -66,9 +66,9 @@ impl Findings {
     }
 }
 
-/// A book: the history of all calls, what it leaves, what is remembered of it, and the writer that publishes it. Contracts see how many
-/// entries it may have, those that it has, what is held, and what is remembered. The entries that it has are those that were
-/// published, and so is what is held, with its revisions and its answers: its type keeps it.
+/// The state under the lock: the append-only history of all calls, what is held after it, the remembered outcomes, and the writer of
+/// the published table. Contracts see how many entries it may have, those that it has, what is held, and what is remembered. The type
+/// keeps that the entries that it has are those that were published, and so is what is held, with its revisions and its answers.
 pub struct Book<E: Ending> {
     ledger: Ledger,
     press: Press<E>,
@@ -96,8 +96,8 @@ impl<E: Ending> Model for Book<E> {
 }
 
 impl<E: Ending> Book<E> {
-    /// A book without entries, which may have so many, with no declaration and no body, for so many readers of what it publishes, and
-    /// what ends its writer. Answers `AllocError` only where memory was refused.
+    /// Opens a book without entries, which may have so many, with no declaration and no body. It may have so many readers of what
+    /// it publishes; what ends its writer is handed in. Returns `AllocError` only where memory was refused.
     pub fn new(
         alloc: Global,
         ending: E,
@@ -116,13 +116,12 @@ impl<E: Ending> Book<E> {
         })
     }
 
-    /// What makes the fronts at which sessions read what is published. Answers `AllocError` only where one more owner of it was
-    /// refused.
+    /// Returns the maker of the readers of what is published. Returns `AllocError` only where one more owner of it was refused.
     pub fn fronts(&self) -> Result<Fronts, AllocError> {
         self.press.fronts()
     }
 
-    /// Enters what a session asks for, and answers the call with its reply, twice: for the session's own list and for its caller. It asks for
+    /// Enters a call, and returns two owners of the call with its reply: one for the session's own list and one for its caller. It asks for
     /// providers where an outcome is asked for. Published and refused as the method of that call says.
     pub fn enter<R: Wait>(
         &mut self,
@@ -148,8 +147,8 @@ impl<E: Ending> Book<E> {
         }
     }
 
-    /// Stores a session's declarations in place of those before (own). They were checked before, since that takes memory and time.
-    /// What is entered is published; it waits for those who still read what was published before.
+    /// Stores a session's declarations in place of those before. They were checked before, since that takes memory and time. What
+    /// is entered is published; it waits for those who still read what was published before.
     ///
     /// Refused with `HistoryFull` exactly where the history has as many entries as it may have, which is tested first, and with
     /// `NoMemory` only where memory was refused. Then nothing has changed.
@@ -172,7 +171,7 @@ impl<E: Ending> Book<E> {
 
     /// Stores a session's unit under a name, where the reply says so: `WrongKind` where the name is not one for such a unit (a
     /// function's a root, a closure's any other, and a name of seven segments is none for a unit with a child), else `Full` where the
-    /// name is new and `MOST_BODIES` are held, else `Replaced` or `Added` (own). Published and refused as `put_types` is.
+    /// name is new and `MOST_BODIES` are held, else `Replaced` or `Added`. Published and refused as `put_types` is.
     pub fn put<R: Wait>(
         &mut self,
         rt: &R,
@@ -198,7 +197,7 @@ impl<E: Ending> Book<E> {
         )
     }
 
-    /// Takes the unit of a name away: `Removed`, or `Absent` where none is held (own). Published and refused as `put_types` is.
+    /// Takes the unit of a name away, and replies `Removed`, or `Absent` where none is held. Published and refused as `put_types` is.
     pub fn remove<R: Wait>(
         &mut self,
         rt: &R,
@@ -222,9 +221,10 @@ impl<E: Ending> Book<E> {
         )
     }
 
-    /// The part of what is held that the outcome of a name rests on: the declarations, and the units at the name and at all names that
-    /// begin with it and `/`, with their revisions; it carries the outcome that is remembered for the name and stands, if there is one,
-    /// which is the name's outcome in what is held. Nothing is entered. `AllocError` only where memory was refused.
+    /// Returns the part of what is held that the outcome of a name rests on: the declarations, and the units at the name and at all
+    /// names that begin with it and `/`, with their revisions. It carries the outcome that is remembered for the name and still
+    /// valid, if there is one, which is the name's outcome in what is held. Nothing is entered. Returns `AllocError` only where
+    /// memory was refused.
     pub fn snapshot(&self, alloc: Global, name: &Name) -> Result<Begun, AllocError>
         ensures part { IfOk result (λ begun. IsPartOf begun name.now (after self.now.entries)) }
         ensures remembered { IfOk result (λ begun. IsRemembered self.now.shelf self.now.answers name.now begun.carried) }
@@ -234,11 +234,11 @@ impl<E: Ending> Book<E> {
         self.ledger.begin(alloc, name)
     }
 
-    /// Enters a session's Ask of the name of a work, and answers it with the name's outcome: the one that is remembered and stands; else the
-    /// work's own where its revisions, declarations and units are those held; else the one that the pieces that the work made and those
-    /// that are kept give, as far as they stand, with the other bodies worked on by the providers. The outcome of a name that is held is
-    /// remembered, and published with the entry, and so are the pieces; that of an absent name is remembered nowhere (own). Published and
-    /// refused as `put_types` is, and with `NoMemory` where a provider wants memory.
+    /// Enters a session's Ask of the name of a work, and replies with the name's outcome: the one that is remembered and still valid; else
+    /// the work's own where its revisions, declarations and units are those held; else the one that the pieces that the work made and those
+    /// that are kept give, as far as they are still valid, with the other bodies worked on by the providers. The outcome of a name that is
+    /// held is remembered, and published with the entry, and so are the pieces; that of an absent name is remembered nowhere. Published and
+    /// refused as `put_types` is, and with `NoMemory` where a provider runs out of memory.
     pub fn settle<R: Wait>(
         &mut self,
         rt: &R,
@@ -265,11 +265,11 @@ impl<E: Ending> Book<E> {
         self.append(rt, session, Event::Ask(name, outcome), findings)
     }
 
-    /// Enters a session's Ask for all, and answers it with the outcome of each held root, in the order of their names. Each is the one that
-    /// `settle` would answer to an Ask of that name, with a session's work on it where one is handed in. Works may be handed in in any order, and may be of names
-    /// that are no held roots, of another database, or doubled: those that do not come in the order of the names are let go, and what they
-    /// found is found again. All outcomes are remembered, and published with the one entry, and so are the pieces. Published and refused as
-    /// `settle` is.
+    /// Enters a session's Ask for all, and replies with the outcome of each held root, in the order of their names. Each is the one that
+    /// `settle` would reply to an Ask of that name, with a session's work on it where one is handed in. Works may be handed in in any
+    /// order, and may be of names that are no held roots, of another database, or doubled: those that do not come in the order of the names
+    /// are dropped, and what they found is found again. All outcomes are remembered, and published with the one entry, and so are the
+    /// pieces. Published and refused as `settle` is.
     pub fn settle_all<R: Wait>(
         &mut self,
         rt: &R,
@@ -341,7 +341,7 @@ impl<E: Ending> Book<E> {
         Ok(told)
     }
 
-    /// The history, taken out: all entries, in their order.
+    /// Takes the history out: all entries, in their order.
     pub fn into_history(self) -> Vec<Entry>
         ensures entries { result.items ≡ self.entries }
         ensures legal { IsLegal self.entries }

@@ -25,10 +25,10 @@ use std::alloc::{AllocError, Global};
 use std::marker::Model;
 use thiserror::Error;
 
-/// How many sessions a database may have (own).
+/// The most sessions that a database has.
 pub const MOST_SESSIONS: usize = 16;
 
-/// Why a call was refused: memory was refused, or the history is as long as it may be. The call changed nothing.
+/// The reason why a call was refused: memory was refused, or the history is as long as it may be. The call changed nothing.
 #[derive(Clone, Copy, Debug, PartialEq, Eq, Error)]
 pub enum Refusal {
     #[error("no memory")]
@@ -48,8 +48,8 @@ impl From<AllocError> for Refusal {
     }
 }
 
-/// A legal history, which may have so many entries, with what it leaves, and answers that are remembered. There is memory for a piece of
-/// each body that may be held, and one to spare.
+/// The append-only history, of at most so many entries, with what is held after it and the remembered outcomes. It is legal. There is
+/// memory for a piece of each body that may be held, and one to spare.
 #[derive(Drop)]
 pub(crate) struct Ledger {
     capacity: u32,
@@ -74,7 +74,7 @@ impl Model for Ledger {
 }
 
 impl Ledger {
-    /// An empty history, with no declaration and no body, and memory for all bodies. `AllocError` only where memory was refused.
+    /// An empty history, with no declaration and no body, and memory for all bodies. Returns `AllocError` only where memory was refused.
     pub(crate) fn new(alloc: Global, capacity: u32) -> Result<Ledger, AllocError>
         ensures same { IfOk result (λ ledger. (ledger.capacity ≡ capacity) × (ledger.entries ≡ []) × (ledger.shelf ≡ empty_shelf []) × (ledger.answers ≡ [])) }
         ensures places { IfOk result (λ ledger. most_bodies < ledger.places) }
@@ -116,7 +116,7 @@ impl Ledger {
         Ok(())
     }
 
-    /// The reply to a put. `AllocError` only where memory was refused.
+    /// The reply to a put. Returns `AllocError` only where memory was refused.
     pub(crate) fn put_reply(
         &self,
         alloc: Global,
@@ -158,7 +158,7 @@ impl Ledger {
         }
     }
 
-    /// A name's part of what is held, with its outcome if it is remembered. `AllocError` only where memory was refused.
+    /// A name's part of what is held, with its outcome if it is remembered. Returns `AllocError` only where memory was refused.
     pub(crate) fn begin(&self, alloc: Global, name: &Name) -> Result<Begun, AllocError>
         ensures part { IfOk result (λ begun. IsPartOf begun name.now (after self.now.entries)) }
         ensures remembered { IfOk result (λ begun. IsRemembered self.now.shelf self.now.answers name.now begun.carried) }
@@ -172,8 +172,8 @@ impl Ledger {
     }
 
     /// The outcome of a name, of which a session may have worked on a part: what is remembered for it; else the work's own where the work
-    /// stands; else what its pieces and those that are kept give, as far as they stand, with the other bodies worked on. With it come
-    /// the pieces that are not kept yet. `AllocError` only where memory was refused, as a provider may answer too.
+    /// stands; else what its pieces and those that are kept give, as far as they stand, with the other bodies worked on. With it come the
+    /// pieces that are not kept yet. Returns `AllocError` only where memory was refused, as a provider may answer too.
     pub(crate) fn outcome(
         &self,
         alloc: Global,
@@ -213,9 +213,9 @@ impl Ledger {
         with_pieces.find(alloc, providers)
     }
 
-    /// The outcome of each held root, in the order of their names, with what is to be remembered and the pieces that are not kept yet. The works
-    /// are taken as `outcome` takes one, where they come in the order of their names; any other is let go, and what it found is found again.
-    /// `AllocError` only where memory was refused, as a provider may answer too.
+    /// The outcome of each held root, in the order of their names, with what is to be remembered and the pieces that are not kept yet. The
+    /// works are taken as `outcome` takes one, where they come in the order of their names; any other is let go, and what it found is found
+    /// again. Returns `AllocError` only where memory was refused, as a provider may answer too.
     pub(crate) fn outcomes(
         &self,
         alloc: Global,
@@ -263,7 +263,7 @@ impl Ledger {
     }
 
     /// What is to be remembered of an outcome of a name, where the name is held and nothing that stands is remembered for it.
-    /// `AllocError` only where memory was refused.
+    /// Returns `AllocError` only where memory was refused.
     pub(crate) fn row(
         &self,
         alloc: Global,
@@ -344,8 +344,8 @@ impl Ledger {
         self.memo.put(name, row);
     }
 
-    /// Keeps those pieces, if there are any, that were found from what is held. Contracts do not see them. `AllocError` only where an owner
-    /// or memory was refused: then some may be kept, and each is right.
+    /// Keeps those pieces, if there are any, that were found from what is held. Contracts do not see them. Returns `AllocError` only where
+    /// an owner or memory was refused: then some may be kept, and each is right.
     pub(crate) fn keep(&mut self, pieces: Option<PieceSet>) -> Result<(), AllocError>
         ensures { self.new ≡ self.old }
     {
@@ -355,8 +355,8 @@ impl Ledger {
         }
     }
 
-    /// Makes the owners that a change brings for many names. `AllocError` only where memory or an owner was refused. What is kept is as it
-    /// was in each case.
+    /// Makes the owners that a change brings for many names. Returns `AllocError` only where memory or an owner was refused. What is kept
+    /// is as it was in each case.
     pub(crate) fn prepare(&mut self, change: &Change) -> Result<(), AllocError>
         ensures same { SameLedger self.old self.new }
         ensures room { (self.new.room ≡ self.old.room) × (self.new.places ≡ self.old.places) × (self.new.rows ≡ self.old.rows) }

@@ -29,7 +29,7 @@ fn stored_reply(shelf: &Shelf, name: &Name, unit: &Unit) -> PutReply
 
 /// The reply to a put: `WrongKind` where the name is not one for such a unit (a function's a root, a closure's any other, and a name
 /// of seven segments is none for a unit with a child), else `Full` where the name is new and `MOST_BODIES` are held, else `Replaced`
-/// or `Added` (own). `AllocError` only where memory was refused.
+/// or `Added`. Returns `AllocError` only where memory was refused.
 pub(crate) fn put_reply(
     alloc: Global,
     shelf: &Shelf,
@@ -47,7 +47,7 @@ pub(crate) fn put_reply(
     }
 }
 
-/// The reply to a removal (own). It takes no memory.
+/// The reply to a removal. It takes no memory.
 pub(crate) fn remove_reply(shelf: &Shelf, name: &Name) -> RemoveReply
     ensures { IsRemoveReply (bodies_of shelf.now.held) name.now result }
 {

@@ -32,7 +32,7 @@ impl FoundAll {
     }
 }
 
-/// Puts a row, if there is one, behind others. `AllocError` only where memory was refused.
+/// Puts a row, if there is one, behind others. Returns `AllocError` only where memory was refused.
 pub(crate) fn push_row(
     rows: &mut Vec<(Name, Remembered)>,
     row: Option<(Name, Remembered)>,
@@ -48,7 +48,7 @@ pub(crate) fn push_row(
     }
 }
 
-/// Puts the pieces of a set over the same declarations, if there is one, behind others. `AllocError` only where memory was refused.
+/// Puts the pieces of a set over the same declarations, if there is one, behind others. Returns `AllocError` only where memory was refused.
 pub(crate) fn push_pieces(pieces: &mut PieceSet, more: Option<PieceSet>) -> Result<(), AllocError>
     requires { IfSome more (λ set. set.types ≡ pieces.old.types) }
     ensures { pieces.new.types ≡ pieces.old.types }

@@ -17,16 +17,17 @@ use std::sync::Wait;
 use std::thread;
 use std::thread::Threads;
 
-/// Where an Ask of a script, of one name or for all, pauses: once it has begun, and once its work is done. Nothing is held then.
+/// The stages at which an Ask of a script, of one name or for all, pauses: once it has begun, and once its work is done. No lock
+/// is held then.
 #[derive(Clone, Copy, Debug, PartialEq, Eq)]
 pub enum Stage {
     Begun,
     Worked,
 }
 
-/// What the Asks of scripts pause at. A test holds them up there; the program does not.
+/// A hook at which the Asks of scripts pause. A test holds them up there; the program does not.
 pub trait Gate {
-    /// A session, by its number, is at this stage of an Ask.
+    /// Pauses a session, by its number, at this stage of an Ask.
     fn pause(&self, session: u8, stage: Stage);
 }
 
@@ -46,14 +47,14 @@ impl Model for Script {
 }
 
 impl Script {
-    /// The script of these calls. It takes no memory.
+    /// Returns the script of these calls. It takes no memory.
     pub fn new(calls: Vec<Call>) -> Script
         ensures { result ≡ calls.items }
     {
         Script { calls }
     }
 
-    /// Its calls, in their order.
+    /// Returns the script's calls, in their order.
     pub fn calls(&self) -> &[Call]
         ensures { result.now ≡ self.now }
     {
@@ -61,7 +62,7 @@ impl Script {
     }
 }
 
-/// How a script ended: all its calls were made; or the one at this place, from 0, was refused, and the rest was not made.
+/// The end of a script: all its calls were made; or the one at this place, from 0, was refused, and the rest was not made.
 #[derive(Clone, Copy, Debug, PartialEq, Eq)]
 pub enum End {
     Done,
@@ -69,8 +70,8 @@ pub enum End {
 }
 
 /// Has each session make the calls of its script, on a thread of its own, or one session after another where no thread can be made.
-/// The sessions come back in their order, each with how its script ended. It asks for as many scripts as sessions, and that the
-/// database, which these are sessions of, stays open meanwhile.
+/// It returns the sessions in their order, each with how its script ended. It asks for as many scripts as sessions, and that the
+/// database, which these are sessions of, is open meanwhile.
 ///
 /// Room for the result is made first: where memory for it is refused, no call was made, and the sessions come back as the `Err`. A
 /// call that is refused ends its own script alone.

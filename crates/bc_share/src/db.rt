@@ -16,10 +16,10 @@ use std::marker::Model;
 use std::sync::{Arc, Wait};
 use thiserror::Error;
 
-/// How many entries a history may have at most (own).
+/// The most entries that a history has.
 pub const MOST_ENTRIES: u32 = 1_000_000;
 
-/// Why a database could not be opened: the capacity or the number of sessions is out of its range, or memory was refused.
+/// The reason why a database could not be opened: the capacity or the number of sessions is out of its range, or memory was refused.
 #[derive(Clone, Copy, Debug, PartialEq, Eq, Error)]
 pub enum OpenFault {
     #[error("out of range")]
@@ -28,8 +28,8 @@ pub enum OpenFault {
     NoMemory,
 }
 
-/// Why a database could not be closed: the sessions are not as many as it has, of its tag, each number once; or the history,
-/// which is handed out, does not agree with them.
+/// The reason why a database could not be closed: the sessions are not as many as it has, of its tag, each number once; or the
+/// history, which is handed out, does not agree with them.
 #[derive(Debug, Drop, Error)]
 pub enum CloseFault {
     #[error("the sessions are not those of this database")]
@@ -38,7 +38,7 @@ pub enum CloseFault {
     Audit(History),
 }
 
-/// A legal history. Contracts see it as its entries.
+/// A legal history of calls and replies. Contracts see it as its entries.
 #[derive(Drop)]
 #[derive_where(Debug)]
 pub struct History {
@@ -60,7 +60,7 @@ impl Model for History {
 }
 
 impl History {
-    /// The entries, in order.
+    /// Returns the entries, in order.
     pub fn entries(&self) -> &[Entry]
         ensures entries { result.now ≡ self.now }
         ensures legal { IsLegal self.now }
@@ -69,7 +69,7 @@ impl History {
     }
 }
 
-/// A database. Contracts see its tag, and how many sessions it has.
+/// A database that is open. Contracts see its tag, and how many sessions it has.
 pub struct Db<E: Ending> {
     alloc: Global,
     tag: u64,
@@ -101,8 +101,8 @@ impl<E: Ending> Db<E> {
     /// Opens a database of this tag, whose history may have so many entries, with so many sessions, which are numbered from 0. What
     /// ends it is handed in, and ends what was opened also where this is refused; it may wait, though nobody reads then.
     ///
-    /// `Range` exactly where the capacity is not 1 to 1,000,000 or the sessions are not 1 to 16 (own). `NoMemory` only
-    /// where memory was refused.
+    /// Returns `Range` exactly where the capacity is not 1 to 1,000,000 or the sessions are not 1 to 16, and `NoMemory` only where
+    /// memory was refused.
     pub fn open(
         alloc: Global,
         ending: E,
@@ -123,12 +123,12 @@ impl<E: Ending> Db<E> {
         }
     }
 
-    /// Ends the sessions, and hands out the history. It takes no memory. But for `Foreign`, which leaves the book in its place, sessions
+    /// Ends the sessions, and returns the history. It takes no memory. But for `Foreign`, which leaves the book in its place, sessions
     /// that it was not given find a full history from then on, and nothing to read.
     ///
-    /// `Foreign` exactly where these are not as many as the database has, of its tag, each number once; `Audit`, with the history, exactly
-    /// where they are, and a session's own list is not what the history has of it or an entry is of none of them
-    /// (own). The database is gone in each case.
+    /// Returns `Foreign` exactly where these are not as many as the database has, of its tag, each number once; and `Audit`, with the
+    /// history, exactly where they are, and a session's own list is not what the history has of it or an entry is of none of them. The
+    /// database is gone in each case.
     pub fn close<R: Wait>(self, rt: &R, sessions: Vec<Session<E>>) -> Result<History, CloseFault>
         ensures one_history { IfOk result (λ h. IsOneHistory sessions.items h) }
         ensures theirs { OnOk result (AreSessionsOf self.tag self.count sessions.items) }

@@ -13,8 +13,8 @@ use bc_versions::Ending;
 use std::alloc::Global;
 use std::sync::{Mutex, Wait};
 
-/// A book under a lock, which each call takes for one step, until the database is closed and the book taken out: what comes later
-/// finds a full history. A call that is entered is noted under the lock too, once its session has read it.
+/// The lock of a database, with its book in it. Each call takes it for one step, until the database is closed and the book taken
+/// out: what comes later finds a full history. A call that is entered is noted under the lock too, once its session has read it.
 #[derive(Drop)]
 pub(crate) struct Desk<E: Ending> {
     book: Mutex<Option<Book<E>>>,

@@ -16,8 +16,8 @@ use std::alloc::{AllocError, Global};
 use std::marker::Model;
 use std::sync::Wait;
 
-/// What a session knows of itself, and what it has seen. Contracts see the session, and for how many more calls its own list has
-/// memory. What it has seen is legal, and up to some entry its calls are its own list: the type keeps it.
+/// The own list of a session, with its reader of what is published. Contracts see the session, and for how many more calls the
+/// list has memory. The type keeps that what the session has seen is legal, and that up to some entry its calls are its own list.
 #[derive(Drop)]
 pub(crate) struct Notes {
     tag: u64,
@@ -52,7 +52,7 @@ impl Notes {
         }
     }
 
-    /// Makes room for one call in the session's own list. `AllocError` only where memory was refused.
+    /// Makes room for one call in the session's own list. Returns `AllocError` only where memory was refused.
     pub(crate) fn reserve(&mut self) -> Result<(), AllocError>
         ensures kept { Stays self.old.session self.new.session }
         ensures room { OnOk result (0 < self.new.room) }
@@ -69,7 +69,7 @@ impl Notes {
         self.own.push_reserved(event);
     }
 
-    /// A name's part of what is published. `AllocError` only where memory or the reading was refused.
+    /// A name's part of what is published. Returns `AllocError` only where memory or the reading was refused.
     pub(crate) fn begin(&mut self, alloc: Global, name: &Name) -> Result<Begun, AllocError>
         ensures kept { Stays self.old.session self.new.session }
         ensures part { IfOk result (λ begun. IsPartOf begun name.now (after self.new.session.seen)) }
@@ -78,8 +78,8 @@ impl Notes {
         self.front.begin(alloc, name)
     }
 
-    /// The parts of all held names without segments, in the order of the names, as one reading finds them. `AllocError` only where memory
-    /// or the reading was refused.
+    /// The parts of all held names without segments, in the order of the names, as one reading finds them. Returns `AllocError` only
+    /// where memory or the reading was refused.
     pub(crate) fn begin_all(&mut self, alloc: Global) -> Result<Vec<Begun>, AllocError>
         ensures kept { Stays self.old.session self.new.session }
         ensures parts { IfOk result (λ begun. AreAllBegun self.new.session.seen begun.items) }
@@ -87,7 +87,7 @@ impl Notes {
         self.front.begin_all(alloc)
     }
 
-    /// The answer that is published for a name. `AllocError` only where an owner or the reading was refused.
+    /// The answer that is published for a name. Returns `AllocError` only where an owner or the reading was refused.
     pub(crate) fn glance(&mut self, name: &Name) -> Result<Option<Shared<Outcome>>, AllocError>
         ensures kept { Stays self.old.session self.new.session }
         ensures answer { IfOk result (IsAnswer self.new.session.seen name.now) }

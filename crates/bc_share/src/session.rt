@@ -24,8 +24,8 @@ use std::alloc::{AllocError, Global};
 use std::marker::Model;
 use std::sync::{Arc, Wait};
 
-/// One session of a database: it makes the calls, keeps a list of its own of them and their replies, and reads what is published. It may
-/// go from thread to thread; the others of its database make theirs meanwhile. Contracts see its number, the tag of its database, that
+/// One session of a database. It makes the calls, keeps its own list of them and their replies, and reads what is published. It may go
+/// from thread to thread; the others of its database make theirs meanwhile. Contracts see its number, the tag of its database, that
 /// list, and the entries that it has seen: a beginning of what was published, which only grows.
 pub struct Session<E: Ending> {
     alloc: Global,
@@ -72,10 +72,9 @@ impl<E: Ending> Session<E> {
         }
     }
 
-    /// Stores declarations, which each Ask from now on is answered by, in place of those before (own). They may be bad:
-    /// an Ask tells so.
+    /// Stores declarations in place of those before; each Ask from now on is answered under them. They may be bad: an Ask reports it.
     ///
-    /// The declarations are checked, and room in the session's own list is made, before the lock is taken. It answers once the
+    /// The declarations are checked, and room in the session's own list is made, before the lock is taken. It returns once the
     /// session has read its own entry. Refused with `HistoryFull` only where the history has as many entries as it may have, where no
     /// call is taken, or the database is closed, and with `NoMemory` only where memory was refused; the session's own list and the
     /// history are then as they were.
@@ -92,8 +91,8 @@ impl<E: Ending> Session<E> {
     /// Stores a unit under a name.
     ///
     /// Replies `WrongKind` where the name is not one for such a unit, else `Full` where the name is new and
-    /// `MOST_BODIES` are held, else `Replaced` or `Added` (own). Room in the session's own list is made first. Refused
-    /// as `put_types` is.
+    /// `MOST_BODIES` are held, else `Replaced` or `Added`. Room in the session's own list is made first. Refused as
+    /// `put_types` is.
     pub fn put<R: Wait>(
         &mut self,
         rt: &R,
@@ -110,7 +109,7 @@ impl<E: Ending> Session<E> {
         }
     }
 
-    /// Takes the unit of a name away: `Removed`, or `Absent` where none is held (own). Room in the session's own list is
+    /// Takes the unit of a name away, and replies `Removed`, or `Absent` where none is held. Room in the session's own list is
     /// made first. Refused as `put_types` is.
     pub fn remove<R: Wait>(&mut self, rt: &R, name: Name) -> Result<RemoveReply, Refusal>
         ensures told { IfOk result (λ reply. IsAnswered (events.Remove name reply) self.old self.new) }
@@ -123,9 +122,9 @@ impl<E: Ending> Session<E> {
         }
     }
 
-    /// The part of what is published that the outcome of a name rests on, to be worked on and settled later; it carries the name's
-    /// answer if one is published. It is no call: the session's own list stays. It waits for nobody. `AllocError` only where memory or
-    /// the reading was refused, as it is once the database is closed.
+    /// Returns the part of what is published that the outcome of a name rests on, to be worked on and settled later; it carries the
+    /// name's answer if one is published. It is no call: the session's own list is unchanged. It waits for nobody. Returns
+    /// `AllocError` only where memory or the reading was refused, as it is once the database is closed.
     pub fn begin(&mut self, name: &Name) -> Result<Begun, AllocError>
         ensures kept { Stays self.old self.new }
         ensures part { IfOk result (λ begun. IsPartOf begun name.now (after self.new.seen)) }
@@ -134,10 +133,10 @@ impl<E: Ending> Session<E> {
         self.notes.begin(self.alloc, name)
     }
 
-    /// The part of each name without segments that is held in what is published, in the order of the names, to be worked on and settled
-    /// later; each carries its name's answer if one is published. All are parts of what one reading found. It is no call: the session's
-    /// own list stays. It waits for nobody. `AllocError` only where memory or the reading was refused, as it is once the database is
-    /// closed.
+    /// Returns the part of each name without segments that is held in what is published, in the order of the names, to be worked on and
+    /// settled later; each carries its name's answer if one is published. All are parts of what one reading found. It is no call: the
+    /// session's own list is unchanged. It waits for nobody. Returns `AllocError` only where memory or the reading was refused, as it
+    /// is once the database is closed.
     pub fn begin_all(&mut self) -> Result<Vec<Begun>, AllocError>
         ensures kept { Stays self.old self.new }
         ensures parts { IfOk result (λ begun. AreAllBegun self.new.seen begun.items) }
@@ -145,9 +144,10 @@ impl<E: Ending> Session<E> {
         self.notes.begin_all(self.alloc)
     }
 
-    /// The answer that is published for a name: the outcome of what is held, where the name is held and was asked for since declarations
-    /// were stored last and it or a name that begins with it and `/` was written last; else none. It is no call: the session's own list
-    /// stays. It waits for nobody. `AllocError` only where an owner or the reading was refused, as it is once the database is closed.
+    /// Returns the answer that is published for a name: the outcome of what is held, where the name is held and was asked for since
+    /// declarations were stored last and it or a name that begins with it and `/` was written last; else none. It is no call: the
+    /// session's own list is unchanged. It waits for nobody. Returns `AllocError` only where an owner or the reading was refused,
+    /// as it is once the database is closed.
     pub fn glance(&mut self, name: &Name) -> Result<Option<Arc<Outcome, Global>>, AllocError>
         ensures kept { Stays self.old self.new }
         ensures answer { IfOk result (λ answer. IsAnswer self.new.seen name.now (option_map arc_value answer)) }
@@ -158,12 +158,12 @@ impl<E: Ending> Session<E> {
         }
     }
 
-    /// Asks the name of a work: what is remembered for it or what the work found, where that is still so, else it is worked out
-    /// again from what is held now (its errors by RFC 2094, "Borrow checker phase 2" and "Named lifetimes"; the rest is own). The
-    /// work may be another database's.
+    /// Asks for the name of a work, and returns its outcome: what is remembered for it or what the work found, where that is
+    /// still so, else it is worked out again from what is held now (its errors by RFC 2094, "Borrow checker phase 2" and "Named
+    /// lifetimes"). The work may be another database's.
     ///
-    /// Room in the session's own list is made first. Refused as `put_types` is, and with `NoMemory` where a provider
-    /// wants memory; the work is then gone.
+    /// Room in the session's own list is made first. Refused as `put_types` is, and with `NoMemory` where a provider runs out of
+    /// memory; the work is then gone.
     pub fn settle<R: Wait>(
         &mut self,
         rt: &R,
@@ -180,10 +180,10 @@ impl<E: Ending> Session<E> {
         }
     }
 
-    /// Whether the body under a name is borrow-correct now: the outcome of what the name holds, under the declarations
-    /// that are held: their first bad one, `NoBody`, `Missing`, `Ill`, or the errors of the body and of its closures
-    /// (RFC 2094, "Borrow checker phase 2" and "Named lifetimes"; the rest is own). What is
-    /// published is begun and worked on with nothing held, and settled then.
+    /// Asks whether the body under a name is borrow-correct now, and returns the outcome of what the name holds, under the
+    /// declarations that are held: their first bad one, `NoBody`, `Missing`, `Ill`, or the errors of the body and of its closures
+    /// (RFC 2094, "Borrow checker phase 2" and "Named lifetimes"). What is published is begun and worked on with no lock held,
+    /// and settled then.
     ///
     /// Refused as `settle` is, and with `NoMemory` where the reading is refused, as it is once the database is closed.
     pub fn ask<R: Wait>(
@@ -200,12 +200,12 @@ impl<E: Ending> Session<E> {
         self.settle(rt, work, providers)
     }
 
-    /// Asks for all, with works of a session: the outcome of each name without segments that is held, in the order of the names. Each is the
-    /// one that `settle` would give to an Ask of that name, with the work on it where there is one (its errors by RFC 2094, "Borrow checker
-    /// phase 2" and "Named lifetimes"; the rest is own). A work that comes out of the order of the names, a second one of a name, or one of
-    /// a name that is not listed is let go; it may be another database's.
+    /// Asks for all, with works of a session, and returns the outcome of each name without segments that is held, in the order of the
+    /// names. Each is the one that `settle` would give to an Ask of that name, with the work on it where there is one (its errors by RFC
+    /// 2094, "Borrow checker phase 2" and "Named lifetimes"). A work that comes out of the order of the names, a second one of a name, or
+    /// one of a name that is not listed is dropped; it may be another database's.
     ///
-    /// It is one call, and answers each name that it lists, as an Ask of that name does. Room in the session's own list is made first.
+    /// It is one call, and replies to each name that it lists, as an Ask of that name does. Room in the session's own list is made first.
     /// Refused as `settle` is; the works are then gone.
     pub fn settle_all<R: Wait>(
         &mut self,
@@ -223,9 +223,9 @@ impl<E: Ending> Session<E> {
         }
     }
 
-    /// Which bodies are borrow-correct now: the outcome of each name without segments that is held, in the order of the names, each as `ask`
-    /// answers it. What is published is begun by one reading and worked on with nothing held, and settled then; roots that were written
-    /// meanwhile, and new ones, are worked on under the lock.
+    /// Asks which bodies are borrow-correct now, and returns the outcome of each name without segments that is held, in the order of the
+    /// names, each as `ask` returns it. What is published is begun by one reading and worked on with no lock held, and settled then; roots
+    /// that were written meanwhile, and new ones, are worked on under the lock.
     ///
     /// Refused as `settle_all` is, and with `NoMemory` where the reading is refused, as it is once the database is closed.
     pub fn ask_all<R: Wait>(
@@ -258,14 +258,14 @@ impl<E: Ending> Session<E> {
             .enter(rt, self.alloc, &mut self.notes, asked, providers)
     }
 
-    /// The tag of its database.
+    /// Returns the tag of the session's database.
     pub fn tag(&self) -> u64
         ensures { result ≡ self.now.tag }
     {
         self.notes.tag()
     }
 
-    /// Its number among the sessions of its database, from 0.
+    /// Returns the session's number among those of its database, from 0.
     pub fn number(&self) -> u8
         ensures value { result ≡ self.now.number }
         ensures range { self.now.number < MOST_SESSIONS }
