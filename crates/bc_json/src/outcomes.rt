@@ -77,8 +77,8 @@ fn report_value(alloc: Global, bodies: &[BodyErrors]) -> Result<Value, AllocErro
     Ok(value)
 }
 
-/// The JSON value of an outcome, the object that `json_report` writes behind `"outcome":`: it has no float, and its compact text is
-/// exactly these bytes. Answers `AllocError` only where memory was refused. (RFC 8259 for the text of JSON; the objects are own.)
+/// Returns the JSON value of an outcome, the object that `json_report` writes behind `"outcome":`. It has no float, and its compact
+/// text is exactly these bytes. Returns `AllocError` only where memory was refused. (RFC 8259 for the text of JSON.)
 pub fn outcome_value(alloc: Global, outcome: &Outcome) -> Result<Value, AllocError>
     ensures { IfOk result (λ value. HasText value (outcome_json outcome.now)) }
 {

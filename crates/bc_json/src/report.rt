@@ -19,9 +19,9 @@ fn line_value(alloc: Global, name: &Name, outcome: &Outcome) -> Result<Value, Al
     Ok(value)
 }
 
-/// The JSON of what was found of the root of this name, as one line without its line feed: compact, the keys of each object
-/// in byte order, and exactly these bytes. Answers `AllocError` only where memory was refused. (RFC 8259 for the text of
-/// JSON; the objects are own.)
+/// Returns the JSON of what was found of the root of this name, as one line without its line feed: compact, the keys of each
+/// object in byte order, and exactly these bytes. Returns `AllocError` only where memory was refused. (RFC 8259 for the text of
+/// JSON.)
 pub fn json_report(alloc: Global, name: &Name, outcome: &Outcome) -> Result<String, AllocError>
     ensures { IfOk result (λ line. string_bytes line ≡ json_line name.now outcome.now) }
 {

@@ -27,8 +27,8 @@ fn count_last_line(bytes: &[u8]) -> usize
         .count()
 }
 
-/// The line and the column of the byte that has `at` bytes of the text in front of it, or of the text's end where there is no such byte.
-/// A line feed belongs to the line that it ends.
+/// Returns the line and the column of the byte that has `at` bytes of the text in front of it, or of the text's end where there is no
+/// such byte. A line feed belongs to the line that it ends.
 pub fn position_of(text: &[u8], at: usize) -> Position
     ensures { result ≡ position_in text.now at }
 {
@@ -56,8 +56,8 @@ fn count_first_lines(text: &[u8], lines: usize) -> usize
     text.len()
 }
 
-/// The line and the column, in a text, of the byte that has `at` bytes between it and the end of this line, or of the text's end where there is
-/// no such byte. Line 0 ends where the text begins.
+/// Returns the line and the column, in a text, of the byte that has `at` bytes between it and the end of this line, or of the text's end
+/// where there is no such byte. Line 0 ends where the text begins.
 pub fn position_below(text: &[u8], line: usize, at: usize) -> Position
     ensures { result ≡ position_below text.now line at }
 {

@@ -6,8 +6,8 @@ use std::io;
 use std::io::Write;
 use thiserror::Error;
 
-/// Why a report was not written whole: a write failed, and this is its fault. Only `write_bytes` makes one, and only of the fault of a
-/// write, so that no function which answers one can give up for another reason.
+/// The reason why a report was not written whole: a write failed, and this is its fault. Only `write_bytes` makes one, and only of the
+/// fault of a write, so that no function which returns one can give up for another reason.
 #[derive(Debug, Drop, Error)]
 #[error(transparent)]
 pub struct WriterFault(io::Error);
@@ -19,7 +19,7 @@ impl From<WriterFault> for io::Error {
     }
 }
 
-/// Writes all bytes. Answers `WriterFault` where the writer does not take them all.
+/// Writes all bytes. Returns `WriterFault` where the writer does not take them all.
 pub fn write_bytes<W: Write>(bytes: &[u8], out: &mut W) -> Result<(), WriterFault>
     ensures { OnOk result (Appends (W.contents out.old) (W.contents out.new) bytes.now) }
 {

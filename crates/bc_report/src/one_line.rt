@@ -13,7 +13,7 @@ use bc_prov::BodyErrors;
 use bc_text::Name;
 use std::io::Write;
 
-/// Writes the line of a body, its name and the number of its errors. Answers `WriterFault` only where a write failed. It takes no memory.
+/// Writes the line of a body, its name and the number of its errors. Returns `WriterFault` only where a write failed. It takes no memory.
 pub fn write_body_line<W: Write>(body: &BodyErrors, out: &mut W) -> Result<(), WriterFault>
     ensures { OnOk result (Appends (W.contents out.old) (W.contents out.new) (body_line body.now)) }
 {

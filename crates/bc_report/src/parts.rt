@@ -14,7 +14,7 @@ use std::io::Write;
 /// How many bytes a point has at most.
 const POINT: usize = 44;
 
-/// Writes the digits of a number, or answers the writer's fault. It takes no memory.
+/// Writes the digits of a number. Returns `WriterFault` only where a write failed. It takes no memory.
 pub fn write_number<W: Write>(number: u128, out: &mut W) -> Result<(), WriterFault>
     ensures { OnOk result (Appends (W.contents out.old) (W.contents out.new) (decimal number)) }
 {

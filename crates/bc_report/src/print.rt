@@ -77,7 +77,7 @@ fn write_chain<W: Write>(regions: &[Region], out: &mut W) -> Result<(), WriterFa
     write_bytes(b"\n", out)
 }
 
-/// Writes the line of an error, and behind it that of its chain. Answers `WriterFault` only where a write failed. It takes no memory.
+/// Writes the line of an error, and behind it that of its chain. Returns `WriterFault` only where a write failed. It takes no memory.
 #[tactic(auto, unfolding(crate::specs::Report::error_lines))]
 pub fn write_explained<W: Write>(error: &BorrowError, out: &mut W) -> Result<(), WriterFault>
     ensures { OnOk result (Appends (W.contents out.old) (W.contents out.new) (error_lines error.now)) }
@@ -102,7 +102,7 @@ fn write_body<W: Write>(body: &BodyErrors, out: &mut W) -> Result<(), WriterFaul
     Ok(())
 }
 
-/// Writes the text form of an outcome, exactly the bytes of its report (own). Answers `WriterFault` only where a write failed. It takes no
+/// Writes the text form of an outcome, exactly the bytes of its report. Returns `WriterFault` only where a write failed. It takes no
 /// memory.
 pub fn write_report<W: Write>(outcome: &Outcome, out: &mut W) -> Result<(), WriterFault>
     ensures { OnOk result (Appends (W.contents out.old) (W.contents out.new) (report outcome.now)) }

@@ -60,8 +60,8 @@ fn source_bodies<'a>(
     Ok(found)
 }
 
-/// The bodies of a report, each with the text of its unit, for `write_sourced_report`; none of another outcome. `AllocError` only where memory
-/// was refused.
+/// Returns the bodies of a report, each with the text of its unit, for `write_sourced_report`; none of another outcome. Returns
+/// `AllocError` only where memory was refused.
 pub fn find_bodies<'a>(
     alloc: Global,
     outcome: &'a Outcome,
@@ -144,9 +144,9 @@ fn write_sourced_body<W: Write>(sourced: &SourcedBody<'_>, out: &mut W) -> Resul
     Ok(())
 }
 
-/// Writes the text form of an outcome, and of a report behind each error and its chain the lines and texts of its points and the names of
-/// its regions, as far as the texts are known: `bodies` is what `find_bodies` finds for the outcome. Exactly the bytes of the definition.
-/// Answers `WriterFault` only where a write failed. It takes no memory.
+/// Writes the text form of an outcome. Of a report it writes, behind each error and its chain, the lines and texts of its points and the
+/// names of its regions, as far as the texts are known: `bodies` is what `find_bodies` finds for the outcome. It writes exactly the bytes
+/// of the definition. Returns `WriterFault` only where a write failed. It takes no memory.
 pub fn write_sourced_report<W: Write>(
     outcome: &Outcome,
     bodies: &[SourcedBody<'_>],

@@ -7,7 +7,7 @@ use bc_text::Name;
 use std::alloc::{AllocError, Global};
 use std::marker::Model;
 
-/// The text of a unit in a file: its name, how many lines of the file stand before it, and its bytes. It takes no memory.
+/// The text of a unit in a file: its name, how many lines of the file come before it, and its bytes. It takes no memory.
 #[derive(Drop)]
 pub struct Source<'a> {
     name: Name,
@@ -24,28 +24,28 @@ impl<'a> Model for Source<'a> {
 }
 
 impl<'a> Source<'a> {
-    /// The text of a unit that is put under this name, `line` lines behind the beginning of the file.
+    /// Returns the text of a unit that is put under this name, `line` lines behind the beginning of the file.
     pub fn new(name: Name, line: usize, text: &'a [u8]) -> Source<'a>
         ensures { result ≡ record { name = name; line = line; text = text.now } }
     {
         Source { name, line, text }
     }
 
-    /// The name that the unit is put under.
+    /// Returns the name that the unit is put under.
     pub fn name(&self) -> Name
         ensures { result ≡ self.now.name }
     {
         self.name
     }
 
-    /// How many lines of the file stand before the text.
+    /// Returns how many lines of the file come before the text.
     pub fn line(&self) -> usize
         ensures { result ≡ self.now.line }
     {
         self.line
     }
 
-    /// The bytes of the text.
+    /// Returns the bytes of the text.
     pub fn text(&self) -> &'a [u8]
         ensures { result.now ≡ self.now.text }
     {
@@ -76,7 +76,7 @@ impl<'a> Model for Sources<'a> {
 }
 
 impl<'a> Sources<'a> {
-    /// No texts. It takes no memory.
+    /// Returns an empty list of texts. It takes no memory.
     pub fn new(alloc: Global) -> Sources<'a>
         ensures { result ≡ [] }
     {
@@ -85,7 +85,7 @@ impl<'a> Sources<'a> {
         }
     }
 
-    /// Puts a text behind the others. `AllocError` only where memory was refused.
+    /// Appends a text to the others. Returns `AllocError` only where memory was refused.
     pub fn push(&mut self, source: Source<'a>) -> Result<(), AllocError>
         ensures { OnOk result (self.new ≡ self.old ++ source.entry ∷ []) }
     {
@@ -93,7 +93,7 @@ impl<'a> Sources<'a> {
         Ok(())
     }
 
-    /// The last text of a name, `None` where there is none.
+    /// Returns the last text of a name, `None` where there is none.
     pub fn last_of(&self, name: &Name) -> Option<&Source<'a>>
         ensures { option_copied result ≡ last_of name.now self.now }
     {
