@@ -6,8 +6,8 @@ use cli_requests::RequestFault;
 use std::alloc::Global;
 use std::sync::Arc;
 
-/// What a request is answered: the call that its session made, with the reply, and how many calls the session had made before
-/// it; the answer that is published for a name, or that there is none; why the session refused the call; or what is wrong with the
+/// The answer to a request: the call that its session made, with the reply, and how many calls the session had made before it; the
+/// answer that is published for a name, or that there is none; why the session refused the call; or what is wrong with the
 /// request.
 #[derive(Drop)]
 pub enum Answer {

@@ -40,10 +40,10 @@ fn line_of(alloc: Global, value: &Value) -> Result<String, AllocError>
     }
 }
 
-/// The line, without its line feed, that answers the request of this id, which names this session or none: one object of JSON,
-/// compact, its keys in byte order, with the id as it was sent. It has no line feed inside. Where the id has no float, the bytes
-/// are exactly those of the object; a float in the id is written with other digits where these read as the float that it was.
-/// Answers `AllocError` only where memory was refused. (RFC 8259 for the text of JSON.)
+/// Returns the line, without its line feed, that answers the request of this id, which names this session or none: one object of
+/// JSON, compact, its keys in byte order, with the id as it was sent. It has no line feed inside. Where the id has no float, the
+/// bytes are exactly those of the object; a float in the id is written with other digits where these read as the float that it
+/// was. Returns `AllocError` only where memory was refused. (RFC 8259 for the text of JSON.)
 pub fn answer_line(
     alloc: Global,
     id: &Id,

@@ -4,7 +4,7 @@ ghost use Rattle.cli_entries.specs.Words.{put_word, remove_word};
 
 use bc_calls::{PutReply, RemoveReply};
 
-/// The word of the reply to a put: `added`, `replaced`, `full` or `wrongkind`.
+/// Returns the word of the reply to a put: `added`, `replaced`, `full` or `wrongkind`.
 pub fn put_word(reply: PutReply) -> &'static str
     ensures { result.now ≡ put_word reply }
 {
@@ -16,7 +16,7 @@ pub fn put_word(reply: PutReply) -> &'static str
     }
 }
 
-/// The word of the reply to a removal: `removed` or `absent`.
+/// Returns the word of the reply to a removal: `removed` or `absent`.
 pub fn remove_word(reply: RemoveReply) -> &'static str
     ensures { result.now ≡ remove_word reply }
 {

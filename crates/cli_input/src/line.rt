@@ -25,10 +25,12 @@ fn finish(line: Vec<u8>, limit: usize) -> InputLine
     InputLine::Text(line)
 }
 
-/// The next line of an input, or `None` at its end. A line ends behind its line feed; the last one may have none. Nothing behind
-/// the line is waited for. Of a line with more than `limit` bytes no more than `limit + 1` are held in memory at a time: it is read
-/// to its end and is `TooLong`. An error of the input is returned as it is, but for `ErrorKind::Interrupted`, after which reading
-/// goes on; `ErrorKind::OutOfMemory` where memory was refused. Behind an error nothing is known of what was read.
+/// Returns the next line of an input, or `None` at its end. A line ends behind its line feed; the last one may have none. Nothing
+/// behind the line is waited for. Of a line with more than `limit` bytes no more than `limit + 1` are held in memory at a time: it
+/// is read to its end and is `TooLong`.
+///
+/// Returns an error of the input as it is, but for `ErrorKind::Interrupted`, after which reading goes on; and
+/// `ErrorKind::OutOfMemory` where memory was refused. Behind an error nothing is known of what was read.
 pub fn read_input_line<I: BufRead>(
     alloc: Global,
     input: &mut I,

@@ -5,7 +5,7 @@ ghost use Rattle.cli_input.specs.Pieces.{IsCut, TakesPiece};
 use std::io;
 use std::io::{BufRead, ErrorKind};
 
-/// What comes behind a piece of a line: more of the line, its line feed, or the end of the input.
+/// The mark that comes behind a piece of a line: more of the line, its line feed, or the end of the input.
 #[derive(Clone, Copy, Debug, PartialEq, Eq)]
 pub enum Met {
     More,

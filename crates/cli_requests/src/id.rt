@@ -14,14 +14,14 @@ pub struct Id {
 }
 
 impl Id {
-    /// The id of a request that has none: `null`.
+    /// Returns the id of a request that has none: `null`.
     pub fn none() -> Id
         ensures { told result ≡ null }
     {
         Id { value: Value::Null }
     }
 
-    /// The member `id` of a request, or `null` where it has none. `AllocError` only where memory was refused.
+    /// The member `id` of a request, or `null` where it has none. Returns `AllocError` only where memory was refused.
     pub(crate) fn of(value: &Value) -> Result<Id, AllocError>
         ensures { IfOk result (λ id. told id ≡ id_of (data_of value.now)) }
     {
@@ -33,7 +33,7 @@ impl Id {
         }
     }
 
-    /// The JSON value.
+    /// Returns the JSON value.
     pub fn value(&self) -> &Value
         ensures { data_of result.now ≡ told self.now }
     {

@@ -136,9 +136,10 @@ fn read_bytes(alloc: Global, line: &[u8], sessions: u8) -> Result<Request, Alloc
     }
 }
 
-/// What a line asks for, of so many sessions. The line was read by `cli_input::read_input_line` with the limit `MOST_REQUEST_BYTES`. It is
-/// `Bad` at the first of these that is wrong: its length, its JSON (RFC 8259, in UTF-8, nested at most 127 deep), `session`, `call`,
-/// `name`, `text`. Members that the call does not want are passed over. `AllocError` only where memory was refused.
+/// Reads what a line asks for, of so many sessions. The line was read by `cli_input::read_input_line` with the limit
+/// `MOST_REQUEST_BYTES`. It is `Bad` at the first of these that is wrong: its length, its JSON (RFC 8259, in UTF-8, nested at most 127
+/// deep), `session`, `call`, `name`, `text`. Members that the call does not want are passed over. Returns `AllocError` only where
+/// memory was refused.
 #[tactic(auto, using(crate::proofs::Readings::long_request, crate::proofs::Readings::long_session))]
 pub fn read_request(alloc: Global, line: &InputLine, sessions: u8) -> Result<Request, AllocError>
     ensures reading { (bytes : List ℕ) → IsLine MOST_REQUEST_BYTES bytes line.now → IfOk result (IsRequest sessions bytes) }

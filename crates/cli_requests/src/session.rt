@@ -31,9 +31,9 @@ pub(crate) fn session_of(value: &Value, sessions: u8) -> Option<u8>
     Some(number as u8)
 }
 
-/// The session that a line names, of so many: the number in its member `session`, or 0 where the line is JSON without that member.
-/// `None` exactly where the line has more than `MOST_REQUEST_BYTES` bytes, is no JSON (RFC 8259) in UTF-8, nests deeper than 127, or names
-/// no whole number below `sessions`. `AllocError` only where memory was refused.
+/// Returns the session that a line names, of so many: the number in its member `session`, or 0 where the line is JSON without that member.
+/// Returns `None` exactly where the line has more than `MOST_REQUEST_BYTES` bytes, is no JSON (RFC 8259) in UTF-8, nests deeper than 127,
+/// or names no whole number below `sessions`. Returns `AllocError` only where memory was refused.
 pub fn find_session(alloc: Global, line: &[u8], sessions: u8) -> Result<Option<u8>, AllocError>
     ensures which { IfOk result (λ found. found ≡ session_in sessions line.now) }
     ensures below { IfOk result (λ found. IfSome found (λ session. session < sessions)) }

@@ -7,7 +7,7 @@ ghost use Rattle.cli_requests.specs.Asking.{Calls};
 use crate::member::find_word;
 use serde_json::Value;
 
-/// What a request names in its member `call`.
+/// The call that a request names in its member `call`.
 #[derive(Clone, Copy, Debug)]
 pub enum Verb {
     Types,
