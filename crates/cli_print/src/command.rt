@@ -11,7 +11,7 @@ use std::alloc::Global;
 use std::io;
 use std::io::{BufWriter, Read, Write};
 
-/// Reads the whole input, and prints its sections: of each its header line as it stands, and behind it its text in its one spelling, the
+/// Reads the whole input, and prints its sections: of each its header line as it is, and behind it its text in its one spelling, the
 /// tokens with one space between two and a line feed behind the last. A buffer that held nothing holds nothing then, but where the
 /// writer behind it failed. Nothing is printed before the whole file is read.
 ///
@@ -38,12 +38,12 @@ pub fn print<I: Read, O: Write + Drop>(
     }
 }
 
-/// The whole command `print` on the input of the file that the line names: writes its sections on `out`, and gives the exit status (own). Before
-/// a line on `err` says why the command stops, `out` has handed on what was printed; after `cannot write` it still holds what the writer
-/// behind it did not take.
+/// Runs the whole command `print` on the input of the file that the line names: writes its sections on `out`, and returns the exit status.
+/// Before a line on `err` says why the command stops, `out` has handed on what was printed; after `cannot write` it still holds what the
+/// writer behind it did not take.
 ///
-/// 0 where the sections are printed; 2 where the file has a fault; 3 where the command stops for another reason. Why it stops is one line
-/// on `err`, and its fault where that line cannot be written: then nothing more can be said.
+/// The status is 0 where the sections are printed; 2 where the file has a fault; 3 where the command stops for another reason. Why it stops
+/// is one line on `err`, and its fault where that line cannot be written: then nothing more can be said.
 pub fn print_and_tell<I: Read, O: Write + Drop, E: Write>(
     alloc: Global,
     line: &PrintLine,
@@ -61,7 +61,8 @@ pub fn print_and_tell<I: Read, O: Write + Drop, E: Write>(
     }
 }
 
-/// The whole command `print` on the input of the file that the line names. As `print_and_tell`, with status 3 where standard error fails (own).
+/// Runs the whole command `print` on the input of the file that the line names, as `print_and_tell` does, with status 3 where standard
+/// error fails.
 pub fn print_over<I: Read, O: Write + Drop, E: Write>(
     alloc: Global,
     line: &PrintLine,

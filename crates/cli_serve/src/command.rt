@@ -21,9 +21,9 @@ use std::thread::Threads;
 ///
 /// Stops with `CannotRead` where the input fails; with `CannotWrite` where the output fails, after which nothing more is written; with
 /// `NoMemory` where there is no room for the database or for finding the session of a line, and at the end of the input where an answer was
-/// lost, in whose place a line said so (a call or a line that wants memory is answered so, which is no stop); with `NoThread` where the
-/// threads cannot be made, before a line is read; with `Audit` where the history does not agree with the sessions at the close, which is
-/// said before all else; and with `LostLine` where a session did not answer all its lines.
+/// lost, in whose place a line said so (a call or a line for which memory is refused is answered so, which is no stop); with `NoThread`
+/// where the threads cannot be made, before a line is read; with `Audit` where the history does not agree with the sessions at the close,
+/// which is reported before all else; and with `LostLine` where a session did not answer all its lines.
 pub fn serve<R: Threads + Wait + Sync, I: BufRead, O: Write + Drop + Send>(
     rt: &R,
     alloc: Global,
@@ -59,9 +59,9 @@ pub fn serve<R: Threads + Wait + Sync, I: BufRead, O: Write + Drop + Send>(
     }
 }
 
-/// Serves sessions as `serve` does, and gives the exit status of the command: 0 at the end of the input, whatever was answered, or 3 where
-/// it stops, with one line on `err` that says why. The fault of `err` where that line cannot be written. It asks for 1 to 16 sessions, and
-/// for a capacity of 1 to 1,000,000.
+/// Serves sessions as `serve` does, and returns the exit status of the command: 0 at the end of the input, whatever was answered, or 3
+/// where it stops, with one line on `err` that says why. Returns the fault of `err` where that line cannot be written. It asks for 1 to 16
+/// sessions, and for a capacity of 1 to 1,000,000.
 pub fn serve_and_tell<R: Threads + Wait + Sync, I: BufRead, O: Write + Drop + Send, E: Write>(
     rt: &R,
     alloc: Global,
@@ -87,10 +87,10 @@ pub fn serve_and_tell<R: Threads + Wait + Sync, I: BufRead, O: Write + Drop + Se
     }
 }
 
-/// The whole command `serve`: sessions of a new database answer the lines of an input, each one line on `out`, and the exit status is 0 at
-/// the end of the input, whatever was answered. It is 3 where the input or the output fails, memory is refused, a thread cannot be made,
-/// or the history does not agree with the sessions at the close, with one line on `err` that says so, if that can be written. It asks for 1
-/// to 16 sessions, and for a capacity of 1 to 1,000,000 entries.
+/// Runs the whole command `serve`: sessions of a new database answer the lines of an input, each one line on `out`, and the exit status is
+/// 0 at the end of the input, whatever was answered. It is 3 where the input or the output fails, memory is refused, a thread cannot be
+/// made, or the history does not agree with the sessions at the close, with one line on `err` that says so, if that can be written. It asks
+/// for 1 to 16 sessions, and for a capacity of 1 to 1,000,000 entries.
 pub fn serve_over<R: Threads + Wait + Sync, I: BufRead, O: Write + Drop + Send, E: Write>(
     rt: &R,
     alloc: Global,

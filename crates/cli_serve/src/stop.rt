@@ -7,7 +7,7 @@ use cli_talk::TalkFault;
 use std::io;
 use std::io::Write;
 
-/// Why the command stops before the end of its input, or is not well at its end.
+/// The reason why the command stops before the end of its input, or is not well at its end.
 #[derive(Clone, Copy, Debug, PartialEq, Eq)]
 pub enum ServeStop {
     /// The input failed.

@@ -7,7 +7,7 @@ use Rattle.cli_requests.specs.Sessions.{lines_for}
 abbrev pub Counts : ℕ → List ℕ → List (List ℕ) → Type 0
 Counts sessions counts lines = (k : ℕ) → k < sessions → slice_index counts k ≡ length (lines_for sessions k lines)
 
--- the same, where the lines are known
+-- there are so many lines of each session, where the lines are known
 abbrev pub CountsAll : ℕ → List ℕ → Option (List (List ℕ)) → Type 0
 CountsAll sessions counts None = ⊤
 CountsAll sessions counts (Some lines) = Counts sessions counts lines

@@ -152,7 +152,7 @@ pub(crate) fn answer_request<R: Wait, E: Ending>(
     }
 }
 
-/// The line of an answer, with its line feed. `AllocError` only where memory was refused.
+/// The line of an answer, with its line feed. Returns `AllocError` only where memory was refused.
 pub(crate) fn whole_line(alloc: Global, answered: &Answered) -> Result<String, AllocError>
     ensures { IfOk result (λ line. IsWholeLine answered.now (string_bytes line)) }
 {

@@ -17,7 +17,7 @@ use std::alloc::{AllocError, Global};
 use std::marker::Model;
 use std::sync::{Arc, Wait};
 
-/// A session, and how many calls it has made, which is the number of the entry of its next call. Contracts see the session.
+/// A session with the count of its calls, which is the number of the entry of its next call. Contracts see the session.
 pub struct CountedSession<E: Ending> {
     session: Session<E>,
     made: usize,
@@ -45,7 +45,7 @@ impl<E: Ending> Model for CountedSession<E> {
 }
 
 impl<E: Ending> CountedSession<E> {
-    /// A session that has made no call yet, with the count 0.
+    /// Returns a session that has made no call yet, with the count 0.
     pub fn new(session: Session<E>) -> CountedSession<E>
         requires { session.own ≡ [] }
         ensures { result ≡ session }
@@ -53,7 +53,7 @@ impl<E: Ending> CountedSession<E> {
         CountedSession { session, made: 0 }
     }
 
-    /// The session without its count.
+    /// Returns the session without its count.
     pub fn into_session(self) -> Session<E>
         ensures { result ≡ self }
     {
@@ -87,8 +87,8 @@ impl<E: Ending> CountedSession<E> {
         }
     }
 
-    /// The answer that is published for a name, or `None` where none is. It is no call, and waits for nobody. `AllocError` only where
-    /// memory or the reading was refused, as it is once the database is closed.
+    /// The answer that is published for a name, or `None` where none is. It is no call, and waits for nobody. Returns `AllocError`
+    /// only where memory or the reading was refused, as it is once the database is closed.
     pub(crate) fn glance(&mut self, name: &Name) -> Result<Option<Arc<Outcome, Global>>, AllocError>
         ensures kept { Stays self.old self.new }
         ensures answer { IfOk result (λ answer. IsAnswer self.new.seen name.now (option_map arc_value answer)) }

@@ -5,8 +5,8 @@ ghost use Rattle.cli_talk.specs.Talks.{IsLineOf};
 
 use std::marker::{Brand, PhantomData};
 
-/// What a conversation is about: how many sessions there are, and the lines of the input, where these are known. The call that begins
-/// a conversation picks both.
+/// The parameters of a conversation, for contracts: how many sessions there are, and the lines of the input, where these are known.
+/// The call that begins a conversation picks both.
 pub trait Talk {
     ghost use Rattle.std.specs.Prelude.{ℕ, List, Option};
 
@@ -35,9 +35,8 @@ pub struct Message<L: Talk> {
     ghost is_of: { IsLineOf L.sessions session number line.items L.lines },
 }
 
-/// Where the messages of a session come from. Nothing is asked of it: a message that is not the next of its session is found by its
-/// number.
+/// A source of the messages of a session. Nothing is asked of it: a message that is not the next of its session is found by its number.
 pub trait Messages<L: Talk> {
-    /// The next message, or `None` where no more will come.
+    /// Returns the next message, or `None` where no more will come.
     fn next(&mut self) -> Option<Message<L>>;
 }

@@ -2,16 +2,16 @@
 ghost use Rattle.std.specs.Prelude.{List, Option, None, ℕ, OnOk};
 ghost use Rattle.cli_talk.specs.Wires.{Takes};
 
-/// A line was not given on: the output failed, now or before.
+/// The error that a line was not given on: the output failed, now or before.
 #[derive(Clone, Copy, Debug, PartialEq, Eq)]
 pub struct Closed;
 
-/// Where the lines of answers go.
+/// A sink for the lines of answers.
 pub trait Replies {
     /// The lines that were given, where that is known.
     ghost given: { Self → Option (List (List ℕ)) } = { λ _. None };
 
-    /// Gives a line, which has its line feed, and hands it on at once. `Closed` where that fails.
+    /// Writes a line, which has its line feed, and hands it on at once. Returns `Closed` where that fails.
     fn reply(&mut self, line: &str) -> Result<(), Closed>
         ensures { OnOk result (Takes (given self.old) (given self.new) line.now) };
 }

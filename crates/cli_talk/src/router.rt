@@ -101,12 +101,13 @@ fn session_of_line(alloc: Global, line: &InputLine, sessions: u8) -> Result<Opti
     }
 }
 
-/// Reads the next line of an input of at most `MOST_REQUEST_BYTES` bytes, of which nothing is waited for behind the line. It is the
-/// message for the session that the line names, numbered for this, or, inside, `None` where the line names no session: what is wrong with
-/// it was answered then. `None` where there is no line left. The message is to go to the worker of its session.
+/// Reads the next line of an input, of at most `MOST_REQUEST_BYTES` bytes, and returns it as the message for the session that it names,
+/// numbered for this session. Nothing is waited for behind the line. Inside it returns `None` where the line names no session: what is
+/// wrong with it was answered then. Outside it returns `None` where there is no line left. The message is to go to the worker of its
+/// session.
 ///
-/// `CannotRead` where the input fails, `NoMemory` where there is no room for the line or its answer, and `CannotWrite` where the answer is
-/// not given on.
+/// Returns `CannotRead` where the input fails, `NoMemory` where there is no room for the line or its answer, and `CannotWrite` where the
+/// answer is not given on.
 pub fn route_line<L: Talk + Drop, I: BufRead, P: Replies>(
     alloc: Global,
     input: &mut I,
@@ -150,7 +151,7 @@ pub fn route_line<L: Talk + Drop, I: BufRead, P: Replies>(
     Ok(Some(Some(message)))
 }
 
-/// That no line was counted yet, for each of so many sessions. `NoMemory` only where memory was refused.
+/// Returns the counts of lines before any line is read: 0 for each of so many sessions. Returns `NoMemory` only where memory was refused.
 pub fn no_counts<L: Talk + Drop, I: BufRead>(
     alloc: Global,
     _input: &I,

@@ -75,14 +75,14 @@ fn is_either(before: bool, now: bool) -> bool
     before || now
 }
 
-/// Answers the messages that come to the session of this number, of so many sessions, one line each, until no more comes; how many
-/// there were. Each line is answered before the next message is taken: its call is made, or what is wrong with it is said, and a call
-/// that is refused is answered too. Where there is no room to read a line, nothing is done for it, and one that takes no memory says so;
-/// where there is none for an answer, another such line says that.
+/// Answers the messages that come to the session of this number, of so many sessions, one line each, until no more comes, and returns how
+/// many there were. Each line is answered before the next message is taken: its call is made, or what is wrong with it is reported, and a
+/// call that is refused is answered too. Where there is no room to read a line, nothing is done for it, and a line that takes no memory
+/// reports so; where there is none for an answer, another such line reports that.
 ///
-/// It answers `NoMemory` where an answer is lost so: each message had one line then too. It stops with `OutOfTurn` at a message that is not
-/// the next of its session, and with `CannotWrite` where a line is not given on. Then the lines before were answered, but for lost answers,
-/// and of at most one line more the call was made, with no line given.
+/// Returns `NoMemory` where an answer is lost so: each message had one line then too. Returns `OutOfTurn` at a message that is not the next
+/// of its session, and `CannotWrite` where a line is not given on. Then the lines before were answered, but for lost answers, and of at
+/// most one line more the call was made, with no line given.
 pub fn serve_messages<L, M, R, E, P>(
     rt: &R,
     alloc: Global,
