@@ -18,8 +18,9 @@ fn line_of(alloc: Global, words: &[&str]) -> io::Result<Line> {
     }
 }
 
-/// The command of these words on this file over these devices, with these providers, as the program runs it: what it prints behind a
-/// buffer, of which what is not written is let go, and with status 3 where standard error fails.
+/// Runs the command of these words on this file over these devices, with these providers, as the program runs it, and returns what
+/// it leaves: what it prints behind a buffer, of which what is not written is dropped, and with status 3 where standard error
+/// fails.
 pub fn leave_with<R: AllocGlobal + Threads + Wait + Sync>(
     rt: &R,
     providers: &Providers,

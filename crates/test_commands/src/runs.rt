@@ -5,7 +5,7 @@ pub const ONE: &[&str] = &["run", "demo"];
 
 pub const TWO: &[&str] = &["run", "demo", "--sessions", "2"];
 
-/// The same with the history as JSON.
+/// The words of a run of one session that prints the history as JSON.
 pub const ONE_JSON: &[&str] = &["run", "--json", "demo"];
 
 /// A body that is put and asked, and a name that is not held and is removed.

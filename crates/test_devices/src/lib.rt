@@ -5,7 +5,7 @@ use std::alloc::Global;
 use std::io;
 use std::io::{ErrorKind, Read, Write};
 
-/// What has a device fail at the call of one number, and at no other.
+/// A switch that makes a device fail at the call of one number, and at no other.
 #[derive(Clone, Copy)]
 pub struct Fuse {
     calls: u32,
@@ -13,12 +13,12 @@ pub struct Fuse {
 }
 
 impl Fuse {
-    /// Fails at the call of this number, from 0.
+    /// Returns a fuse that fails at the call of this number, from 0.
     pub fn new(fails_at: u32) -> Self {
         Fuse { calls: 0, fails_at }
     }
 
-    /// How many calls there were.
+    /// Returns how many calls there were.
     pub fn calls(&self) -> u32 {
         self.calls
     }
@@ -42,7 +42,7 @@ pub struct Input<'a> {
 }
 
 impl<'a> Input<'a> {
-    /// Reads these bytes, as these devices behave.
+    /// Returns a reader of these bytes, which behaves as these devices say.
     pub fn new(bytes: &'a [u8], devices: Devices) -> Self {
         Input {
             rest: bytes,
@@ -51,7 +51,7 @@ impl<'a> Input<'a> {
         }
     }
 
-    /// How many reads there were.
+    /// Returns how many reads there were.
     pub fn calls(&self) -> u32 {
         self.fuse.calls()
     }
@@ -77,7 +77,7 @@ pub struct Output {
 }
 
 impl Output {
-    /// Has taken nothing, and fails at the write or flush of this number, from 0.
+    /// Returns a writer that has taken nothing, and fails at the write or flush of this number, from 0.
     pub fn new(alloc: Global, fails_at: u32) -> Self {
         Output {
             taken: Vec::new(alloc),
@@ -86,17 +86,17 @@ impl Output {
         }
     }
 
-    /// Whether it was flushed after all that it took.
+    /// Returns whether the writer was flushed after all that it took.
     pub fn is_flushed(&self) -> bool {
         self.is_flushed
     }
 
-    /// How many writes and flushes there were.
+    /// Returns how many writes and flushes there were.
     pub fn calls(&self) -> u32 {
         self.fuse.calls()
     }
 
-    /// What it took.
+    /// Returns what the writer took.
     pub fn into_taken(self) -> Vec<u8> {
         self.taken
     }
@@ -121,7 +121,7 @@ impl Write for Output {
 /// The number of no call.
 const NEVER: u32 = u32::MAX;
 
-/// How the devices of a run behave: how many bytes are read at a time, how many the buffer of the reports holds, and at
+/// The behaviour of the devices of a run: how many bytes are read at a time, how many the buffer of the reports holds, and at
 /// which call each device fails.
 #[derive(Clone, Copy)]
 pub struct Devices {
@@ -154,7 +154,7 @@ pub struct Case<'a> {
     pub wants_memory: bool,
 }
 
-/// What a command left, whether standard output was flushed last, and how many calls of each device it made.
+/// The result of a command: what it left, whether standard output was flushed last, and how many calls of each device it made.
 #[derive(Drop)]
 pub struct Left {
     pub status: u8,
@@ -167,7 +167,7 @@ pub struct Left {
 }
 
 impl Left {
-    /// What was left by a command that ended with this status.
+    /// Returns the result of a command that ended with this status.
     pub fn of(status: u8, input: &Input<'_>, out: Output, err: Output) -> Left {
         Left {
             status,
@@ -180,18 +180,18 @@ impl Left {
         }
     }
 
-    /// Whether the command ended with this status, and left this on its two writers.
+    /// Returns whether the command ended with this status, and left this on its two writers.
     pub fn is(&self, status: u8, out: &[u8], err: &[u8]) -> bool {
         self.status == status && self.out.as_slice() == out && self.err.as_slice() == err
     }
 
-    /// Whether this is what is to be left of the case, and standard output was flushed last if it was used.
+    /// Returns whether this is what the case has to leave, and standard output was flushed last if it was used.
     pub fn is_of(&self, case: &Case<'_>) -> bool {
         self.is(case.status, case.out, case.err) && (self.is_flushed || self.writes == 0)
     }
 
-    /// Whether the command could write no more, when it had told this, and made no further call once this write or flush had failed,
-    /// and what it wrote till then is a beginning of this.
+    /// Returns whether the command could write no more, when it had reported this, and made no further call once this write or flush
+    /// had failed, and what it wrote till then is a beginning of this.
     pub fn stopped_at_write(&self, write: u32, whole: &[u8], told: &[u8]) -> bool {
         self.status == 3
             && self.err.as_slice() == told
@@ -199,7 +199,8 @@ impl Left {
             && self.writes == write.saturating_add(1)
     }
 
-    /// Whether the command made no further call on standard error once this one had failed, and told a beginning of this till then.
+    /// Returns whether the command made no further call on standard error once this one had failed, and reported a beginning of this till
+    /// then.
     pub fn stopped_at_tell(&self, tell: u32, told: &[u8]) -> bool {
         self.status == 3
             && told.starts_with(self.err.as_slice())
@@ -207,7 +208,8 @@ impl Left {
     }
 }
 
-/// Whether a command leaves the case, and says that it cannot read once any one read fails. It is run over the devices that it is handed.
+/// Returns whether a command leaves the case, and says that it cannot read once any one read fails. It is run over the devices that it is
+/// handed.
 pub fn stops_at_each_read<F: Fn(Devices) -> io::Result<Left>>(
     case: &Case<'_>,
     run: F,
@@ -223,8 +225,8 @@ pub fn stops_at_each_read<F: Fn(Devices) -> io::Result<Left>>(
     Ok(stops)
 }
 
-/// Whether a command leaves the case behind a buffer of this size, and says that it cannot write, and makes no further call, once any one
-/// write or flush fails.
+/// Returns whether a command leaves the case behind a buffer of this size, and says that it cannot write, and makes no further call, once
+/// any one write or flush fails.
 pub fn stops_at_each_write<F: Fn(Devices) -> io::Result<Left>>(
     case: &Case<'_>,
     room: usize,
@@ -245,8 +247,8 @@ pub fn stops_at_each_write<F: Fn(Devices) -> io::Result<Left>>(
     Ok(stops)
 }
 
-/// Whether a command leaves the case, and makes no further call on standard error once any one write there fails, when it has printed all, or
-/// nothing where so many bytes that it tells before it prints were not told.
+/// Returns whether a command leaves the case, and makes no further call on standard error once any one write there fails, when it has
+/// printed all, or nothing where so many bytes that it reports before it prints were not written.
 pub fn stops_at_each_tell<F: Fn(Devices) -> io::Result<Left>>(
     case: &Case<'_>,
     before: usize,

@@ -6,7 +6,7 @@ use bc_text::read_types;
 use std::alloc::{AllocError, Global};
 use std::sync::Arc;
 
-/// The declarations that a text spells; fails where it spells none, where one is bad, or for want of memory.
+/// Returns the declarations that a text spells; fails where it spells none, where one is bad, or where memory is refused.
 pub fn good_types(alloc: Global, text: &[u8]) -> anyhow::Result<Arc<GoodTypes, Global>> {
     let good = read_types(alloc, text)?.check(alloc)?;
     match Arc::new(alloc, good) {
@@ -15,7 +15,7 @@ pub fn good_types(alloc: Global, text: &[u8]) -> anyhow::Result<Arc<GoodTypes, G
     }
 }
 
-/// A unit that names no closure, typed; fails where it names one or is ill, or for want of memory.
+/// Returns a unit that names no closure, typed; fails where it names one or is ill, or where memory is refused.
 pub fn typed_alone(
     alloc: Global,
     types: &Arc<GoodTypes, Global>,

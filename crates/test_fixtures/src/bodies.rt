@@ -1,14 +1,14 @@
 //! Functions, closures and declarations, by what an Ask finds in them.
 
-/// Writes the local once the borrow of it is used no more: no error.
+/// A body that writes the local once the borrow of it is used no more: no error.
 pub const WRITES_LAST: &[u8] =
     b"fn () -> int { let _1: int; let _2: &'?0 int; bb0 { _1 = 1; _2 = &'?1 _1; _0 = copy _2.*; _1 = 2; return; } }";
 
-/// Writes the local while the borrow of it is still used: one conflict.
+/// A body that writes the local while the borrow of it is still used: one conflict.
 pub const WRITES_WHILE_BORROWED: &[u8] =
     b"fn () -> int { let _1: int; let _2: &'?0 int; bb0 { _1 = 1; _2 = &'?1 _1; _1 = 2; _0 = copy _2.*; return; } }";
 
-/// Creates its closure 0 and invokes it.
+/// A body that creates its closure 0 and invokes it.
 pub const INVOKES: &[u8] =
     b"fn () -> int { let _1: closure 0; bb0 { _1 = closure 0(); _0 = invoke _1() bb1; } bb1 { return; } }";
 
@@ -19,5 +19,5 @@ pub const CLOSURE: &[u8] = b"closure [] () -> int { bb0 { _0 = 0; return; } }";
 pub const CLOSURE_WRITES: &[u8] =
     b"closure [] () -> int { let _1: int; let _2: &'?0 int; bb0 { _1 = 1; _2 = &'?1 _1; _1 = 2; _0 = copy _2.*; return; } }";
 
-/// A good declaration: its parameter stands behind a mutable reference, and is marked invariant.
+/// A good declaration: its parameter is behind a mutable reference, and is marked invariant.
 pub const MARKED_INVARIANT: &[u8] = b"struct H<='a> { &'static mut &'a int; }";

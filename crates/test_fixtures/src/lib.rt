@@ -28,29 +28,29 @@ pub use refused::again;
 use std::alloc::{AllocError, Global};
 pub use texts::{name, shared_types, shared_unit};
 
-/// A solver that always wants memory.
+/// Returns `AllocError`, always: a solver that never has memory.
 pub fn want_memory(_alloc: Global, _facts: &Facts) -> Result<Values, AllocError>
     ensures { IfOk result (AreValues _facts.now) }
 {
     Err(AllocError)
 }
 
-/// A liveness that always wants memory.
+/// Returns `AllocError`, always: a liveness that never has memory.
 pub fn no_live(_alloc: Global, _typed: &Typed) -> Result<LiveSets, AllocError>
     ensures { IfOk result (AreLive _typed.now) }
 {
     Err(AllocError)
 }
 
-/// Loans in scope that always want memory.
+/// Returns `AllocError`, always: an analysis of loans in scope that never has memory.
 pub fn no_scopes(_alloc: Global, _typed: &Typed, _values: &Values) -> Result<Scopes, AllocError>
     ensures { IfOk result (AreScopes _typed.now _values.now) }
 {
     Err(AllocError)
 }
 
-/// The providers of which each always wants memory, made with the allocator that is named; answers want of memory from the function in
-/// which it stands, where memory was refused for them. It is a macro, as `providers!` of `bc_analyses` is.
+/// Makes the providers of which each always returns `AllocError`, with the allocator that is named. Where memory was refused for them,
+/// the function in which it is written returns `AllocError`. It is a macro, as `providers!` of `bc_analyses` is.
 #[macro_export]
 macro_rules! refusing {
     ($alloc:expr) => {

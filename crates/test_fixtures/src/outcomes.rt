@@ -2,7 +2,7 @@
 use bc_prov::Outcome;
 use bc_text::Name;
 
-/// What is seen of an outcome of any size: no body, a missing closure, so many bodies with so many errors in all, or something else.
+/// A summary of an outcome of any size: no body, a missing closure, so many bodies with so many errors in all, or something else.
 #[derive(Clone, Copy, PartialEq)]
 pub enum Sight {
     NoBody,
@@ -12,7 +12,7 @@ pub enum Sight {
 }
 
 impl Sight {
-    /// What is seen of an outcome.
+    /// Returns the summary of an outcome.
     pub fn of(outcome: &Outcome) -> Sight {
         match outcome {
             Outcome::NoBody => Sight::NoBody,

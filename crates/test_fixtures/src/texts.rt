@@ -5,7 +5,7 @@ use bc_text::{Name, read_types, read_unit};
 use std::alloc::{AllocError, Global};
 use std::sync::Arc;
 
-/// The name that a text spells; fails where it spells none.
+/// Returns the name that a text spells; fails where it spells none.
 pub fn name(text: &[u8]) -> anyhow::Result<Name> {
     let Some(name) = Name::read(text) else {
         bail!("no name");
@@ -13,7 +13,7 @@ pub fn name(text: &[u8]) -> anyhow::Result<Name> {
     Ok(name)
 }
 
-/// The unit that a text spells, behind an `Arc`, as a put takes it; fails where it spells none, or for want of memory.
+/// Returns the unit that a text spells, behind an `Arc`, as a put takes it; fails where it spells none, or where memory is refused.
 pub fn shared_unit(alloc: Global, text: &[u8]) -> anyhow::Result<Arc<Unit, Global>> {
     match Arc::new(alloc, read_unit(alloc, text)?) {
         Ok(unit) => Ok(unit),
@@ -21,7 +21,7 @@ pub fn shared_unit(alloc: Global, text: &[u8]) -> anyhow::Result<Arc<Unit, Globa
     }
 }
 
-/// The declarations that a text spells, behind an `Arc`; fails where it spells none, or for want of memory.
+/// Returns the declarations that a text spells, behind an `Arc`; fails where it spells none, or where memory is refused.
 pub fn shared_types(alloc: Global, text: &[u8]) -> anyhow::Result<Arc<Types, Global>> {
     match Arc::new(alloc, read_types(alloc, text)?) {
         Ok(types) => Ok(types),

@@ -7,8 +7,8 @@ use std::sync::Wait;
 use std::thread::Threads;
 use test_devices::{Devices, Input, Left, Output};
 
-/// What one session of the command leaves of this input over these devices, with the providers of the program, as that runs it: what it prints
-/// is behind a buffer, of which what is not written is let go.
+/// Runs one session of the command on this input over these devices, with the providers of the program, as that runs it, and returns
+/// what it leaves: what it prints is behind a buffer, of which what is not written is dropped.
 pub fn leave<R: AllocGlobal + Threads + Wait + Sync>(
     rt: &R,
     input: &[u8],

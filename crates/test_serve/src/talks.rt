@@ -19,7 +19,7 @@ pub const LINES: &[u8] = b"{\"id\":1,\"call\":\"types\",\"text\":\"struct S { in
 []
 {\"id\":17,\"call\":\"askall\"}";
 
-/// What answers them.
+/// The lines that answer `LINES`.
 pub const ANSWERS: &[u8] = b"{\"id\":1,\"number\":0,\"reply\":\"stored\",\"session\":0}
 {\"id\":2,\"number\":1,\"reply\":\"added\",\"session\":0}
 {\"id\":\"three\",\"number\":2,\"reply\":\"wrongkind\",\"session\":0}
