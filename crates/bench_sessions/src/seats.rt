@@ -36,7 +36,8 @@ pub enum Act {
     Idle,
 }
 
-/// How many names were taken, how many answers were wrong, and how long that took, in nanoseconds: in all, and for all names at best.
+/// The measure of one session's turns: how many names were taken, how many answers were wrong, and how long that took, in
+/// nanoseconds: in all, and for all names at best.
 #[derive(Clone, Copy)]
 pub struct Done {
     taken: usize,

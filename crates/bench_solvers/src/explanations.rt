@@ -42,7 +42,7 @@ fn alone(alloc: Global, facts: &Facts) -> Result<u64, AllocError> {
     Ok(regions)
 }
 
-/// Explains elements in each way, many times. Gives how many regions the chains have that were found last, without an explainer.
+/// Explains elements in each way, many times. It returns how many regions the chains have that were found last, without an explainer.
 pub fn measure_explanations(
     rt: &HostRuntime,
     facts: &Facts,

@@ -29,7 +29,7 @@ pub struct Times {
 }
 
 impl Times {
-    /// No step was taken.
+    /// Returns times of which no step was taken.
     pub fn new() -> Times {
         Times {
             least: [None; 5],
@@ -37,12 +37,12 @@ impl Times {
         }
     }
 
-    /// A step begins.
+    /// Marks that a step begins.
     pub fn begin(&mut self, rt: &HostRuntime) {
         self.began = Instant::now(rt).ok();
     }
 
-    /// A step ends, and the next one begins.
+    /// Marks that a step ends, and that the next one begins.
     pub fn end(&mut self, rt: &HostRuntime, step: Step) {
         let took = self.began.and_then(|began| began.elapsed(rt).ok());
         if let (Some(took), Some(least)) = (took, self.least.get_mut(step as usize)) {

@@ -20,7 +20,7 @@ impl<R: AllocGlobal + Wait> Context<'_, R> {
         Ok(Call::Put(at, Shared::new(unit)))
     }
 
-    /// The call that a row spells; fails where it spells none.
+    /// Returns the call that a row spells; fails where it spells none.
     pub fn call(&self, row: &str) -> Result<Call> {
         let (verb, rest) = halves(row);
         match verb {

@@ -15,7 +15,7 @@ pub struct Opened<E: Ending> {
     pub scripts: Vec<Script>,
 }
 
-/// What the rows of a case have opened, and the works that were done and not settled yet.
+/// The state of a case: what its rows have opened, and the works that were done and not settled yet.
 #[derive(Drop)]
 pub struct Case<E: Ending> {
     opened: Vec<Opened<E>>,
@@ -23,7 +23,7 @@ pub struct Case<E: Ending> {
 }
 
 impl<E: Ending> Case<E> {
-    /// Nothing is opened, and no work was done.
+    /// Returns a case in which nothing is opened, and no work was done.
     pub fn new(alloc: Global) -> Case<E> {
         Case {
             opened: Vec::new(alloc),
@@ -41,7 +41,7 @@ impl<E: Ending> Case<E> {
         Ok(())
     }
 
-    /// What was opened under a letter; fails where nothing was.
+    /// Returns what was opened under a letter; fails where nothing was.
     pub fn at(&mut self, letter: &str) -> Result<&mut Opened<E>> {
         let place = match letter.as_bytes() {
             [letter] => usize::from(letter.wrapping_sub(b'a')),
@@ -53,7 +53,7 @@ impl<E: Ending> Case<E> {
         }
     }
 
-    /// The session of a letter and a number; fails where there is none.
+    /// Returns the session of a letter and a number; fails where there is none.
     pub fn session(&mut self, who: &str) -> Result<&mut Session<E>> {
         let (letter, number) = who.split_at_checked(1).unwrap_or(("", ""));
         let number: usize = number.parse()?;
@@ -76,7 +76,7 @@ impl<E: Ending> Case<E> {
         }
     }
 
-    /// Takes the sessions of a letter; none of no letter.
+    /// Takes the sessions of a letter; none where the letter is empty.
     pub fn take_sessions(&mut self, alloc: Global, letter: &str) -> Result<Vec<Session<E>>> {
         if letter.is_empty() {
             return Ok(Vec::new(alloc));

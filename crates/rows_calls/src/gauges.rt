@@ -8,7 +8,7 @@ use std::sync::Arc;
 use std::sync::atomic::AtomicU64;
 use std::sync::atomic::Ordering::SeqCst;
 
-/// How often a provider was called, and at how many of its first calls it wants memory.
+/// The count of the calls of a provider, and at how many of its first calls it returns `AllocError`.
 #[derive(Drop)]
 pub struct Gauge {
     calls: AtomicU64,
@@ -23,7 +23,7 @@ impl Gauge {
         }
     }
 
-    /// Counts a call; `AllocError` where the provider wants memory.
+    /// Counts a call. Returns `AllocError` where the provider is set to run out of memory.
     pub fn count(&self) -> Result<(), AllocError> {
         if self.calls.fetch_add(1, SeqCst) < self.refused.load(SeqCst) {
             return Err(AllocError);
@@ -31,7 +31,7 @@ impl Gauge {
         Ok(())
     }
 
-    /// How often the provider was called.
+    /// Returns how often the provider was called.
     pub fn calls(&self) -> u64 {
         self.calls.load(SeqCst)
     }
@@ -53,7 +53,8 @@ pub struct Gauges {
 }
 
 impl Gauges {
-    /// Gauges behind an `Arc`, so that each provider may own a part: none was called, none wants memory, and nobody meets.
+    /// Returns gauges behind an `Arc`, so that each provider may own a part: none was called, none is set to run out of memory,
+    /// and nobody meets.
     pub fn shared(alloc: Global) -> Result<Arc<Gauges, Global>, AllocError> {
         let gauges = Gauges {
             live: Gauge::new(),
@@ -67,8 +68,8 @@ impl Gauges {
         }
     }
 
-    /// Counts anew from now on, and has those providers want memory that a word names, and no other: at each call, or the solver at its
-    /// first one.
+    /// Counts anew from now on, and has those providers run out of memory that a word names, and no other: at each call, or the solver
+    /// at its first one.
     pub fn refuse(&self, which: &str) -> anyhow::Result<()> {
         let (live, solve, scopes) = match which {
             "none" => (0, 0, 0),

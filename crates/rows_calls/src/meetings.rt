@@ -16,7 +16,8 @@ use std::thread;
 use std::thread::Threads;
 use std::time::Clock;
 
-/// Whether two sessions meet at the solver now; how often session 0 has come there, and how many steps session 1 has made.
+/// The state of a meeting: whether two sessions meet at the solver now, how often session 0 has come there, and how many steps
+/// session 1 has made.
 #[derive(Drop)]
 pub struct Meeting {
     is_held: AtomicBool,
@@ -26,7 +27,7 @@ pub struct Meeting {
 }
 
 impl Meeting {
-    /// Nobody meets.
+    /// Returns a meeting to which nobody has come.
     pub fn new() -> Meeting {
         Meeting {
             is_held: AtomicBool::new(false),
@@ -36,7 +37,8 @@ impl Meeting {
         }
     }
 
-    /// Session 0 comes to its solver, and waits there, where a meeting is held, until session 1 has made as many steps as it has come there.
+    /// Where a meeting is held, marks that session 0 has come to its solver, and waits there until session 1 has made as many steps
+    /// as session 0 has come there.
     pub fn solve<C: Clock>(&self, clock: &C) {
         if self.is_held.load(SeqCst) {
             let before = self.solving.fetch_add(1, SeqCst);

@@ -10,7 +10,7 @@ use std::sync::Wait;
 use std::thread::Threads;
 use std::time::Clock;
 
-/// What rows are answered by, and all lines of their file.
+/// The surroundings of a row: what rows are answered by, and all lines of their file.
 #[derive(Clone, Copy)]
 pub struct Context<'a, R> {
     pub rt: &'a R,
@@ -19,13 +19,13 @@ pub struct Context<'a, R> {
     pub rows: &'a str,
 }
 
-/// What stands in front of the first blank, and what stands behind it: nothing where there is none.
+/// Returns what is in front of the first blank, and what is behind it: nothing where there is none.
 pub fn halves(text: &str) -> (&str, &str) {
     text.split_once(' ').unwrap_or((text, ""))
 }
 
 impl<'a, R: AllocGlobal + Wait> Context<'a, R> {
-    /// The text that the file has under a name, and the empty one under none; fails where it has none.
+    /// Returns the text that the file has under a name, and the empty one under none; fails where it has none.
     pub fn text(&self, name: &str) -> Result<&'a str> {
         if name.is_empty() {
             return Ok("");

@@ -8,21 +8,21 @@ use std::time::{Clock, Duration};
 /// How many turns of a millisecond a wait may take before it is given up.
 const MOST_TURNS: u32 = 10_000;
 
-/// Counts the waits that were given up; once there is one, nobody waits any more.
+/// The count of the waits that were given up; once there is one, nobody waits any more.
 #[derive(Drop)]
 pub struct Patience {
     late: AtomicU64,
 }
 
 impl Patience {
-    /// No wait was given up.
+    /// Returns a count of waits of which none was given up.
     pub fn new() -> Patience {
         Patience {
             late: AtomicU64::new(0),
         }
     }
 
-    /// Waits until something was done so often.
+    /// Waits until something was done so often, or gives the wait up.
     pub fn hold<C: Clock>(&self, clock: &C, done: &AtomicU64, times: u64) {
         for _turn in 0..MOST_TURNS {
             if done.load(SeqCst) >= times || self.late.load(SeqCst) > 0 {

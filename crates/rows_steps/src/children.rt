@@ -2,7 +2,7 @@
 //! children `f/K`, at most two, ascending.
 //!
 //! Below a row stands the place where a rule fails first, or what the points of the body demand of regions, each with the longer
-//! region and then the shorter by their numbers. (Own.)
+//! region and then the shorter by their numbers.
 ghost use Rattle.std.specs.Prelude.{◌≡◌, ⊤, map, MatchOption};
 ghost use Rattle.bc_syntax.specs.Children.{children_of};
 
@@ -190,7 +190,7 @@ fn show_row<W: Write>(alloc: Global, row: &str, out: &mut W) -> io::Result<()> {
 }
 
 /// Shows of each row of `children.txt` what its body demands over its children, or where it breaks a rule. It fails where the file
-/// cannot be read or `out` cannot be written, where the children are not those of the body, and for want of memory. (Own.)
+/// cannot be read or `out` cannot be written, where the children are not those of the body, and for want of memory.
 pub fn show_children<W: Write>(rt: &HostRuntime, out: &mut W) -> io::Result<()> {
     let text = fs::read_to_string(rt, "children.txt")?;
     for row in text.split('#').skip(1) {

@@ -1,5 +1,5 @@
 //! What each step of the analysis finds in bodies, and which bodies keep the typing rules over their children. It stands below the
-//! database, so that it is proved beside it. (Own.)
+//! database, so that it is proved beside it.
 #![tactic(auto)]
 
 mod children;

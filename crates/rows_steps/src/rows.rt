@@ -1,17 +1,17 @@
 //! Rows of a file: `#` begins one, its name, to the end of the line; then come its sections, each a line that begins with `@`, and a text.
 
-/// The name of a row, and its sections. (Own.)
+/// Returns the name of a row, and its sections.
 pub fn named(row: &str) -> (&str, &str) {
     row.split_once('\n').unwrap_or((row, ""))
 }
 
-/// What a section asks for, its line without the `@`, and its text. (Own.)
+/// Returns what a section asks for, its line without the `@`, and its text.
 pub fn headed(section: &str) -> (&str, &[u8]) {
     let (header, text) = named(section);
     (header, text.as_bytes())
 }
 
-/// The text of the first section that asks for this; empty where there is none. (Own.)
+/// Returns the text of the first section that asks for this; empty where there is none.
 pub fn text_under<'a>(sections: &'a str, wanted: &str) -> &'a [u8] {
     for section in sections.split('@').skip(1) {
         let (header, text) = headed(section);

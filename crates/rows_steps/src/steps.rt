@@ -3,7 +3,7 @@
 //! Below a row stand the points with their accesses, the edges between points, and then by number: the points before which a local
 //! is live, the demands between regions (the longer, then the shorter), the elements of a region's value, the loans with the point
 //! that makes each and its region, the loans in scope before a point, the regions that a universal one is known to outlive, and
-//! the errors, each with its chain. (Own.)
+//! the errors, each with its chain.
 ghost use Rattle.std.specs.Prelude.{◌≡◌, [], map, IfOk};
 ghost use Rattle.bc_mir.specs.declared.children.Child.{Child as AChild};
 ghost use Rattle.bc_solve.specs.Values.{AreValues};
@@ -292,7 +292,7 @@ fn show_row<W: Write>(alloc: Global, row: &str, out: &mut W) -> io::Result<()> {
 }
 
 /// Shows what each step of the analysis finds in the body of each row of `steps.txt`. It fails where that cannot be read or `out`
-/// cannot be written, where a row's body does not keep the typing rules, and for want of memory. (Own.)
+/// cannot be written, where a row's body does not keep the typing rules, and for want of memory.
 pub fn show_steps<W: Write>(rt: &HostRuntime, out: &mut W) -> io::Result<()> {
     let text = fs::read_to_string(rt, "steps.txt")?;
     for row in text.split('#').skip(1) {

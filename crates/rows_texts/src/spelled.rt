@@ -30,7 +30,7 @@ fn push_escape(text: &mut Vec<u8>, escape: &str) -> anyhow::Result<()> {
     Ok(())
 }
 
-/// The text that is spelled so.
+/// Returns the text that is spelled so.
 pub fn text_of(alloc: Global, spelled: &str) -> anyhow::Result<Vec<u8>> {
     let mut text = Vec::new(alloc);
     for (index, part) in spelled.split('\\').enumerate() {

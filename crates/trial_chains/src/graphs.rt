@@ -58,7 +58,7 @@ fn entries(alloc: Global, random: &mut Pcg32) -> Result<Vec<Entry>, AllocError>
     Ok(entries)
 }
 
-/// Constraints between seven regions, and what these start with of three elements.
+/// Returns constraints between seven regions, with what these start with of three elements.
 pub fn facts(alloc: Global, random: &mut Pcg32) -> Result<Facts, AllocError> {
     let pairs = pairs(alloc, random)?;
     let entries = entries(alloc, random)?;

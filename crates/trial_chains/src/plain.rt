@@ -39,7 +39,7 @@ fn push_chain(
     Ok(false)
 }
 
-/// The first of the shortest chains, its last region first, or nothing where there is none. No shortest chain has a region twice.
+/// Returns the first of the shortest chains, its last region first, or nothing where there is none. No shortest chain has a region twice.
 pub fn first_shortest(
     alloc: Global,
     facts: &Facts,

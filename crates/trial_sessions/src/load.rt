@@ -419,7 +419,7 @@ fn show_tally<W: Write>(all: Tally, out: &mut W) -> io::Result<()> {
 }
 
 /// Shows how many calls a second sixteen sessions make in rounds of a new database each, until they have taken so many seconds, and then in
-/// one of a history that is nearly full. Fails where a history, or what was read, is not what a map says. (Own.)
+/// one of a history that is nearly full. Fails where a history, or what was read, is not what a map says.
 pub fn show_load<R: AllocGlobal + Threads + Wait + Clock + Sync, W: Write>(
     rt: &R,
     providers: &Providers,
@@ -441,7 +441,7 @@ pub fn show_load<R: AllocGlobal + Threads + Wait + Clock + Sync, W: Write>(
 }
 
 /// Shows that the histories of sixteen sessions, and all that they read, are what a map says: over many names, and over four that all
-/// write. Fails where they are not. (Own.)
+/// write. Fails where they are not.
 pub fn show_agreement<R: AllocGlobal + Threads + Wait + Clock + Sync, W: Write>(
     rt: &R,
     providers: &Providers,
