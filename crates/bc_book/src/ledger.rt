@@ -25,7 +25,7 @@ use std::alloc::{AllocError, Global};
 use std::marker::Model;
 use thiserror::Error;
 
-/// The most sessions that a database has.
+/// The most sessions that a database may have.
 pub const MOST_SESSIONS: usize = 16;
 
 /// The reason why a call was refused: memory was refused, or the history is as long as it may be. The call changed nothing.
@@ -42,7 +42,7 @@ impl From<AllocError> for Refusal {
 
     ghost from_gives = { λ _ refusal. refusal ≡ NoMemory };
 
-    /// Want of memory, as a refusal: `NoMemory`.
+    /// Returns the refusal `NoMemory`, of a call for which memory was refused.
     fn from(_error: AllocError) -> Refusal {
         Refusal::NoMemory
     }

@@ -9,7 +9,7 @@ use bc_syntax::{Types, Unit};
 use bc_text::Name;
 use std::alloc::AllocError;
 
-/// The most bodies that a database holds.
+/// The most bodies that a database may hold.
 pub const MOST_BODIES: usize = 1024;
 
 /// A call of a session: to store declarations in place of those before, to put a unit under a name, to take the unit of a name
@@ -84,7 +84,7 @@ pub struct Entry {
 }
 
 impl Entry {
-    /// Makes one more owner of what the entry brings. Returns `AllocError` only where memory was refused.
+    /// Copies the entry, as one more owner of what it brings. Returns `AllocError` only where memory was refused.
     pub fn copy(&self) -> Result<Entry, AllocError>
         ensures { IfOk result (λ copy. copy ≡ self.now) }
     {
@@ -112,7 +112,7 @@ impl Event {
         self == other
     }
 
-    /// Makes one more owner of what the event brings. Returns `AllocError` only where memory was refused.
+    /// Copies the event, as one more owner of what it brings. Returns `AllocError` only where memory was refused.
     pub fn copy(&self) -> Result<Event, AllocError>
         ensures { IfOk result (λ copy. copy ≡ self.now) }
     {

@@ -73,7 +73,7 @@ impl PieceMemo {
         share_pieces(alloc, within(&self.rows, root))
     }
 
-    /// Makes one more owner of each piece that is kept. Returns `AllocError` only where an owner or memory was refused.
+    /// Copies the memo, as one more owner of each piece that it keeps. Returns `AllocError` only where an owner or memory was refused.
     pub fn copy(&self, alloc: Global) -> Result<PieceMemo, AllocError>
         ensures { IfOk result (λ copy. copy.rows ≡ self.now.rows) }
     {

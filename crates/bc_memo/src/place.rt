@@ -15,7 +15,7 @@ pub struct Place {
 }
 
 impl Place {
-    /// Makes one more owner of the unit and of the outcome, with the revision. Returns `AllocError` only where an owner was refused.
+    /// Copies the place, as one more owner of the unit and of the outcome. Returns `AllocError` only where an owner was refused.
     pub fn copy(&self) -> Result<Place, AllocError>
         ensures { IfOk result (λ copy. copy ≡ self.now) }
     {

@@ -293,8 +293,8 @@ impl Shelf {
         Ok(())
     }
 
-    /// Makes one more owner of all that is held, and of the pieces that are kept of it. Returns `AllocError` only where an owner or
-    /// memory was refused.
+    /// Copies the shelf, as one more owner of all that is held and of the pieces that are kept of it. Returns `AllocError` only
+    /// where an owner or memory was refused.
     pub fn copy(&self, alloc: Global) -> Result<Shelf, AllocError>
         ensures held { IfOk result (λ copy. copy.held ≡ self.now.held) }
         ensures pieces { IfOk result (λ copy. copy.pieces ≡ self.now.pieces) }

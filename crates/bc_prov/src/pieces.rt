@@ -137,7 +137,7 @@ impl PieceSet {
         Ok(())
     }
 
-    /// Makes one more owner of the declarations and of each piece. Returns `AllocError` only where memory was refused.
+    /// Copies the set, as one more owner of the declarations and of each piece. Returns `AllocError` only where memory was refused.
     pub fn copy(&self, alloc: Global) -> Result<PieceSet, AllocError>
         ensures { IfOk result (λ copy. copy ≡ self.now) }
     {

@@ -16,7 +16,7 @@ use std::marker::Model;
 use std::sync::{Arc, Wait};
 use thiserror::Error;
 
-/// The most entries that a history has.
+/// The most entries that a history may have.
 pub const MOST_ENTRIES: u32 = 1_000_000;
 
 /// The reason why a database could not be opened: the capacity or the number of sessions is out of its range, or memory was refused.

@@ -190,7 +190,7 @@ fn show_row<W: Write>(alloc: Global, row: &str, out: &mut W) -> io::Result<()> {
 }
 
 /// Shows of each row of `children.txt` what its body demands over its children, or where it breaks a rule. It fails where the file
-/// cannot be read or `out` cannot be written, where the children are not those of the body, and for want of memory.
+/// cannot be read or `out` cannot be written, where the children are not those of the body, and where memory is refused.
 pub fn show_children<W: Write>(rt: &HostRuntime, out: &mut W) -> io::Result<()> {
     let text = fs::read_to_string(rt, "children.txt")?;
     for row in text.split('#').skip(1) {

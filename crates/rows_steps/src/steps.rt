@@ -292,7 +292,7 @@ fn show_row<W: Write>(alloc: Global, row: &str, out: &mut W) -> io::Result<()> {
 }
 
 /// Shows what each step of the analysis finds in the body of each row of `steps.txt`. It fails where that cannot be read or `out`
-/// cannot be written, where a row's body does not keep the typing rules, and for want of memory.
+/// cannot be written, where a row's body does not keep the typing rules, and where memory is refused.
 pub fn show_steps<W: Write>(rt: &HostRuntime, out: &mut W) -> io::Result<()> {
     let text = fs::read_to_string(rt, "steps.txt")?;
     for row in text.split('#').skip(1) {
