@@ -49,7 +49,7 @@ impl PartialEq for Declared {
 
     ghost laws = { laws-law };
 
-    /// Whether the declarations are equal, and so what their check found.
+    /// Returns whether the declarations are equal, and so the results of their check.
     fn eq(&self, other: &Declared) -> bool {
         self.types == other.types
     }

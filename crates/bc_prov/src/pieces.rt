@@ -93,7 +93,7 @@ impl Model for PieceSet {
 }
 
 impl PieceSet {
-    /// Makes a set of these pieces and of the declarations, from which it asks that each piece was found. It takes no memory.
+    /// Makes a set of these pieces with these declarations. It asks that each piece was found from them. It takes no memory.
     pub fn of(types: Shared<Declared>, rows: Pieces) -> PieceSet
         requires { AreOver types rows.items }
         ensures { result ≡ record { types = types; rows = rows.items } }

@@ -13,7 +13,7 @@ use thiserror::Error;
 pub struct WriterFault(io::Error);
 
 impl From<WriterFault> for io::Error {
-    /// The fault of the write itself.
+    /// Returns the fault of the write itself.
     fn from(fault: WriterFault) -> io::Error {
         fault.0
     }
