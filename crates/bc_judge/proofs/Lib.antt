@@ -1,4 +1,5 @@
 pub mod Walks
+pub mod Locals
 pub mod OutOfScope
 pub mod Closure
 pub mod Law

@@ -1,6 +1,6 @@
--- Loans that are not in scope give no conflict.
-use Rattle.std.proofs.Common.{◌≡◌, ℕ, ◌+◌, ◌≤◌, Bool, false, List, [], ◌++◌, length, sym, ap, ◌∙◌, arith, append-nil, Option, Some, None}
-use Rattle.std.specs.Prelude.{slice_get, MatchOption, is_some}
+-- Loans that are not in scope, and those with which an access does not conflict, give no conflict.
+use Rattle.std.proofs.Common.{◌≡◌, ℕ, ◌+◌, ◌≤◌, inl, inr, Bool, false, List, [], ◌∷◌, ◌++◌, length, sym, ap, ◌∙◌, arith, append-nil, Option, Some, None}
+use Rattle.std.specs.Prelude.{slice_get, MatchOption, is_some, if◌then◌else◌}
 use Rattle.bc_flow.specs.BitSet.{has, IsNextMember}
 use Rattle.bc_judge.specs.declared.conflicts.Conflict.{Conflict}
 use Rattle.bc_points.specs.declared.access.Access.{Access}
@@ -9,8 +9,11 @@ use Rattle.bc_points.specs.declared.loan.Loan.{Loan}
 use Rattle.bc_mir.specs.Mir.{Mir}
 use Rattle.bc_points.specs.Accesses.{accesses_of}
 use Rattle.bc_loans.specs.Loans.{loans_of}
-use Rattle.bc_judge.specs.Conflicts.{conflict_with, conflicts_of_access, conflicts_at}
-use Rattle.bc_judge.proofs.Walks.{from_on, nothing, walk-turn, walk-past, walk-end}
+use Rattle.bc_flow.specs.Flow.{row, holds}
+use Rattle.bc_judge.specs.Candidates.{row_number, HaveCandidates, AreCandidates, both_have, IsNextInBoth}
+use Rattle.bc_judge.specs.Conflicts.{is_conflict, conflict_with, conflicts_of_access, conflicts_at}
+use Rattle.bc_judge.proofs.Locals.{none_right, either_false, no_conflict, are_candidates}
+use Rattle.bc_judge.proofs.Walks.{from_on, nothing, nothing_on, walk-turn, walk-past, walk-end}
 
 pub out_of_scope : (mir : Mir) (scope : ℕ → Bool) (point : ℕ) (access : ℕ × Access) (n : ℕ) (loan : ℕ × Loan) → scope n ≡ false → conflict_with mir scope point access (n, loan) ≡ []
 out_of_scope mir scope point access n loan not_there = rw not_there
@@ -25,24 +28,46 @@ no_loan_in_scope mir scope here none =
 abbrev pub conflicts_from : Mir → List Bool → ℕ → ℕ × Access → List (ℕ × Loan) → ℕ → List Conflict
 conflicts_from mir set point access loans n = from_on (conflict_with mir (has set) point access) loans n
 
-pub access-turn : (mir : Mir) (set : List Bool) (point : ℕ) (access : ℕ × Access) (loans : List (ℕ × Loan)) (items new whole : List Conflict) (from member : ℕ) (loan : ℕ × Loan) →
-    IsNextMember set from member → slice_get loans member ≡ Some loan → new ≡ items ++ conflict_with mir (has set) point access (member, loan) →
+-- ---- candidates
+
+no_match : (mir : Mir) (scope : ℕ → Bool) (point : ℕ) (access : ℕ × Access) (n : ℕ) (loan : ℕ × Loan) → is_conflict mir access.1 loan.1 ≡ false → conflict_with mir scope point access (n, loan) ≡ []
+no_match mir scope point access n loan none =
+    let conflict : Conflict = record { point = point; access = access.0; maker = loan.0; region = loan.1.region } in
+    ap (λ (b : Bool). if b then conflict ∷ [] else []) (none_right (scope n) (is_conflict mir access.1 loan.1) none)
+
+-- a loan that is no candidate, or not in scope
+passed_over : (mir : Mir) (among set : List Bool) (point : ℕ) (access : ℕ × Access) (loans : List (ℕ × Loan)) → AreCandidates mir access.1 loans among → (n : ℕ) (loan : ℕ × Loan) → slice_get loans n ≡ Some loan →
+    both_have among set n ≡ false → conflict_with mir (has set) point access (n, loan) ≡ []
+passed_over mir among set point access loans are n loan is none = elim (either_false (has among n) (has set n) none) [
+  | inl no_candidate ↦ no_match mir (has set) point access n loan (no_conflict mir access.1 loans among are n loan is no_candidate)
+  | inr not_there ↦ out_of_scope mir (has set) point access n loan not_there
+]
+
+pub access-turn : (mir : Mir) (among set : List Bool) (point : ℕ) (access : ℕ × Access) (loans : List (ℕ × Loan)) (items new whole : List Conflict) (from member : ℕ) (loan : ℕ × Loan) →
+    AreCandidates mir access.1 loans among → IsNextInBoth among set from member → slice_get loans member ≡ Some loan → new ≡ items ++ conflict_with mir (has set) point access (member, loan) →
     items ++ conflicts_from mir set point access loans from ≡ whole → new ++ conflicts_from mir set point access loans (member + 1) ≡ whole
-access-turn mir set point access loans items new whole from member loan next is added before =
+access-turn mir among set point access loans items new whole from member loan are next is added before =
     walk-turn (conflict_with mir (has set) point access) loans items new whole from member loan next.onward
-    (λ i skipped low high. out_of_scope mir (has set) point access i skipped (next.least i low high)) is added before
+    (λ i other low high there. passed_over mir among set point access loans are i other there (next.least i low high)) is added before
 
-pub access-past : (mir : Mir) (set : List Bool) (point : ℕ) (access : ℕ × Access) (loans : List (ℕ × Loan)) (items whole : List Conflict) (from member : ℕ) →
-    IsNextMember set from member → length loans ≤ member → items ++ conflicts_from mir set point access loans from ≡ whole → items ≡ whole
-access-past mir set point access loans items whole from member next past before =
+pub access-past : (mir : Mir) (among set : List Bool) (point : ℕ) (access : ℕ × Access) (loans : List (ℕ × Loan)) (items whole : List Conflict) (from member : ℕ) →
+    AreCandidates mir access.1 loans among → IsNextInBoth among set from member → length loans ≤ member → items ++ conflicts_from mir set point access loans from ≡ whole → items ≡ whole
+access-past mir among set point access loans items whole from member are next past before =
     walk-past (conflict_with mir (has set) point access) loans items whole from member next.onward
-    (λ i skipped low high. out_of_scope mir (has set) point access i skipped (next.least i low high)) past before
+    (λ i other low high there. passed_over mir among set point access loans are i other there (next.least i low high)) past before
 
-pub access-end : (mir : Mir) (set : List Bool) (point : ℕ) (access : ℕ × Access) (loans : List (ℕ × Loan)) (items whole : List Conflict) (from : ℕ) →
-    ((i : ℕ) → from ≤ i → has set i ≡ false) → items ++ conflicts_from mir set point access loans from ≡ whole → items ≡ whole
-access-end mir set point access loans items whole from none before =
+pub access-end : (mir : Mir) (among set : List Bool) (point : ℕ) (access : ℕ × Access) (loans : List (ℕ × Loan)) (items whole : List Conflict) (from : ℕ) →
+    AreCandidates mir access.1 loans among → ((i : ℕ) → from ≤ i → both_have among set i ≡ false) → items ++ conflicts_from mir set point access loans from ≡ whole → items ≡ whole
+access-end mir among set point access loans items whole from are none before =
     walk-end (conflict_with mir (has set) point access) loans items whole from
-    (λ i skipped low. out_of_scope mir (has set) point access i skipped (none i low)) before
+    (λ i other low there. passed_over mir among set point access loans are i other there (none i low)) before
+
+-- an access whose row is not there has no conflict
+pub no_candidates : (mir : Mir) (set : List Bool) (point : ℕ) (access : ℕ × Access) (rows : List (List Bool)) (reached : ℕ) → reached ≡ row_number access.1.kind access.1.place.local → HaveCandidates (loans_of mir) rows →
+    ((l : ℕ) → holds rows reached l ≡ false) → conflicts_of_access mir (has set) point access ≡ []
+no_candidates mir set point access rows reached at have none =
+    nothing_on (conflict_with mir (has set) point access) (loans_of mir) 0
+    (λ i loan _ is. no_match mir (has set) point access i loan (no_conflict mir access.1 (loans_of mir) (row rows reached) (are_candidates mir access.1 (loans_of mir) rows have reached at) i loan is (none i)))
 
 pub nothing-added : {X : Type 0} (items more : List X) → more ≡ [] → items ≡ items ++ more
 nothing-added items more none = sym (append-nil items) ∙ ap (λ xs. items ++ xs) (sym none)

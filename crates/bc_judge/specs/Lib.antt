@@ -1,4 +1,5 @@
 pub mod Conflicts
+pub mod Candidates
 pub mod Lifetimes
 pub mod Errors
 pub mod Known

@@ -5,8 +5,10 @@ ghost use Rattle.bc_flow.specs.BitSet.{has};
 ghost use Rattle.bc_flow.specs.Flow.{holds};
 ghost use Rattle.bc_points.specs.Accesses.{accesses_of};
 ghost use Rattle.bc_loans.specs.Loans.{loans_of};
+ghost use Rattle.bc_judge.specs.Candidates.{HaveCandidates, AreCandidates};
 ghost use Rattle.bc_judge.specs.Conflicts.{is_conflict as conflict_test, conflict_with, conflicts_of_access, conflicts_at, conflicts_of_step, conflicts_of};
 
+use crate::candidates::{candidate_rows, next_in_both, row_number};
 use crate::relevance::is_conflict;
 use bc_flow::{BitRow, BitTable};
 use bc_loans::loans;
@@ -49,22 +51,24 @@ fn push_conflict(
     Ok(())
 }
 
-/// Appends the conflicts of an access with the loans of `scope`, which are in scope on entry to its point.
-fn push_access(
+/// Appends the conflicts of an access with those of its candidates that `scope` has, which are in scope on entry to its point.
+fn push_candidates(
     conflicts: &mut Vec<Conflict>,
     typed: &Typed,
     loans: &[(usize, Loan<'_>)],
+    candidates: &BitRow<'_>,
     scope: &BitRow<'_>,
     point: usize,
     number: usize,
     access: &Access<'_>,
 ) -> Result<(), AllocError>
-    requires { loans.now ≡ loans_of typed.now }
+    requires loans { loans.now ≡ loans_of typed.now }
+    requires candidates { AreCandidates typed.now access.now loans.now candidates.now }
     ensures { OnOk result (conflicts.new.items
         ≡ conflicts.old.items ++ conflicts_of_access typed.now (has scope.now) point (number, access.now)) }
 {
     let mut from = 0;
-    while let Some(member) = scope.next_member(from) {
+    while let Some(member) = next_in_both(candidates, scope, from) {
         let Some((maker, loan)) = loans.get(member) else {
             return Ok(());
         };
@@ -74,21 +78,56 @@ fn push_access(
     Ok(())
 }
 
+/// Appends the conflicts of an access with the loans of `scope`, which are in scope on entry to its point. `rows` has the candidates
+/// of each access.
+fn push_access(
+    conflicts: &mut Vec<Conflict>,
+    typed: &Typed,
+    loans: &[(usize, Loan<'_>)],
+    rows: &BitTable,
+    scope: &BitRow<'_>,
+    point: usize,
+    number: usize,
+    access: &Access<'_>,
+) -> Result<(), AllocError>
+    requires loans { loans.now ≡ loans_of typed.now }
+    requires rows { HaveCandidates loans.now rows.now }
+    ensures { OnOk result (conflicts.new.items
+        ≡ conflicts.old.items ++ conflicts_of_access typed.now (has scope.now) point (number, access.now)) }
+{
+    let reached = row_number(access.kind, access.place.local());
+    match rows.get(reached) {
+        Some(candidates) => push_candidates(
+            conflicts,
+            typed,
+            loans,
+            &candidates,
+            scope,
+            point,
+            number,
+            access,
+        ),
+        None => Ok(()),
+    }
+}
+
 /// Appends the conflicts of the accesses of a point.
 fn push_conflicts(
     conflicts: &mut Vec<Conflict>,
     typed: &Typed,
     loans: &[(usize, Loan<'_>)],
+    rows: &BitTable,
     scope: &BitRow<'_>,
     point: usize,
     accesses: &[Access<'_>],
 ) -> Result<(), AllocError>
-    requires { loans.now ≡ loans_of typed.now }
+    requires loans { loans.now ≡ loans_of typed.now }
+    requires rows { HaveCandidates loans.now rows.now }
     ensures { OnOk result (conflicts.new.items
         ≡ conflicts.old.items ++ flat_map (conflicts_of_access typed.now (has scope.now) point) (enumerate_from 0 accesses.now)) }
 {
     for (number, access) in accesses.iter().enumerate() {
-        push_access(conflicts, typed, loans, scope, point, number, access)?;
+        push_access(conflicts, typed, loans, rows, scope, point, number, access)?;
     }
     Ok(())
 }
@@ -101,11 +140,13 @@ fn push_step<'a>(
     accesses: &mut Vec<Access<'a>>,
     typed: &Typed,
     loans: &[(usize, Loan<'_>)],
+    rows: &BitTable,
     scope: &BitRow<'_>,
     point: usize,
     step: &'a Step,
 ) -> Result<(), AllocError>
-    requires { loans.now ≡ loans_of typed.now }
+    requires loans { loans.now ≡ loans_of typed.now }
+    requires rows { HaveCandidates loans.now rows.now }
     ensures { OnOk result (conflicts.new.items ≡ conflicts.old.items ++ conflicts_at typed.now (has scope.now) (point, step.now)) }
 {
     if scope.next_member(0).is_none() {
@@ -113,7 +154,7 @@ fn push_step<'a>(
     }
     accesses.clear();
     push_accesses(alloc, accesses, typed, &step.instruction)?;
-    push_conflicts(conflicts, typed, loans, scope, point, accesses)
+    push_conflicts(conflicts, typed, loans, rows, scope, point, accesses)
 }
 
 /// Appends the conflicts of a point, by its number.
@@ -123,16 +164,18 @@ fn push_point<'a>(
     accesses: &mut Vec<Access<'a>>,
     typed: &Typed,
     loans: &[(usize, Loan<'_>)],
+    rows: &BitTable,
     scopes: &BitTable,
     point: usize,
     step: &'a Step,
 ) -> Result<(), AllocError>
-    requires { loans.now ≡ loans_of typed.now }
+    requires loans { loans.now ≡ loans_of typed.now }
+    requires rows { HaveCandidates loans.now rows.now }
     ensures { OnOk result (conflicts.new.items ≡ conflicts.old.items ++ conflicts_of_step typed.now (holds scopes.now) (point, step.now)) }
 {
     match scopes.get(point) {
         Some(scope) => push_step(
-            alloc, conflicts, accesses, typed, loans, &scope, point, step,
+            alloc, conflicts, accesses, typed, loans, rows, &scope, point, step,
         ),
         None => Ok(()),
     }
@@ -147,6 +190,7 @@ pub(crate) fn conflicts(
     ensures { IfOk result (λ conflicts. conflicts.items ≡ conflicts_of typed.now (holds scopes.now)) }
 {
     let loans = loans(alloc, typed)?;
+    let rows = candidate_rows(alloc, &loans)?;
     let mut conflicts = Vec::new(alloc);
     let mut accesses = Vec::new(alloc);
     for (point, step) in typed.steps().iter().enumerate() {
@@ -156,6 +200,7 @@ pub(crate) fn conflicts(
             &mut accesses,
             typed,
             &loans,
+            &rows,
             scopes,
             point,
             step,

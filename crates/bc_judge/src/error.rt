@@ -14,7 +14,7 @@ use bc_syntax::{Region, Sequence};
 ///
 /// `chain` explains the error: each of its regions must outlive the next. It begins with the loan's region and ends with one that
 /// is live at the point, or begins with the longer region and ends with one that has the end of the shorter from the start. It is
-/// the first of the shortest such lists. (Own; rustc-dev-guide, "Region inference (NLL)", on the constraints that errors are
+/// the first of the shortest such lists. (rustc-dev-guide, "Region inference (NLL)", on the constraints that errors are
 /// explained by.)
 #[derive(Drop, PartialEq)]
 pub enum BorrowError {
@@ -32,7 +32,7 @@ pub enum BorrowError {
 }
 
 impl BorrowError {
-    /// The chain that explains the error. (Own.)
+    /// The chain that explains the error.
     pub fn chain(&self) -> &[Region]
         ensures { result.now ≡ chain_of self.now }
     {

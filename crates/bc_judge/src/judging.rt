@@ -17,12 +17,12 @@ use bc_mir::Typed;
 use bc_solve::Values;
 use std::alloc::{AllocError, Global};
 
-/// The verdict on a body, over the facts, values and scopes that are handed in: its errors, which are the conflicts by
-/// point, access and loan, and then the lifetime errors by longer and shorter region, each once and with the chain that explains it;
-/// and what it requires of its creator, by longer and shorter region, each once. It asks that the values are those of the facts, and
-/// the scopes those of the values. In a function each failure is a lifetime error. In a closure one between
-/// external regions and `'static` alone is a requirement, and any other an error. Answers `AllocError` only where memory was
-/// refused (RFC 2094, "Borrow checker phase 2" and "Named lifetimes"; rustc-dev-guide, "Propagating closure constraints").
+/// The verdict on a body: all its errors, and all that it requires of its creator, each once and in order. The errors are the
+/// conflicts by point, access and loan, and then the lifetime errors by longer and shorter region, each with the chain that
+/// explains it. The requirements come by longer and shorter region. In a function each failure is a lifetime error. In a closure
+/// one between external regions and `'static` alone is a requirement, and any other an error. It asks that the values are those
+/// of the facts, and the scopes those of the values. Answers `AllocError` only where memory was refused. (RFC 2094, "Borrow
+/// checker phase 2" and "Named lifetimes"; rustc-dev-guide, "Propagating closure constraints".)
 pub fn judge(
     alloc: Global,
     typed: &Typed,

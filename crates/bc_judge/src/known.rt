@@ -29,7 +29,7 @@ impl Model for KnownRelations {
 
 impl KnownRelations {
     /// Whether the first region is known to outlive the second, both by number. A number that is none of the body's
-    /// universal regions gives false. It takes no memory. (Own.)
+    /// universal regions gives false. It takes no memory.
     pub fn contains(&self, longer: usize, shorter: usize) -> bool
         ensures { result ≡ holds self.now longer shorter }
     {
@@ -37,7 +37,7 @@ impl KnownRelations {
     }
 }
 
-/// What a region outlives is handed on from the shorter region of each clause to the longer one.
+/// The edges of clauses: what a region outlives is handed on from the shorter region of each clause to the longer one.
 fn clause_edges(alloc: Global, clauses: &[Outlives]) -> Result<Vec<Edge>, AllocError>
     ensures { IfOk result (λ edges. edges.items ≡ map edge_of clauses.now) }
 {
@@ -50,7 +50,7 @@ fn clause_edges(alloc: Global, clauses: &[Outlives]) -> Result<Vec<Edge>, AllocE
         .collect(alloc)
 }
 
-/// Appends what a pair hands on: a variable hands nothing on.
+/// Appends the edge of a pair, from the shorter region to the longer one, or none where one of the two is a variable.
 fn push_edges_between(
     edges: &mut Vec<Edge>,
     longer: Region,
@@ -73,6 +73,7 @@ fn push_edges_between(
     }
 }
 
+/// Appends the edges of pairs, in order.
 fn push_pair_edges(edges: &mut Vec<Edge>, pairs: &[Constraint]) -> Result<(), AllocError>
     ensures { OnOk result (edges.new.items ≡ edges.old.items ++ flat_map pair_edges pairs.now) }
 {
@@ -82,7 +83,8 @@ fn push_pair_edges(edges: &mut Vec<Edge>, pairs: &[Constraint]) -> Result<(), Al
     Ok(())
 }
 
-/// What a region outlives is handed on by the clauses, and by what the types of the captures and the parameters demand.
+/// The edges along which known relations are handed on: those of the clauses, and those of the pairs that the types of
+/// the captures and the parameters demand.
 fn known_edges(alloc: Global, typed: &Typed) -> Result<Vec<Edge>, AllocError>
     ensures value { IfOk result (λ edges. edges.items ≡ edges_known typed.now) }
     ensures within { IfOk result (λ edges. AreWithin edges.items typed.now.universals) }
@@ -108,7 +110,7 @@ fn push_entries(entries: &mut Vec<Entry>, region: usize) -> Result<(), AllocErro
     Ok(())
 }
 
-/// The same for each region.
+/// The entries of all universal regions, in order: each region outlives itself, and `'static` outlives it.
 fn first_entries(alloc: Global, universals: usize) -> Result<Vec<Entry>, AllocError>
     ensures { IfOk result (λ entries. entries.items ≡ flat_map entries_of (range_with_len 0 universals)) }
 {
@@ -119,10 +121,10 @@ fn first_entries(alloc: Global, universals: usize) -> Result<Vec<Entry>, AllocEr
     Ok(entries)
 }
 
-/// The relations between universal regions that a body may count on: the reflexive and transitive closure of its
-/// `where` clauses, of what the types of its captures and parameters demand to be well-formed, and of `'static` outliving all
-/// (RFC 2094, "Named lifetimes": the universal regions and their declared relations; RFC 1214, "implied bounds"). Answers
-/// `AllocError` only where memory was refused.
+/// The relations between universal regions that a body may count on. They are the reflexive and transitive closure of its
+/// `where` clauses, of what the types of its captures and parameters demand to be well-formed, and of `'static` outliving
+/// all. Answers `AllocError` only where memory was refused. (RFC 2094, "Named lifetimes": the universal regions and their
+/// declared relations; RFC 1214, "implied bounds".)
 pub fn known_relations(alloc: Global, typed: &Typed) -> Result<KnownRelations, AllocError>
     ensures tells { IfOk result (λ known. TellsKnown typed.now (holds known)) }
     ensures regions { IfOk result (λ known. length known ≡ typed.now.universals) }

@@ -2,6 +2,7 @@
 //! with no known reason to (RFC 2094, "Borrow checker phase 2" and "Named lifetimes").
 #![tactic(auto)]
 
+mod candidates;
 mod conflicts;
 mod error;
 mod explained;

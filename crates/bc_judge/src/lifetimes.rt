@@ -16,6 +16,7 @@ fn is_among(externals: &[usize], number: usize) -> bool
     externals.iter().any(|external| *external == number)
 }
 
+/// Whether a number is that of `'static` or among these.
 fn is_static_or(externals: &[usize], number: u8) -> bool
     ensures { result ≡ static_or externals.now number }
 {
@@ -39,6 +40,7 @@ fn is_required_in(kind: UnitKind, externals: &[usize], failure: Outlives) -> boo
     }
 }
 
+/// Whether a failure is a requirement of a body.
 fn is_required(typed: &Typed, failure: Outlives) -> bool
     ensures { result ≡ required typed.now failure }
 {

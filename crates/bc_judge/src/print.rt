@@ -27,7 +27,7 @@ impl fmt::Display for BorrowError {
     }
 }
 
-/// A region as a chain has it: a universal one by its number, a variable as `'?N`. (Own.)
+/// A region as a chain has it: a universal one by its number, a variable as `'?N`.
 #[derive(Clone, Copy)]
 pub struct PrintedRegion {
     pub region: Region,
@@ -44,7 +44,7 @@ impl fmt::Display for PrintedRegion {
     }
 }
 
-/// A chain as a report has it, without the four spaces before it and the line feed behind it. (Own.)
+/// A chain as a report has it, without the four spaces before it and the line feed behind it.
 #[derive(Clone, Copy)]
 pub struct PrintedChain<'a> {
     pub regions: &'a [Region],

@@ -24,8 +24,7 @@ use bc_syntax::Sequence;
 use std::alloc::{AllocError, Global};
 
 /// What is found of a body: its errors in order, and the relations between its external regions that its creator
-/// has to meet.
-/// (RFC 2094, "Borrow checker phase 2" and "Named lifetimes"; the requirements are own.)
+/// has to meet. (RFC 2094, "Borrow checker phase 2" and "Named lifetimes"; rustc-dev-guide, "Propagating closure constraints".)
 #[derive(Drop)]
 pub struct Verdict {
     pub errors: Sequence<BorrowError>,

@@ -29,14 +29,14 @@ impl Model for Scopes {
 
 impl Scopes {
     /// Whether a loan is in scope on entry to a point. Both are numbers, the loan's its place in the list of loans; a
-    /// number that is none of the unit's points or loans gives false. It takes no memory. (Own.)
+    /// number that is none of the unit's points or loans gives false. It takes no memory.
     pub fn on_entry(&self, point: usize, loan: usize) -> bool
         ensures { result ≡ holds self.now point loan }
     {
         self.rows.holds(point, loan)
     }
 
-    /// The loans in scope on entry to each point: one set for each point, in order. (Own.)
+    /// The loans in scope on entry to each point: one set for each point, in order.
     pub fn rows(&self) -> &BitTable
         ensures { result.now ≡ self.now }
     {
@@ -44,10 +44,10 @@ impl Scopes {
     }
 }
 
-/// The loans in scope on entry to each point, over the values that are handed in: a path of at least one step goes
-/// there from the point that makes the loan, all its points after that one are in the value of the loan's region,
-/// and none of its points before the last overwrites a prefix of the loan's path. Answers `AllocError` only where
-/// memory was refused. (RFC 2094, "Borrow checker phase 1: computing loans in scope".)
+/// The loans in scope on entry to each point, over the values that are handed in. A loan is in scope where a path of at
+/// least one step leads from the point that makes it: all points of the path after the first are in the value of the
+/// loan's region, and none before the last overwrites a prefix of the loan's path. Answers `AllocError` only where memory
+/// was refused. (RFC 2094, "Borrow checker phase 1: computing loans in scope".)
 pub fn in_scope(alloc: Global, typed: &Typed, values: &Values) -> Result<Scopes, AllocError>
     ensures points { IfOk result (λ scopes. length scopes ≡ length typed.now.steps) }
     ensures loans { IfOk result (λ scopes. HaveSize (length (loans_of typed.now)) scopes) }

@@ -1,20 +1,15 @@
-use Rattle.std.proofs.Common.{refl}
-use Rattle.std.proofs.lemmas.Option.{slice_get_read}
 use Rattle.bc_flow.specs.BitSet.{has}
-use Rattle.bc_judge.proofs.OutOfScope.{access-turn, access-past, access-end}
+use Rattle.bc_judge.specs.Conflicts.{conflicts_of_access}
+use Rattle.bc_judge.proofs.Locals.{are_candidates}
+use Rattle.bc_judge.proofs.OutOfScope.{no_candidates, nothing-added}
 use Rattle.bc_judge.proofs.conflicts.push_access.Goals as goal
 
-pub returns-in_default-get : goal.returns-in_default-get
-returns-in_default-get c =
-    access-past c.args.typed.now c.args.scope.now c.args.point (c.args.number, c.args.access.now) c.args.loans.now _ _ c.loop-member.from c.in-Some.member
-    c.in-Some.ensures c.in_default-get.ensures.lookup.3 c.loop-member.invariant
+pub push_candidates-requires-clause-candidates : goal.push_candidates-requires-clause-candidates
+push_candidates-requires-clause-candidates c =
+    rw c.in-Some.ensures.row (are_candidates c.args.typed.now c.args.access.now c.args.loans.now c.args.rows.now c.requires.rows c.row_number-reached.result (rw c.local.ensures at c.row_number-reached.ensures.number))
 
-pub loop-member-preserved : goal.loop-member-preserved
-loop-member-preserved c =
-    access-turn c.args.typed.now c.args.scope.now c.args.point (c.args.number, c.args.access.now) c.args.loans.now _ _ _ c.loop-member.from c.in-Some.member c.in-Some-get.field-0.now
-    c.in-Some.ensures (slice_get_read c.args.loans.now _ c.in-Some.member c.in-Some-get.field-0.now refl c.in-Some-get.ensures.lookup.3.0 c.in-Some-get.ensures.lookup.1)
-    (c.in_ok-push_conflict.ensures (has c.args.scope.now) c.in-Some.member c.in-Some.ensures.is_member) c.loop-member.invariant
-
-pub returns : goal.returns
-returns c =
-    access-end c.args.typed.now c.args.scope.now c.args.point (c.args.number, c.args.access.now) c.args.loans.now _ _ c.loop-member.from c.in_default.ensures c.loop-member.invariant
+pub returns-in-None : goal.returns-in-None
+returns-in-None c =
+    nothing-added c.args.conflicts.now.items (conflicts_of_access c.args.typed.now (has c.args.scope.now) c.args.point (c.args.number, c.args.access.now))
+    (no_candidates c.args.typed.now c.args.scope.now c.args.point (c.args.number, c.args.access.now) c.args.rows.now c.row_number-reached.result (rw c.local.ensures at c.row_number-reached.ensures.number)
+    (rw c.requires.loans at c.requires.rows) c.in-None.ensures.row)

@@ -2,7 +2,7 @@ use Rattle.std.proofs.Common.{◌≡◌, ◌++◌, ◌-◌, drop, length}
 use Rattle.std.specs.List.{flat_map, enumerate_from}
 use Rattle.bc_flow.specs.BitSet.{has}
 use Rattle.bc_judge.specs.Conflicts.{conflict_with, conflicts_of_access}
-use Rattle.bc_judge.proofs.conflicts.push_access.Given as goal
+use Rattle.bc_judge.proofs.conflicts.push_candidates.Given as goal
 
 abbrev pub invariant-loop-member : goal.invariant-loop-member
 invariant-loop-member l =

@@ -1,0 +1,83 @@
+//! Rows of the loans that an access may conflict with, one for each kind of access and each local.
+ghost use Rattle.std.specs.Prelude.{◌≡◌, ◌<◌, ◌≤◌, ℕ, true, false, length, IfOk, MatchOption};
+ghost use Rattle.bc_flow.specs.Flow.{row, holds};
+ghost use Rattle.bc_points.specs.declared.access.AccessKind.{AccessKind as Kind};
+ghost use Rattle.bc_judge.specs.Candidates.{row_number as number_of, one_writes, HaveCandidates, both_have, IsNextInBoth};
+
+use bc_flow::{BitRow, BitTable};
+use bc_points::{AccessKind, Loan};
+use bc_syntax::Mutability;
+use std::alloc::{AllocError, Global};
+
+/// The number of the row for accesses of a kind to a local: two rows for each number that a byte has.
+pub(crate) fn row_number(kind: AccessKind, local: u8) -> usize
+    ensures number { result ≡ number_of kind local }
+    ensures below { result < 512 }
+{
+    match kind {
+        AccessKind::Read => 2 * usize::from(local),
+        AccessKind::Write => 2 * usize::from(local) + 1,
+    }
+}
+
+/// Adds a loan to a row.
+fn add(rows: &mut BitTable, at: usize, loan: usize)
+    requires at { at < length rows.old }
+    requires loan { loan < length (row rows.old at) }
+    ensures rows { length rows.new ≡ length rows.old }
+    ensures sizes { (n : ℕ) → length (row rows.new n) ≡ length (row rows.old n) }
+    ensures kept { (n l : ℕ) → holds rows.old n l ≡ true → holds rows.new n l ≡ true }
+    ensures added { holds rows.new at loan ≡ true }
+{
+    let _added = rows.insert(at, loan);
+}
+
+/// Adds a loan to the rows of its path's local: to that for writes, and if it is mutable to that for reads too.
+fn add_loan(rows: &mut BitTable, number: usize, loan: &Loan<'_>)
+    requires rows { length rows.old ≡ 512 }
+    requires number { (n : ℕ) → n < 512 → number < length (row rows.old n) }
+    ensures rows { length rows.new ≡ length rows.old }
+    ensures sizes { (n : ℕ) → length (row rows.new n) ≡ length (row rows.old n) }
+    ensures kept { (n l : ℕ) → holds rows.old n l ≡ true → holds rows.new n l ≡ true }
+    ensures added { (kind : Kind) → one_writes kind loan.now.mutability ≡ true → holds rows.new (number_of kind loan.now.path.local) number ≡ true }
+{
+    let local = loan.path.local();
+    let writes = row_number(AccessKind::Write, local);
+    let reads = row_number(AccessKind::Read, local);
+    add(rows, writes, number);
+    match loan.mutability {
+        Mutability::Shared => {}
+        Mutability::Mutable => add(rows, reads, number),
+    }
+}
+
+/// For each kind of access and each local, by `row_number`, a row that has every loan with which such an access conflicts.
+pub(crate) fn candidate_rows(
+    alloc: Global,
+    loans: &[(usize, Loan<'_>)],
+) -> Result<BitTable, AllocError>
+    ensures { IfOk result (λ rows. HaveCandidates loans.now rows) }
+{
+    let mut rows = BitTable::new(alloc, 512, loans.len())?;
+    for (number, made) in loans.iter().enumerate() {
+        add_loan(&mut rows, number, &made.1);
+    }
+    Ok(rows)
+}
+
+/// The least number that is `from` or greater and in both rows.
+pub(crate) fn next_in_both(one: &BitRow<'_>, other: &BitRow<'_>, from: usize) -> Option<usize>
+    ensures { MatchOption result ((i : ℕ) → from ≤ i → both_have one.now other.now i ≡ false) (λ number. IsNextInBoth one.now other.now from number) }
+{
+    let mut at = from;
+    while let Some(member) = one.next_member(at) {
+        let Some(next) = other.next_member(member) else {
+            return None;
+        };
+        if next == member {
+            return Some(member);
+        }
+        at = next;
+    }
+    None
+}
