@@ -1,4 +1,4 @@
-//! What is printed is handed on in the end.
+//! What is printed is flushed in the end, and so is standard error.
 ghost use Rattle.std.specs.Prelude.{◌≡◌, ◌≤◌, ◌<◌, [], IfOk};
 ghost use Rattle.std.specs.Io.Buffered.{writer_buffer, writer_contents};
 ghost use Rattle.std.specs.Io.KnownBytes.{Keeps};
@@ -25,4 +25,13 @@ pub(crate) fn hand_on<O: Write + Drop, E: Write>(
     } else {
         stop_with("", &Stop::CannotWrite, err)
     }
+}
+
+/// Flushes standard error, and returns the status that the command ended with. Returns the fault of standard error where the flush fails.
+pub(crate) fn hand_on_told<E: Write>(status: u8, err: &mut E) -> io::Result<u8>
+    ensures same { IfOk result (λ exit. exit ≡ status) }
+    ensures kept { Keeps (E.contents err.old) (E.contents err.new) }
+{
+    err.flush()?;
+    Ok(status)
 }

@@ -8,7 +8,7 @@ ghost use Rattle.cli_serve.specs.Served.{IsEnd as IsEndOfServe};
 ghost use Rattle.cli_program.specs.Ends.{IsEndOfLine, input_of};
 
 use crate::Inputs;
-use crate::handing::hand_on;
+use crate::handing::{hand_on, hand_on_told};
 use crate::inputs::is_standard_input;
 use crate::printing::obey_print;
 use bc_prov::Providers;
@@ -136,13 +136,8 @@ fn obey_serve<R: AllocGlobal + Threads + Wait + Sync, I: BufRead, O: Write + Dro
     }
 }
 
-/// Does what a line says, with these providers, and gives the exit status of its command: `check`, `run` and `print` on the file that the
-/// line names, or on standard input where it names `-`, and `serve` over standard input. What is printed goes to `out`, which has handed it on
-/// where the status is below 3, and what is told to `err`. (Own.)
-///
-/// A file that cannot be opened is told as one that cannot be read. The fault of `err` where the last line there cannot be written: then
-/// nothing more can be said.
-pub fn obey_line<
+/// Does what a line says, as `obey_line` does, and does not flush standard error.
+pub(crate) fn obey_command<
     R: AllocGlobal + Threads + Wait + Sync,
     S: Inputs,
     I: BufRead,
@@ -167,4 +162,33 @@ pub fn obey_line<
         Line::Serve(serve) => obey_serve(rt, providers, serve, standard, out, err),
         Line::Print(print) => obey_print(rt, print, inputs, standard, out, err),
     }
+}
+
+/// Does what a line says, with these providers, and returns the exit status of its command: `check`, `run` and `print` read the file that the line
+/// names, or standard input where it names `-`, and `serve` reads standard input. What is printed goes to `out`, which is flushed where the status
+/// is below 3, and faults go to `err`, which is flushed in the end.
+///
+/// A file that cannot be opened is reported as one that cannot be read. The fault of `err` where the last line there cannot be written, or the
+/// flush fails: then nothing more can be said.
+pub fn obey_line<
+    R: AllocGlobal + Threads + Wait + Sync,
+    S: Inputs,
+    I: BufRead,
+    O: Write + Drop + Send,
+    E: Write,
+>(
+    rt: &R,
+    providers: &Providers,
+    line: &Line,
+    inputs: &S,
+    standard: &mut I,
+    out: &mut BufWriter<O>,
+    err: &mut E,
+) -> io::Result<u8>
+    ensures range { IfOk result (λ status. status ≤ 3) }
+    ensures ended { IfOk result (λ status. IsEndOfLine (S.bytes_of inputs.now) (I.remaining standard.old) line.now status (writer_contents O.contents out.old) (writer_contents O.contents out.new) (E.contents err.old) (E.contents err.new)) }
+    ensures handed_on { writer_buffer out.old ≡ [] → IfOk result (λ status. status < 3 → writer_buffer out.new ≡ []) }
+{
+    let status = obey_command(rt, providers, line, inputs, standard, out, err)?;
+    hand_on_told(status, err)
 }

@@ -4,8 +4,9 @@ ghost use Rattle.std.specs.Io.Buffered.{writer_buffer, writer_contents};
 ghost use Rattle.cli_check.specs.Words.{Answers};
 ghost use Rattle.cli_program.specs.Ends.{IsEndOfLine, IsEndOfWords};
 
-use crate::handing::hand_on;
-use crate::{Inputs, obey_line};
+use crate::Inputs;
+use crate::handing::{hand_on, hand_on_told};
+use crate::obeying::obey_command;
 use bc_analyses::{find_plain_values, providers};
 use cli_check::{Stop, answer_words, stop_with};
 use cli_line::{Line, LineFault, Solver, read_line};
@@ -43,7 +44,7 @@ fn obey_by_components<
     ensures nothing { OnErr result ((out.new ≡ out.old) × (err.new ≡ err.old)) }
 {
     let providers = providers!(rt.alloc());
-    Ok(obey_line(rt, &providers, line, inputs, standard, out, err))
+    Ok(obey_command(rt, &providers, line, inputs, standard, out, err))
 }
 
 /// Does what a line says with the plain solver. `AllocError`, with nothing done, where there is no room for the providers.
@@ -67,7 +68,7 @@ fn obey_plainly<
     ensures nothing { OnErr result ((out.new ≡ out.old) × (err.new ≡ err.old)) }
 {
     let providers = providers!(rt.alloc(), find_plain_values);
-    Ok(obey_line(rt, &providers, line, inputs, standard, out, err))
+    Ok(obey_command(rt, &providers, line, inputs, standard, out, err))
 }
 
 /// Does what a line says with the solver that it names. `AllocError`, with nothing done, where there is no room for the providers.
@@ -138,14 +139,8 @@ fn answer<O: Write + Drop, E: Write>(
     }
 }
 
-/// The whole program for the words behind its own name, over any inputs and outputs: obeys the line that they write, or answers words that
-/// write none, and gives the exit status (own). What is printed goes to `out`, which has handed it on where the status is below 3, and what
-/// is told to `err`; `inputs` opens the file that a line names, and `standard` is standard input.
-///
-/// 0 where no report has an error, and for help and the version; 1 where a report has one; 2 where the file has a fault, a put stores
-/// nothing or an outcome is no report; 3 for wrong use, a file that cannot be opened or read, want of memory, a failed output, and the
-/// other stops of the commands. The fault of `err` where the last line there cannot be written: then nothing more can be said.
-pub fn run_program<
+/// Obeys the line that words write, or answers words that write none, and does not flush standard error.
+pub(crate) fn obey_words<
     R: AllocGlobal + Threads + Wait + Sync,
     S: Inputs,
     I: BufRead,
@@ -167,4 +162,33 @@ pub fn run_program<
         Ok(line) => obey(rt, &line, inputs, standard, out, err),
         Err(fault) => answer(fault, out, err),
     }
+}
+
+/// Runs the whole program for the words behind its own name, over any inputs and outputs: obeys the line that they write, or answers words that
+/// write none, and returns the exit status. What is printed goes to `out`, which is flushed where the status is below 3, and faults go to `err`,
+/// which is flushed in the end; `inputs` opens the file that a line names, and `standard` is standard input.
+///
+/// 0 where no report has an error, and for help and the version; 1 where a report has one; 2 where the file has a fault, a put stores nothing or an
+/// outcome is no report; 3 for wrong use, a file that cannot be opened or read, memory that is refused, a failed output, and the other stops of the
+/// commands. The fault of `err` where the last line there cannot be written, or the flush fails: then nothing more can be said.
+pub fn run_program<
+    R: AllocGlobal + Threads + Wait + Sync,
+    S: Inputs,
+    I: BufRead,
+    O: Write + Drop + Send,
+    E: Write,
+>(
+    rt: &R,
+    words: &[&str],
+    inputs: &S,
+    standard: &mut I,
+    out: &mut BufWriter<O>,
+    err: &mut E,
+) -> io::Result<u8>
+    ensures range { IfOk result (λ status. status ≤ 3) }
+    ensures ended { IfOk result (λ status. IsEndOfWords (S.bytes_of inputs.now) (I.remaining standard.old) (map (λ word. word.now) words.now) status (writer_contents O.contents out.old) (writer_contents O.contents out.new) (E.contents err.old) (E.contents err.new)) }
+    ensures handed_on { writer_buffer out.old ≡ [] → IfOk result (λ status. status < 3 → writer_buffer out.new ≡ []) }
+{
+    let status = obey_words(rt, words, inputs, standard, out, err)?;
+    hand_on_told(status, err)
 }

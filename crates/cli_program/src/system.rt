@@ -1,7 +1,9 @@
 //! The program on its own words, over the files of the system.
 ghost use Rattle.std.specs.Prelude.{◌≤◌, IfOk};
 
-use crate::{SystemFiles, run_program};
+use crate::SystemFiles;
+use crate::handing::hand_on_told;
+use crate::program::obey_words;
 use cli_check::{Stop, answer_words, stop_with};
 use cli_line::LineFault;
 use std::env::Env;
@@ -46,7 +48,7 @@ fn run_words<
         views.push(word.as_str())?;
     }
     let files = SystemFiles::new(rt);
-    Ok(run_program(rt, &views, &files, standard, out, err))
+    Ok(obey_words(rt, &views, &files, standard, out, err))
 }
 
 /// Runs the program for its own words, or answers why it has none.
@@ -88,8 +90,8 @@ fn run_over_buffers<
     ended
 }
 
-/// The program as the system runs it: reads the words of its command line, does what `run_program` says with the files of the system, and
-/// gives the exit status, which is 3 also where standard error fails, so that nothing more can be said. (Own.)
+/// Runs the program as the system starts it: reads the words of its command line, does what `run_program` says with the files of the system, and
+/// returns the exit status, which is 3 also where standard error fails, so that nothing more can be said. Standard error is flushed in the end.
 pub fn run_on_system<
     R: Env + Files + AllocGlobal + Threads + Wait + Sync,
     I: Read + Drop,
@@ -99,7 +101,7 @@ pub fn run_on_system<
     ensures { result ≤ 3 }
 {
     match run_over_buffers(rt, standard, out, err) {
-        Ok(status) => status,
+        Ok(status) => hand_on_told(status, err).unwrap_or(3),
         Err(_) => 3,
     }
 }

@@ -18,3 +18,5 @@ mod programs;
 mod reports;
 #[cfg(test)]
 mod runs;
+#[cfg(test)]
+mod telling;
