@@ -19,8 +19,7 @@ fn root_put(change: &Change) -> Option<Name>
     }
 }
 
-/// The root names under which bodies are put, in the order of names, each once. `NoMemory` where there is no room for
-/// them.
+/// The root names under which these changes put bodies, in the order of names, each once. `NoMemory` where there is no room for them.
 pub fn find_asked(alloc: Global, changes: &[Change]) -> Result<BTreeSet<Name>, Stop>
     ensures asked { IfOk result (λ names. AreAsked (map seen changes.now) names.keys) }
     ensures stop { IfErr result (λ stop. stop ≡ Stop.NoMemory) }

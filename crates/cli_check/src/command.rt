@@ -134,7 +134,7 @@ fn write_answer<O: Write>(
     }
 }
 
-/// Makes a change, and tells of a body that is not stored. The status of the call.
+/// Makes a change in a session, and writes a line where its body is not stored. Returns the status of the call.
 fn make_change<R: Wait, N: Ending, E: Write>(
     rt: &R,
     session: &mut Session<N>,
@@ -163,7 +163,7 @@ fn make_change<R: Wait, N: Ending, E: Write>(
     }
 }
 
-/// Asks a name, and prints its report in this form. The status of the outcome.
+/// Asks a name, and prints its report in this form. Returns the status of the outcome.
 fn make_ask<R: Wait, N: Ending, O: Write>(
     rt: &R,
     alloc: Global,
@@ -185,7 +185,7 @@ fn make_ask<R: Wait, N: Ending, O: Write>(
     Ok(outcome_status(&outcome))
 }
 
-/// Makes the changes in order. The greatest status of the calls.
+/// Makes the changes in order. Returns the greatest status of the calls.
 fn make_changes<R: Wait, N: Ending, E: Write>(
     rt: &R,
     session: &mut Session<N>,
@@ -214,7 +214,7 @@ struct Asking<'a, 'b> {
     names: &'a BTreeSet<Name>,
 }
 
-/// Asks the names in order, and prints their reports. The greatest status of the outcomes.
+/// Asks the names in order, and prints their reports. Returns the greatest status of the outcomes.
 fn make_asks<R: Wait, N: Ending, O: Write>(
     rt: &R,
     alloc: Global,
@@ -257,8 +257,8 @@ fn is_unwritten(made: &Result<u8, Stop>) -> bool
     }
 }
 
-/// Hands on what the buffer holds of the reports, but where the writer behind it failed already. What the Asks came to,
-/// and `CannotWrite` where the writer fails here.
+/// Flushes the reports that the buffer holds, unless the writer behind it failed already. Returns what the Asks returned, or `CannotWrite` where
+/// the writer fails here.
 fn hand_on<O: Write + Drop>(asked: Result<u8, Stop>, out: &mut BufWriter<O>) -> Result<u8, Stop>
     ensures asked { (result ≡ asked) ⊎ (result ≡ Err Stop.CannotWrite) }
     ensures kept { Keeps (writer_contents O.contents out.old) (writer_contents O.contents out.new) }
@@ -273,8 +273,8 @@ fn hand_on<O: Write + Drop>(asked: Result<u8, Stop>, out: &mut BufWriter<O>) -> 
     }
 }
 
-/// Asks the names in order, and hands on what is printed of them, also where this stops before its end. The greatest
-/// status of the outcomes.
+/// Asks the names in order, prints their reports and flushes them, also where this stops before its end. Returns the greatest status of the
+/// outcomes.
 fn answer_all<R: Wait, N: Ending, O: Write + Drop>(
     rt: &R,
     alloc: Global,
@@ -293,8 +293,7 @@ fn answer_all<R: Wait, N: Ending, O: Write + Drop>(
     hand_on(asked, out)
 }
 
-/// Makes the changes in order, and then asks the names in order; what is printed of these is handed on. The greatest status
-/// of the calls.
+/// Makes the changes in order, then asks the names in order, and flushes what is printed. Returns the greatest status of the calls.
 fn make_all<R: Wait, N: Ending, O: Write + Drop, E: Write>(
     rt: &R,
     alloc: Global,
@@ -319,8 +318,8 @@ fn make_all<R: Wait, N: Ending, O: Write + Drop, E: Write>(
     Ok(changed.max(asked))
 }
 
-/// How many entries the history may have: one for each change and each further call, and one at least. `TooManyCalls` exactly
-/// where there are more than `MOST_ENTRIES` of them. (Own.)
+/// How many entries a history needs for so many changes and so many Asks of names: one for each, and at least one. `TooManyCalls` exactly where
+/// there are more than `MOST_ENTRIES` of them.
 pub fn find_capacity(changes: usize, names: usize) -> Result<u32, Stop>
     ensures fits { IfOk result (λ capacity. (capacity ≡ max 1 (changes + names)) × (changes + names ≤ MOST_ENTRIES)) }
     ensures stop { IfErr result (λ stop. (stop ≡ Stop.TooManyCalls) × (MOST_ENTRIES < changes + names)) }
@@ -332,11 +331,11 @@ pub fn find_capacity(changes: usize, names: usize) -> Result<u32, Stop>
     Ok((changes + names).max(1) as u32)
 }
 
-/// Opens a database, makes the changes in order, asks the names in order, and closes, also where a call is refused or a
-/// writer fails. The greatest status of the calls, whose reports the writer behind `out` then has. `TooManyCalls` exactly
-/// where there are more than `MOST_ENTRIES` of them.
+/// Opens a database, makes the changes in order, asks the names in order, and closes the database, also where a call is refused or a writer fails.
+/// Returns the greatest status of the calls, whose reports the writer behind `out` then has. `TooManyCalls` exactly where there are more than
+/// `MOST_ENTRIES` of them.
 ///
-/// That `out` failed is said before all else, and a fault of the close before a refused call and a line that was not told.
+/// A failure of `out` is reported first, then a fault of the close, then a refused call or a line that was not written.
 fn serve<R: Wait, O: Write + Drop, E: Write>(
     rt: &R,
     alloc: Global,
@@ -372,14 +371,13 @@ fn serve<R: Wait, O: Write + Drop, E: Write>(
     made
 }
 
-/// Reads the whole input, makes its changes and asks its names, and prints what belongs to each call: of an Ask its line and its
-/// report, or one line that has both where the line asks for JSON. The greatest status of the calls. A buffer that held nothing holds nothing then, but
-/// where the writer behind it failed. (Own.)
+/// Reads the whole input, makes the changes of its sections, asks each root name under which one puts a body, and prints what belongs to each call:
+/// of an Ask its line and its report, or one line that has both where the line of the command asks for JSON. Returns the greatest status of the
+/// calls. If `out` held nothing before, it holds nothing afterwards, unless the writer behind it failed.
 ///
-/// Stops with `CannotRead` where the input cannot be read or is over 16 MiB; with `File` at its first fault; with
-/// `TooManyCalls` where it makes more than 1,000,000 calls; with `CannotWrite` or `CannotTell` where a writer
-/// fails; with `NoMemory` where there is no room; with `HistoryFull` where a call finds a full history, and with `Audit` where the
-/// history does not agree with the session at the close.
+/// Stops with `CannotRead` where the input cannot be read or is over 16 MiB; with `File` at its first fault; with `TooManyCalls` where it makes
+/// more than 1,000,000 calls; with `CannotWrite` or `CannotTell` where a writer fails; with `NoMemory` where there is no room; with `HistoryFull`
+/// where a call finds a full history, and with `Audit` where the history does not agree with the session at the close.
 pub fn check<R: Wait, I: Read, O: Write + Drop, E: Write>(
     rt: &R,
     alloc: Global,
@@ -406,13 +404,13 @@ pub fn check<R: Wait, I: Read, O: Write + Drop, E: Write>(
     serve(rt, alloc, changes, &asking, out, err)
 }
 
-/// The whole command `check` on the input of the file that the line names: writes reports on
-/// `out` and faults on `err`, and gives the exit status, the greatest that applies (own). Before a line on `err` says why the command
-/// stops, `out` has handed on what was printed; after `cannot write` it still holds what the writer behind it did not take.
+/// Runs the whole command `check` on the input of the file that the line names: writes reports to `out` and faults to `err`, and returns the exit
+/// status, the greatest that applies. Before a line on `err` says why the command stops, `out` was flushed; after `cannot write` it still holds
+/// what the writer behind it did not take.
 ///
-/// 0 where no report has an error; 1 where one has; 2 where the file has a fault, a put stores nothing or an
-/// outcome is no report; 3 where the command stops for another reason, which is the last line on `err`. The fault of
-/// `err` where that line cannot be written: then nothing more can be said.
+/// 0 where no report has an error; 1 where one has; 2 where the file has a fault, a put stores nothing or an outcome is no report; 3 where the
+/// command stops for another reason, which is the last line on `err`. The fault of `err` where that line cannot be written: then nothing more can
+/// be said.
 pub fn check_and_tell<R: Wait, I: Read, O: Write + Drop, E: Write>(
     rt: &R,
     alloc: Global,
@@ -432,8 +430,10 @@ pub fn check_and_tell<R: Wait, I: Read, O: Write + Drop, E: Write>(
     }
 }
 
-/// The whole command `check` on the input of the file that the line names; it asks that the line is one of `check`. As
-/// `check_and_tell`, with status 3 where standard error fails (own).
+/// Runs the whole command `check` on the input of the file that the line names, and returns the exit status, the greatest that applies: 0 where no
+/// report has an error; 1 where one has; 2 where the file has a fault, a put stores nothing or an outcome is no report; 3 where the command stops
+/// for another reason, which is the last line on `err`, or where standard error fails. Reports go to `out` and faults to `err`. The line has to be
+/// one of `check`.
 pub fn check_over<R: Wait, I: Read, O: Write + Drop, E: Write>(
     rt: &R,
     alloc: Global,

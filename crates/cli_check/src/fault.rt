@@ -5,9 +5,8 @@ ghost use Rattle.cli_check.specs.Faults.{kind_text, message};
 use bc_position::Position;
 use std::fmt;
 
-/// What is wrong with a section: its header line is none of the command's; it removes or asks a name, and its text is more than spaces
-/// and line feeds; or its text is refused for one of the reader's reasons. A place counts bytes from the beginning of the section's
-/// text. (Own.)
+/// What is wrong with a section: its header line is none of the command's; it removes or asks a name, and its text is more than spaces and line
+/// feeds; or its text is refused for one of the reader's reasons. A place counts bytes from the beginning of the section's text.
 #[derive(Clone, Copy, Debug, PartialEq, Eq)]
 pub enum FaultKind {
     BadHeader,
@@ -19,8 +18,8 @@ pub enum FaultKind {
     Limit { at: usize },
 }
 
-/// A fault of a file: the number of the section's header line, from 1, and what is wrong with the section; with the position in the file of
-/// the byte that this counts to, where it is known. (Own.)
+/// A fault of a file: the number of the section's header line, from 1, and what is wrong with the section. Where a byte is at fault and positions
+/// are asked for, it has that byte's line and column in the file too.
 #[derive(Clone, Copy, Debug, PartialEq, Eq)]
 pub struct FileFault {
     pub line: usize,

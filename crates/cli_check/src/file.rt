@@ -19,14 +19,14 @@ use bc_text::{Name, ReadFault, read_types, read_unit};
 use std::alloc::Global;
 use std::sync::Arc;
 
-/// A change that a section makes: its declarations are held from then on, or its body under a name. (Own.)
+/// A change that a section makes: its declarations are stored, or its body is stored under a name.
 #[derive(Drop)]
 pub enum Change {
     Types(Shared<Types>),
     Put(Name, Shared<Unit>),
 }
 
-/// The declarations of a text, to be held by several owners; or its fault, or `NoMemory` where there is no room. (Own.)
+/// The declarations that a text spells, in a pointer that can be shared; or the text's fault, or `NoMemory` where there is no room.
 pub fn read_declarations(alloc: Global, text: &[u8]) -> Result<Shared<Types>, ReadFault>
     ensures read { IfOk result (λ types. read_types text.now ≡ Ok types) }
     ensures unread { IfErr result (λ fault. fault ≢ ReadFault.NoMemory → read_types text.now ≡ Err fault) }
@@ -38,7 +38,7 @@ pub fn read_declarations(alloc: Global, text: &[u8]) -> Result<Shared<Types>, Re
     }
 }
 
-/// The body of a text, to be held by several owners; or its fault, or `NoMemory` where there is no room. (Own.)
+/// The body that a text spells, in a pointer that can be shared; or the text's fault, or `NoMemory` where there is no room.
 pub fn read_body(alloc: Global, text: &[u8]) -> Result<Shared<Unit>, ReadFault>
     ensures read { IfOk result (λ unit. read text.now ≡ Ok unit) }
     ensures unread { IfErr result (λ fault. fault ≢ ReadFault.NoMemory → read text.now ≡ Err fault) }
@@ -50,7 +50,7 @@ pub fn read_body(alloc: Global, text: &[u8]) -> Result<Shared<Unit>, ReadFault>
     }
 }
 
-/// Why the section at this line makes no call, where its text cannot be read. (Own.)
+/// The stop of a command at a section whose text cannot be read: the fault of the file at the line of the section's header, or `NoMemory`.
 pub fn text_stop(line: usize, fault: ReadFault) -> Stop
     ensures { result ≡ stop_of line fault }
 {
@@ -69,7 +69,7 @@ pub fn text_stop(line: usize, fault: ReadFault) -> Stop
     })
 }
 
-/// Why a section makes no call, where it has this fault: the fault of the file at the section's line. (Own.)
+/// The stop of a command at a section that has this fault: the fault of the file at the line of the section's header.
 pub fn stop_at(section: &Section<'_>, kind: FaultKind) -> Stop
     ensures { result ≡ Stop.File (record { line = section.now.line; kind = kind; position = None }) }
 {
@@ -135,8 +135,8 @@ fn read_change(alloc: Global, section: &Section<'_>) -> Result<Change, Stop>
     }
 }
 
-/// The changes that a file makes, in the order of its sections; `File` with its first fault where it has one,
-/// `NoMemory` where there is no room.
+/// The changes that a file makes, in the order of its sections. `File` with the file's first fault where it has one, `NoMemory` where there is no
+/// room.
 pub fn read_changes(alloc: Global, file: &[u8]) -> Result<Vec<Change>, Stop>
     ensures { GivesChanges (sections_of file.now) result }
 {
@@ -147,8 +147,8 @@ pub fn read_changes(alloc: Global, file: &[u8]) -> Result<Vec<Change>, Stop>
     Ok(changes)
 }
 
-/// The changes that a file makes, in the order of its sections; `File` with its first fault where it has one, and with the position of
-/// this in the file where positions are asked for; `NoMemory` where there is no room.
+/// The changes that a file makes, in the order of its sections. `File` with the file's first fault where it has one, with its position in the file
+/// where positions are asked for; `NoMemory` where there is no room.
 pub fn read_told_changes(alloc: Global, positions: bool, file: &[u8]) -> Result<Vec<Change>, Stop>
     ensures { GivesTold positions file.now result }
 {

@@ -6,8 +6,8 @@ ghost use Rattle.cli_check.specs.Headings.{IsHeading};
 
 use bc_text::Name;
 
-/// What a header line of a file asks for: to store the declarations of its text, to put the body of its text under a name, to take
-/// the body of a name away, to ask a name, or to ask for all. (Own.)
+/// What a header line of a file asks for: to store the declarations of its text, to put the body of its text under a name, to take the body of a
+/// name away, to ask a name, or to ask for all.
 #[derive(Clone, Copy, Debug)]
 pub enum Heading {
     Types,
@@ -17,7 +17,7 @@ pub enum Heading {
     All,
 }
 
-/// What stands behind a beginning of a text, or `None` exactly where the text does not begin so. (Own.)
+/// The rest of a text behind this beginning, or `None` exactly where the text does not begin so.
 pub fn behind<'a>(text: &'a [u8], beginning: &[u8]) -> Option<&'a [u8]>
     ensures found { IfSome result (λ rest. text.now ≡ beginning.now ++ rest.now) }
     ensures none { IfNone result ((rest : List ℕ) → ¬ (text.now ≡ beginning.now ++ rest)) }
@@ -33,8 +33,8 @@ fn read_named(words: &[u8], verb: &[u8]) -> Option<Name>
     Name::read(behind(words, verb)?)
 }
 
-/// What the words of a header line ask for, behind its `@` and the number of a session where there is one: `types` or `askall`, or
-/// `put`, `remove` or `ask`, one blank and a name. `None` exactly where they ask for nothing. (Own.)
+/// What the words of a header line ask for, behind its `@` and the number of a session where there is one: `types` or `askall`, or `put`, `remove`
+/// or `ask`, one blank and a name. `None` exactly where they ask for nothing.
 pub fn read_heading(words: &[u8]) -> Option<Heading>
     ensures found { IfSome result (λ heading. IsHeading heading words.now) }
     ensures none { IfNone result ((heading : Heading) → ¬ IsHeading heading words.now) }

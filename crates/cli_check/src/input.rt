@@ -30,8 +30,8 @@ impl<R: Read> Read for Foreign<R> {
     }
 }
 
-/// The whole of the input. `CannotRead` where a read fails or the input is over 16 MiB; `NoMemory` where there is
-/// no room for it. (Own.)
+/// Reads the whole of the input: its bytes, at most 16 MiB. `CannotRead` where a read fails or the input is longer; `NoMemory` where there is no
+/// room for it.
 pub fn read_whole<I: Read>(alloc: Global, input: &mut I) -> Result<Vec<u8>, Stop>
     ensures whole { IfOk result (λ file. IfSome (I.remaining input.old) (λ bytes. file.items ≡ bytes)) }
     ensures short { IfOk result (λ file. length file.items ≤ most_bytes) }

@@ -43,8 +43,8 @@ fn locate_fault(positions: bool, file: &[u8], fault: FileFault) -> FileFault
     }
 }
 
-/// A stop of a command on this file: where it is a fault of the file, this gets the position in the file of its byte, if positions are asked
-/// for and it tells of a byte, and else none. Any other stop is as it was.
+/// The stop of a command on this file, with the line and column of its byte where it is a fault of the file that has a byte and positions are asked
+/// for. Any other stop is as it was.
 pub fn locate(positions: bool, file: &[u8], stop: Stop) -> Stop
     ensures { result ≡ located_stop positions file.now stop }
 {

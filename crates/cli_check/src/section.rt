@@ -3,7 +3,7 @@ ghost use Rattle.std.specs.Prelude.{◌≡◌, ◌≤◌, ◌<◌, ◌+◌, ◌^
 ghost use Rattle.std.specs.Io.BufRead.{drop_through};
 ghost use Rattle.cli_check.specs.Parts.{sections_from, lines_of, without_end, parts, sections_of};
 
-/// A section: its header line without the line feed, the number of that line, and the text behind it. (Own.)
+/// A section: its header line without the line feed, the number of that line, and the text behind it.
 #[derive(Clone, Copy)]
 pub struct Section<'a> {
     pub line: usize,
@@ -11,8 +11,8 @@ pub struct Section<'a> {
     pub text: &'a [u8],
 }
 
-/// The sections of a file, from the front. The first line of a file is a header, whatever it begins with, and after it
-/// each line that begins with `@`. (Own.)
+/// The sections of a file, from the front. The first line of a file is a header, whatever it begins with, and after it each line that begins with
+/// `@`.
 #[derive(Clone, Copy)]
 pub struct Sections<'a> {
     rest: &'a [u8],
@@ -61,7 +61,7 @@ fn find_header(text: &[u8], first: usize) -> (usize, usize)
 impl<'a> Sections<'a> {
     ghost use Rattle.cli_check.specs.Left.{left};
 
-    /// The sections of the file. (Own.)
+    /// The sections of this file, from the front.
     pub fn of(file: &'a [u8]) -> Self
         ensures { left result ≡ sections_of file.now }
     {

@@ -47,8 +47,8 @@ fn rows_status(rows: &[(Name, Shared<Outcome>)]) -> u8
     status
 }
 
-/// The status of a call by its reply: 0; 1 for a report with an error; 2 for a put that stored nothing, and for an Ask that found no
-/// report; the greatest of those of its outcomes for an Ask for all. (Own.)
+/// The status of a call by its reply: 0; 1 for a report with an error; 2 for a put that stored nothing, and for an Ask that found no report; the
+/// greatest of those of its outcomes for an Ask for all.
 pub fn event_status(event: &Event) -> u8
     ensures value { result ≡ event_status event.now }
     ensures range { result ≤ 2 }

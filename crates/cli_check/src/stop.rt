@@ -10,7 +10,7 @@ use std::alloc::{AllocError, AllocFailed};
 use std::io;
 use std::io::Write;
 
-/// Why the command stops before its end. (Own.)
+/// Why a command stops before its end.
 #[derive(Clone, Copy, Debug, PartialEq, Eq)]
 pub enum Stop {
     /// The words of the command line are not those of a command.
@@ -31,7 +31,7 @@ pub enum Stop {
     HistoryFull,
     /// The database was closed with sessions that are not its own, which no command does.
     Foreign,
-    /// The history is not what the session did.
+    /// The history does not agree with what the session did.
     Audit,
 }
 
@@ -125,8 +125,8 @@ fn write_last_line<E: Write>(file: &str, stop: &Stop, err: &mut E) -> io::Result
     }
 }
 
-/// Writes why a command on the file of this name stops, and gives its exit status: 2 where the file has a fault, 3
-/// for all else. The writer's fault where this cannot be written. (Own.)
+/// Writes why a command on the file of this name stops, and returns its exit status: 2 where the file has a fault, 3 for all else. The writer's
+/// fault where this cannot be written.
 pub fn stop_with<E: Write>(file: &str, stop: &Stop, err: &mut E) -> io::Result<u8>
     ensures range { IfOk result (λ status. status ≤ 3) }
     ensures status { IfOk result (λ status. status ≡ stop_status stop.now) }

@@ -29,8 +29,9 @@ fn version<O: Write, E: Write>(out: &mut O, err: &mut E) -> io::Result<u8>
     }
 }
 
-/// Answers words that write no line, and gives the exit status: the text of help about its topic or the line of the version on `out`, and 0; else one line
-/// on `err` that says why, and 3, which is `cannot write` where `out` failed. The fault of `err` where that cannot be written. It takes no memory. (Own.)
+/// Answers words that write no line, and returns the exit status: 0 with the text of help about a topic or the line of the version on `out`; else 3
+/// with one line on `err` that says why, which is `cannot write` where `out` failed. The fault of `err` where that cannot be written. It allocates
+/// nothing.
 pub fn answer_words<O: Write, E: Write>(
     fault: LineFault,
     out: &mut O,

@@ -130,7 +130,7 @@ fn program<'a>(alloc: Global) -> Command<'a>
         .version(VERSION)
 }
 
-/// The program's command, whose words are those behind its own name. `AllocError` only where memory was refused. (Own.)
+/// What the parser is told of the whole program: its commands, their options and their values. `AllocError` only where memory was refused.
 pub(crate) fn nlldb_command<'a>(alloc: Global) -> Result<Command<'a>, AllocError>
     ensures { IfOk result (IsCommand nlldb) }
 {

@@ -8,7 +8,7 @@ use clap::error::ErrorKind;
 use std::alloc::{AllocError, AllocFailed};
 use thiserror::Error;
 
-/// Why words are no line: they ask for help on a topic or for the version, they are none of a command, or memory was refused. (Own.)
+/// Why words are no line: they ask for help on a topic or for the version, they are none of a command, or memory was refused.
 #[derive(Clone, Copy, Debug, PartialEq, Eq, Error)]
 pub enum LineFault {
     #[error("help")]
@@ -42,8 +42,8 @@ impl<T: Drop> From<AllocFailed<T>> for LineFault {
 }
 
 impl LineFault {
-    /// What a refusal of the parser means, of words that would ask for help on this topic: `Help` of the topic or `Version` where they are asked for,
-    /// `NoMemory` where memory was refused, and else `WrongUse`.
+    /// The fault for a refusal of the parser, of words that would ask for help on this topic: `Help` of the topic or `Version` where they are asked
+    /// for, `NoMemory` where memory was refused, and else `WrongUse`.
     pub(crate) fn of_refusal(topic: Topic, error: &clap::Error) -> Self
         ensures { result ≡ fault_of_kind topic (kind_of error.now) }
     {

@@ -5,13 +5,13 @@ ghost use Rattle.cli_line.specs.Lines.{solver_of};
 use crate::Solver;
 use std::marker::Model;
 
-/// How many sessions there may be at most (own).
+/// The most sessions that a line may ask for.
 pub const MOST_SESSIONS: u8 = 16;
 
-/// How many entries the history of a conversation may have at most (own).
+/// The most entries that a line of `serve` may ask for in its history.
 pub const MOST_CAPACITY: u32 = 1_000_000;
 
-/// A line of `check`. Contracts see it as its parts. `--json` and `--source` do not both stand in it.
+/// A line of `check`: the name of its file and its options. Contracts see these parts. It never has both `--json` and `--source`.
 #[derive(Drop)]
 #[derive_where(Debug)]
 pub struct CheckLine {
@@ -40,7 +40,7 @@ impl Model for CheckLine {
 }
 
 impl CheckLine {
-    /// The line of these parts. (Own.)
+    /// The line of these parts.
     pub(crate) fn new(
         file: String,
         json: bool,
@@ -60,14 +60,14 @@ impl CheckLine {
         }
     }
 
-    /// The name of the file, which may be any text; `-` stands for standard input. (Own.)
+    /// The name of the file, which may be any text. The name `-` means standard input.
     pub fn file(&self) -> &str
         ensures { result.now ≡ self.now.file }
     {
         self.file.as_str()
     }
 
-    /// Whether `--json` stands in it. Then `--source` does not.
+    /// Whether the line has `--json`. Then it has no `--source`.
     pub fn json(&self) -> bool
         ensures value { result ≡ self.now.json }
         ensures alone { (result && self.now.source) ≡ false }
@@ -75,7 +75,7 @@ impl CheckLine {
         self.json
     }
 
-    /// Whether `--source` stands in it. Then `--json` does not.
+    /// Whether the line has `--source`. Then it has no `--json`.
     pub fn source(&self) -> bool
         ensures value { result ≡ self.now.source }
         ensures alone { (self.now.json && result) ≡ false }
@@ -83,14 +83,14 @@ impl CheckLine {
         self.source
     }
 
-    /// Whether `--positions` stands in it.
+    /// Whether the line has `--positions`.
     pub fn positions(&self) -> bool
         ensures { result ≡ self.now.positions }
     {
         self.positions
     }
 
-    /// The solver: what `--solver` names, or else the one by components. (Own.)
+    /// The solver that `--solver` names, or the one by components where the line has no `--solver`.
     pub fn solver(&self) -> Solver
         ensures { result ≡ self.now.solver }
     {
@@ -98,7 +98,7 @@ impl CheckLine {
     }
 }
 
-/// A line of `run`. Contracts see it as its parts. It has 1 to 16 sessions. (Own.)
+/// A line of `run`: the name of its file and its options. Contracts see these parts. It has 1 to 16 sessions.
 #[derive(Drop)]
 #[derive_where(Debug)]
 pub struct RunLine {
@@ -127,7 +127,7 @@ impl Model for RunLine {
 }
 
 impl RunLine {
-    /// The line of these parts. (Own.)
+    /// The line of these parts.
     pub(crate) fn new(
         file: String,
         json: bool,
@@ -148,28 +148,28 @@ impl RunLine {
         }
     }
 
-    /// The name of the file, which may be any text; `-` stands for standard input. (Own.)
+    /// The name of the file, which may be any text. The name `-` means standard input.
     pub fn file(&self) -> &str
         ensures { result.now ≡ self.now.file }
     {
         self.file.as_str()
     }
 
-    /// Whether `--json` stands in it.
+    /// Whether the line has `--json`.
     pub fn json(&self) -> bool
         ensures { result ≡ self.now.json }
     {
         self.json
     }
 
-    /// Whether `--positions` stands in it.
+    /// Whether the line has `--positions`.
     pub fn positions(&self) -> bool
         ensures { result ≡ self.now.positions }
     {
         self.positions
     }
 
-    /// How many sessions there are, 1 to 16: what `--sessions` says, or else 1. (Own.)
+    /// How many sessions there are, 1 to 16: as many as `--sessions` says, or 1 where the line has no `--sessions`.
     pub fn sessions(&self) -> u8
         ensures value { result ≡ self.now.sessions }
         ensures least { 1 ≤ result }
@@ -178,7 +178,7 @@ impl RunLine {
         self.sessions
     }
 
-    /// The solver: what `--solver` names, or else the one by components. (Own.)
+    /// The solver that `--solver` names, or the one by components where the line has no `--solver`.
     pub fn solver(&self) -> Solver
         ensures { result ≡ self.now.solver }
     {
@@ -186,7 +186,7 @@ impl RunLine {
     }
 }
 
-/// A line of `serve`. Contracts see it as its parts. It has 1 to 16 sessions, and a capacity of 1 to 1,000,000. (Own.)
+/// A line of `serve`: its options. Contracts see these parts. It has 1 to 16 sessions, and a capacity of 1 to 1,000,000 entries.
 #[derive(Drop)]
 #[derive_where(Debug)]
 pub struct ServeLine {
@@ -211,7 +211,7 @@ impl Model for ServeLine {
 }
 
 impl ServeLine {
-    /// The line of these parts. (Own.)
+    /// The line of these parts.
     pub(crate) fn new(sessions: u8, capacity: u32, solver: Solver) -> Self
         requires least { 1 ≤ sessions }
         requires most { sessions ≤ 16 }
@@ -226,7 +226,7 @@ impl ServeLine {
         }
     }
 
-    /// How many sessions there are, 1 to 16: what `--sessions` says, or else 1. (Own.)
+    /// How many sessions there are, 1 to 16: as many as `--sessions` says, or 1 where the line has no `--sessions`.
     pub fn sessions(&self) -> u8
         ensures value { result ≡ self.now.sessions }
         ensures least { 1 ≤ result }
@@ -235,7 +235,7 @@ impl ServeLine {
         self.sessions
     }
 
-    /// How many entries the history may have, 1 to 1,000,000: what `--capacity` says, or else 1,000,000. (Own.)
+    /// How many entries the history may have, 1 to 1,000,000: as many as `--capacity` says, or 1,000,000 where the line has no `--capacity`.
     pub fn capacity(&self) -> u32
         ensures value { result ≡ self.now.capacity }
         ensures least { 1 ≤ result }
@@ -244,7 +244,7 @@ impl ServeLine {
         self.capacity
     }
 
-    /// The solver: what `--solver` names, or else the one by components. (Own.)
+    /// The solver that `--solver` names, or the one by components where the line has no `--solver`.
     pub fn solver(&self) -> Solver
         ensures { result ≡ self.now.solver }
     {
@@ -252,7 +252,7 @@ impl ServeLine {
     }
 }
 
-/// A line of `print`. Contracts see it as its parts. (Own.)
+/// A line of `print`: the name of its file and its option. Contracts see these parts.
 #[derive(Drop)]
 #[derive_where(Debug)]
 pub struct PrintLine {
@@ -273,21 +273,21 @@ impl Model for PrintLine {
 }
 
 impl PrintLine {
-    /// The line of these parts. (Own.)
+    /// The line of these parts.
     pub(crate) fn new(file: String, positions: bool) -> Self
         ensures { result ≡ record { file = string_bytes file; positions = positions } }
     {
         PrintLine { file, positions }
     }
 
-    /// The name of the file, which may be any text; `-` stands for standard input. (Own.)
+    /// The name of the file, which may be any text. The name `-` means standard input.
     pub fn file(&self) -> &str
         ensures { result.now ≡ self.now.file }
     {
         self.file.as_str()
     }
 
-    /// Whether `--positions` stands in it.
+    /// Whether the line has `--positions`.
     pub fn positions(&self) -> bool
         ensures { result ≡ self.now.positions }
     {
@@ -295,22 +295,22 @@ impl PrintLine {
     }
 }
 
-/// A line: of `check`, of `run`, of `serve` or of `print`. (Own.)
+/// A line of one of the commands.
 #[derive(Drop)]
 #[derive_where(Debug)]
 pub enum Line {
-    /// Of `check`.
+    /// A line of `check`.
     Check(CheckLine),
-    /// Of `run`.
+    /// A line of `run`.
     Run(RunLine),
-    /// Of `serve`.
+    /// A line of `serve`.
     Serve(ServeLine),
-    /// Of `print`.
+    /// A line of `print`.
     Print(PrintLine),
 }
 
 impl Line {
-    /// The solver; by components for a line of `print`, which solves nothing. (Own.)
+    /// The solver of the line. For a line of `print`, which solves nothing, it is the one by components.
     pub fn solver(&self) -> Solver
         ensures { result ≡ solver_of self.now }
     {

@@ -183,17 +183,17 @@ fn read_command(alloc: Global, name: &str, matches: &ArgMatches<'_>) -> Result<L
     }
 }
 
-/// Reads the words of the command line, those behind the program's own name: `check FILE [--json | --source] [--positions] [--solver S]`,
-/// `run FILE [--json] [--positions] [--sessions N] [--solver S]`, `serve [--sessions N] [--solver S] [--capacity C]` or
-/// `print FILE [--positions]`, where S is `plain` or `components` (the default), N is 1 to 16 (1 by default) and C is 1 to 1,000,000 (which is the default).
-/// Options stand behind the command, before FILE or behind it, and take their value as the next word or behind a `=`. N and C are
-/// written in decimal digits, with leading zeros or none and a `+` before them or none. Behind a word `--` each word is FILE,
-/// so that its name may begin with `-`. (Own; how words are split into options and values is the rule of the crate `clap`.)
+/// Reads the words of the command line, those behind the program's own name: `check FILE [--json | --source] [--positions] [--solver S]`, `run FILE
+/// [--json] [--positions] [--sessions N] [--solver S]`, `serve [--sessions N] [--solver S] [--capacity C]` or `print FILE [--positions]`, where S
+/// is `plain` or `components` (the default), N is 1 to 16 (1 by default) and C is 1 to 1,000,000 (which is the default). Options stand behind the
+/// command, before FILE or behind it, and take their value as the next word or behind a `=`. N and C are written in decimal digits, with leading
+/// zeros or none and a `+` before them or none. Behind a word `--` each word is FILE, so that its name may begin with `-`. How words are split into
+/// options and values is the rule of the crate `clap`.
 ///
 /// `Help` where the words ask for it by `--help` or `-h`, also behind a command, before a word that is wrong: on the command that the first word
-/// names, or else on the program. `Version` where they ask for it by `--version` or `-V`, which stands before a command. `NoMemory` only
-/// where memory was refused. `WrongUse` where the words write no line: no words, another command, no FILE or one too many, `--json` beside
-/// `--source`, an option that the command does not have, that stands twice, or whose value is missing or none of those above.
+/// names, or else on the program. `Version` where they ask for it by `--version` or `-V`, which stands before a command. `NoMemory` only where
+/// memory was refused. `WrongUse` where the words write no line: no words, another command, no FILE or one too many, `--json` beside `--source`, an
+/// option that the command does not have, that stands twice, or whose value is missing or none of those above.
 pub fn read_line<'a>(alloc: Global, words: &'a [&'a str]) -> Result<Line, LineFault>
     ensures line { GivesLine (map (λ word. word.now) words.now) result }
     ensures range { IfOk result IsInRange }

@@ -2,7 +2,7 @@
 ghost use Rattle.std.specs.Prelude.{◌≡◌};
 ghost use Rattle.cli_line.specs.Values.{solver_named};
 
-/// How the values of region variables are found. The reports do not depend on it. (Own.)
+/// How the values of region variables are found. The reports do not depend on it.
 #[derive(Clone, Copy, Debug, PartialEq, Eq)]
 pub enum Solver {
     /// Round by round, over all constraints.
@@ -11,7 +11,7 @@ pub enum Solver {
     Components,
 }
 
-/// The solver of this name, or `None` where it is no solver's. (Own.)
+/// The solver that a word names, or `None` where it names none.
 pub(crate) fn solver_named(word: &str) -> Option<Solver>
     ensures { result ≡ solver_named word.now }
 {

@@ -10,7 +10,7 @@ use std::io::Write;
 /// The version of the program, by Semantic Versioning 2.0.0.
 pub const VERSION: &str = "0.1.0";
 
-/// What `--help` prints about the program. (Own.)
+/// What `--help` prints about the program.
 pub const USAGE: &str = "nlldb checks the borrows of functions and closures in a textual MIR.
 
 Usage:
@@ -212,14 +212,14 @@ fn usage_of(topic: Topic) -> &'static str
     }
 }
 
-/// Writes the text of `--help` about a topic, exactly its bytes, or answers the writer's fault. It takes no memory.
+/// Writes the text of `--help` about a topic, exactly its bytes, or returns the writer's fault. It allocates nothing.
 pub fn write_usage<W: Write>(topic: Topic, out: &mut W) -> io::Result<()>
     ensures { OnOk result (Appends (W.contents out.old) (W.contents out.new) (usage_of topic)) }
 {
     out.write_all(usage_of(topic).as_bytes())
 }
 
-/// Writes the line of `--version`, `nlldb` and the version (own), or answers the writer's fault. It takes no memory.
+/// Writes the line of `--version`: `nlldb` and the version. Returns the writer's fault where it fails. It allocates nothing.
 pub fn write_version<W: Write>(out: &mut W) -> io::Result<()>
     ensures { OnOk result (Appends (W.contents out.old) (W.contents out.new) version_line) }
 {

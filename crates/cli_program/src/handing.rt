@@ -8,7 +8,7 @@ use cli_check::{Stop, stop_with};
 use std::io;
 use std::io::{BufWriter, Write};
 
-/// Hands on what the buffer holds, where nothing has failed yet, and tells that standard output failed where it does here.
+/// Flushes what the buffer holds, where nothing has failed yet, and writes that standard output failed where it does here.
 pub(crate) fn hand_on<O: Write + Drop, E: Write>(
     status: u8,
     out: &mut BufWriter<O>,

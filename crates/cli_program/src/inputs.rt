@@ -6,17 +6,17 @@ use std::fs::{File, Files};
 use std::io;
 use std::io::Read;
 
-/// The name that stands for standard input. A file of that name is `./-`. (POSIX.1-2017, Utility Syntax Guidelines, Guideline 13.)
+/// The name that means standard input. A file of that name is `./-`. (POSIX.1-2017, Utility Syntax Guidelines, Guideline 13.)
 pub const STANDARD_INPUT: &str = "-";
 
-/// Whether a file's name stands for standard input.
+/// Whether a file's name means standard input.
 pub(crate) fn is_standard_input(name: &str) -> bool
     ensures { result ≡ is_standard_input name.now }
 {
     name == STANDARD_INPUT
 }
 
-/// The files that a line may name: those of the system, or others in a test. (Own.)
+/// The files that a line may name: those of the system, or others in a test.
 pub trait Inputs {
     /// An open file.
     type Input: Read + Drop;
@@ -24,19 +24,19 @@ pub trait Inputs {
     /// The bytes of the file of each name, where they are known.
     ghost bytes_of: { Self → List ℕ → Option (List ℕ) } = { λ _ _. None };
 
-    /// Opens the file of this name, and reads it from its start. Fails where it cannot be opened.
+    /// Opens the file of this name, to be read from its start. Fails where it cannot be opened.
     fn open(&self, name: &str) -> io::Result<Self::Input>
         ensures { IfOk result (λ input. IfSome (bytes_of self.now name.now) (λ bytes. Self.Input.remaining input ≡ Some bytes)) };
 }
 
-/// The files of the system, of which no clause knows the bytes. (Own.)
+/// The files of the system. No clause knows their bytes.
 #[derive(Drop)]
 pub struct SystemFiles<'a, R> {
     files: &'a R,
 }
 
 impl<'a, R> SystemFiles<'a, R> {
-    /// The files that this runtime opens. (Own.)
+    /// The files that this runtime opens.
     pub fn new(files: &'a R) -> Self {
         SystemFiles { files }
     }

@@ -25,7 +25,7 @@ use std::io::{BufWriter, Read, Write};
 use std::sync::Wait;
 use std::thread::Threads;
 
-/// Prints a history, as text or as JSON, and hands on what the buffer holds of it, also where there is no room for the JSON of an entry.
+/// Prints a history, as text or as JSON, and flushes what the buffer holds of it, also where there is no room for the JSON of an entry.
 fn show<O: Write + Drop>(
     alloc: Global,
     json: bool,
@@ -49,7 +49,7 @@ fn show<O: Write + Drop>(
     }
 }
 
-/// Tells of the sessions that did not end.
+/// Writes a line for each session that did not end.
 fn tell<E: Write>(ends: &[End], err: &mut E) -> Result<(), Stop>
     requires { length ends.now ≤ 16 }
     ensures told { OnOk result (Appends (E.contents err.old) (E.contents err.new) (stopped_lines 0 ends.now)) }
@@ -100,15 +100,15 @@ fn ends_status(ends: &[End]) -> u8
     status
 }
 
-/// Reads the whole input, has each of the line's sessions make its calls on a thread of its own, and prints the history: a line for each
-/// entry, the report behind the line of an Ask, and each root with its report behind that of an Ask for all; or as JSON one object a line
-/// for each entry. Then it tells of each session that did not end. The greatest status of the calls, and 3 where a session did not end. A
-/// buffer that held nothing holds nothing then, but where the writer behind it failed. (Own.)
+/// Reads the whole input, has each of the line's sessions make its calls on a thread of its own, and prints the history: a line for each entry, the
+/// report behind the line of an Ask, and each root with its report behind that of an Ask for all; or as JSON one object a line for each entry. Then
+/// it writes a line for each session that did not end. Returns the greatest status of the calls, and 3 where a session did not end. If `out` held
+/// nothing before, it holds nothing afterwards, unless the writer behind it failed.
 ///
-/// Stops with `CannotRead` where the input cannot be read or is over 16 MiB; with `File` at its first fault; with
-/// `TooManyCalls` where it has more than 1,000,000 calls; with `CannotWrite` or `CannotTell` where a writer
-/// fails; with `NoMemory` where there is no room, and with `Audit` where the history does not agree with the sessions at the close, both
-/// before anything is printed, but that as JSON a beginning of the history is printed where there is no room for the line of the next entry.
+/// Stops with `CannotRead` where the input cannot be read or is over 16 MiB; with `File` at its first fault; with `TooManyCalls` where it has more
+/// than 1,000,000 calls; with `CannotWrite` or `CannotTell` where a writer fails; with `NoMemory` where there is no room, and with `Audit` where
+/// the history does not agree with the sessions at the close, both before anything is printed, but that as JSON a beginning of the history is
+/// printed where there is no room for the line of the next entry.
 pub fn run<R: Threads + Wait + Sync, I: Read, O: Write + Drop, E: Write>(
     rt: &R,
     alloc: Global,
@@ -132,13 +132,13 @@ pub fn run<R: Threads + Wait + Sync, I: Read, O: Write + Drop, E: Write>(
     Ok(history_status(made.history.entries()).max(ends_status(&made.ends)))
 }
 
-/// The whole command `run` on the input of the file that the line names: writes the history on `out` and faults on `err`, and gives the
-/// exit status, the greatest that applies (own). Before a line on `err` says why the command stops, `out` has handed on what was
-/// printed; after `cannot write` it still holds what the writer behind it did not take.
+/// Runs the whole command `run` on the input of the file that the line names: writes the history to `out` and faults to `err`, and returns the exit
+/// status, the greatest that applies. Before a line on `err` says why the command stops, `out` was flushed; after `cannot write` it still holds
+/// what the writer behind it did not take.
 ///
-/// 0 where no report has an error; 1 where one has; 2 where the file has a fault, a put stored nothing or an outcome is no report; 3
-/// where a session did not end, or the command stops for another reason, which is the last line on `err`. The fault of `err` where that
-/// line cannot be written: then nothing more can be said.
+/// 0 where no report has an error; 1 where one has; 2 where the file has a fault, a put stored nothing or an outcome is no report; 3 where a
+/// session did not end, or the command stops for another reason, which is the last line on `err`. The fault of `err` where that line cannot be
+/// written: then nothing more can be said.
 pub fn run_and_tell<R: Threads + Wait + Sync, I: Read, O: Write + Drop, E: Write>(
     rt: &R,
     alloc: Global,
@@ -158,8 +158,10 @@ pub fn run_and_tell<R: Threads + Wait + Sync, I: Read, O: Write + Drop, E: Write
     }
 }
 
-/// The whole command `run` on the input of the file that the line names; it asks that the line is one of `run`. As `run_and_tell`,
-/// with status 3 where standard error fails (own).
+/// Runs the whole command `run` on the input of the file that the line names, and returns the exit status, the greatest that applies: 0 where no
+/// report has an error; 1 where one has; 2 where the file has a fault, a put stored nothing or an outcome is no report; 3 where a session did not
+/// end, where the command stops for another reason, which is the last line on `err`, or where standard error fails. The history goes to `out` and
+/// faults to `err`. The line has to be one of `run`.
 pub fn run_over<R: Threads + Wait + Sync, I: Read, O: Write + Drop, E: Write>(
     rt: &R,
     alloc: Global,

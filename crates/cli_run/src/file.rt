@@ -14,7 +14,7 @@ use cli_check::{
 };
 use std::alloc::Global;
 
-/// A call of a file, and the session that is to make it. (Own.)
+/// A call of a file, and the session that is to make it.
 #[derive(Drop)]
 pub struct SessionCall {
     pub session: u8,
@@ -110,8 +110,8 @@ fn read_call(alloc: Global, section: &Section<'_>, sessions: u8) -> Result<Sessi
     Ok(SessionCall { session, call })
 }
 
-/// The calls of a file of so many sessions, in the order of its sections; `File` with its first fault where it has one,
-/// `NoMemory` where there is no room.
+/// The calls of a file of so many sessions, in the order of its sections. `File` with the file's first fault where it has one, `NoMemory` where
+/// there is no room.
 pub fn read_calls(alloc: Global, file: &[u8], sessions: u8) -> Result<Vec<SessionCall>, Stop>
     requires { sessions ≤ 16 }
     ensures { GivesAll sessions (sections_of file.now) result }
@@ -123,8 +123,8 @@ pub fn read_calls(alloc: Global, file: &[u8], sessions: u8) -> Result<Vec<Sessio
     Ok(calls)
 }
 
-/// The calls of a file of so many sessions, in the order of its sections; `File` with its first fault where it has one, and with the
-/// position of this in the file where positions are asked for; `NoMemory` where there is no room.
+/// The calls of a file of so many sessions, in the order of its sections. `File` with the file's first fault where it has one, with its position in
+/// the file where positions are asked for; `NoMemory` where there is no room.
 pub fn read_told_calls(
     alloc: Global,
     sessions: u8,

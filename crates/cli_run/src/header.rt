@@ -5,7 +5,7 @@ ghost use Rattle.cli_check.specs.Headings.{IsHeader, maker_text};
 
 use cli_check::{Heading, behind, read_heading};
 
-/// What stands behind a number of at most two digits, or `None` exactly where the text does not begin with it.
+/// The rest of a text behind a number of at most two digits, or `None` exactly where the text does not begin with it.
 fn behind_number(text: &[u8], number: u8) -> Option<&[u8]>
     requires { number < 100 }
     ensures found { IfSome result (λ rest. text.now ≡ decimal number ++ rest.now) }

@@ -14,7 +14,7 @@ use std::alloc::Global;
 use std::sync::Wait;
 use std::thread::Threads;
 
-/// A gate that holds nothing up.
+/// A gate at which no session waits.
 struct Open;
 
 impl Gate for Open {
@@ -43,8 +43,8 @@ fn part<N: Ending>(ran: Vec<(Session<N>, End)>, sessions: &mut Vec<Session<N>>, 
     }
 }
 
-/// Has each of so many sessions make its calls, on a thread of its own, and closes. `TooManyCalls` exactly where there are more
-/// than 1,000,000 of them; `NoMemory` only where memory was refused.
+/// Opens a database, has each of so many sessions make its calls on a thread of its own, and closes it. Returns the history and how each session
+/// ended. `TooManyCalls` exactly where there are more than 1,000,000 calls; `NoMemory` only where memory was refused.
 pub fn make_calls<R: Threads + Wait + Sync>(
     rt: &R,
     alloc: Global,

@@ -122,8 +122,8 @@ fn write_entry<O: Write>(
     Ok(Ok(()))
 }
 
-/// Writes the entries of a history in their order, as text or as JSON, exactly their bytes, or answers the writer's fault. `AllocError`
-/// at the first entry for whose JSON there is no room: of it and of those behind it nothing is written. Text wants no room.
+/// Writes the entries of a history in their order, as text or as JSON, exactly their bytes, or returns the writer's fault. `AllocError` at the
+/// first entry for whose JSON there is no room: of it and of those behind it nothing is written. Text needs no room.
 pub fn write_history<O: Write>(
     alloc: Global,
     json: bool,
@@ -166,8 +166,8 @@ fn write_stopped<E: Write>(session: u8, end: &End, err: &mut E) -> io::Result<()
     }
 }
 
-/// Writes which sessions did not end, in the order of the sessions, which are at most 16; or answers the writer's fault, and
-/// only where a session did not.
+/// Writes which sessions did not end, in the order of the sessions, which are at most 16. Returns the writer's fault, and only where a session did
+/// not end.
 pub fn write_all_stopped<E: Write>(ends: &[End], err: &mut E) -> io::Result<()>
     requires { length ends.now ≤ 16 }
     ensures written { OnOk result (Appends (E.contents err.old) (E.contents err.new) (stopped_lines 0 ends.now)) }

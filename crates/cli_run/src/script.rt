@@ -7,7 +7,7 @@ use bc_calls::Call;
 use bc_scripts::Script;
 use std::alloc::{AllocError, Global};
 
-/// The same call, with one more owner of what it brings. `AllocError` only where memory was refused.
+/// A copy of a call, which shares what the call brings. `AllocError` only where memory was refused.
 fn copy_of(call: &Call) -> Result<Call, AllocError>
     ensures { IfOk result (λ copy. copy ≡ call.now) }
 {
