@@ -52,7 +52,7 @@ abbrev pub conflicts_at : Mir → (ℕ → Bool) → ℕ × Step → List Confli
 conflicts_at mir in_scope here =
     flat_map (conflicts_of_access mir in_scope here.0) (enumerate_from 0 (accesses_of mir here.1.instruction))
 
--- the same, of the loans in scope there
+-- the conflicts of a numbered point with the loans in scope there
 abbrev pub conflicts_of_step : Mir → ScopeTest → ℕ × Step → List Conflict
 conflicts_of_step mir in_scope here = conflicts_at mir (in_scope here.0) here
 

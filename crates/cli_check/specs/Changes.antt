@@ -50,7 +50,7 @@ abbrev pub GivesChange : Part → Result Change Stop → Type 0
 GivesChange section result =
     sections.Answers (λ change. Makes section (seen change)) (λ fault. (fault.line ≡ section.line) × sections.IsFault Takes section fault.kind) result
 
--- the same of all sections
+-- what was returned says which calls all sections make, or the first thing that is wrong with them, want of memory aside
 abbrev pub GivesChanges : List Part → Result (Vec Change Global) Stop → Type 0
 GivesChanges parts result = sections.Answers (λ list. MakeAll parts (map seen list.items)) (IsFirstFault parts) result
 

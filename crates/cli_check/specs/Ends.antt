@@ -97,7 +97,7 @@ pub record StopsWith (Left : Stop → Option (List ℕ) → Type 0) (name : List
 abbrev pub IsEnd : CheckParts → Option (List ℕ) → ℕ → Option (List ℕ) → Option (List ℕ) → Option (List ℕ) → Option (List ℕ) → Type 0
 IsEnd line known exit out out' err err' = OfFile known (λ file. Checked line file exit out out' err err') ⊎ StopsWith (λ stop told. Leaves line stop known out out' err told) line.file exit err'
 
--- the same, of a line of `check`
+-- the command on the file that a line of `check` names ended with this status
 abbrev pub IsEndOf : Line → Option (List ℕ) → ℕ → Option (List ℕ) → Option (List ℕ) → Option (List ℕ) → Option (List ℕ) → Type 0
 IsEndOf (Check line) known exit out out' err err' = IsEnd line known exit out out' err err'
 IsEndOf (Run line) known exit out out' err err' = ⊥

@@ -22,7 +22,7 @@ byte_of (Limit at) = Some at
 abbrev pub byte_position : List ℕ → FileFault → Option Position
 byte_position file fault = option_map (λ at. position_below file fault.line at) (byte_of fault.kind)
 
--- the same, where positions are asked for
+-- where in the file the byte of a fault is, where positions are asked for
 abbrev pub asked_position : Bool → List ℕ → FileFault → Option Position
 asked_position positions file fault = if positions then byte_position file fault else None
 

@@ -91,7 +91,7 @@ pub record ServedAll (form : Form) (first : List Call) (names : List NameParts) 
   pub errors : Appends err err' (flat_map told events)
   pub status : exit ≡ greatest events
 
--- the same, where only a beginning of the calls was answered and printed, and at most one call more was answered
+-- a beginning of these calls was answered and printed, and at most one call more was answered
 pub record ServedFirst (form : Form) (first : List Call) (names : List NameParts) (old new : SessionView) (out out' err err' : Option (List ℕ)) : Type 0 where
   pub events : List Event
   pub ahead : List Call
@@ -113,7 +113,8 @@ pub record Runs (form : Form) (first : List Call) (names : List NameParts) (exit
   pub errors : Appends err err' (flat_map told events)
   pub status : exit ≡ greatest events
 
--- The same, where only of a beginning of the calls was printed what belongs to it, and this holds of their replies.
+-- The calls of the sections were made and the names asked, as above; of a beginning of the calls alone was printed what belongs to it,
+-- and this holds of their replies.
 pub record Begins (Holds : List Event → Type 0) (form : Form) (first : List Call) (names : List NameParts) (out out' err err' : Option (List ℕ)) : Type 0 where
   pub events : List Event
   pub ahead : List Call

@@ -36,12 +36,12 @@ GivesText heading section result =
     sections.Answers (λ call. (heading_of call ≡ heading) × sections.GivesCall call section.text)
     (λ fault. (fault.line ≡ section.line) × sections.IsTextFault heading section.text fault.kind) result
 
--- the same of the call of a section
+-- what was returned says which call a section gives, or what is wrong with it, want of memory aside
 abbrev pub GivesOne : ℕ → Part → Result SessionCall Stop → Type 0
 GivesOne sessions section result =
     sections.Answers (Gives sessions section) (λ fault. (fault.line ≡ section.line) × sections.IsFault (Takes sessions) section fault.kind) result
 
--- the same of all sections
+-- what was returned says which calls all sections give, or the first thing that is wrong with them, want of memory aside
 abbrev pub GivesAll : ℕ → List Part → Result (Vec SessionCall Global) Stop → Type 0
 GivesAll sessions parts result = sections.Answers (λ list. GiveAll sessions parts list.items) (IsFirstFault sessions parts) result
 

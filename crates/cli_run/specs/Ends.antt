@@ -37,7 +37,7 @@ pub record IsWell (sessions : ℕ) (file : List ℕ) : Type 0 where
   pub good : GiveAll sessions (sections_of file) given
   pub few : length given ≤ MOST_ENTRIES
 
--- the same, of whose calls standard output has the history, and some session did not end
+-- a file without a fault, of whose calls standard output has the history, and some session did not end
 pub record HasShown (json : Bool) (sessions : ℕ) (file : List ℕ) (out out' : Option (List ℕ)) : Type 0 where
   pub given : List SessionCall
   pub history : List Entry
@@ -48,7 +48,7 @@ pub record HasShown (json : Bool) (sessions : ℕ) (file : List ℕ) (out out' :
   pub output : Appends out out' (flat_map (entry_lines json) history)
   pub stopped : greatest_end ends ≡ 3
 
--- the same, of whose calls standard output has a beginning of the history as JSON, without the next of its entries
+-- a file without a fault, of whose calls standard output has a beginning of the history as JSON, without the next of its entries
 pub record HasBegun (sessions : ℕ) (file : List ℕ) (out out' : Option (List ℕ)) : Type 0 where
   pub given : List SessionCall
   pub history : List Entry
@@ -84,7 +84,7 @@ abbrev pub IsEnd : RunParts → Option (List ℕ) → ℕ → Option (List ℕ) 
 IsEnd line known exit out out' err err' =
     OfFile known (λ file. Ran line.json line.sessions file exit out out' err err') ⊎ StopsWith (λ stop told. Leaves line stop known out out' err told) line.file exit err'
 
--- the same, of a line of `run`
+-- the command on the file that a line of `run` names ended with this status
 abbrev pub IsEndOf : Line → Option (List ℕ) → ℕ → Option (List ℕ) → Option (List ℕ) → Option (List ℕ) → Option (List ℕ) → Type 0
 IsEndOf (Check line) known exit out out' err err' = ⊥
 IsEndOf (Run line) known exit out out' err err' = IsEnd line known exit out out' err err'
