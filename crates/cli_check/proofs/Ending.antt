@@ -94,11 +94,12 @@ legal_none (b ∷ bs) e rest is = absurd cc
 -- the calls that a new session answered
 replied_of : (events : List Event) (s t : SessionView) → s ≡ new_session 0 0 → Adds events s t → AreReplied events
 replied_of events s t is adds =
-    let seen : HasSeenItsOwn t = adds.seen (subst HasSeenItsOwn (sym is) (legal_none, refl)) in
+    let nothing : HasSeenItsOwn (new_session 0 0) = record { noted = []; begins = ([], refl); legal = legal_none; own = refl } in
+    let seen : HasSeenItsOwn t = adds.seen (subst HasSeenItsOwn (sym is) nothing) in
     record {
-      history = t.seen;
-      legal = seen.0;
-      own = ap (λ (n : ℕ). calls n t.seen) (sym (adds.number ∙ ap (λ (x : SessionView). x.number) is)) ∙ seen.1 ∙ adds.own ∙ ap (λ (x : SessionView). x.own ++ events) is;
+      history = seen.noted;
+      legal = seen.legal;
+      own = ap (λ (n : ℕ). calls n seen.noted) (sym (adds.number ∙ ap (λ (x : SessionView). x.number) is)) ∙ seen.own ∙ adds.own ∙ ap (λ (x : SessionView). x.own ++ events) is;
     }
 
 -- all changes and all Asks

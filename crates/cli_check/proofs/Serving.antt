@@ -7,8 +7,10 @@ use Rattle.std.proofs.lemmas.List.{map-append}
 use Rattle.std.proofs.lemmas.Grind.{flat_map-append}
 use Rattle.bc_calls.specs.declared.call.Call.{Call}
 use Rattle.bc_calls.specs.declared.call.Event.{Event}
-use Rattle.bc_calls.specs.Calls.{call_of}
-use Rattle.bc_share.specs.Sessions.{SessionView, IsAnswered}
+use Rattle.bc_calls.specs.Calls.{call_of, calls}
+use Rattle.bc_calls.proofs.Beginnings.{starts_again}
+use Rattle.bc_share.specs.Sessions.{SessionView, IsAnswered, IsSame}
+use Rattle.bc_share.proofs.Noting.{starts_same}
 use Rattle.cli_check.specs.declared.stop.Stop.{Stop}
 use Rattle.cli_check.specs.Run.{event_status, greatest}
 use Rattle.cli_check.specs.Stops.{is_refused}
@@ -40,7 +42,26 @@ adds_none : (s : SessionView) → Adds [] s s
 adds_none s = record { tag = refl; number = refl; own = sym (append-nil s.own); seen = λ own. own }
 
 pub adds_one : (event : Event) (old new : SessionView) → IsAnswered event old new → Adds (event ∷ []) old new
-adds_one event old new h = record { tag = h.tag; number = h.number; own = h.own; seen = λ own. (h.legal, h.mine) }
+adds_one event old new h = record {
+  tag = h.tag;
+  number = h.number;
+  own = h.own;
+  seen = λ had. record { noted = new.seen; begins = starts_same new.seen; legal = h.legal; own = h.mine };
+}
+
+-- the same session, which made no call, whatever it has seen
+pub adds_same : (old new : SessionView) → IsSame old new → Adds [] old new
+adds_same old new h = record {
+  tag = h.tag;
+  number = h.number;
+  own = h.own ∙ sym (append-nil old.own);
+  seen = λ had. record {
+    noted = had.noted;
+    begins = starts_again new.seen old.seen had.noted h.later had.begins;
+    legal = had.legal;
+    own = ap (λ (n : ℕ). calls n had.noted) h.number ∙ had.own ∙ sym h.own;
+  };
+}
 
 pub adds_then : (a b : List Event) (old mid new : SessionView) → Adds a old mid → Adds b mid new → Adds (a ++ b) old new
 adds_then a b old mid new h k = record {

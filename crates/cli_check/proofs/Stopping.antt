@@ -1,6 +1,6 @@
 -- What is found and left where the command stops.
-use Rattle.std.proofs.Common.{◌≡◌, ◌≤◌, ◌<◌, ◌+◌, ℕ, List, length, Option, refl, ap, arith, inl, inr}
-use Rattle.std.specs.Prelude.{◌⊎◌, Result, Ok, Err, IfOk, OnOk, IfErr, IsErrOf, IfSome, true}
+use Rattle.std.proofs.Common.{◌≡◌, ◌≤◌, ◌<◌, ◌+◌, ℕ, List, length, Option, Some, None, refl, ap, sym, subst, arith, inl, inr}
+use Rattle.std.specs.Prelude.{◌⊎◌, Bool, Result, Ok, Err, IfOk, OnOk, IfErr, IsErrAnd, IsErrOf, IfSome, true}
 use Rattle.std.specs.Io.KnownBytes.{Appends, Keeps}
 use Rattle.bc_text.specs.Names.{NameParts}
 use Rattle.bc_calls.specs.declared.call.Call.{Call}
@@ -10,7 +10,8 @@ use Rattle.cli_check.specs.Files.{most_bytes}
 use Rattle.cli_check.specs.declared.stop.Stop.{Stop}
 use Rattle.cli_check.specs.declared.stop.Stop.TheVariants.{WrongUse, CannotRead, CannotWrite, CannotTell, NoMemory, File, TooManyCalls, HistoryFull, Foreign, Audit}
 use Rattle.cli_check.specs.Parts.{sections_of}
-use Rattle.cli_check.specs.Changes.{MakeAll}
+use Rattle.cli_check.specs.Changes.{MakeAll, IsToldFault}
+use Rattle.cli_check.specs.Sections.{Answers}
 use Rattle.cli_check.specs.Asked.{AreAsked}
 use Rattle.cli_check.specs.Forms.{form_of}
 use Rattle.cli_check.specs.Stops.{is_of_calls, is_refused, last_line, stop_status}
@@ -76,6 +77,34 @@ broken line (Err Audit) known o o' e e' file made names whole h = elim (h.audite
   | inl begins ↦ inl (begun AreReplied line _ known o o' e e' file made names whole h (few_where (λ never. absurd cc) h.few) begins)
   | inr owes ↦ inr (untold AreReplied line _ known o o' e e' file made names whole h (few_where (λ never. absurd cc) h.few) owes.0, owes.1)
 ]
+
+kept : (known : Option (List ℕ)) → Keeps known known
+kept None = tt
+kept (Some bytes) = refl
+
+unread_file : {T : Type 0} (Good : T → Type 0) (line : CheckParts) (stop : Stop) (known o e : Option (List ℕ)) (file : List ℕ) → IfSome known (λ bytes. file ≡ bytes)
+    → length file ≤ most_bytes → Answers Good (IsToldFault line.positions file) (Err stop) → Leaves line stop known o o e e
+unread_file Good line WrongUse known o e file whole short bad = absurd bad
+unread_file Good line CannotRead known o e file whole short bad = absurd bad
+unread_file Good line CannotWrite known o e file whole short bad = absurd bad
+unread_file Good line CannotTell known o e file whole short bad = absurd bad
+unread_file Good line NoMemory known o e file whole short bad = inl (kept o, kept e)
+unread_file Good line (File fault) known o e file whole short bad =
+    (known_is known file (λ (f : List ℕ). (length f ≤ most_bytes) × IsToldFault line.positions f fault) whole (short, bad), (kept o, kept e))
+unread_file Good line TooManyCalls known o e file whole short bad = absurd bad
+unread_file Good line HistoryFull known o e file whole short bad = absurd bad
+unread_file Good line Foreign known o e file whole short bad = absurd bad
+unread_file Good line Audit known o e file whole short bad = absurd bad
+
+-- the file has a fault, or there was no room to read it
+pub unread : {T : Type 0} (Good : T → Type 0) (line : CheckParts) (positions : Bool) (stop : Stop) (r : Result ℕ Stop) (known o e : Option (List ℕ)) (file bytes : List ℕ)
+    → IsErrAnd r (λ y. y ≡ stop) → IfSome known (λ all. file ≡ all) → length file ≤ most_bytes → bytes ≡ file → positions ≡ line.positions
+    → Answers Good (IsToldFault positions bytes) (Err stop) → IfErr r (λ y. Leaves line y known o o e e)
+unread Good line positions stop (Ok n) known o e file bytes is whole short same told bad = absurd is
+unread Good line positions stop (Err y) known o e file bytes is whole short same told bad =
+    let of_file : Answers Good (IsToldFault positions file) (Err stop) = subst (λ (f : List ℕ). Answers Good (IsToldFault positions f) (Err stop)) same bad in
+    let of_line : Answers Good (IsToldFault line.positions file) (Err stop) = subst (λ (p : Bool). Answers Good (IsToldFault p file) (Err stop)) told of_file in
+    subst (λ (x : Stop). Leaves line x known o o e e) (sym is) (unread_file Good line stop known o e file whole short of_line)
 
 pub IfOk-map : {T E : Type 0} {P Q : T → Type 0} (r : Result T E) → ((x : T) → P x → Q x) → IfOk r P → IfOk r Q
 IfOk-map (Ok x) f p = f x p

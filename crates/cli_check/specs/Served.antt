@@ -4,7 +4,8 @@ use Rattle.std.specs.Io.KnownBytes.{Appends}
 use Rattle.bc_text.specs.Names.{NameParts}
 use Rattle.bc_calls.specs.declared.call.Call.{Call}
 use Rattle.bc_calls.specs.declared.call.Event.{Event}
-use Rattle.bc_calls.specs.Calls.{IsLegal, call_of, calls}
+use Rattle.bc_calls.specs.declared.call.Entry.{Entry}
+use Rattle.bc_calls.specs.Calls.{IsLegal, StartsWith, call_of, calls}
 use Rattle.bc_share.specs.Sessions.{SessionView, IsAnswered, IsSame}
 use Rattle.bc_share.specs.declared.db.TheConstants.{MOST_ENTRIES}
 use Rattle.cli_check.specs.declared.form.Form.{Form}
@@ -26,9 +27,12 @@ Owes call old new = (event : Event) × (call_of event ≡ call) × (told event �
 abbrev pub IsStill : SessionView → SessionView → Type 0
 IsStill old new = (new.tag ≡ old.tag) × (new.number ≡ old.number)
 
--- what a session has seen is legal, and its calls there are its own list
-abbrev pub HasSeenItsOwn : SessionView → Type 0
-HasSeenItsOwn session = IsLegal session.seen × (calls session.number session.seen ≡ session.own)
+-- what a session has seen begins with a legal list, and its calls there are its own list
+pub record HasSeenItsOwn (session : SessionView) : Type 0 where
+  pub noted : List Entry
+  pub begins : StartsWith session.seen noted
+  pub legal : IsLegal noted
+  pub own : calls session.number noted ≡ session.own
 
 -- the session's own list is longer by these calls, and it is the same session; it has still seen its own
 pub record Adds (events : List Event) (old new : SessionView) : Type 0 where

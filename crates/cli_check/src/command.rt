@@ -14,10 +14,12 @@ ghost use Rattle.cli_check.specs.Run.{refused_line, answer_lines, told, shown, A
 ghost use Rattle.cli_check.specs.Served.{Serves, Served, ServedPart, ServedAll, ServedFirst, ServedThen, Adds, Owes, OwesLast, Runs, Begins, Prints, IsAtMostOneMore, IsStill};
 ghost use Rattle.cli_line.specs.Lines.{is_check};
 
+use crate::ahead::{ask_ahead, find_threads};
 use crate::asked::find_asked;
-use crate::file::{Change, read_told_changes};
+use crate::file::Change;
 use crate::form::{Form, find_form};
 use crate::input::read_whole;
+use crate::side::read_changes_by;
 use crate::status::{outcome_status, put_status};
 use crate::stop::{Stop, stop_with};
 use bc_calls::PutReply;
@@ -34,6 +36,7 @@ use std::collections::BTreeSet;
 use std::io;
 use std::io::{BufWriter, Read, Write};
 use std::sync::Wait;
+use std::thread::Threads;
 
 /// Writes the line of a put that stored nothing. It fails only where there is such a line.
 fn write_refusal<E: Write>(name: &Name, reply: PutReply, err: &mut E) -> io::Result<()>
@@ -111,7 +114,7 @@ fn write_json<O: Write>(
 }
 
 /// Writes an Ask with its outcome, in this form. `NoMemory`, with nothing written, where there is no room for it.
-fn write_answer<O: Write>(
+pub(crate) fn write_answer<O: Write>(
     alloc: Global,
     form: &Form<'_>,
     name: &Name,
@@ -206,12 +209,14 @@ fn make_changes<R: Wait, N: Ending, E: Write>(
     Ok(status)
 }
 
-/// How the names of a file are asked: by which providers, in which form each answer is printed, and which names, in their order.
+/// How the names of a file are asked: by which providers, in which form each answer is printed, which names, in their order, and how many threads
+/// share the work.
 #[derive(Drop)]
-struct Asking<'a, 'b> {
-    providers: &'a Providers,
-    form: &'a Form<'b>,
-    names: &'a BTreeSet<Name>,
+pub(crate) struct Asking<'a, 'b> {
+    pub providers: &'a Providers,
+    pub form: &'a Form<'b>,
+    pub names: &'a BTreeSet<Name>,
+    pub threads: usize,
 }
 
 /// Asks the names in order, and prints their reports. Returns the greatest status of the outcomes.
@@ -234,6 +239,28 @@ fn make_asks<R: Wait, N: Ending, O: Write>(
         status = status.max(asked);
     }
     Ok(status)
+}
+
+/// Asks the names in order, and prints their reports. Several threads share the work where there are several threads and several names. Returns the
+/// greatest status of the outcomes.
+fn ask_names<R: Threads + Wait + Sync, N: Ending, O: Write>(
+    rt: &R,
+    alloc: Global,
+    session: &mut Session<N>,
+    asking: &Asking<'_, '_>,
+    out: &mut O,
+) -> Result<u8, Stop>
+    ensures served { IfOk result (λ status. Served (map calls.Ask asking.now.names.now.keys) (shown asking.now.form.now) status session.old session.new (O.contents out.old) (O.contents out.new)) }
+    ensures still { IsStill session.old session.new }
+    ensures refused { IfErr result (λ stop. is_refused stop ≡ true → ServedPart (map calls.Ask asking.now.names.now.keys) (shown asking.now.form.now) session.old session.new (O.contents out.old) (O.contents out.new)) }
+    ensures range { IfOk result (λ status. status ≤ 2) }
+    ensures stop { IfErr result (λ stop. (stop ≡ Stop.CannotWrite) ⊎ (stop ≡ Stop.NoMemory) ⊎ (stop ≡ Stop.HistoryFull)) }
+{
+    if asking.threads <= 1 || asking.names.len() <= 1 {
+        make_asks(rt, alloc, session, asking, out)
+    } else {
+        ask_ahead(rt, alloc, session, asking, out)
+    }
 }
 
 /// Whether standard output failed.
@@ -275,7 +302,7 @@ fn hand_on<O: Write + Drop>(asked: Result<u8, Stop>, out: &mut BufWriter<O>) -> 
 
 /// Asks the names in order, prints their reports and flushes them, also where this stops before its end. Returns the greatest status of the
 /// outcomes.
-fn answer_all<R: Wait, N: Ending, O: Write + Drop>(
+fn answer_all<R: Threads + Wait + Sync, N: Ending, O: Write + Drop>(
     rt: &R,
     alloc: Global,
     session: &mut Session<N>,
@@ -289,12 +316,12 @@ fn answer_all<R: Wait, N: Ending, O: Write + Drop>(
     ensures stop { IfErr result (λ stop. (stop ≡ Stop.CannotWrite) ⊎ (stop ≡ Stop.NoMemory) ⊎ (stop ≡ Stop.HistoryFull)) }
     ensures handed_on { (result ≡ Err Stop.CannotWrite) ⊎ (writer_buffer out.new ≡ []) }
 {
-    let asked = make_asks(rt, alloc, session, asking, out);
+    let asked = ask_names(rt, alloc, session, asking, out);
     hand_on(asked, out)
 }
 
 /// Makes the changes in order, then asks the names in order, and flushes what is printed. Returns the greatest status of the calls.
-fn make_all<R: Wait, N: Ending, O: Write + Drop, E: Write>(
+fn make_all<R: Threads + Wait + Sync, N: Ending, O: Write + Drop, E: Write>(
     rt: &R,
     alloc: Global,
     session: &mut Session<N>,
@@ -336,7 +363,7 @@ pub fn find_capacity(changes: usize, names: usize) -> Result<u32, Stop>
 /// `MOST_ENTRIES` of them.
 ///
 /// A failure of `out` is reported first, then a fault of the close, then a refused call or a line that was not written.
-fn serve<R: Wait, O: Write + Drop, E: Write>(
+fn serve<R: Threads + Wait + Sync, O: Write + Drop, E: Write>(
     rt: &R,
     alloc: Global,
     changes: Vec<Change>,
@@ -375,10 +402,13 @@ fn serve<R: Wait, O: Write + Drop, E: Write>(
 /// of an Ask its line and its report, or one line that has both where the line of the command asks for JSON. Returns the greatest status of the
 /// calls. If `out` held nothing before, it holds nothing afterwards, unless the writer behind it failed.
 ///
+/// As many threads share the reading of the sections and the work on the Asks as the line says with `--jobs`, or as there are processors where it
+/// has no `--jobs`, or fewer where no more can be made. What is printed does not depend on how many.
+///
 /// Stops with `CannotRead` where the input cannot be read or is over 16 MiB; with `File` at its first fault; with `TooManyCalls` where it makes
 /// more than 1,000,000 calls; with `CannotWrite` or `CannotTell` where a writer fails; with `NoMemory` where there is no room; with `HistoryFull`
 /// where a call finds a full history, and with `Audit` where the history does not agree with the session at the close.
-pub fn check<R: Wait, I: Read, O: Write + Drop, E: Write>(
+pub fn check<R: Threads + Wait + Sync, I: Read, O: Write + Drop, E: Write>(
     rt: &R,
     alloc: Global,
     providers: &Providers,
@@ -393,13 +423,15 @@ pub fn check<R: Wait, I: Read, O: Write + Drop, E: Write>(
     ensures handed_on { writer_buffer out.old ≡ [] → (result ≡ Err Stop.CannotWrite) ⊎ (writer_buffer out.new ≡ []) }
 {
     let file = read_whole(alloc, input)?;
-    let changes = read_told_changes(alloc, line.positions(), &file)?;
+    let threads = find_threads(rt, line.jobs());
+    let changes = read_changes_by(rt, alloc, threads, line.positions(), &file)?;
     let names = find_asked(alloc, &changes)?;
     let form = find_form(alloc, line, &file, &changes)?;
     let asking = Asking {
         providers,
         form: &form,
         names: &names,
+        threads,
     };
     serve(rt, alloc, changes, &asking, out, err)
 }
@@ -411,7 +443,7 @@ pub fn check<R: Wait, I: Read, O: Write + Drop, E: Write>(
 /// 0 where no report has an error; 1 where one has; 2 where the file has a fault, a put stores nothing or an outcome is no report; 3 where the
 /// command stops for another reason, which is the last line on `err`. The fault of `err` where that line cannot be written: then nothing more can
 /// be said.
-pub fn check_and_tell<R: Wait, I: Read, O: Write + Drop, E: Write>(
+pub fn check_and_tell<R: Threads + Wait + Sync, I: Read, O: Write + Drop, E: Write>(
     rt: &R,
     alloc: Global,
     providers: &Providers,
@@ -434,7 +466,7 @@ pub fn check_and_tell<R: Wait, I: Read, O: Write + Drop, E: Write>(
 /// report has an error; 1 where one has; 2 where the file has a fault, a put stores nothing or an outcome is no report; 3 where the command stops
 /// for another reason, which is the last line on `err`, or where standard error fails. Reports go to `out` and faults to `err`. The line has to be
 /// one of `check`.
-pub fn check_over<R: Wait, I: Read, O: Write + Drop, E: Write>(
+pub fn check_over<R: Threads + Wait + Sync, I: Read, O: Write + Drop, E: Write>(
     rt: &R,
     alloc: Global,
     providers: &Providers,

@@ -126,7 +126,7 @@ fn read_asked(alloc: Global, section: &Section<'_>, heading: Heading) -> Result<
 }
 
 /// The change that a section makes.
-fn read_change(alloc: Global, section: &Section<'_>) -> Result<Change, Stop>
+pub(crate) fn read_change(alloc: Global, section: &Section<'_>) -> Result<Change, Stop>
     ensures { GivesChange (part_of section.now) result }
 {
     match read_header(section.header) {

@@ -1,6 +1,7 @@
 //! The command `check`: a file cut into its sections, stored and asked, and what is printed of it.
 #![tactic(auto)]
 
+mod ahead;
 mod asked;
 mod command;
 mod fault;
@@ -10,6 +11,7 @@ mod heading;
 mod input;
 mod location;
 mod section;
+mod side;
 mod status;
 mod stop;
 mod words;

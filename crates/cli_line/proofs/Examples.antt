@@ -14,13 +14,29 @@ unfoldable on_words : Unit {0}
 unfolding clap_on_literals nlldb program check_app run_app serve_app print_app check_given run_given serve_given print_given command_of faults_of line_written
 on_words = tt
 
-check_by_default : line_written (codes "check" ∷ codes "a.nll" ∷ []) ≡ Some (Check (record { file = codes "a.nll"; json = false; source = false; positions = false; solver = Components }))
+check_by_default : line_written (codes "check" ∷ codes "a.nll" ∷ []) ≡ Some (Check (record { file = codes "a.nll"; json = false; source = false; positions = false; jobs = None; solver = Components }))
 unfolding on_words
 check_by_default = refl
 
-check_with_options : line_written (codes "check" ∷ codes "--json" ∷ codes "--solver=plain" ∷ codes "a.nll" ∷ []) ≡ Some (Check (record { file = codes "a.nll"; json = true; source = false; positions = false; solver = Plain }))
+check_with_options : line_written (codes "check" ∷ codes "--json" ∷ codes "--solver=plain" ∷ codes "a.nll" ∷ []) ≡ Some (Check (record { file = codes "a.nll"; json = true; source = false; positions = false; jobs = None; solver = Plain }))
 unfolding on_words
 check_with_options = refl
+
+check_by_four : line_written (codes "check" ∷ codes "a.nll" ∷ codes "--jobs" ∷ codes "4" ∷ []) ≡ Some (Check (record { file = codes "a.nll"; json = false; source = false; positions = false; jobs = Some 4; solver = Components }))
+unfolding on_words
+check_by_four = refl
+
+no_jobs : line_written (codes "check" ∷ codes "--jobs=0" ∷ codes "a.nll" ∷ []) ≡ None
+unfolding on_words
+no_jobs = refl
+
+more_jobs_than_a_byte : line_written (codes "check" ∷ codes "--jobs" ∷ codes "256" ∷ codes "a.nll" ∷ []) ≡ None
+unfolding on_words
+more_jobs_than_a_byte = refl
+
+jobs_of_a_run : line_written (codes "run" ∷ codes "--jobs=2" ∷ codes "a.nll" ∷ []) ≡ None
+unfolding on_words
+jobs_of_a_run = refl
 
 run_by_default : line_written (codes "run" ∷ codes "a.nll" ∷ []) ≡ Some (Run (record { file = codes "a.nll"; json = false; positions = false; sessions = 1; solver = Components }))
 unfolding on_words
@@ -82,7 +98,7 @@ source_of_a_run : line_written (codes "run" ∷ codes "--source" ∷ codes "a.nl
 unfolding on_words
 source_of_a_run = refl
 
-source_of_a_check : line_written (codes "check" ∷ codes "a.nll" ∷ codes "--source" ∷ []) ≡ Some (Check (record { file = codes "a.nll"; json = false; source = true; positions = false; solver = Components }))
+source_of_a_check : line_written (codes "check" ∷ codes "a.nll" ∷ codes "--source" ∷ []) ≡ Some (Check (record { file = codes "a.nll"; json = false; source = true; positions = false; jobs = None; solver = Components }))
 unfolding on_words
 source_of_a_check = refl
 

@@ -1,35 +1,40 @@
 -- The parts of a line, from the arguments of its command.
-use Rattle.std.proofs.Common.{◌≡◌, ◌∙◌, ℕ, Bool, List, Some, None, ap, ap₂, refl, sym, codes, true, false}
+use Rattle.std.proofs.Common.{◌≡◌, ◌∙◌, ℕ, Bool, List, Option, Some, None, ap, ap₂, refl, sym, codes, true, false}
 use Rattle.clap.specs.Walk.{Row, Text, first_of}
 use Rattle.cli_line.specs.declared.solver.Solver.{Solver}
 use Rattle.cli_line.specs.Parts.{CheckParts, PrintParts, RunParts, ServeParts}
-use Rattle.cli_line.specs.Written.{asks_for_both, capacity_given, check_given, is_set, print_given, run_given, serve_given, sessions_given, solver_given}
+use Rattle.cli_line.specs.Written.{asks_for_both, capacity_given, check_given, is_set, jobs_given, print_given, run_given, serve_given, sessions_given, solver_given}
 
 pub check_without_file : (rows : List Row) → None ≡ first_of (codes "FILE") rows → check_given rows ≡ None
 unfolding check_given
 check_without_file rows f = rw (← f) refl
 
-pub check_without_solver : (rows : List Row) (file : Text) → Some file ≡ first_of (codes "FILE") rows → None ≡ solver_given rows → check_given rows ≡ None
+pub check_without_jobs : (rows : List Row) (file : Text) → Some file ≡ first_of (codes "FILE") rows → None ≡ jobs_given rows → check_given rows ≡ None
 unfolding check_given
-check_without_solver rows file f s = rw (← f, ← s) refl
+check_without_jobs rows file f n = rw (← f, ← n) refl
 
-pub check_of_both : (rows : List Row) (file : Text) (solver : Solver) → Some file ≡ first_of (codes "FILE") rows → Some solver ≡ solver_given rows
-    → true ≡ asks_for_both rows → check_given rows ≡ None
+pub check_without_solver : (rows : List Row) (file : Text) (jobs : Option ℕ) → Some file ≡ first_of (codes "FILE") rows → Some jobs ≡ jobs_given rows
+    → None ≡ solver_given rows → check_given rows ≡ None
 unfolding check_given
-check_of_both rows file solver f s both = rw (← f, ← s, ← both) refl
+check_without_solver rows file jobs f n s = rw (← f, ← n, ← s) refl
 
-pub check_is : (rows : List Row) (text file : Text) (json source positions : Bool) (solver : Solver) (parts : CheckParts)
-    → Some text ≡ first_of (codes "FILE") rows → Some solver ≡ solver_given rows → false ≡ asks_for_both rows → file ≡ text
+pub check_of_both : (rows : List Row) (file : Text) (jobs : Option ℕ) (solver : Solver) → Some file ≡ first_of (codes "FILE") rows → Some jobs ≡ jobs_given rows
+    → Some solver ≡ solver_given rows → true ≡ asks_for_both rows → check_given rows ≡ None
+unfolding check_given
+check_of_both rows file jobs solver f n s both = rw (← f, ← n, ← s, ← both) refl
+
+pub check_is : (rows : List Row) (text file : Text) (json source positions : Bool) (jobs : Option ℕ) (solver : Solver) (parts : CheckParts)
+    → Some text ≡ first_of (codes "FILE") rows → Some jobs ≡ jobs_given rows → Some solver ≡ solver_given rows → false ≡ asks_for_both rows → file ≡ text
     → json ≡ is_set (codes "json") rows → source ≡ is_set (codes "source") rows → positions ≡ is_set (codes "positions") rows
-    → parts ≡ record { file = file; json = json; source = source; positions = positions; solver = solver } → check_given rows ≡ Some parts
+    → parts ≡ record { file = file; json = json; source = source; positions = positions; jobs = jobs; solver = solver } → check_given rows ≡ Some parts
 unfolding check_given
-check_is rows text file json source positions solver parts f s one same by_json by_source by_positions made =
-    let computed : check_given rows ≡ Some (record { file = text; json = is_set (codes "json") rows; source = is_set (codes "source") rows; positions = is_set (codes "positions") rows; solver = solver }) =
-    rw (← f, ← s, ← one) refl in
-    let first : ◌≡◌ {A = CheckParts} (record { file = file; json = json; source = source; positions = positions; solver = solver }) (record { file = text; json = is_set (codes "json") rows; source = source; positions = positions; solver = solver }) =
-    ap₂ (λ f j. record { file = f; json = j; source = source; positions = positions; solver = solver }) same by_json in
-    let second : ◌≡◌ {A = CheckParts} (record { file = text; json = is_set (codes "json") rows; source = source; positions = positions; solver = solver }) (record { file = text; json = is_set (codes "json") rows; source = is_set (codes "source") rows; positions = is_set (codes "positions") rows; solver = solver }) =
-    ap₂ (λ c p. record { file = text; json = is_set (codes "json") rows; source = c; positions = p; solver = solver }) by_source by_positions in
+check_is rows text file json source positions jobs solver parts f n s one same by_json by_source by_positions made =
+    let computed : check_given rows ≡ Some (record { file = text; json = is_set (codes "json") rows; source = is_set (codes "source") rows; positions = is_set (codes "positions") rows; jobs = jobs; solver = solver }) =
+    rw (← f, ← n, ← s, ← one) refl in
+    let first : ◌≡◌ {A = CheckParts} (record { file = file; json = json; source = source; positions = positions; jobs = jobs; solver = solver }) (record { file = text; json = is_set (codes "json") rows; source = source; positions = positions; jobs = jobs; solver = solver }) =
+    ap₂ (λ f j. record { file = f; json = j; source = source; positions = positions; jobs = jobs; solver = solver }) same by_json in
+    let second : ◌≡◌ {A = CheckParts} (record { file = text; json = is_set (codes "json") rows; source = source; positions = positions; jobs = jobs; solver = solver }) (record { file = text; json = is_set (codes "json") rows; source = is_set (codes "source") rows; positions = is_set (codes "positions") rows; jobs = jobs; solver = solver }) =
+    ap₂ (λ c p. record { file = text; json = is_set (codes "json") rows; source = c; positions = p; jobs = jobs; solver = solver }) by_source by_positions in
     computed ∙ ap Some (sym (made ∙ (first ∙ second)))
 
 pub run_without_file : (rows : List Row) → None ≡ first_of (codes "FILE") rows → run_given rows ≡ None

@@ -9,12 +9,17 @@ use Rattle.std.proofs.lemmas.Bool.{lt-ltb, ltb-true, leb-true}
 use Rattle.clap.specs.Walk.{byte_or_zero}
 use Rattle.clap.specs.ValueTests.{is_numeral}
 use Rattle.clap.proofs.WalkLemmas.{both}
-use Rattle.cli_line.specs.Values.{capacity_named, is_capacity, is_session_count, sessions_named}
+use Rattle.cli_line.specs.Values.{capacity_named, is_capacity, is_job_count, is_session_count, jobs_named, sessions_named}
 
 -- the number of a word, where it is one of sessions
 pub named : (word : List ℕ) (count : ℕ) (is_count : Bool) → count ≡ byte_or_zero word → is_count ≡ is_session_count count
     → (if is_count then Some count else None) ≡ sessions_named word
 named word count is_count is fits = rw (fits, is) refl
+
+-- the same, where it is one of jobs
+pub jobs_of : (word : List ℕ) (count : ℕ) (is_count : Bool) → count ≡ byte_or_zero word → is_count ≡ is_job_count count
+    → (if is_count then Some count else None) ≡ jobs_named word
+jobs_of word count is_count is fits = rw (fits, is) refl
 
 -- digits, and their test
 digits_pass : (ds : List ℕ) → AllDigits 10 ds → list_all (λ d. nat_lt (digit_value d) 10) ds ≡ true

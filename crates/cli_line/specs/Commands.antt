@@ -30,13 +30,17 @@ sessions_rule = record (new_rule (codes "sessions")) { long = Some (codes "sessi
 abbrev pub solver_rule : Rule
 solver_rule = record (new_rule (codes "solver")) { long = Some (codes "solver"); defaults = codes "components" ∷ [] }
 
+-- `--jobs N`, with no value where it does not stand
+abbrev pub jobs_rule : Rule
+jobs_rule = record (new_rule (codes "jobs")) { long = Some (codes "jobs") }
+
 -- `--capacity C`, 1000000 where it does not stand
 abbrev pub capacity_rule : Rule
 capacity_rule = record (new_rule (codes "capacity")) { long = Some (codes "capacity"); defaults = codes "1000000" ∷ [] }
 
--- `check FILE [--json] [--source] [--positions] [--solver S]`
+-- `check FILE [--json] [--source] [--positions] [--jobs N] [--solver S]`
 unfoldable pub check_app : App
-check_app = with_rule (with_rule (with_rule (with_rule (with_rule (new_app (codes "check")) file_rule) json_rule) source_rule) positions_rule) solver_rule
+check_app = with_rule (with_rule (with_rule (with_rule (with_rule (with_rule (new_app (codes "check")) file_rule) json_rule) source_rule) positions_rule) jobs_rule) solver_rule
 
 -- `run FILE [--json] [--positions] [--sessions N] [--solver S]`
 unfoldable pub run_app : App

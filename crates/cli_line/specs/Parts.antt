@@ -1,5 +1,5 @@
 -- What a line holds.
-use Rattle.std.specs.Prelude.{ℕ, Bool, List}
+use Rattle.std.specs.Prelude.{ℕ, Bool, List, Option}
 use Rattle.cli_line.specs.declared.solver.Solver.{Solver}
 
 -- the parts of a line of `check`
@@ -8,6 +8,7 @@ pub record CheckParts : Type 0 where
   pub json : Bool
   pub source : Bool
   pub positions : Bool
+  pub jobs : Option ℕ
   pub solver : Solver
 
 -- the parts of a line of `run`

@@ -24,6 +24,16 @@ sessions_named word =
     let count = byte_or_zero word in
     if is_session_count count then Some count else None
 
+-- there may be so many jobs, of the numbers that have a byte
+abbrev pub is_job_count : ℕ → Bool
+is_job_count count = nat_le 1 count
+
+-- the number of jobs that a word writes, as one of sessions
+abbrev pub jobs_named : List ℕ → Option ℕ
+jobs_named word =
+    let count = byte_or_zero word in
+    if is_job_count count then Some count else None
+
 -- the number that a word writes in decimal digits, and a `+` may stand before them
 abbrev pub number_written : List ℕ → Option ℕ
 number_written word =

@@ -13,7 +13,7 @@ use Rattle.cli_line.specs.declared.fault.LineFault.TheVariants.{Help, Version, W
 use Rattle.cli_line.specs.declared.line.Line.{Line}
 use Rattle.cli_line.specs.declared.line.Line.TheVariants.{Check, Run, Serve, Print}
 use Rattle.cli_line.specs.Parts.{CheckParts, PrintParts, RunParts, ServeParts}
-use Rattle.cli_line.specs.Values.{capacity_named, solver_named, sessions_named}
+use Rattle.cli_line.specs.Values.{capacity_named, jobs_named, solver_named, sessions_named}
 use Rattle.cli_line.specs.Commands.{nlldb}
 use Rattle.cli_line.specs.Topics.{topic_of}
 
@@ -33,15 +33,19 @@ sessions_given rows = option_and_then sessions_named (first_of (codes "sessions"
 abbrev pub capacity_given : List Row → Option ℕ
 capacity_given rows = option_and_then capacity_named (first_of (codes "capacity") rows)
 
+-- the number of jobs that they name; none is named where the option does not stand
+abbrev pub jobs_given : List Row → Option (Option ℕ)
+jobs_given rows = option_map_or (λ word. option_map Some (jobs_named word)) (first_of (codes "jobs") rows) (Some None)
+
 -- they ask for JSON and for sources, which no line does
 abbrev pub asks_for_both : List Row → Bool
 asks_for_both rows = is_set (codes "json") rows && is_set (codes "source") rows
 
 -- the line of `check` with these arguments
 unfoldable pub check_given : List Row → Option CheckParts
-check_given rows = option_and_then (λ file. option_and_then (λ solver. if asks_for_both rows then None else
-    Some (record { file = file; json = is_set (codes "json") rows; source = is_set (codes "source") rows; positions = is_set (codes "positions") rows; solver = solver }))
-    (solver_given rows)) (first_of (codes "FILE") rows)
+check_given rows = option_and_then (λ file. option_and_then (λ jobs. option_and_then (λ solver. if asks_for_both rows then None else
+    Some (record { file = file; json = is_set (codes "json") rows; source = is_set (codes "source") rows; positions = is_set (codes "positions") rows; jobs = jobs; solver = solver }))
+    (solver_given rows)) (jobs_given rows)) (first_of (codes "FILE") rows)
 
 -- the line of `run` with these arguments
 unfoldable pub run_given : List Row → Option RunParts

@@ -1,7 +1,7 @@
 //! The commands and their arguments, as the parser is told of them.
 ghost use Rattle.std.specs.Prelude.{◌≡◌, IfOk, false};
 ghost use Rattle.clap.specs.Words.{rule_of};
-ghost use Rattle.cli_line.specs.Commands.{IsCommand, capacity_rule, check_app, file_rule, json_rule, nlldb, program};
+ghost use Rattle.cli_line.specs.Commands.{IsCommand, capacity_rule, check_app, file_rule, jobs_rule, json_rule, nlldb, program};
 ghost use Rattle.cli_line.specs.Commands.{positions_rule, print_app, run_app, serve_app, sessions_rule, solver_rule, source_rule};
 
 use crate::usage::VERSION;
@@ -66,6 +66,14 @@ fn solver_option<'a>(alloc: Global) -> Arg<'a>
         .default_value("components")
 }
 
+// `--jobs N`.
+fn jobs_option<'a>(alloc: Global) -> Arg<'a>
+    ensures rule { rule_of result ≡ jobs_rule }
+    ensures local { result.global ≡ false }
+{
+    Arg::new(alloc, "jobs").long("jobs")
+}
+
 // `--capacity C`.
 fn capacity_option<'a>(alloc: Global) -> Arg<'a>
     ensures rule { rule_of result ≡ capacity_rule }
@@ -76,7 +84,7 @@ fn capacity_option<'a>(alloc: Global) -> Arg<'a>
         .default_value("1000000")
 }
 
-// `check FILE [--json] [--source] [--positions] [--solver S]`. That `--json` and `--source` do not both stand is looked at behind the parser.
+// `check FILE [--json] [--source] [--positions] [--jobs N] [--solver S]`. That `--json` and `--source` do not both stand is looked at behind the parser.
 fn check_command<'a>(alloc: Global) -> Result<Command<'a>, AllocError>
     ensures { IfOk result (IsCommand check_app) }
 {
@@ -85,6 +93,7 @@ fn check_command<'a>(alloc: Global) -> Result<Command<'a>, AllocError>
         .arg(json_option(alloc))?
         .arg(source_option(alloc))?
         .arg(positions_option(alloc))?
+        .arg(jobs_option(alloc))?
         .arg(solver_option(alloc))
 }
 

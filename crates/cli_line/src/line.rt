@@ -19,6 +19,7 @@ pub struct CheckLine {
     json: bool,
     source: bool,
     positions: bool,
+    jobs: Option<u8>,
     solver: Solver,
 }
 
@@ -33,6 +34,7 @@ impl Model for CheckLine {
       json = line.json;
       source = line.source;
       positions = line.positions;
+      jobs = line.jobs;
       solver = line.solver;
     } };
 
@@ -46,16 +48,18 @@ impl CheckLine {
         json: bool,
         source: bool,
         positions: bool,
+        jobs: Option<u8>,
         solver: Solver,
     ) -> Self
         requires alone { (json && source) ≡ false }
-        ensures { result ≡ record { file = string_bytes file; json = json; source = source; positions = positions; solver = solver } }
+        ensures { result ≡ record { file = string_bytes file; json = json; source = source; positions = positions; jobs = jobs; solver = solver } }
     {
         CheckLine {
             file,
             json,
             source,
             positions,
+            jobs,
             solver,
         }
     }
@@ -88,6 +92,13 @@ impl CheckLine {
         ensures { result ≡ self.now.positions }
     {
         self.positions
+    }
+
+    /// How many threads are to share the work, 1 to 255: as many as `--jobs` says, or `None` where the line has no `--jobs`.
+    pub fn jobs(&self) -> Option<u8>
+        ensures { result ≡ self.now.jobs }
+    {
+        self.jobs
     }
 
     /// The solver that `--solver` names, or the one by components where the line has no `--solver`.

@@ -1,9 +1,9 @@
 //! Words are read as a line.
 ghost use Rattle.std.specs.Prelude.{◌≡◌, IfOk, option_map, map};
 ghost use Rattle.clap.specs.Words.{first_of, found_of, rows_of};
-ghost use Rattle.cli_line.specs.Values.{capacity_named, is_capacity, is_session_count, sessions_named};
+ghost use Rattle.cli_line.specs.Values.{capacity_named, is_capacity, is_job_count, is_session_count, jobs_named, sessions_named};
 ghost use Rattle.cli_line.specs.Lines.{IsInRange};
-ghost use Rattle.cli_line.specs.Written.{asks_for_both, is_set, solver_given, sessions_given, capacity_given, check_given, print_given, run_given, serve_given};
+ghost use Rattle.cli_line.specs.Written.{asks_for_both, is_set, solver_given, sessions_given, capacity_given, jobs_given, check_given, print_given, run_given, serve_given};
 ghost use Rattle.cli_line.specs.Written.{line_given, GivesLine, GivesParts};
 
 use crate::arguments::nlldb_command;
@@ -51,6 +51,21 @@ fn sessions_named(word: &str) -> Option<u8>
     }
 }
 
+// Whether there may be so many jobs.
+fn is_job_count(count: u8) -> bool
+    ensures { result ≡ is_job_count count }
+{
+    count >= 1
+}
+
+// The number that a word writes, where there may be so many jobs. A word that writes no number counts as 0.
+fn jobs_named(word: &str) -> Option<u8>
+    ensures { result ≡ jobs_named word.now }
+{
+    let jobs = word.parse::<u8>().unwrap_or(0);
+    if is_job_count(jobs) { Some(jobs) } else { None }
+}
+
 // Whether a history may have so many entries.
 fn is_capacity(count: u32) -> bool
     ensures { result ≡ is_capacity count }
@@ -91,6 +106,19 @@ fn capacity_given(matches: &ArgMatches<'_>) -> Option<u32>
     capacity_named(value_of(matches, "capacity")?)
 }
 
+// The number of jobs that the arguments name, where they name one.
+fn jobs_given(matches: &ArgMatches<'_>) -> Option<Option<u8>>
+    ensures { result ≡ jobs_given (rows_of (found_of matches.now)) }
+{
+    match value_of(matches, "jobs") {
+        Some(word) => match jobs_named(word) {
+            Some(jobs) => Some(Some(jobs)),
+            None => None,
+        },
+        None => Some(None),
+    }
+}
+
 // Whether the arguments ask for JSON and for sources.
 fn asks_for_both(matches: &ArgMatches<'_>) -> bool
     ensures { result ≡ asks_for_both (rows_of (found_of matches.now)) }
@@ -105,6 +133,9 @@ fn read_check(alloc: Global, matches: &ArgMatches<'_>) -> Result<CheckLine, Line
     let Some(file) = value_of(matches, "FILE") else {
         return Err(LineFault::WrongUse);
     };
+    let Some(jobs) = jobs_given(matches) else {
+        return Err(LineFault::WrongUse);
+    };
     let Some(solver) = solver_given(matches) else {
         return Err(LineFault::WrongUse);
     };
@@ -115,7 +146,7 @@ fn read_check(alloc: Global, matches: &ArgMatches<'_>) -> Result<CheckLine, Line
     let source = is_set(matches, "source");
     let positions = is_set(matches, "positions");
     let file = String::from_str(alloc, file)?;
-    Ok(CheckLine::new(file, json, source, positions, solver))
+    Ok(CheckLine::new(file, json, source, positions, jobs, solver))
 }
 
 // The line of `run` with these arguments.
@@ -183,12 +214,12 @@ fn read_command(alloc: Global, name: &str, matches: &ArgMatches<'_>) -> Result<L
     }
 }
 
-/// Reads the words of the command line, those behind the program's own name: `check FILE [--json | --source] [--positions] [--solver S]`, `run FILE
-/// [--json] [--positions] [--sessions N] [--solver S]`, `serve [--sessions N] [--solver S] [--capacity C]` or `print FILE [--positions]`, where S
-/// is `plain` or `components` (the default), N is 1 to 16 (1 by default) and C is 1 to 1,000,000 (which is the default). Options stand behind the
-/// command, before FILE or behind it, and take their value as the next word or behind a `=`. N and C are written in decimal digits, with leading
-/// zeros or none and a `+` before them or none. Behind a word `--` each word is FILE, so that its name may begin with `-`. How words are split into
-/// options and values is the rule of the crate `clap`.
+/// Reads the words of the command line, those behind the program's own name: `check FILE [--json | --source] [--positions] [--jobs J] [--solver
+/// S]`, `run FILE [--json] [--positions] [--sessions N] [--solver S]`, `serve [--sessions N] [--solver S] [--capacity C]` or `print FILE
+/// [--positions]`, where J is 1 to 255 (no number by default), S is `plain` or `components` (the default), N is 1 to 16 (1 by default) and C is 1
+/// to 1,000,000 (which is the default). Options stand behind the command, before FILE or behind it, and take their value as the next word or behind
+/// a `=`. J, N and C are written in decimal digits, with leading zeros or none and a `+` before them or none. Behind a word `--` each word is FILE,
+/// so that its name may begin with `-`. How words are split into options and values is the rule of the crate `clap`.
 ///
 /// `Help` where the words ask for it by `--help` or `-h`, also behind a command, before a word that is wrong: on the command that the first word
 /// names, or else on the program. `Version` where they ask for it by `--version` or `-V`, which stands before a command. `NoMemory` only where

@@ -14,7 +14,7 @@ pub const VERSION: &str = "0.1.0";
 pub const USAGE: &str = "nlldb checks the borrows of functions and closures in a textual MIR.
 
 Usage:
-  nlldb check FILE [--json | --source] [--positions] [--solver S]
+  nlldb check FILE [--json | --source] [--positions] [--jobs N] [--solver S]
   nlldb run FILE [--json] [--positions] [--sessions N] [--solver S]
   nlldb serve [--sessions N] [--solver S] [--capacity C]
   nlldb print FILE [--positions]
@@ -50,6 +50,8 @@ Options:
                  It does not stand beside --json.
   --positions    (check, run, print) In a fault of FILE, tell line and column
                  beside the byte. Default: the byte alone.
+  --jobs N       (check) How many threads share the work, 1 to 255, which
+                 changes no report. Default: as many as there are processors.
   --sessions N   (run, serve) How many sessions there are, 1 to 16. Default: 1.
   --solver S     'plain' or 'components': how the regions are solved, which
                  changes no report. Default: components.
@@ -91,7 +93,7 @@ pub const CHECK_USAGE: &str =
 prints a report for each.
 
 Usage:
-  nlldb check FILE [--json | --source] [--positions] [--solver S]
+  nlldb check FILE [--json | --source] [--positions] [--jobs N] [--solver S]
 
 FILE may be '-', for standard input. A section of it begins with a line '@types'
 (declarations follow) or '@put NAME' (a body follows).
@@ -105,6 +107,9 @@ Options:
                  does not stand beside --json.
   --positions    In a fault of FILE, tell line and column beside the byte.
                  Default: the byte alone.
+  --jobs N       How many threads share the work, 1 to 255, which changes no
+                 report. Default: as many as there are processors. With 1 no
+                 thread is made.
   --solver S     'plain' or 'components': how the regions are solved, which
                  changes no report. Default: components.
   -h, --help     Print this text.

@@ -22,7 +22,7 @@ use std::sync::Wait;
 use std::thread::Threads;
 
 /// The command `check` on the file that its line names.
-fn check_file<R: AllocGlobal + Wait, S: Inputs, O: Write + Drop, E: Write>(
+fn check_file<R: AllocGlobal + Threads + Wait + Sync, S: Inputs, O: Write + Drop, E: Write>(
     rt: &R,
     providers: &Providers,
     check: &CheckLine,
@@ -41,7 +41,13 @@ fn check_file<R: AllocGlobal + Wait, S: Inputs, O: Write + Drop, E: Write>(
 }
 
 /// The command `check` on the input that its line names.
-fn obey_check<R: AllocGlobal + Wait, S: Inputs, I: BufRead, O: Write + Drop, E: Write>(
+fn obey_check<
+    R: AllocGlobal + Threads + Wait + Sync,
+    S: Inputs,
+    I: BufRead,
+    O: Write + Drop,
+    E: Write,
+>(
     rt: &R,
     providers: &Providers,
     check: &CheckLine,

@@ -16,3 +16,8 @@ pub const REFUSED: &[u8] = b"put f/0 wrongkind\n";
 pub const TEXT: &[&str] = &["check", "demo"];
 
 pub const JSON: &[&str] = &["check", "--json", "demo"];
+
+/// The words of a check with reports as text, by one job and by four.
+pub const ONE_JOB: &[&str] = &["check", "--jobs", "1", "demo"];
+
+pub const FOUR_JOBS: &[&str] = &["check", "--jobs", "4", "demo"];

@@ -16,8 +16,8 @@ const CONFLICT: &[u8] =
     b"@put f\nfn () -> int { let _1: int; let _2: &'?0 int; bb0 { _1 = 1; _2 = &'?1 _1; _1 = 2; _0 = copy _2.*; return; } }\n";
 
 /// Of `check`: files with an error, with a put that stores nothing, with a fault and with nothing, some with the reports as text and as JSON,
-/// and two of which an Ask is refused: the first, and the second.
-const CHECKS: [Case<'static>; 9] = [
+/// and some of which an Ask is refused: the first, and the second, with four jobs and with one.
+const CHECKS: [Case<'static>; 10] = [
     Case {
         words: checks::TEXT,
         file: CONFLICT,
@@ -91,7 +91,16 @@ const CHECKS: [Case<'static>; 9] = [
         wants_memory: true,
     },
     Case {
-        words: checks::TEXT,
+        words: checks::FOUR_JOBS,
+        file: b"@put a\nclosure[]()->int{bb0{return;}}\n@put f\nfn()->int{bb0{_0=1;return;}}\n",
+        status: 3,
+        out: b"ask a\nno body\n",
+        err: b"put a wrongkind\nno memory\n",
+        unwritten: b"put a wrongkind\ncannot write\n",
+        wants_memory: true,
+    },
+    Case {
+        words: checks::ONE_JOB,
         file: b"@put a\nclosure[]()->int{bb0{return;}}\n@put f\nfn()->int{bb0{_0=1;return;}}\n",
         status: 3,
         out: b"ask a\nno body\n",

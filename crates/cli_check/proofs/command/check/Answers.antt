@@ -1,8 +1,13 @@
+use Rattle.std.specs.Prelude.{ℕ, ◌≡◌}
 use Rattle.std.proofs.Common.{arith, map}
 use Rattle.std.proofs.lemmas.List.{length-map}
 use Rattle.cli_check.specs.Changes.{seen}
-use Rattle.cli_check.proofs.Stopping.{broken, few_of}
+use Rattle.cli_check.proofs.Stopping.{broken, few_of, unread}
 use Rattle.cli_check.proofs.command.check.Goals as goal
+
+pub returns-in_err-changes-clause-stopped : goal.returns-in_err-changes-clause-stopped
+returns-in_err-changes-clause-stopped g c =
+    unread {T = ℕ} (λ n. n ≡ n) c.args.line.now _ c.in_err-changes.field-0.0 c.from_residual-in_err-changes.result _ _ _ c.in_ok-file.file.items _ c.from_residual-in_err-changes.ensures.1 c.in_ok-file.ensures.whole c.in_ok-file.ensures.short c.deref.ensures.value c.positions.ensures c.in_err-changes.ensures
 
 pub returns-clause-stopped : goal.returns-clause-stopped
 returns-clause-stopped g c =

@@ -7,11 +7,11 @@ use Rattle.cli_check.specs.declared.stop.Stop.TheVariants.{Audit}
 use Rattle.cli_check.specs.Stops.{is_of_calls}
 use Rattle.bc_calls.specs.declared.call.Event.{Event}
 use Rattle.cli_check.specs.Changes.{seen}
-use Rattle.cli_check.specs.Run.{AreLegal}
+use Rattle.cli_check.specs.Run.{told, AreLegal}
 use Rattle.cli_check.specs.Served.{Adds}
 use Rattle.cli_check.proofs.Serving.{always_refused, is_stop, refused_map}
 use Rattle.cli_check.proofs.Shorter.{the_last}
-use Rattle.cli_check.proofs.Ending.{runs_of, begins_of, begins_none, closed_with, legal_adds, owed_of, shown_of}
+use Rattle.cli_check.proofs.Ending.{runs_of, begins_of, begins_none, closed_with, legal_adds, owed_of, prints_of, shown_of}
 use Rattle.cli_check.proofs.Closing.{one_session, only_audited}
 use Rattle.cli_check.proofs.command.serve.Goals as goal
 
@@ -35,6 +35,11 @@ returns-in_err-closed-clause-audited g c e =
     let new = (the_last _ _ _ (sym c.in_ok-db.ensures.opened.1 ∙ c.in-Some.ensures.items)).1 in
     let made = c.make_all-made.ensures in
     shown_of c.args.asking.now.form.now (map seen c.args.changes.items) c.args.asking.now.names.now.keys c.in-Some.session c.make_all-made.new.session _ _ _ _ c.make_all-made.result new made.served made.refused made.untold made.silent made.stop (λ failed. absurd (true≢false (sym (c.is_unwritten.ensures.1 failed) ∙ c.if-is_unwritten.false)))
+
+pub returns-then-is_unwritten-clause-unwritten : goal.returns-then-is_unwritten-clause-unwritten
+returns-then-is_unwritten-clause-unwritten g c e =
+    let new = (the_last _ _ _ (sym c.in_ok-db.ensures.opened.1 ∙ c.in-Some.ensures.items)).1 in
+    prints_of (map seen c.args.changes.items) told c.in-Some.session _ _ new (c.make_all-made.ensures.unwritten e)
 
 pub returns-clause-done : goal.returns-clause-done
 returns-clause-done g c =

@@ -10,4 +10,5 @@ returns c =
     let two = argument_told _ _ _ _ _ one c.in_ok-arg-2.ensures c.json_option.ensures.rule c.json_option.ensures.local in
     let three = argument_told _ _ _ _ _ two c.in_ok-arg-3.ensures c.source_option.ensures.rule c.source_option.ensures.local in
     let four = argument_told _ _ _ _ _ three c.in_ok-arg-4.ensures c.positions_option.ensures.rule c.positions_option.ensures.local in
-    IfOk-weaker c.arg-5.result _ _ (λ r h. argument_told _ _ _ _ _ four h c.solver_option.ensures.rule c.solver_option.ensures.local) c.arg-5.ensures
+    let five = argument_told _ _ _ _ _ four c.in_ok-arg-5.ensures c.jobs_option.ensures.rule c.jobs_option.ensures.local in
+    IfOk-weaker c.arg-6.result _ _ (λ r h. argument_told _ _ _ _ _ five h c.solver_option.ensures.rule c.solver_option.ensures.local) c.arg-6.ensures

@@ -1,0 +1,72 @@
+//! Asks of several names, worked on side by side before they are settled.
+ghost use Rattle.std.specs.Prelude.{◌≡◌, IfOk};
+ghost use Rattle.bc_share.specs.Sessions.{IsSame};
+
+use crate::ask::PendingAsk;
+use bc_prov::Providers;
+use bc_share::Session;
+use bc_text::Name;
+use bc_versions::Ending;
+use std::alloc::{AllocError, Global};
+use std::collections::BTreeSet;
+use std::thread;
+use std::thread::Threads;
+
+/// Begins an Ask of each name in a session, in the order of the names.
+fn begin_each<N: Ending>(
+    alloc: Global,
+    session: &mut Session<N>,
+    names: &BTreeSet<Name>,
+) -> Result<Vec<PendingAsk>, AllocError>
+    ensures begun { IfOk result (λ asks. asks.items ≡ names.now.keys) }
+    ensures kept { IsSame session.old session.new }
+{
+    let mut asks = Vec::with_capacity(alloc, names.len())?;
+    for name in names {
+        asks.push(PendingAsk::begin(session, name))?;
+    }
+    Ok(asks)
+}
+
+/// Works on each of these Asks, in so many threads at most.
+fn work_each<R: Threads + Sync>(
+    rt: &R,
+    alloc: Global,
+    providers: &Providers,
+    threads: usize,
+    asks: &mut [PendingAsk],
+)
+    ensures { asks.new ≡ asks.old }
+{
+    let threads = threads.max(1);
+    thread::for_each_mut(
+        rt,
+        asks,
+        threads,
+        &|_index: usize, ask: &mut PendingAsk|
+            ensures { ask.new ≡ ask.old }
+        { ask.work(alloc, providers) },
+    );
+}
+
+/// Begins an Ask of each name in a session and works on all of them, side by side. Returns an Ask for each name, in the order of the names, which
+/// is still to be settled. None is a call yet: the session's own list stays as it is. There are so many threads at most, one at least, and fewer
+/// where no more can be made. They hold no lock meanwhile.
+///
+/// `AllocError` only where there is no room for the list of Asks. Where memory is refused to one of them, `PendingAsk::settle` reports it for that
+/// one, so that those before it can be answered.
+pub fn work_ahead<R: Threads + Sync, N: Ending>(
+    rt: &R,
+    alloc: Global,
+    session: &mut Session<N>,
+    providers: &Providers,
+    names: &BTreeSet<Name>,
+    threads: usize,
+) -> Result<Vec<PendingAsk>, AllocError>
+    ensures asks { IfOk result (λ asks. asks.items ≡ names.now.keys) }
+    ensures kept { IsSame session.old session.new }
+{
+    let mut asks = begin_each(alloc, session, names)?;
+    work_each(rt, alloc, providers, threads, &mut asks);
+    Ok(asks)
+}
