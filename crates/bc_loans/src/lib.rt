@@ -1,8 +1,12 @@
 //! Loans, and where they are in scope (RFC 2094, "Borrow checker phase 1").
 #![tactic(auto)]
 
+mod entries;
+mod flows;
+mod insides;
 mod loan_list;
 mod overwrites;
+mod overwritten;
 mod scopes;
 mod walks;
 

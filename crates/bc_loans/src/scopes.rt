@@ -1,13 +1,19 @@
 //! The loans in scope on entry to each point.
-ghost use Rattle.std.specs.Prelude.{◌≡◌, ◌↔◌, ℕ, true, length, IfOk};
+ghost use Rattle.std.specs.Prelude.{◌≡◌, ◌<◌, ◌↔◌, ℕ, true, length, IfOk};
+ghost use Rattle.std.specs.List.{All};
 ghost use Rattle.bc_flow.specs.Flow.{holds, HaveSize};
 ghost use Rattle.bc_loans.specs.Loans.{loans_of};
+ghost use Rattle.bc_flow.specs.Graph.{AreWithin};
+ghost use Rattle.bc_points.specs.declared.loan.Loan.{Loan as LoanValue};
 ghost use Rattle.bc_loans.specs.Scope.{IsInScope};
+ghost use Rattle.bc_loans.specs.Walks.{IsWalked};
 
+use crate::flows::flowed_rows;
 use crate::loan_list::loans;
 use crate::walks::walked_rows;
-use bc_flow::BitTable;
-use bc_mir::Typed;
+use bc_flow::{BitTable, Edge};
+use bc_mir::{Step, Typed};
+use bc_points::Loan;
 use bc_solve::Values;
 use std::alloc::{AllocError, Global};
 use std::marker::Model;
@@ -44,6 +50,30 @@ impl Scopes {
     }
 }
 
+/// For each point the loans that come there. Each loan walks from the point that makes it, as long as all walks together cost no more than
+/// the flow of whole rows does; where loans live long, they flow.
+fn scope_rows(
+    alloc: Global,
+    universals: u8,
+    loans: &[(usize, Loan<'_>)],
+    steps: &[Step],
+    edges: &[Edge],
+    values: &Values,
+) -> Result<BitTable, AllocError>
+    requires makers { All (λ (made : ℕ × LoanValue). made.0 < length steps.now) loans.now }
+    requires edges { AreWithin edges.now (length steps.now) }
+    ensures points { IfOk result (λ rows. length rows ≡ length steps.now) }
+    ensures loans { IfOk result (λ rows. HaveSize (length loans.now) rows) }
+    ensures walked { IfOk result (λ rows. (l p : ℕ) → (holds rows p l ≡ true) ↔ IsWalked edges.now steps.now universals (holds values.now) loans.now l p) }
+{
+    let budget = steps.len().saturating_mul(8 + loans.len() / 32);
+    let walked = walked_rows(alloc, universals, loans, steps, edges, values, budget)?;
+    match walked {
+        Some(rows) => Ok(rows),
+        None => flowed_rows(alloc, universals, loans, steps, edges, values),
+    }
+}
+
 /// The loans in scope on entry to each point, over the values that are handed in. A loan is in scope where a path of at
 /// least one step leads from the point that makes it: all points of the path after the first are in the value of the
 /// loan's region, and none before the last overwrites a prefix of the loan's path. Answers `AllocError` only where memory
@@ -55,7 +85,7 @@ pub fn in_scope(alloc: Global, typed: &Typed, values: &Values) -> Result<Scopes,
 {
     let loans = loans(alloc, typed)?;
     let edges = typed.edges(alloc)?;
-    let rows = walked_rows(
+    let rows = scope_rows(
         alloc,
         typed.universals(),
         &loans,

@@ -1,5 +1,5 @@
 //! The walk of each loan from the point that makes it, through the points where it is in scope.
-ghost use Rattle.std.specs.Prelude.{◌≡◌, ◌<◌, ◌↔◌, ℕ, true, false, length, IfOk, OnOk};
+ghost use Rattle.std.specs.Prelude.{◌≡◌, ◌<◌, ◌↔◌, ℕ, true, false, length, ⊤, IfOk, OnOk, MatchOption};
 ghost use Rattle.std.specs.List.{All};
 ghost use Rattle.bc_flow.specs.BitSet.{has};
 ghost use Rattle.bc_flow.specs.Graph.{AreWithin};
@@ -18,11 +18,13 @@ use bc_points::{Loan, PlaceRef, region_number};
 use bc_solve::Values;
 use std::alloc::{AllocError, Global};
 
-/// For each point the loans whose walks came there so far, and the points from which the walk of one loan is still to go on.
+/// For each point the loans whose walks came there so far, the points from which the walk of one loan is still to go on, and how many
+/// points all walks went on from.
 #[derive(Drop)]
 struct Walks {
     rows: BitTable,
     pending: Vec<usize>,
+    turns: usize,
 }
 
 impl Walks {
@@ -52,6 +54,7 @@ impl Walks {
     {
         self.pending.push(maker)?;
         while let Some(point) = self.pending.pop() {
+            self.turns = self.turns.saturating_add(1);
             if keeps(steps, path, point) {
                 spread(
                     &mut self.rows,
@@ -99,7 +102,7 @@ impl Walks {
     }
 }
 
-/// For each point the loans whose walks come there.
+/// For each point the loans whose walks come there, or none where the walks before the last one went on from more points than `budget`.
 pub(crate) fn walked_rows(
     alloc: Global,
     universals: u8,
@@ -107,20 +110,25 @@ pub(crate) fn walked_rows(
     steps: &[Step],
     edges: &[Edge],
     values: &Values,
-) -> Result<BitTable, AllocError>
+    budget: usize,
+) -> Result<Option<BitTable>, AllocError>
     requires makers { All (λ (made : ℕ × LoanValue). made.0 < length steps.now) loans.now }
     requires edges { AreWithin edges.now (length steps.now) }
-    ensures points { IfOk result (λ rows. length rows ≡ length steps.now) }
-    ensures loans { IfOk result (λ rows. HaveSize (length loans.now) rows) }
-    ensures walked { IfOk result (λ rows. (l p : ℕ) → (holds rows p l ≡ true) ↔ IsWalked edges.now steps.now universals (holds values.now) loans.now l p) }
+    ensures points { IfOk result (λ found. MatchOption found ⊤ (λ rows. length rows ≡ length steps.now)) }
+    ensures loans { IfOk result (λ found. MatchOption found ⊤ (λ rows. HaveSize (length loans.now) rows)) }
+    ensures walked { IfOk result (λ found. MatchOption found ⊤ (λ rows. (l p : ℕ) → (holds rows p l ≡ true) ↔ IsWalked edges.now steps.now universals (holds values.now) loans.now l p)) }
 {
     let points = steps.len();
     let chains = edge_chains(alloc, points, edges)?;
     let mut walks = Walks {
         rows: BitTable::new(alloc, points, loans.len())?,
         pending: Vec::with_capacity(alloc, points)?,
+        turns: 0,
     };
     for (number, made) in loans.iter().enumerate() {
+        if walks.turns > budget {
+            return Ok(None);
+        }
         let region = region_number(universals, made.1.region);
         walks.walk_inside(
             number,
@@ -133,5 +141,5 @@ pub(crate) fn walked_rows(
             values,
         )?;
     }
-    Ok(walks.rows)
+    Ok(Some(walks.rows))
 }
