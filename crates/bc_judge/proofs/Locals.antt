@@ -1,9 +1,10 @@
 -- The rows of loans for each kind of access and each local, and what two rows both have.
-use Rattle.std.proofs.Common.{◌≡◌, ℕ, ◌+◌, ◌<◌, ◌≤◌, ◌⊎◌, inl, inr, Bool, true, false, List, length, set, refl, sym, ap, ◌∙◌, subst, arith}
+use Rattle.std.proofs.Common.{◌≡◌, ℕ, ◌+◌, ◌*◌, ◌<◌, ◌≤◌, ◌⊎◌, inl, inr, Bool, true, false, List, length, set, refl, sym, ap, ◌∙◌, subst, arith}
 use Rattle.std.specs.Prelude.{◌&&◌, Some, slice_get}
+use Rattle.std.specs.List.{All}
 use Rattle.std.proofs.lemmas.Bool.{and_parts, both_ways, cases_eq, cases_lt, false_from_ne_true, ne_eqb}
 use Rattle.std.proofs.lemmas.List.{get_or_past}
-use Rattle.std.proofs.lemmas.Option.{slice_get_within}
+use Rattle.std.proofs.lemmas.Option.{slice_get_within, get_or_from_slice_get}
 use Rattle.bc_syntax.specs.declared.syntax.Mutability.TheVariants.{Shared}
 use Rattle.bc_syntax.specs.declared.syntax.Place.{Place}
 use Rattle.bc_points.specs.declared.access.Access.{Access}
@@ -65,6 +66,12 @@ no_conflict mir access loans among are l made is none =
     false_from_ne_true (is_conflict mir access made.1) (λ conflicts. both_ways (has among l) none (are l made is conflicts))
 
 -- ---- the rows, one loan after another
+
+-- there are rows for the local of each loan
+pub local_within : (loans : List (ℕ × Loan)) (number : ℕ) (made : ℕ × Loan) (count : ℕ) → slice_get loans number ≡ Some made → All (λ (m : ℕ × Loan). 2 * m.1.path.local + 1 < count) loans →
+    2 * made.1.path.local + 1 < count
+local_within loans number made count is all =
+    subst (λ (m : ℕ × Loan). 2 * m.1.path.local + 1 < count) (get_or_from_slice_get loans number made made is) (all number made (slice_get_within loans number made is))
 
 pub sizes_stay : (old new : List (List Bool)) (at : ℕ) → new ≡ set old at (row new at) → length (row new at) ≡ length (row old at) → (n : ℕ) → length (row new n) ≡ length (row old n)
 sizes_stay old new at written size n = elim (cases_eq n at) [

@@ -1,7 +1,9 @@
 //! Rows of the loans that an access may conflict with, one for each kind of access and each local.
-ghost use Rattle.std.specs.Prelude.{◌≡◌, ◌<◌, ◌≤◌, ℕ, true, false, length, IfOk, MatchOption};
+ghost use Rattle.std.specs.Prelude.{◌≡◌, ◌+◌, ◌*◌, ◌<◌, ◌≤◌, ℕ, true, false, length, IfOk, MatchOption};
+ghost use Rattle.std.specs.List.{All};
 ghost use Rattle.bc_flow.specs.Flow.{row, holds};
 ghost use Rattle.bc_points.specs.declared.access.AccessKind.{AccessKind as Kind};
+ghost use Rattle.bc_points.specs.declared.loan.Loan.{Loan as LoanValue};
 ghost use Rattle.bc_judge.specs.Candidates.{row_number as number_of, one_writes, HaveCandidates, both_have, IsNextInBoth};
 
 use bc_flow::{BitRow, BitTable};
@@ -34,8 +36,8 @@ fn add(rows: &mut BitTable, at: usize, loan: usize)
 
 /// Adds a loan to the rows of its path's local: to that for writes, and if it is mutable to that for reads too.
 fn add_loan(rows: &mut BitTable, number: usize, loan: &Loan<'_>)
-    requires rows { length rows.old ≡ 512 }
-    requires number { (n : ℕ) → n < 512 → number < length (row rows.old n) }
+    requires local { 2 * loan.now.path.local + 1 < length rows.old }
+    requires number { (n : ℕ) → n < length rows.old → number < length (row rows.old n) }
     ensures rows { length rows.new ≡ length rows.old }
     ensures sizes { (n : ℕ) → length (row rows.new n) ≡ length (row rows.old n) }
     ensures kept { (n l : ℕ) → holds rows.old n l ≡ true → holds rows.new n l ≡ true }
@@ -51,14 +53,26 @@ fn add_loan(rows: &mut BitTable, number: usize, loan: &Loan<'_>)
     }
 }
 
-/// For each kind of access and each local, by `row_number`, a row that has every loan with which such an access conflicts.
+/// How many rows reach the last with a loan in it: 0 without loans.
+fn rows_bound(loans: &[(usize, Loan<'_>)]) -> usize
+    ensures { All (λ (made : ℕ × LoanValue). 2 * made.1.path.local + 1 < result) loans.now }
+{
+    let mut bound = 0;
+    for made in loans {
+        bound = bound.max(2 * usize::from(made.1.path.local()) + 2);
+    }
+    bound
+}
+
+/// For each kind of access and each local, by `row_number`, a row that has every loan with which such an access conflicts. There are no
+/// rows past the last with a loan in it.
 pub(crate) fn candidate_rows(
     alloc: Global,
     loans: &[(usize, Loan<'_>)],
 ) -> Result<BitTable, AllocError>
     ensures { IfOk result (λ rows. HaveCandidates loans.now rows) }
 {
-    let mut rows = BitTable::new(alloc, 512, loans.len())?;
+    let mut rows = BitTable::new(alloc, rows_bound(loans), loans.len())?;
     for (number, made) in loans.iter().enumerate() {
         add_loan(&mut rows, number, &made.1);
     }

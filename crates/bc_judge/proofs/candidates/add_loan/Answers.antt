@@ -2,12 +2,18 @@ use Rattle.std.proofs.Common.{◌∙◌, arith}
 use Rattle.bc_judge.proofs.Locals.{shared_added, mutable_added}
 use Rattle.bc_judge.proofs.candidates.add_loan.Goals as goal
 
+pub add-requires-clause-at : goal.add-requires-clause-at
+add-requires-clause-at c = omega (arith, rw c.local-local.ensures at c.row_number-writes.ensures.number, c.requires.local)
+
 pub add-requires-clause-loan : goal.add-requires-clause-loan
-add-requires-clause-loan c = c.requires.number c.row_number-writes.result c.row_number-writes.ensures.below
+add-requires-clause-loan c = c.requires.number c.row_number-writes.result (omega (arith, rw c.local-local.ensures at c.row_number-writes.ensures.number, c.requires.local))
+
+pub add-requires-in-Mutable-clause-at : goal.add-requires-in-Mutable-clause-at
+add-requires-in-Mutable-clause-at c = omega (arith, rw c.local-local.ensures at c.row_number-reads.ensures.number, c.requires.local, c.add.ensures.rows)
 
 pub add-requires-in-Mutable-clause-loan : goal.add-requires-in-Mutable-clause-loan
 add-requires-in-Mutable-clause-loan c =
-    let before = c.requires.number c.row_number-reads.result c.row_number-reads.ensures.below in
+    let before = c.requires.number c.row_number-reads.result (omega (arith, rw c.local-local.ensures at c.row_number-reads.ensures.number, c.requires.local)) in
     omega (arith, before, c.add.ensures.sizes c.row_number-reads.result)
 
 pub returns-in-Shared-clause-added : goal.returns-in-Shared-clause-added
