@@ -13,7 +13,7 @@ ghost use Rattle.bc_book.specs.Ledgers.{Appends, AreRows, HasPlace, IsFull, Keep
 
 use crate::asked::Asked;
 use crate::ledger::{Ledger, MOST_SESSIONS, Refusal};
-use crate::roots::{FoundAll, push_row};
+use crate::roots::{FoundAll, push_row, reusable};
 use bc_calls::{Begun, Entry, Event, PutReply, RemoveReply, Told, Work, no_declarations};
 use bc_memo::Remembered;
 use bc_outcomes::Found;
@@ -259,6 +259,7 @@ impl<E: Ending> Book<E> {
         let name = *work.name();
         let Found { outcome, pieces } = self.ledger.outcome(alloc, &name, Some(work), providers)?;
         let row = self.ledger.row(alloc, &name, &outcome)?;
+        let pieces = reusable(&name, outcome.get(), pieces);
         let mut rows = Vec::new(alloc);
         push_row(&mut rows, row)?;
         let findings = Findings::of(alloc, rows, pieces)?;

@@ -14,7 +14,7 @@ ghost use Rattle.bc_calls.specs.Changes.{change_of, writes_after, writes_of};
 ghost use Rattle.bc_book.specs.Ledgers.{AreRows, HasPlace, IsFoundAll, IsRow, Recalls, SameButAnswers, SameLedger, kept_rows, remembering};
 
 use crate::reply::{put_reply, remove_reply};
-use crate::roots::{FoundAll, push_pieces, push_row, take_work};
+use crate::roots::{FoundAll, push_pieces, push_row, reusable, take_work};
 use bc_calls::{Begun, Entry, Event, MOST_BODIES, PutReply, RemoveReply, Work, no_declarations};
 use bc_memo::{Change, Memo, Remembered, Shelf};
 use bc_outcomes::Found;
@@ -257,6 +257,7 @@ impl Ledger {
         let Found { outcome, pieces } = self.outcome(alloc, name, work, providers)?;
         let row = self.row(alloc, name, &outcome)?;
         push_row(&mut found.rows, row)?;
+        let pieces = reusable(name, outcome.get(), pieces);
         push_pieces(&mut found.pieces, pieces)?;
         found.listing.push((*name, outcome))?;
         Ok(())

@@ -1,5 +1,5 @@
 //! What is found for all held roots.
-ghost use Rattle.std.specs.Prelude.{◌≡◌, ◌++◌, [], IfSome, OnOk};
+ghost use Rattle.std.specs.Prelude.{◌≡◌, ◌++◌, [], IfSome, OnOk, Some};
 ghost use Rattle.bc_book.specs.Ledgers.{row_list};
 
 use bc_calls::Work;
@@ -56,6 +56,26 @@ pub(crate) fn push_pieces(pieces: &mut PieceSet, more: Option<PieceSet>) -> Resu
     match more {
         Some(set) => pieces.append(set),
         None => Ok(()),
+    }
+}
+
+/// The pieces that a later report may take: none of a root that was reported alone, since what was found of it is remembered until its body
+/// or the declarations are written, which would drop its piece too.
+pub(crate) fn reusable(name: &Name, outcome: &Outcome, pieces: Option<PieceSet>) -> Option<PieceSet>
+    ensures { IfSome result (λ set. pieces ≡ Some set) }
+{
+    if name.depth() == 0 && bodies_in(outcome) == 1 {
+        None
+    } else {
+        pieces
+    }
+}
+
+/// How many bodies an outcome reports.
+fn bodies_in(outcome: &Outcome) -> usize {
+    match outcome {
+        Outcome::Report(bodies) => bodies.len(),
+        Outcome::NoBody | Outcome::Missing(_) | Outcome::BadTypes(_) | Outcome::Ill(_, _) => 0,
     }
 }
 

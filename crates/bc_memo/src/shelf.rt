@@ -242,8 +242,9 @@ impl Shelf {
     }
 
     /// Keeps one more owner of each piece of a set, in their order, where it was found from the declarations and from the unit at its
-    /// name that are held; the others are left out. The declarations are compared once. Returns `AllocError` only where an owner or
-    /// memory was refused: then it stopped at that piece, and nothing is lost with the others but the work to make them again.
+    /// name that are held; the others are left out. The declarations are compared once, and not at all for a set of no pieces. Returns
+    /// `AllocError` only where an owner or memory was refused: then it stopped at that piece, and nothing is lost with the others but
+    /// the work to make them again.
     pub fn keep_all(&mut self, set: &PieceSet) -> Result<(), AllocError>
         ensures held { self.new.held ≡ self.old.held }
         ensures room { self.new.room ≡ self.old.room }
@@ -253,6 +254,9 @@ impl Shelf {
         ensures ready { (self.new.ready ≡ self.old.ready) × (self.new.ready_room ≡ self.old.ready_room) }
     {
         let rows = set.rows();
+        if rows.is_empty() {
+            return Ok(());
+        }
         if set.is_over(&self.types) {
             self.keep_rows(rows)
         } else {
