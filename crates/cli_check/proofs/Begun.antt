@@ -6,8 +6,8 @@ use Rattle.bc_calls.specs.declared.call.Call.{Call}
 use Rattle.bc_calls.specs.declared.call.Call.TheVariants.{Ask}
 use Rattle.bc_calls.specs.declared.call.Event.{Event}
 use Rattle.bc_share.specs.Sessions.{SessionView, IsSame}
-use Rattle.cli_check.specs.declared.stop.Stop.{Stop}
-use Rattle.cli_check.specs.Stops.{is_refused}
+use Rattle.cli_file.specs.declared.stop.Stop.{Stop}
+use Rattle.cli_file.specs.Stops.{is_refused}
 use Rattle.cli_check.specs.Served.{Served, ServedPart}
 use Rattle.cli_check.proofs.Serving.{adds_same, adds_then, refused_map, served_none}
 

@@ -15,18 +15,20 @@ use Rattle.bc_calls.specs.Calls.{IsLegal, calls, call_of}
 use Rattle.bc_share.specs.Sessions.{SessionView, new_session}
 use Rattle.bc_share.specs.Closings.{IsOneHistory}
 use Rattle.bc_share.specs.declared.db.TheConstants.{MOST_ENTRIES}
-use Rattle.cli_check.specs.declared.stop.Stop.{Stop}
-use Rattle.cli_check.specs.declared.stop.Stop.TheVariants.{CannotWrite, CannotTell, NoMemory, HistoryFull}
-use Rattle.cli_check.specs.declared.file.Change.{Change}
+use Rattle.cli_file.specs.declared.stop.Stop.{Stop}
+use Rattle.cli_file.specs.declared.stop.Stop.TheVariants.{CannotWrite, CannotTell, NoMemory, HistoryFull}
+use Rattle.cli_file.specs.declared.file.Change.{Change}
+use Rattle.cli_file.specs.declared.file.Change.TheVariants as changes
+use Rattle.cli_file.specs.Changes.{seen}
+use Rattle.cli_file.specs.Stops.{is_refused}
+use Rattle.cli_file.specs.Statuses.{greatest}
+use Rattle.cli_file.proofs.Printing.{nothing_added}
 use Rattle.cli_check.specs.declared.form.Form.{Form}
-use Rattle.cli_check.specs.declared.file.Change.TheVariants as changes
-use Rattle.cli_check.specs.Changes.{seen}
-use Rattle.cli_check.specs.Stops.{is_refused}
-use Rattle.cli_check.specs.Run.{calls_of, told, shown, greatest, AreLegal, AreReplied}
+use Rattle.cli_check.specs.Run.{calls_of, told, shown, AreLegal, AreReplied}
 use Rattle.cli_check.specs.Served.{Adds, OwesLast, Served, ServedPart, ServedAll, ServedFirst, ServedThen, Runs, Begins, Prints, HasSeenItsOwn, IsAtMostOneMore}
 use Rattle.cli_check.proofs.Members.{Contains-one}
 use Rattle.cli_check.proofs.Shorter.{the_last, legal_shorter}
-use Rattle.cli_check.proofs.Serving.{nothing_added, adds_one, adds_then}
+use Rattle.cli_check.proofs.Serving.{adds_one, adds_then}
 
 -- nothing is told of an Ask
 told_ask : (e : Event) (name : NameParts) → call_of e ≡ calls_made.Ask name → told e ≡ []

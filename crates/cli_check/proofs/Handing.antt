@@ -5,9 +5,9 @@ use Rattle.std.specs.Io.KnownBytes.{Keeps}
 use Rattle.bc_calls.specs.declared.call.Call.{Call}
 use Rattle.bc_calls.specs.declared.call.Event.{Event}
 use Rattle.bc_share.specs.Sessions.{SessionView}
-use Rattle.cli_check.specs.declared.stop.Stop.{Stop}
-use Rattle.cli_check.specs.declared.stop.Stop.TheVariants.{CannotWrite}
-use Rattle.cli_check.specs.Stops.{is_refused}
+use Rattle.cli_file.specs.declared.stop.Stop.{Stop}
+use Rattle.cli_file.specs.declared.stop.Stop.TheVariants.{CannotWrite}
+use Rattle.cli_file.specs.Stops.{is_refused}
 use Rattle.cli_check.specs.Served.{Served, ServedPart}
 use Rattle.cli_check.proofs.Serving.{refused_map, served_kept}
 

@@ -1,5 +1,5 @@
 -- Calls that are made one after another.
-use Rattle.std.proofs.Common.{◌≡◌, ℕ, max, List, [], ◌∷◌, ◌++◌, Option, Some, None, map, refl, sym, ap, ◌∙◌, subst, append_assoc, append-nil, arith}
+use Rattle.std.proofs.Common.{◌≡◌, ℕ, max, List, [], ◌∷◌, ◌++◌, Option, map, refl, sym, ap, ◌∙◌, subst, append_assoc, append-nil, arith}
 use Rattle.std.specs.Prelude.{true, Result, Ok, Err, IfErr, IsErrAnd, IsErrOf}
 use Rattle.std.specs.List.{flat_map}
 use Rattle.std.specs.Io.KnownBytes.{Appends, Keeps}
@@ -11,25 +11,11 @@ use Rattle.bc_calls.specs.Calls.{call_of, calls}
 use Rattle.bc_calls.proofs.Beginnings.{starts_again}
 use Rattle.bc_share.specs.Sessions.{SessionView, IsAnswered, IsSame}
 use Rattle.bc_share.proofs.Noting.{starts_same}
-use Rattle.cli_check.specs.declared.stop.Stop.{Stop}
-use Rattle.cli_check.specs.Run.{event_status, greatest}
-use Rattle.cli_check.specs.Stops.{is_refused}
+use Rattle.cli_file.specs.declared.stop.Stop.{Stop}
+use Rattle.cli_file.specs.Statuses.{event_status, greatest}
+use Rattle.cli_file.specs.Stops.{is_refused}
+use Rattle.cli_file.proofs.Printing.{nothing_added, kept_adds, added_then}
 use Rattle.cli_check.specs.Served.{Adds, Owes, OwesLast, Serves, Served, ServedPart, IsAtMostOneMore}
-
-pub nothing_added : (u : Option (List ℕ)) → Appends u u []
-nothing_added None = tt
-nothing_added (Some xs) = sym (append-nil xs)
-
-pub kept_adds : (u v : Option (List ℕ)) → Keeps u v → Appends u v []
-kept_adds None v k = tt
-kept_adds (Some xs) None k = k
-kept_adds (Some xs) (Some ys) k = k ∙ sym (append-nil xs)
-
-pub added_then : (u v w : Option (List ℕ)) (a b : List ℕ) → Appends u v a → Appends v w b → Appends u w (a ++ b)
-added_then None v w a b x y = tt
-added_then (Some xs) None w a b x y = absurd x
-added_then (Some xs) (Some ys) None a b x y = y
-added_then (Some xs) (Some ys) (Some zs) a b x y = y ∙ ap (λ (t : List ℕ). t ++ b) x ∙ append_assoc xs a b
 
 greatest-snoc : (events : List Event) (event : Event) → greatest (events ++ event ∷ []) ≡ max (greatest events) (event_status event)
 greatest-snoc [] event = omega arith
@@ -166,7 +152,3 @@ refused_map (Err y) f h = λ e. f (h e)
 pub always_refused : {A P : Type 0} (r : Result A Stop) → P → IfErr r (λ stop. is_refused stop ≡ true → P)
 always_refused (Ok a) p = tt
 always_refused (Err y) p = λ e. p
-
-pub is_stop : {A : Type 0} (r : Result A Stop) (x n : Stop) → IsErrAnd r (λ y. y ≡ x) → x ≡ n → r ≡ Err n
-is_stop (Ok a) x n h e = absurd h
-is_stop (Err y) x n h e = ap Err (h ∙ e)

@@ -11,7 +11,7 @@ use Rattle.bc_text.specs.Names.{NameParts}
 use Rattle.bc_prov.specs.State.{Suits, SuitsKind, HasRoom}
 use Rattle.bc_calls.specs.declared.call.Call.{Call}
 use Rattle.bc_source.specs.Sources.{SourceParts}
-use Rattle.cli_check.specs.Parts.{Part}
+use Rattle.cli_file.specs.Parts.{Part}
 use Rattle.cli_check.specs.Forms.{suits_kind, does_suit, source_put, sources_of}
 
 -- ---- units that suit their names

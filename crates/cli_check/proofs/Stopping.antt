@@ -6,19 +6,21 @@ use Rattle.bc_text.specs.Names.{NameParts}
 use Rattle.bc_calls.specs.declared.call.Call.{Call}
 use Rattle.bc_share.specs.declared.db.TheConstants.{MOST_ENTRIES}
 use Rattle.cli_line.specs.Parts.{CheckParts}
-use Rattle.cli_check.specs.Files.{most_bytes}
-use Rattle.cli_check.specs.declared.stop.Stop.{Stop}
-use Rattle.cli_check.specs.declared.stop.Stop.TheVariants.{WrongUse, CannotRead, CannotWrite, CannotTell, NoMemory, File, TooManyCalls, HistoryFull, Foreign, Audit}
-use Rattle.cli_check.specs.Parts.{sections_of}
-use Rattle.cli_check.specs.Changes.{MakeAll, IsToldFault}
-use Rattle.cli_check.specs.Sections.{Answers}
+use Rattle.cli_file.specs.Files.{most_bytes}
+use Rattle.cli_file.specs.declared.stop.Stop.{Stop}
+use Rattle.cli_file.specs.declared.stop.Stop.TheVariants.{WrongUse, CannotRead, CannotWrite, CannotTell, NoMemory, File, TooManyCalls, HistoryFull, Foreign, Audit}
+use Rattle.cli_file.specs.Parts.{sections_of}
+use Rattle.cli_file.specs.Changes.{MakeAll, IsToldFault}
+use Rattle.cli_file.specs.Sections.{Answers}
+use Rattle.cli_file.specs.Stops.{is_of_calls, is_refused, last_line, stop_status}
 use Rattle.cli_check.specs.Asked.{AreAsked}
 use Rattle.cli_check.specs.Forms.{form_of}
-use Rattle.cli_check.specs.Stops.{is_of_calls, is_refused, last_line, stop_status}
 use Rattle.bc_calls.specs.declared.call.Event.{Event}
+use Rattle.cli_file.specs.Ends.{IsSilent, OfFile}
+use Rattle.cli_file.proofs.Stopping.{stops, IfOk-map}
 use Rattle.cli_check.specs.Run.{told, AreLegal, AreReplied}
 use Rattle.cli_check.specs.Served.{Begins, OwesLast, Prints}
-use Rattle.cli_check.specs.Ends.{HasBegun, HasTold, HasTooManyCalls, HasUntold, IsEnd, IsSilent, Leaves, OfFile, StopsWith}
+use Rattle.cli_check.specs.Ends.{HasBegun, HasTold, HasTooManyCalls, HasUntold, IsEnd, Leaves}
 use Rattle.cli_check.proofs.Ending.{known_is}
 
 -- the calls of a file, that is one without a fault, were not all made
@@ -105,15 +107,6 @@ unread Good line positions stop (Err y) known o e file bytes is whole short same
     let of_file : Answers Good (IsToldFault positions file) (Err stop) = subst (λ (f : List ℕ). Answers Good (IsToldFault positions f) (Err stop)) same bad in
     let of_line : Answers Good (IsToldFault line.positions file) (Err stop) = subst (λ (p : Bool). Answers Good (IsToldFault p file) (Err stop)) told of_file in
     subst (λ (x : Stop). Leaves line x known o o e e) (sym is) (unread_file Good line stop known o e file whole short of_line)
-
-pub IfOk-map : {T E : Type 0} {P Q : T → Type 0} (r : Result T E) → ((x : T) → P x → Q x) → IfOk r P → IfOk r Q
-IfOk-map (Ok x) f p = f x p
-IfOk-map (Err e) f p = tt
-
--- the last line is written
-pub stops : {E : Type 0} (Left : Stop → Option (List ℕ) → Type 0) (name : List ℕ) (told err : Option (List ℕ)) (stop : Stop) (r : Result ℕ E) → Left stop told → IfOk r (λ n. n ≡ stop_status stop) → OnOk r (Appends told err (last_line name stop)) → IfOk r (λ n. StopsWith Left name n err)
-stops Left name told err stop (Ok n) left status said = record { stop = stop; told = told; left = left; said = said; status = status }
-stops Left name told err stop (Err fault) left status said = tt
 
 pub stopped_end : {E : Type 0} (line : CheckParts) (known o o' e told e' : Option (List ℕ)) (stop : Stop) (r : Result ℕ E) → Leaves line stop known o o' e told → IfOk r (λ n. n ≡ stop_status stop) → OnOk r (Appends told e' (last_line line.file stop)) → IfOk r (λ n. IsEnd line known n o o' e e')
 stopped_end line known o o' e told e' stop r left status said = IfOk-map r (λ n h. inr h) (stops (λ s t. Leaves line s known o o' e t) line.file told e' stop r left status said)

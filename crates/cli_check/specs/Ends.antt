@@ -1,6 +1,6 @@
 -- How the command ends, and what it leaves where it stops.
-use Rattle.std.specs.Prelude.{◌≡◌, ◌⊎◌, ℕ, ◌+◌, ◌<◌, ◌≤◌, Option, List, IfSome, length}
-use Rattle.std.specs.Io.KnownBytes.{Appends, Keeps}
+use Rattle.std.specs.Prelude.{◌⊎◌, ℕ, ◌+◌, ◌<◌, ◌≤◌, Option, List, length}
+use Rattle.std.specs.Io.KnownBytes.{Keeps}
 use Rattle.bc_text.specs.Names.{NameParts}
 use Rattle.bc_calls.specs.declared.call.Call.{Call}
 use Rattle.bc_calls.specs.declared.call.Event.{Event}
@@ -8,14 +8,13 @@ use Rattle.bc_share.specs.declared.db.TheConstants.{MOST_ENTRIES}
 use Rattle.cli_line.specs.Parts.{CheckParts}
 use Rattle.cli_line.specs.declared.line.Line.{Line}
 use Rattle.cli_line.specs.declared.line.Line.TheVariants.{Check, Run, Serve, Print}
-use Rattle.cli_check.specs.declared.stop.Stop.{Stop}
-use Rattle.cli_check.specs.declared.stop.Stop.TheVariants.{WrongUse, CannotRead, CannotWrite, CannotTell, NoMemory, File, TooManyCalls, HistoryFull, Foreign, Audit}
-use Rattle.cli_check.specs.Files.{most_bytes}
-use Rattle.cli_check.specs.Parts.{sections_of}
-use Rattle.cli_check.specs.Changes.{MakeAll, IsToldFault}
+use Rattle.cli_file.specs.declared.stop.Stop.{Stop}
+use Rattle.cli_file.specs.declared.stop.Stop.TheVariants.{WrongUse, CannotRead, CannotWrite, CannotTell, NoMemory, File, TooManyCalls, HistoryFull, Foreign, Audit}
+use Rattle.cli_file.specs.Parts.{sections_of}
+use Rattle.cli_file.specs.Changes.{MakeAll, IsToldFault}
+use Rattle.cli_file.specs.Ends.{OfFile, IsSilent, StopsWith}
 use Rattle.cli_check.specs.Asked.{AreAsked}
 use Rattle.cli_check.specs.Forms.{form_of}
-use Rattle.cli_check.specs.Stops.{last_line, stop_status}
 use Rattle.cli_check.specs.Run.{told, AreLegal, AreReplied}
 use Rattle.cli_check.specs.Served.{Runs, Begins, OwesLast, Prints}
 
@@ -63,14 +62,6 @@ pub record HasUntold (Holds : List Event → Type 0) (file : List ℕ) : Type 0 
   pub few : length made + length names ≤ MOST_ENTRIES
   pub untold : OwesLast Holds made
 
--- the file was read whole, where it is known, and this holds of it
-abbrev pub OfFile : Option (List ℕ) → (List ℕ → Type 0) → Type 0
-OfFile known P = IfSome known (λ file. (length file ≤ most_bytes) × P file)
-
--- nothing is printed
-abbrev pub IsSilent : Option (List ℕ) → Option (List ℕ) → Option (List ℕ) → Option (List ℕ) → Type 0
-IsSilent out out' err err' = Keeps out out' × Keeps err err'
-
 -- What the command finds and leaves where it stops, but for the line that says so. What a writer that failed took is
 -- not known.
 abbrev pub Leaves : CheckParts → Stop → Option (List ℕ) → Option (List ℕ) → Option (List ℕ) → Option (List ℕ) → Option (List ℕ) → Type 0
@@ -84,14 +75,6 @@ Leaves line TooManyCalls known out out' err err' = OfFile known HasTooManyCalls 
 Leaves line HistoryFull known out out' err err' = OfFile known (λ file. HasBegun AreLegal line file out out' err err')
 Leaves line Foreign known out out' err err' = ⊥
 Leaves line Audit known out out' err err' = OfFile known (λ file. HasBegun AreReplied line file out out' err err') ⊎ (OfFile known (HasUntold AreReplied) × Keeps out out')
-
--- the command stopped with this status: its line is written behind all else, of which this holds
-pub record StopsWith (Left : Stop → Option (List ℕ) → Type 0) (name : List ℕ) (exit : ℕ) (err : Option (List ℕ)) : Type 0 where
-  pub stop : Stop
-  pub told : Option (List ℕ)
-  pub left : Left stop told
-  pub said : Appends told err (last_line name stop)
-  pub status : exit ≡ stop_status stop
 
 -- the command on the file that its line names ended with this status: at its end, or where it stopped
 abbrev pub IsEnd : CheckParts → Option (List ℕ) → ℕ → Option (List ℕ) → Option (List ℕ) → Option (List ℕ) → Option (List ℕ) → Type 0

@@ -9,9 +9,9 @@ use Rattle.bc_calls.specs.declared.call.Call.{Call}
 use Rattle.bc_calls.specs.declared.call.Call.TheVariants.{Types, Put, Remove, Ask, All as EveryRoot}
 use Rattle.cli_line.specs.Parts.{CheckParts}
 use Rattle.bc_source.specs.Sources.{SourceParts}
+use Rattle.cli_file.specs.Parts.{Part}
 use Rattle.cli_check.specs.declared.form.Form.{Form}
 use Rattle.cli_check.specs.declared.form.Form.TheVariants.{Text, Json, Sourced}
-use Rattle.cli_check.specs.Parts.{Part}
 
 -- the text of a section, under this name
 abbrev pub source_of : Part → NameParts → SourceParts

@@ -1,10 +1,8 @@
--- What the calls that a file makes are, what is printed of them, and their statuses.
-use Rattle.std.specs.Prelude.{◌≡◌, ℕ, Bool, max, List, [], ◌∷◌, ◌++◌, map, length, codes, if◌then◌else◌, ◌==◌}
-use Rattle.std.specs.List.{All, list_all}
+-- What the calls that a file makes are, and what is printed of them.
+use Rattle.std.specs.Prelude.{◌≡◌, ℕ, List, [], ◌++◌, map, codes}
+use Rattle.std.specs.List.{All}
 use Rattle.bc_text.specs.Names.{NameParts, name_text}
-use Rattle.bc_prov.specs.declared.outcome.BodyErrors.{BodyErrors}
 use Rattle.bc_prov.specs.declared.outcome.Outcome.{Outcome}
-use Rattle.bc_prov.specs.declared.outcome.Outcome.TheVariants.{NoBody, Missing, BadTypes, Ill, Report}
 use Rattle.bc_calls.specs.declared.call.Call.{Call}
 use Rattle.bc_calls.specs.declared.call.Call.TheVariants as calls_made
 use Rattle.bc_calls.specs.declared.call.PutReply.{PutReply}
@@ -52,43 +50,6 @@ shown form (Put name body reply) = []
 shown form (Remove name reply) = []
 shown form (Ask name outcome) = answer_lines form name outcome
 shown form (EveryRoot rows) = []
-
--- 2 for a put that stored nothing
-abbrev pub put_status : PutReply → ℕ
-put_status Added = 0
-put_status Replaced = 0
-put_status Full = 2
-put_status WrongKind = 2
-
--- no body has an error
-abbrev pub are_clean : List BodyErrors → Bool
-are_clean bodies = list_all (λ (body : BodyErrors). length body.errors == 0) bodies
-
--- 2 for an outcome that is no report, 1 for a report with an error
-abbrev pub outcome_status : Outcome → ℕ
-outcome_status NoBody = 2
-outcome_status (Missing name) = 2
-outcome_status (BadTypes index) = 2
-outcome_status (Ill name place) = 2
-outcome_status (Report bodies) = if are_clean bodies then 0 else 1
-
--- the greatest status of the outcomes of some names
-abbrev pub rows_status : List (NameParts × Outcome) → ℕ
-rows_status [] = 0
-rows_status (r ∷ rows) = max (outcome_status r.1) (rows_status rows)
-
--- the status of a call: 0 for declarations and for a removal
-abbrev pub event_status : Event → ℕ
-event_status (Types types) = 0
-event_status (Put name body reply) = put_status reply
-event_status (Remove name reply) = 0
-event_status (Ask name outcome) = outcome_status outcome
-event_status (EveryRoot rows) = rows_status rows
-
--- the greatest status of some calls
-abbrev pub greatest : List Event → ℕ
-greatest [] = 0
-greatest (event ∷ events) = max (event_status event) (greatest events)
 
 -- the calls of a session, with the replies that some legal history has of them
 pub record AreReplied (events : List Event) : Type 0 where

@@ -8,8 +8,9 @@ use Rattle.bc_calls.specs.declared.call.Entry.{Entry}
 use Rattle.bc_calls.specs.Calls.{IsLegal, StartsWith, call_of, calls}
 use Rattle.bc_share.specs.Sessions.{SessionView, IsAnswered, IsSame}
 use Rattle.bc_share.specs.declared.db.TheConstants.{MOST_ENTRIES}
+use Rattle.cli_file.specs.Statuses.{event_status, greatest}
 use Rattle.cli_check.specs.declared.form.Form.{Form}
-use Rattle.cli_check.specs.Run.{event_status, greatest, calls_of, shown, told, AreLegal, AreReplied}
+use Rattle.cli_check.specs.Run.{calls_of, shown, told, AreLegal, AreReplied}
 
 -- one call was answered and printed; its status
 pub record Serves (call : Call) (text : Event → List ℕ) (exit : ℕ) (old new : SessionView) (before after : Option (List ℕ)) : Type 0 where
@@ -22,10 +23,6 @@ pub record Serves (call : Call) (text : Event → List ℕ) (exit : ℕ) (old ne
 -- one call was answered, and standard error is owed a line about it
 abbrev pub Owes : Call → SessionView → SessionView → Type 0
 Owes call old new = (event : Event) × (call_of event ≡ call) × (told event ≢ []) × IsAnswered event old new
-
--- it is the same session, whatever calls it made
-abbrev pub IsStill : SessionView → SessionView → Type 0
-IsStill old new = (new.tag ≡ old.tag) × (new.number ≡ old.number)
 
 -- what a session has seen begins with a legal list, and its calls there are its own list
 pub record HasSeenItsOwn (session : SessionView) : Type 0 where

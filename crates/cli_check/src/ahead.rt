@@ -3,18 +3,18 @@ ghost use Rattle.std.specs.Prelude.{◌≡◌, ◌≤◌, ◌⊎◌, true, IfOk,
 ghost use Rattle.std.specs.Io.KnownBytes.{Keeps};
 ghost use Rattle.bc_calls.specs.declared.call.Call.TheVariants as calls;
 ghost use Rattle.bc_share.specs.Sessions.{Makes};
-ghost use Rattle.cli_check.specs.Stops.{is_refused};
+ghost use Rattle.cli_file.specs.Stops.{is_refused};
+ghost use Rattle.cli_file.specs.Still.{IsStill};
 ghost use Rattle.cli_check.specs.Run.{shown};
-ghost use Rattle.cli_check.specs.Served.{Serves, Served, ServedPart, IsAtMostOneMore, IsStill};
+ghost use Rattle.cli_check.specs.Served.{Serves, Served, ServedPart, IsAtMostOneMore};
 
 use crate::command::{Asking, write_answer};
 use crate::form::Form;
-use crate::status::outcome_status;
-use crate::stop::Stop;
 use bc_prov::Providers;
 use bc_share::Session;
 use bc_versions::Ending;
 use cli_asks::{PendingAsk, work_ahead};
+use cli_file::{Stop, outcome_status};
 use std::alloc::Global;
 use std::io::Write;
 use std::sync::Wait;

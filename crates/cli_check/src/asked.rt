@@ -1,11 +1,10 @@
 //! The names that are asked.
 ghost use Rattle.std.specs.Prelude.{◌≡◌, IfOk, IfErr, map};
-ghost use Rattle.cli_check.specs.Changes.{seen};
+ghost use Rattle.cli_file.specs.Changes.{seen};
 ghost use Rattle.cli_check.specs.Asked.{AreAsked, root_put as root};
 
-use crate::file::Change;
-use crate::stop::Stop;
 use bc_text::{Name, names_are_told_apart};
+use cli_file::{Change, Stop};
 use std::alloc::Global;
 use std::collections::BTreeSet;
 

@@ -1,5 +1,5 @@
 //! The calls of a file, and what is printed of them.
-ghost use Rattle.std.specs.Prelude.{◌≡◌, ◌≢◌, ◌↔◌, ◌≤◌, ◌<◌, ◌+◌, ◌⊎◌, ◌++◌, [], true, Err, OnOk, OnErr, IfOk, IfErr, IsErrOf, IsTrue, codes, length, map, max};
+ghost use Rattle.std.specs.Prelude.{◌≡◌, ◌≢◌, ◌↔◌, ◌≤◌, ◌<◌, ◌+◌, ◌⊎◌, ◌++◌, [], true, Err, OnOk, OnErr, IfOk, IfErr, IsErrOf, IsTrue, codes, length, map};
 ghost use Rattle.std.specs.Io.Buffered.{writer_buffer, writer_contents};
 ghost use Rattle.std.specs.Io.KnownBytes.{Appends, Keeps};
 ghost use Rattle.bc_text.specs.Names.{name_text};
@@ -7,29 +7,30 @@ ghost use Rattle.bc_calls.specs.declared.call.Call.TheVariants as calls;
 ghost use Rattle.bc_report.specs.Text.{line as ended};
 ghost use Rattle.bc_source.specs.Report.{report_with};
 ghost use Rattle.bc_share.specs.Sessions.{Makes};
-ghost use Rattle.cli_check.specs.Changes.{seen};
-ghost use Rattle.cli_check.specs.Stops.{is_of_calls, is_refused};
-ghost use Rattle.cli_check.specs.Ends.{Checked, IsEnd, IsEndOf, Leaves, OfFile};
+ghost use Rattle.bc_share.specs.declared.db.TheConstants.{MOST_ENTRIES};
+ghost use Rattle.cli_file.specs.Changes.{seen};
+ghost use Rattle.cli_file.specs.Stops.{is_of_calls, is_refused};
+ghost use Rattle.cli_file.specs.Ends.{OfFile};
+ghost use Rattle.cli_file.specs.Still.{IsStill};
+ghost use Rattle.cli_check.specs.Ends.{Checked, IsEnd, IsEndOf, Leaves};
 ghost use Rattle.cli_check.specs.Run.{refused_line, answer_lines, told, shown, AreLegal, AreReplied};
-ghost use Rattle.cli_check.specs.Served.{Serves, Served, ServedPart, ServedAll, ServedFirst, ServedThen, Adds, Owes, OwesLast, Runs, Begins, Prints, IsAtMostOneMore, IsStill};
+ghost use Rattle.cli_check.specs.Served.{Serves, Served, ServedPart, ServedAll, ServedFirst, ServedThen, Adds, Owes, OwesLast, Runs, Begins, Prints, IsAtMostOneMore};
 ghost use Rattle.cli_line.specs.Lines.{is_check};
 
 use crate::ahead::{ask_ahead, find_threads};
 use crate::asked::find_asked;
-use crate::file::Change;
 use crate::form::{Form, find_form};
-use crate::input::read_whole;
-use crate::side::read_changes_by;
-use crate::status::{outcome_status, put_status};
-use crate::stop::{Stop, stop_with};
 use bc_calls::PutReply;
 use bc_json::json_report;
 use bc_prov::{Outcome, Providers};
 use bc_report::write_report;
-use bc_share::{Db, MOST_ENTRIES, Session};
+use bc_share::{Db, Session};
 use bc_source::{SourcedBody, Sources, find_bodies, write_sourced_report};
 use bc_text::Name;
 use bc_versions::{Ending, Waiting};
+use cli_file::{
+    Change, Stop, find_capacity, outcome_status, put_status, read_changes_by, read_whole, stop_with,
+};
 use cli_line::{CheckLine, Line};
 use std::alloc::Global;
 use std::collections::BTreeSet;
@@ -343,19 +344,6 @@ fn make_all<R: Threads + Wait + Sync, N: Ending, O: Write + Drop, E: Write>(
     let changed = make_changes(rt, session, changes, err)?;
     let asked = answer_all(rt, alloc, session, asking, out)?;
     Ok(changed.max(asked))
-}
-
-/// How many entries a history needs for so many changes and so many Asks of names: one for each, and at least one. `TooManyCalls` exactly where
-/// there are more than `MOST_ENTRIES` of them.
-pub fn find_capacity(changes: usize, names: usize) -> Result<u32, Stop>
-    ensures fits { IfOk result (λ capacity. (capacity ≡ max 1 (changes + names)) × (changes + names ≤ MOST_ENTRIES)) }
-    ensures stop { IfErr result (λ stop. (stop ≡ Stop.TooManyCalls) × (MOST_ENTRIES < changes + names)) }
-{
-    let most = MOST_ENTRIES as usize;
-    if changes > most || names > most - changes {
-        return Err(Stop::TooManyCalls);
-    }
-    Ok((changes + names).max(1) as u32)
 }
 
 /// Opens a database, makes the changes in order, asks the names in order, and closes the database, also where a call is refused or a writer fails.

@@ -1,15 +1,13 @@
 //! In which form the answers of a file are printed.
 ghost use Rattle.std.specs.Prelude.{◌≡◌, ◌++◌, ◌↔◌, IfOk, IfErr, OnOk, IsTrue, map};
-ghost use Rattle.cli_check.specs.Parts.{sections_of};
-ghost use Rattle.cli_check.specs.Left.{part_of};
-ghost use Rattle.cli_check.specs.Changes.{seen};
+ghost use Rattle.cli_file.specs.Parts.{sections_of};
+ghost use Rattle.cli_file.specs.Left.{part_of};
+ghost use Rattle.cli_file.specs.Changes.{seen};
 ghost use Rattle.cli_check.specs.Forms.{does_suit, source_put, sources_of, form_of};
 
-use crate::file::Change;
-use crate::section::{Section, Sections};
-use crate::stop::Stop;
 use bc_memo::suits;
 use bc_source::{Source, Sources};
+use cli_file::{Change, Section, Sections, Stop};
 use cli_line::CheckLine;
 use std::alloc::{AllocError, Global};
 

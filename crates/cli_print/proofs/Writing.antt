@@ -3,7 +3,7 @@ use Rattle.std.proofs.Common.{◌≡◌, ℕ, List, ◌∷◌, ◌++◌, Option,
 use Rattle.std.specs.Io.KnownBytes.{Appends}
 use Rattle.std.proofs.KnownBytes.{Appends-trans}
 use Rattle.bc_calls.specs.declared.call.Call.{Call}
-use Rattle.cli_check.specs.Parts.{Part}
+use Rattle.cli_file.specs.Parts.{Part}
 use Rattle.cli_print.specs.Printed.{section_text, file_text}
 
 -- of all sections those that are not left were written

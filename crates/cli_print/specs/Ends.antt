@@ -3,11 +3,11 @@ use Rattle.std.specs.Prelude.{◌≡◌, ◌⊎◌, ℕ, Option, List}
 use Rattle.std.specs.Io.KnownBytes.{Appends, Keeps}
 use Rattle.bc_calls.specs.declared.call.Call.{Call}
 use Rattle.cli_line.specs.Parts.{PrintParts}
-use Rattle.cli_check.specs.declared.stop.Stop.{Stop}
-use Rattle.cli_check.specs.declared.stop.Stop.TheVariants.{WrongUse, CannotRead, CannotWrite, CannotTell, NoMemory, File, TooManyCalls, HistoryFull, Foreign, Audit}
-use Rattle.cli_check.specs.Parts.{sections_of}
-use Rattle.cli_check.specs.Changes.{MakeAll, IsToldFault}
-use Rattle.cli_check.specs.Ends.{OfFile, StopsWith}
+use Rattle.cli_file.specs.declared.stop.Stop.{Stop}
+use Rattle.cli_file.specs.declared.stop.Stop.TheVariants.{WrongUse, CannotRead, CannotWrite, CannotTell, NoMemory, File, TooManyCalls, HistoryFull, Foreign, Audit}
+use Rattle.cli_file.specs.Parts.{sections_of}
+use Rattle.cli_file.specs.Changes.{MakeAll, IsToldFault}
+use Rattle.cli_file.specs.Ends.{OfFile, StopsWith}
 use Rattle.cli_print.specs.Printed.{file_text}
 
 -- a file without a fault

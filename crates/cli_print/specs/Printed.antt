@@ -4,7 +4,7 @@ use Rattle.bc_syntax.specs.Spelling.{unit, types}
 use Rattle.bc_print.specs.Printing.{printed}
 use Rattle.bc_calls.specs.declared.call.Call.{Call}
 use Rattle.bc_calls.specs.declared.call.Call.TheVariants as calls
-use Rattle.cli_check.specs.Parts.{Part}
+use Rattle.cli_file.specs.Parts.{Part}
 
 -- what a call puts, in its one spelling; no section of `print` makes another call
 abbrev pub text_of : Call → List ℕ

@@ -1,11 +1,11 @@
 //! The command on a file.
 ghost use Rattle.std.specs.Prelude.{◌≡◌, ◌≤◌, ◌<◌, ◌⊎◌, [], Err, IfOk, IfErr, OnOk};
 ghost use Rattle.std.specs.Io.Buffered.{writer_buffer, writer_contents};
-ghost use Rattle.cli_check.specs.Ends.{OfFile};
+ghost use Rattle.cli_file.specs.Ends.{OfFile};
 ghost use Rattle.cli_print.specs.Ends.{Printed, Leaves, IsEnd};
 
 use crate::sections::print_sections;
-use cli_check::{Stop, read_told_changes, read_whole, stop_with};
+use cli_file::{Stop, read_told_changes, read_whole, stop_with};
 use cli_line::PrintLine;
 use std::alloc::Global;
 use std::io;

@@ -1,12 +1,12 @@
 //! Sections as they are printed.
 ghost use Rattle.std.specs.Prelude.{OnOk, map};
 ghost use Rattle.std.specs.Io.KnownBytes.{Appends};
-ghost use Rattle.cli_check.specs.Changes.{seen};
-ghost use Rattle.cli_check.specs.Parts.{sections_of};
+ghost use Rattle.cli_file.specs.Changes.{seen};
+ghost use Rattle.cli_file.specs.Parts.{sections_of};
 ghost use Rattle.cli_print.specs.Printed.{text_of, section_text, file_text};
 
 use bc_print::{print_types, print_unit};
-use cli_check::{Change, Sections};
+use cli_file::{Change, Sections};
 use std::io;
 use std::io::Write;
 

@@ -15,8 +15,8 @@ use Rattle.bc_text_laws.specs.Laws.{PrintedIsRead, PrintedTypesAreRead}
 use Rattle.bc_text_laws.proofs.Whole.{unit_is_whole, types_are_whole}
 use Rattle.bc_calls.specs.declared.call.Call.{Call}
 use Rattle.bc_calls.specs.declared.call.Call.TheVariants as calls
-use Rattle.cli_check.specs.Parts.{Part, is_header, sections_of, lines_of}
-use Rattle.cli_check.specs.Changes.{Makes, MakeAll}
+use Rattle.cli_file.specs.Parts.{Part, is_header, sections_of, lines_of}
+use Rattle.cli_file.specs.Changes.{Makes, MakeAll}
 use Rattle.cli_print.specs.Printed.{text_of, section_text, file_text}
 use Rattle.cli_print_laws.specs.Laws.{AreShort, PrintedFilesAreRead, PrintedFilesArePrintedAlike}
 use Rattle.cli_print_laws.proofs.Ink.{IsInk, texts_ink}

@@ -3,7 +3,7 @@ use Rattle.std.proofs.Common.{◌≡◌, ℕ, ◌+◌, true, false, List, [], �
 use Rattle.std.specs.Prelude.{◌==◌}
 use Rattle.std.specs.List.{list_all, onto_first}
 use Rattle.std.proofs.lemmas.Bool.{cases_Bool, and_parts}
-use Rattle.cli_check.specs.Parts.{Part, Parts, is_header, parts, opened, sections_from, lines_of, without_end}
+use Rattle.cli_file.specs.Parts.{Part, Parts, is_header, parts, opened, sections_from, lines_of, without_end}
 use Rattle.cli_print_laws.proofs.Ink.{is_ink, IsInk}
 
 -- a header line and the line of its text, without their line feeds

@@ -2,8 +2,8 @@
 use Rattle.std.specs.Prelude.{◌≡◌, ℕ, ◌≤◌, List, length}
 use Rattle.std.specs.List.{All}
 use Rattle.bc_calls.specs.declared.call.Call.{Call}
-use Rattle.cli_check.specs.Parts.{sections_of}
-use Rattle.cli_check.specs.Changes.{MakeAll}
+use Rattle.cli_file.specs.Parts.{sections_of}
+use Rattle.cli_file.specs.Changes.{MakeAll}
 use Rattle.cli_print.specs.Printed.{text_of, file_text}
 
 -- what is printed of a file that makes these calls

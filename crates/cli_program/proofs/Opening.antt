@@ -2,8 +2,8 @@
 use Rattle.std.proofs.Common.{◌≡◌, ℕ, List, Option, Some, None, Result, Ok, Err, inl, inr, subst}
 use Rattle.std.specs.Prelude.{IfOk, IfSome}
 use Rattle.cli_line.specs.Parts.{PrintParts}
-use Rattle.cli_check.specs.declared.stop.Stop.{Stop}
-use Rattle.cli_check.specs.declared.stop.Stop.TheVariants.{WrongUse, CannotRead, CannotWrite, CannotTell, NoMemory, File, TooManyCalls, HistoryFull, Foreign, Audit}
+use Rattle.cli_file.specs.declared.stop.Stop.{Stop}
+use Rattle.cli_file.specs.declared.stop.Stop.TheVariants.{WrongUse, CannotRead, CannotWrite, CannotTell, NoMemory, File, TooManyCalls, HistoryFull, Foreign, Audit}
 use Rattle.cli_print.specs.Ends.{Leaves, IsEnd}
 
 unknown : (line : PrintParts) (stop : Stop) (given out out' : Option (List ℕ)) → Leaves line stop given out out' → Leaves line stop None out out'

@@ -5,9 +5,10 @@ use Rattle.std.specs.Io.KnownBytes.{Appends, Keeps}
 use Rattle.cli_line.specs.Parts.{CheckParts, RunParts, PrintParts}
 use Rattle.cli_line.specs.declared.line.Line.{Line}
 use Rattle.cli_line.specs.declared.line.Line.TheVariants.{Check, Run, Serve, Print}
-use Rattle.cli_check.specs.declared.stop.Stop.TheVariants.{CannotRead, NoMemory}
-use Rattle.cli_check.specs.Stops.{last_line}
-use Rattle.cli_check.specs.Ends.{IsSilent, IsEnd as IsEndOfCheck}
+use Rattle.cli_file.specs.declared.stop.Stop.TheVariants.{CannotRead, NoMemory}
+use Rattle.cli_file.specs.Stops.{last_line}
+use Rattle.cli_file.specs.Ends.{IsSilent}
+use Rattle.cli_check.specs.Ends.{IsEnd as IsEndOfCheck}
 use Rattle.cli_run.specs.Ends.{IsEnd as IsEndOfRun}
 use Rattle.cli_print.specs.Ends.{IsEnd as IsEndOfPrint}
 use Rattle.cli_serve.specs.declared.stop.ServeStop.TheVariants as stops

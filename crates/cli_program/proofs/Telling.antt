@@ -8,9 +8,10 @@ use Rattle.cli_line.specs.declared.line.Line.{Line}
 use Rattle.cli_line.specs.declared.line.Line.TheVariants.{Check, Run, Serve, Print}
 use Rattle.cli_line.specs.declared.fault.LineFault.{LineFault}
 use Rattle.cli_line.specs.declared.fault.LineFault.TheVariants as faults
-use Rattle.cli_check.specs.declared.stop.Stop.{Stop}
-use Rattle.cli_check.specs.Ends.{Checked, StopsWith, IsEnd as IsEndOfCheck}
-use Rattle.cli_check.specs.Words.{Answers, Shows}
+use Rattle.cli_file.specs.declared.stop.Stop.{Stop}
+use Rattle.cli_file.specs.Ends.{StopsWith}
+use Rattle.cli_file.specs.Words.{Answers, Shows}
+use Rattle.cli_check.specs.Ends.{Checked, IsEnd as IsEndOfCheck}
 use Rattle.cli_run.specs.Ends.{Ran, IsEnd as IsEndOfRun}
 use Rattle.cli_print.specs.Ends.{IsEnd as IsEndOfPrint}
 use Rattle.cli_serve.specs.Served.{IsEnd as IsEndOfServe}

@@ -7,9 +7,9 @@ use Rattle.cli_line.specs.declared.fault.LineFault.{LineFault}
 use Rattle.cli_line.specs.declared.line.Line.{Line}
 use Rattle.cli_line.specs.declared.line.Line.TheVariants.{Check, Run, Serve, Print}
 use Rattle.cli_line.specs.Written.{GivesLine}
-use Rattle.cli_check.specs.declared.stop.Stop.TheVariants as stops
+use Rattle.cli_file.specs.declared.stop.Stop.TheVariants as stops
+use Rattle.cli_file.specs.Words.{Answers, Says}
 use Rattle.cli_check.specs.Ends.{IsEnd as IsEndOfCheck}
-use Rattle.cli_check.specs.Words.{Answers, Says}
 use Rattle.cli_run.specs.Ends.{IsEnd as IsEndOfRun}
 use Rattle.cli_print.specs.Ends.{IsEnd as IsEndOfPrint}
 use Rattle.cli_serve.specs.Served.{IsEnd as IsEndOfServe}

@@ -4,7 +4,7 @@ ghost use Rattle.std.specs.Io.Buffered.{writer_buffer, writer_contents};
 ghost use Rattle.std.specs.Io.KnownBytes.{Keeps};
 ghost use Rattle.cli_program.specs.Ends.{HandsOn};
 
-use cli_check::{Stop, stop_with};
+use cli_file::{Stop, stop_with};
 use std::io;
 use std::io::{BufWriter, Write};
 

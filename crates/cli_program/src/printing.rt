@@ -6,7 +6,7 @@ ghost use Rattle.cli_program.specs.Ends.{input_of};
 
 use crate::Inputs;
 use crate::inputs::is_standard_input;
-use cli_check::{Stop, stop_with};
+use cli_file::{Stop, stop_with};
 use cli_line::PrintLine;
 use cli_print::print_and_tell;
 use std::io;

@@ -1,14 +1,14 @@
 //! The program over any inputs and outputs.
 ghost use Rattle.std.specs.Prelude.{◌≡◌, ◌≤◌, ◌<◌, [], IfOk, OnErr, map};
 ghost use Rattle.std.specs.Io.Buffered.{writer_buffer, writer_contents};
-ghost use Rattle.cli_check.specs.Words.{Answers};
+ghost use Rattle.cli_file.specs.Words.{Answers};
 ghost use Rattle.cli_program.specs.Ends.{IsEndOfLine, IsEndOfWords};
 
 use crate::Inputs;
 use crate::handing::{hand_on, hand_on_told};
 use crate::obeying::obey_command;
 use bc_analyses::{find_plain_values, providers};
-use cli_check::{Stop, answer_words, stop_with};
+use cli_file::{Stop, answer_words, stop_with};
 use cli_line::{Line, LineFault, Solver, read_line};
 use std::alloc::AllocError;
 use std::io;

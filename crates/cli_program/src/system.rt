@@ -4,7 +4,7 @@ ghost use Rattle.std.specs.Prelude.{◌≤◌, IfOk};
 use crate::SystemFiles;
 use crate::handing::hand_on_told;
 use crate::program::obey_words;
-use cli_check::{Stop, answer_words, stop_with};
+use cli_file::{Stop, answer_words, stop_with};
 use cli_line::LineFault;
 use std::env::Env;
 use std::fs::Files;

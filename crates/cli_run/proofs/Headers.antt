@@ -2,8 +2,8 @@
 use Rattle.std.proofs.Common.{◌≡◌, ℕ, List, ◌++◌, Option, Some, None, sym, ◌∙◌, append_assoc}
 use Rattle.std.specs.Prelude.{IfNone, codes}
 use Rattle.std.proofs.lemmas.List.{append_cancel_left}
-use Rattle.cli_check.specs.declared.heading.Heading.{Heading}
-use Rattle.cli_check.specs.Headings.{IsHeading, IsNamed, heading_text}
+use Rattle.cli_file.specs.declared.heading.Heading.{Heading}
+use Rattle.cli_file.specs.Headings.{IsHeading, IsNamed, heading_text}
 
 -- no blank stands behind the number
 pub no_blank : {S : Type 0} (header behind rest number : List ℕ) (r : Option S) → header ≡ codes "@" ++ behind → behind ≡ number ++ rest → IfNone r ((words : List ℕ) → rest ≡ codes " " ++ words → ⊥) → IfNone r ((words : List ℕ) → header ≡ codes "@" ++ (number ++ codes " ") ++ words → ⊥)

@@ -13,8 +13,8 @@ use Rattle.bc_share.specs.Sessions.{SessionView, new_session, new_sessions}
 use Rattle.bc_scripts.specs.Runs.{AreRuns, IsRun, HasMade}
 use Rattle.bc_share.specs.Closings.{AreSessionsOf, IsOneHistory, numbers}
 use Rattle.bc_share.proofs.Closings.{length-new_sessions}
-use Rattle.cli_check.specs.Served.{IsStill}
-use Rattle.cli_check.proofs.Closing.{are_sessions}
+use Rattle.cli_file.specs.Still.{IsStill}
+use Rattle.cli_file.proofs.Closing.{are_sessions}
 use Rattle.cli_run.specs.declared.file.SessionCall.{SessionCall}
 use Rattle.cli_run.specs.Calls.{calls_for, scripts}
 use Rattle.cli_run.specs.Runs.{AreMade, HasRun, sessions_of, ends_of}

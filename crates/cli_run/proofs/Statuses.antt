@@ -4,7 +4,7 @@ use Rattle.std.proofs.lemmas.List.{take_more}
 use Rattle.bc_calls.specs.declared.call.Entry.{Entry}
 use Rattle.bc_scripts.specs.declared.run.End.{End}
 use Rattle.bc_scripts.specs.declared.run.End.TheVariants.{Done, Stopped}
-use Rattle.cli_check.specs.Run.{event_status, greatest}
+use Rattle.cli_file.specs.Statuses.{event_status, greatest}
 use Rattle.cli_run.specs.Print.{stopped_line, stopped_lines}
 use Rattle.cli_run.specs.Runs.{events_of, end_status, greatest_end}
 

@@ -3,10 +3,10 @@ use Rattle.std.proofs.Common.{◌≡◌, ℕ, List, Option, inr, refl, sym, subs
 use Rattle.std.specs.Prelude.{◌⊎◌, Result, Ok, Err, IfOk, OnOk, OnErr, IfErr}
 use Rattle.std.specs.Io.KnownBytes.{Appends}
 use Rattle.cli_line.specs.Parts.{RunParts}
-use Rattle.cli_check.specs.declared.stop.Stop.{Stop}
-use Rattle.cli_check.specs.declared.stop.Stop.TheVariants.{Audit, NoMemory, TooManyCalls}
-use Rattle.cli_check.specs.Stops.{last_line, stop_status}
-use Rattle.cli_check.proofs.Stopping.{stops, IfOk-map}
+use Rattle.cli_file.specs.declared.stop.Stop.{Stop}
+use Rattle.cli_file.specs.declared.stop.Stop.TheVariants.{Audit, NoMemory, TooManyCalls}
+use Rattle.cli_file.specs.Stops.{last_line, stop_status}
+use Rattle.cli_file.proofs.Stopping.{stops, IfOk-map}
 use Rattle.cli_run.specs.Ends.{IsEnd, Leaves}
 
 pub stopped_end : {E : Type 0} (line : RunParts) (known o o' e told e' : Option (List ℕ)) (stop : Stop) (r : Result ℕ E) → Leaves line stop known o o' e told → IfOk r (λ n. n ≡ stop_status stop) → OnOk r (Appends told e' (last_line line.file stop)) → IfOk r (λ n. IsEnd line known n o o' e e')

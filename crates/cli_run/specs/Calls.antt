@@ -3,13 +3,13 @@ use Rattle.std.specs.Prelude.{◌≡◌, ◌<◌, ◌==◌, ℕ, Bool, zero, suc
 use Rattle.std.specs.List.{AllZip, flat_map}
 use Rattle.std.specs.declared.alloc.Global.{Global}
 use Rattle.bc_calls.specs.declared.call.Call.{Call}
-use Rattle.cli_check.specs.declared.heading.Heading.{Heading}
-use Rattle.cli_check.specs.declared.fault.FileFault.{FileFault}
-use Rattle.cli_check.specs.declared.stop.Stop.{Stop}
-use Rattle.cli_check.specs.Parts.{Part, sections_of}
-use Rattle.cli_check.specs.Headings.{IsHeader, heading_of}
-use Rattle.cli_check.specs.Located.{IsLocated}
-use Rattle.cli_check.specs.Sections as sections
+use Rattle.cli_file.specs.declared.heading.Heading.{Heading}
+use Rattle.cli_file.specs.declared.fault.FileFault.{FileFault}
+use Rattle.cli_file.specs.declared.stop.Stop.{Stop}
+use Rattle.cli_file.specs.Parts.{Part, sections_of}
+use Rattle.cli_file.specs.Headings.{IsHeader, heading_of}
+use Rattle.cli_file.specs.Located.{IsLocated}
+use Rattle.cli_file.specs.Sections as sections
 use Rattle.cli_run.specs.declared.file.SessionCall.{SessionCall}
 
 -- a header line of `run`: it asks one of so many sessions

@@ -8,11 +8,11 @@ use Rattle.bc_scripts.specs.declared.run.End.{End}
 use Rattle.cli_line.specs.Parts.{RunParts}
 use Rattle.cli_line.specs.declared.line.Line.{Line}
 use Rattle.cli_line.specs.declared.line.Line.TheVariants.{Check, Run, Serve, Print}
-use Rattle.cli_check.specs.declared.stop.Stop.{Stop}
-use Rattle.cli_check.specs.declared.stop.Stop.TheVariants.{WrongUse, CannotRead, CannotWrite, CannotTell, NoMemory, File, TooManyCalls, HistoryFull, Foreign, Audit}
-use Rattle.cli_check.specs.Parts.{sections_of}
-use Rattle.cli_check.specs.Run.{greatest}
-use Rattle.cli_check.specs.Ends.{OfFile, IsSilent, StopsWith}
+use Rattle.cli_file.specs.declared.stop.Stop.{Stop}
+use Rattle.cli_file.specs.declared.stop.Stop.TheVariants.{WrongUse, CannotRead, CannotWrite, CannotTell, NoMemory, File, TooManyCalls, HistoryFull, Foreign, Audit}
+use Rattle.cli_file.specs.Parts.{sections_of}
+use Rattle.cli_file.specs.Statuses.{greatest}
+use Rattle.cli_file.specs.Ends.{OfFile, IsSilent, StopsWith}
 use Rattle.cli_run.specs.declared.file.SessionCall.{SessionCall}
 use Rattle.cli_run.specs.Calls.{GiveAll, IsToldFault}
 use Rattle.cli_run.specs.Runs.{AreMade, events_of, greatest_end}

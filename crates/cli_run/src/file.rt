@@ -1,14 +1,14 @@
 //! The calls of a file, each with the session that is to make it.
 ghost use Rattle.std.specs.Prelude.{◌≡◌, ◌≤◌, ◌==◌, ◌||◌};
-ghost use Rattle.cli_check.specs.Parts.{sections_of};
-ghost use Rattle.cli_check.specs.Left.{part_of};
+ghost use Rattle.cli_file.specs.Parts.{sections_of};
+ghost use Rattle.cli_file.specs.Left.{part_of};
 ghost use Rattle.std.specs.List.{list_all};
 ghost use Rattle.cli_run.specs.Calls.{GivesText, GivesOne, GivesAll, GivesTold};
 
 use crate::header::read_header;
 use bc_calls::Call;
 use bc_text::Name;
-use cli_check::{
+use cli_file::{
     FaultKind, Heading, Section, Sections, Stop, locate, read_body, read_declarations, stop_at,
     text_stop,
 };

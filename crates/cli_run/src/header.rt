@@ -1,9 +1,9 @@
 //! Header lines that name a session.
 ghost use Rattle.std.specs.Prelude.{◌≡◌, ◌≤◌, ◌<◌, ◌++◌, ℕ, List, Some, IfSome, IfNone, codes, decimal};
-ghost use Rattle.cli_check.specs.declared.heading.Heading.{Heading};
-ghost use Rattle.cli_check.specs.Headings.{IsHeader, maker_text};
+ghost use Rattle.cli_file.specs.declared.heading.Heading.{Heading};
+ghost use Rattle.cli_file.specs.Headings.{IsHeader, maker_text};
 
-use cli_check::{Heading, behind, read_heading};
+use cli_file::{Heading, behind, read_heading};
 
 /// The rest of a text behind a number of at most two digits, or `None` exactly where the text does not begin with it.
 fn behind_number(text: &[u8], number: u8) -> Option<&[u8]>

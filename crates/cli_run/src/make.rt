@@ -9,7 +9,7 @@ use bc_prov::Providers;
 use bc_scripts::{End, Gate, Stage, run_sessions};
 use bc_share::{Db, History, Session};
 use bc_versions::{Ending, Waiting};
-use cli_check::{Stop, find_capacity};
+use cli_file::{Stop, find_capacity};
 use std::alloc::Global;
 use std::sync::Wait;
 use std::thread::Threads;

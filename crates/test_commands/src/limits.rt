@@ -1,5 +1,5 @@
 //! The line and the status of each stop, and how many calls a file makes.
-use cli_check::{FaultKind, FileFault, Stop, find_capacity, stop_with};
+use cli_file::{FaultKind, FileFault, Stop, find_capacity, stop_with};
 
 /// Whether a stop has this line on standard error, and this status.
 fn is_told(rt: &HostRuntime, stop: &Stop, line: &[u8], status: u8) -> bool {

@@ -1,7 +1,7 @@
 use Rattle.std.proofs.Common.{map, sym, ap, ◌∙◌, arith, length, ◌<◌}
 use Rattle.std.proofs.lemmas.List.{get_or-map, length-map}
 use Rattle.bc_calls.specs.declared.call.Call.{Call}
-use Rattle.cli_check.specs.Changes.{seen}
+use Rattle.cli_file.specs.Changes.{seen}
 use Rattle.cli_check.proofs.Asking.{asked_more, asked_same, asked_all}
 use Rattle.cli_check.proofs.asked.find_asked.Goals as goal
 use Rattle.cli_check.proofs.asked.find_asked.Goals.{in-Some+in_ok-insert, in_default}

@@ -1,5 +1,5 @@
 use Rattle.std.proofs.Common.{map, take}
-use Rattle.cli_check.specs.Changes.{seen}
+use Rattle.cli_file.specs.Changes.{seen}
 use Rattle.cli_check.specs.Asked.{AreAsked}
 use Rattle.cli_check.proofs.asked.find_asked.Given as goal
 

@@ -1,7 +1,7 @@
 use Rattle.std.specs.Prelude.{ℕ, ◌≡◌}
 use Rattle.std.proofs.Common.{arith, map}
 use Rattle.std.proofs.lemmas.List.{length-map}
-use Rattle.cli_check.specs.Changes.{seen}
+use Rattle.cli_file.specs.Changes.{seen}
 use Rattle.cli_check.proofs.Stopping.{broken, few_of, unread}
 use Rattle.cli_check.proofs.command.check.Goals as goal
 

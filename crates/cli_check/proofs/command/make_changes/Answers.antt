@@ -1,5 +1,5 @@
 use Rattle.std.proofs.Common.{arith, rules, ◌≡◌, ◌∙◌}
-use Rattle.cli_check.specs.Changes.{seen}
+use Rattle.cli_file.specs.Changes.{seen}
 use Rattle.cli_check.specs.Run.{told}
 use Rattle.cli_check.proofs.Serving.{making_none, making_more, making_part, owes_last, same_refused, same_stop}
 use Rattle.cli_check.proofs.command.make_changes.Goals as goal

@@ -1,5 +1,5 @@
 use Rattle.std.proofs.Common.{◌≤◌}
-use Rattle.cli_check.specs.Changes.{seen}
+use Rattle.cli_file.specs.Changes.{seen}
 use Rattle.cli_check.specs.Run.{told}
 use Rattle.cli_check.proofs.Serving.{Making}
 use Rattle.cli_check.proofs.command.make_changes.Given as goal

@@ -2,17 +2,19 @@ use Rattle.std.proofs.Common.{arith, ◌≡◌, ◌+◌, ◌≤◌, ℕ, List, l
 use Rattle.std.specs.Prelude.{true, Result, IfErr}
 use Rattle.std.proofs.lemmas.List.{length-map}
 use Rattle.bc_share.specs.declared.db.TheConstants.{MOST_ENTRIES}
-use Rattle.cli_check.specs.declared.stop.Stop.{Stop}
-use Rattle.cli_check.specs.declared.stop.Stop.TheVariants.{Audit}
-use Rattle.cli_check.specs.Stops.{is_of_calls}
+use Rattle.cli_file.specs.declared.stop.Stop.{Stop}
+use Rattle.cli_file.specs.declared.stop.Stop.TheVariants.{Audit}
+use Rattle.cli_file.specs.Stops.{is_of_calls}
 use Rattle.bc_calls.specs.declared.call.Event.{Event}
-use Rattle.cli_check.specs.Changes.{seen}
+use Rattle.cli_file.specs.Changes.{seen}
+use Rattle.cli_file.proofs.Stopping.{is_stop}
+use Rattle.cli_file.proofs.Closing.{only_audited}
 use Rattle.cli_check.specs.Run.{told, AreLegal}
 use Rattle.cli_check.specs.Served.{Adds}
-use Rattle.cli_check.proofs.Serving.{always_refused, is_stop, refused_map}
+use Rattle.cli_check.proofs.Serving.{always_refused, refused_map}
 use Rattle.cli_check.proofs.Shorter.{the_last}
 use Rattle.cli_check.proofs.Ending.{runs_of, begins_of, begins_none, closed_with, legal_adds, owed_of, prints_of, shown_of}
-use Rattle.cli_check.proofs.Closing.{one_session, only_audited}
+use Rattle.cli_check.proofs.Closing.{one_session}
 use Rattle.cli_check.proofs.command.serve.Goals as goal
 
 pub unreachable-requires : goal.unreachable-requires

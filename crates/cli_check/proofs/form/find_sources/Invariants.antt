@@ -1,7 +1,7 @@
 use Rattle.std.proofs.Common.{◌≡◌, ◌++◌, map, drop}
-use Rattle.cli_check.specs.Parts.{sections_of}
-use Rattle.cli_check.specs.Left.{left}
-use Rattle.cli_check.specs.Changes.{seen}
+use Rattle.cli_file.specs.Parts.{sections_of}
+use Rattle.cli_file.specs.Left.{left}
+use Rattle.cli_file.specs.Changes.{seen}
 use Rattle.cli_check.specs.Forms.{sources_of}
 use Rattle.cli_check.proofs.form.find_sources.Given as goal
 

@@ -1,6 +1,6 @@
 use Rattle.std.proofs.Common.{ap, map}
-use Rattle.cli_check.specs.Left.{part_of}
-use Rattle.cli_check.specs.Changes.{seen}
+use Rattle.cli_file.specs.Left.{part_of}
+use Rattle.cli_file.specs.Changes.{seen}
 use Rattle.cli_print.proofs.Writing.{writing_more}
 use Rattle.cli_print.proofs.sections.print_sections.Goals as goal
 

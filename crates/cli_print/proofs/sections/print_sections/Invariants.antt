@@ -1,7 +1,7 @@
 use Rattle.std.proofs.Common.{map}
-use Rattle.cli_check.specs.Parts.{sections_of}
-use Rattle.cli_check.specs.Left.{left}
-use Rattle.cli_check.specs.Changes.{seen}
+use Rattle.cli_file.specs.Parts.{sections_of}
+use Rattle.cli_file.specs.Left.{left}
+use Rattle.cli_file.specs.Changes.{seen}
 use Rattle.cli_print.proofs.Writing.{Writing}
 use Rattle.cli_print.proofs.sections.print_sections.Given as goal
 

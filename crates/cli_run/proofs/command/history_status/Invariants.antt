@@ -1,5 +1,5 @@
 use Rattle.std.proofs.Common.{◌≡◌, ◌≤◌, take}
-use Rattle.cli_check.specs.Run.{greatest}
+use Rattle.cli_file.specs.Statuses.{greatest}
 use Rattle.cli_run.specs.Runs.{events_of}
 use Rattle.cli_run.proofs.command.history_status.Given as goal
 

@@ -1,5 +1,5 @@
-use Rattle.cli_check.specs.Left.{part_of}
-use Rattle.cli_check.proofs.Reading.{read_more}
+use Rattle.cli_file.specs.Left.{part_of}
+use Rattle.cli_file.proofs.Reading.{read_more}
 use Rattle.cli_run.specs.Calls.{Gives}
 use Rattle.cli_run.proofs.file.read_calls.Goals as goal
 

@@ -1,6 +1,6 @@
-use Rattle.cli_check.specs.Parts.{sections_of}
-use Rattle.cli_check.specs.Left.{left}
-use Rattle.cli_check.proofs.Reading.{HasRead}
+use Rattle.cli_file.specs.Parts.{sections_of}
+use Rattle.cli_file.specs.Left.{left}
+use Rattle.cli_file.proofs.Reading.{HasRead}
 use Rattle.cli_run.specs.Calls.{Gives}
 use Rattle.cli_run.proofs.file.read_calls.Given as goal
 

@@ -1,7 +1,7 @@
 use Rattle.std.specs.Prelude.{Vec}
 use Rattle.std.specs.declared.alloc.Global.{Global}
-use Rattle.cli_check.specs.Parts.{sections_of}
-use Rattle.cli_check.proofs.Locating.{located_answers}
+use Rattle.cli_file.specs.Parts.{sections_of}
+use Rattle.cli_file.proofs.Locating.{located_answers}
 use Rattle.cli_run.specs.declared.file.SessionCall.{SessionCall}
 use Rattle.cli_run.specs.Calls.{GiveAll, Gives, Takes}
 use Rattle.cli_run.proofs.file.read_told_calls.Goals as goal

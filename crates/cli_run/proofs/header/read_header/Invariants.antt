@@ -1,6 +1,6 @@
 use Rattle.std.proofs.Common.{ℕ, ◌<◌, Some}
-use Rattle.cli_check.specs.declared.heading.Heading.{Heading}
-use Rattle.cli_check.specs.Headings.{IsHeader}
+use Rattle.cli_file.specs.declared.heading.Heading.{Heading}
+use Rattle.cli_file.specs.Headings.{IsHeader}
 use Rattle.cli_run.proofs.header.read_header.Given as goal
 
 abbrev pub invariant-loop-session : goal.invariant-loop-session

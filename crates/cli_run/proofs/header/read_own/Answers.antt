@@ -1,5 +1,5 @@
 use Rattle.std.specs.Prelude.{Some}
-use Rattle.cli_check.specs.Headings.{maker_text}
+use Rattle.cli_file.specs.Headings.{maker_text}
 use Rattle.cli_run.proofs.Headers.{no_heading}
 use Rattle.cli_run.proofs.header.read_own.Goals as goal
 

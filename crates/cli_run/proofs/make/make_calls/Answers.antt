@@ -1,8 +1,8 @@
 use Rattle.std.proofs.Common.{length, ap, arith}
 use Rattle.bc_share.proofs.Closings.{length-new_sessions}
-use Rattle.cli_check.specs.declared.stop.Stop.TheVariants.{Audit}
-use Rattle.cli_check.proofs.Serving.{is_stop}
-use Rattle.cli_check.proofs.Closing.{only_audited}
+use Rattle.cli_file.specs.declared.stop.Stop.TheVariants.{Audit}
+use Rattle.cli_file.proofs.Stopping.{is_stop}
+use Rattle.cli_file.proofs.Closing.{only_audited}
 use Rattle.cli_run.proofs.Made.{made_of, new_are_sessions, ran_are_sessions, scripts_sized}
 use Rattle.cli_run.proofs.Stopping.{audited_stop}
 use Rattle.cli_run.proofs.make.make_calls.Goals as goal

@@ -2,7 +2,7 @@ use Rattle.std.proofs.Common.{arith, ◌≡◌, ◌+◌, ℕ, List, ◌++◌, ta
 use Rattle.std.specs.Io.KnownBytes.{Appends}
 use Rattle.std.proofs.lemmas.List.{take_more, length-take-le}
 use Rattle.bc_scripts.specs.declared.run.End.TheVariants.{Done}
-use Rattle.cli_check.proofs.Serving.{added_then}
+use Rattle.cli_file.proofs.Printing.{added_then}
 use Rattle.cli_run.specs.Print.{stopped_line, stopped_lines}
 use Rattle.cli_run.proofs.Statuses.{one_stopped, stopped-snoc}
 use Rattle.cli_run.proofs.Stopping.{at_each_error}

@@ -1,0 +1,11 @@
+pub mod Feeds
+pub mod Lines
+pub mod Scanning
+pub mod Whole
+pub mod Beginnings
+pub mod Reading
+pub mod Locating
+pub mod Printing
+pub mod Closing
+pub mod Stopping
+pub mod Statuses

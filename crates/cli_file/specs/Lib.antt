@@ -1,0 +1,13 @@
+pub mod Files
+pub mod Parts
+pub mod Left
+pub mod Faults
+pub mod Stops
+pub mod Words
+pub mod Headings
+pub mod Sections
+pub mod Located
+pub mod Changes
+pub mod Statuses
+pub mod Still
+pub mod Ends

@@ -1,0 +1,24 @@
+-- What is answered to words of the command line that write no line.
+use Rattle.std.specs.Prelude.{◌≡◌, ◌⊎◌, ℕ, Option, List, []}
+use Rattle.std.specs.Io.KnownBytes.{Appends, Keeps}
+use Rattle.cli_line.specs.declared.fault.LineFault.{LineFault}
+use Rattle.cli_line.specs.declared.fault.LineFault.TheVariants.{Help, Version, WrongUse, NoMemory}
+use Rattle.cli_line.specs.Usage.{usage_of, version_line}
+use Rattle.cli_file.specs.declared.stop.Stop.{Stop}
+use Rattle.cli_file.specs.declared.stop.Stop.TheVariants as stops
+use Rattle.cli_file.specs.Stops.{last_line, stop_status}
+
+-- one line says why nothing is done, on standard error
+abbrev pub Says : Stop → ℕ → Option (List ℕ) → Option (List ℕ) → Type 0
+Says stop exit err err' = (exit ≡ stop_status stop) × Appends err err' (last_line [] stop)
+
+-- a text on standard output, unless that failed
+abbrev pub Shows : List ℕ → ℕ → Option (List ℕ) → Option (List ℕ) → Option (List ℕ) → Option (List ℕ) → Type 0
+Shows text exit out out' err err' = (exit ≡ 0) × Appends out out' text × Keeps err err' ⊎ Says stops.CannotWrite exit err err'
+
+-- the text of help about its topic or the line of the version, or the line that says why the words write none
+abbrev pub Answers : LineFault → ℕ → Option (List ℕ) → Option (List ℕ) → Option (List ℕ) → Option (List ℕ) → Type 0
+Answers (Help topic) exit out out' err err' = Shows (usage_of topic) exit out out' err err'
+Answers Version exit out out' err err' = Shows version_line exit out out' err err'
+Answers WrongUse exit out out' err err' = Keeps out out' × Says stops.WrongUse exit err err'
+Answers NoMemory exit out out' err err' = Keeps out out' × Says stops.NoMemory exit err err'

@@ -1,0 +1,18 @@
+//! How many entries a history needs for the calls of a file.
+ghost use Rattle.std.specs.Prelude.{◌≡◌, ◌≤◌, ◌<◌, ◌+◌, IfOk, IfErr, max};
+
+use crate::stop::Stop;
+use bc_share::MOST_ENTRIES;
+
+/// How many entries a history needs for so many changes and so many Asks of names: one for each, and at least one. `TooManyCalls` exactly where
+/// there are more than `MOST_ENTRIES` of them.
+pub fn find_capacity(changes: usize, names: usize) -> Result<u32, Stop>
+    ensures fits { IfOk result (λ capacity. (capacity ≡ max 1 (changes + names)) × (changes + names ≤ MOST_ENTRIES)) }
+    ensures stop { IfErr result (λ stop. (stop ≡ Stop.TooManyCalls) × (MOST_ENTRIES < changes + names)) }
+{
+    let most = MOST_ENTRIES as usize;
+    if changes > most || names > most - changes {
+        return Err(Stop::TooManyCalls);
+    }
+    Ok((changes + names).max(1) as u32)
+}

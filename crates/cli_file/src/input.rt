@@ -1,0 +1,52 @@
+//! The file, read whole.
+ghost use Rattle.std.specs.Prelude.{◌≡◌, ◌≤◌, ◌⊎◌, IfSome, IfOk, IfErr, length};
+ghost use Rattle.cli_file.specs.Files.{most_bytes};
+
+use crate::stop::Stop;
+use std::alloc::Global;
+use std::io;
+use std::io::{ErrorKind, Read};
+
+/// The longest file that is read, in bytes: 16 MiB.
+pub const LIMIT: usize = 16_777_216;
+
+/// A reader that never answers `OutOfMemory`: where that is what reading it comes to, memory of our own was refused.
+#[derive(Drop)]
+struct Foreign<R> {
+    reader: R,
+}
+
+impl<R: Read> Read for Foreign<R> {
+    ghost remaining = { λ foreign. R.remaining foreign.reader };
+
+    fn read(&mut self, buf: &mut [u8]) -> io::Result<usize> {
+        match self.reader.read(buf) {
+            Ok(count) => Ok(count),
+            Err(fault) => match fault.kind() {
+                ErrorKind::OutOfMemory => Err(ErrorKind::Other.into()),
+                _ => Err(fault),
+            },
+        }
+    }
+}
+
+/// Reads the whole of the input: its bytes, at most 16 MiB. `CannotRead` where a read fails or the input is longer; `NoMemory` where there is no
+/// room for it.
+pub fn read_whole<I: Read>(alloc: Global, input: &mut I) -> Result<Vec<u8>, Stop>
+    ensures whole { IfOk result (λ file. IfSome (I.remaining input.old) (λ bytes. file.items ≡ bytes)) }
+    ensures short { IfOk result (λ file. length file.items ≤ most_bytes) }
+    ensures stop { IfErr result (λ stop. (stop ≡ Stop.CannotRead) ⊎ (stop ≡ Stop.NoMemory)) }
+{
+    let mut file = Vec::new(alloc);
+    let mut limited = Read::take(Foreign { reader: input }, LIMIT as u64 + 1);
+    if let Err(fault) = limited.read_to_end(&mut file) {
+        return Err(match fault.kind() {
+            ErrorKind::OutOfMemory => Stop::NoMemory,
+            _ => Stop::CannotRead,
+        });
+    }
+    if file.len() > LIMIT {
+        return Err(Stop::CannotRead);
+    }
+    Ok(file)
+}

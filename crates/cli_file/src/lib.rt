@@ -1,0 +1,28 @@
+//! What the commands on a file share: the file cut into its sections and read, the statuses of calls, and what is said where a command stops.
+#![tactic(auto)]
+
+mod capacity;
+mod fault;
+mod file;
+mod heading;
+mod input;
+mod location;
+mod section;
+mod side;
+mod status;
+mod stop;
+mod words;
+
+pub use capacity::find_capacity;
+pub use fault::{FaultKind, FileFault};
+pub use file::{
+    Change, read_body, read_changes, read_declarations, read_told_changes, stop_at, text_stop,
+};
+pub use heading::{Heading, behind, read_heading};
+pub use input::read_whole;
+pub use location::locate;
+pub use section::{Section, Sections};
+pub use side::read_changes_by;
+pub use status::{event_status, outcome_status, put_status};
+pub use stop::{Stop, stop_with};
+pub use words::answer_words;

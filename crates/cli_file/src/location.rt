@@ -1,0 +1,63 @@
+//! Where in a file its fault is.
+ghost use Rattle.std.specs.Prelude.{◌≡◌};
+ghost use Rattle.cli_file.specs.Located.{byte_of, byte_position, located, located_stop};
+
+use crate::fault::{FaultKind, FileFault};
+use crate::stop::Stop;
+use bc_position::{Position, position_below};
+
+/// The byte that a fault tells of, by how many bytes of the section's text are in front of it; `None` where it tells of no byte.
+fn byte_of(kind: FaultKind) -> Option<usize>
+    ensures { result ≡ byte_of kind }
+{
+    match kind {
+        FaultKind::BadHeader | FaultKind::TextAfterCall | FaultKind::TooLong => None,
+        FaultKind::NotAscii { at }
+        | FaultKind::Token { at }
+        | FaultKind::Grammar { at }
+        | FaultKind::Limit { at } => Some(at),
+    }
+}
+
+/// Where in the file the byte is that its fault tells of.
+fn byte_position(file: &[u8], fault: FileFault) -> Option<Position>
+    ensures { result ≡ byte_position file.now fault }
+{
+    let at = byte_of(fault.kind)?;
+    Some(position_below(file, fault.line, at))
+}
+
+/// A fault of the file with its position, where positions are asked for, and else with none.
+fn locate_fault(positions: bool, file: &[u8], fault: FileFault) -> FileFault
+    ensures { result ≡ located positions file.now fault }
+{
+    let position = if positions {
+        byte_position(file, fault)
+    } else {
+        None
+    };
+    FileFault {
+        line: fault.line,
+        kind: fault.kind,
+        position,
+    }
+}
+
+/// The stop of a command on this file, with the line and column of its byte where it is a fault of the file that has a byte and positions are asked
+/// for. Any other stop is as it was.
+pub fn locate(positions: bool, file: &[u8], stop: Stop) -> Stop
+    ensures { result ≡ located_stop positions file.now stop }
+{
+    match stop {
+        Stop::File(fault) => Stop::File(locate_fault(positions, file, fault)),
+        Stop::WrongUse
+        | Stop::CannotRead
+        | Stop::CannotWrite
+        | Stop::CannotTell
+        | Stop::NoMemory
+        | Stop::TooManyCalls
+        | Stop::HistoryFull
+        | Stop::Foreign
+        | Stop::Audit => stop,
+    }
+}

@@ -1,0 +1,156 @@
+//! The sections of a file, read side by side.
+ghost use Rattle.std.specs.Prelude.{◌≡◌, IfOk};
+ghost use Rattle.cli_file.specs.Parts.{sections_of};
+ghost use Rattle.cli_file.specs.Left.{part_of};
+ghost use Rattle.cli_file.specs.Changes.{GivesChange, GivesChanges, GivesTold};
+
+use crate::file::{Change, read_change, read_told_changes};
+use crate::location::locate;
+use crate::section::{Section, Sections};
+use crate::stop::Stop;
+use std::alloc::{AllocError, Global};
+use std::marker::Model;
+use std::thread;
+use std::thread::Threads;
+
+/// A section of a file, and what it was read as, once it was read. Contracts see the section. The type keeps that what was read is what the section
+/// spells.
+#[derive(Drop)]
+struct PendingSection<'a> {
+    section: Section<'a>,
+    read: Option<Result<Change, Stop>>,
+}
+
+impl<'a> Model for PendingSection<'a> {
+    ghost use Rattle.std.specs.Prelude.{IfSome};
+    ghost use Rattle.cli_file.specs.Parts.{Part};
+    ghost use Rattle.cli_file.specs.Left.{part_of};
+    ghost use Rattle.cli_file.specs.Changes.{GivesChange};
+
+    ghost Value = { Part };
+
+    ghost view = { λ pending. part_of pending.section };
+
+    ghost invariant = { λ pending. IfSome pending.read (λ read. GivesChange (part_of pending.section) read) };
+}
+
+impl<'a> PendingSection<'a> {
+    /// A section that was not read yet.
+    fn new(section: Section<'a>) -> PendingSection<'a>
+        ensures { result ≡ part_of section.entry }
+    {
+        PendingSection {
+            section,
+            read: None,
+        }
+    }
+
+    /// Reads the section.
+    fn read(&mut self, alloc: Global)
+        ensures { self.new ≡ self.old }
+    {
+        let read = read_change(alloc, &self.section);
+        self.read = Some(read);
+    }
+
+    /// The change that the section makes. It is read now where it was not read yet.
+    fn into_change(self, alloc: Global) -> Result<Change, Stop>
+        ensures { GivesChange self.entry result }
+    {
+        match self.read {
+            Some(read) => read,
+            None => read_change(alloc, &self.section),
+        }
+    }
+}
+
+/// The sections of a file, none of them read yet.
+fn list_sections<'a>(alloc: Global, file: &'a [u8]) -> Result<Vec<PendingSection<'a>>, AllocError>
+    ensures { IfOk result (λ sections. sections.items ≡ sections_of file.now) }
+{
+    let mut sections = Vec::new(alloc);
+    for section in Sections::of(file) {
+        sections.push(PendingSection::new(section))?;
+    }
+    Ok(sections)
+}
+
+/// Reads each of these sections, in so many threads at most.
+fn read_each<R: Threads + Sync>(
+    rt: &R,
+    alloc: Global,
+    threads: usize,
+    sections: &mut [PendingSection<'_>],
+)
+    ensures { sections.new ≡ sections.old }
+{
+    let threads = threads.max(1);
+    thread::for_each_mut(
+        rt,
+        sections,
+        threads,
+        &|_index: usize, section: &mut PendingSection<'_>|
+            ensures { section.new ≡ section.old }
+        { section.read(alloc) },
+    );
+}
+
+/// The sections of a file, all of them read, in so many threads at most.
+fn read_sections<'a, R: Threads + Sync>(
+    rt: &R,
+    alloc: Global,
+    threads: usize,
+    file: &'a [u8],
+) -> Result<Vec<PendingSection<'a>>, AllocError>
+    ensures { IfOk result (λ sections. sections.items ≡ sections_of file.now) }
+{
+    let mut sections = list_sections(alloc, file)?;
+    read_each(rt, alloc, threads, &mut sections);
+    Ok(sections)
+}
+
+/// The changes that these sections make, in their order. `File` with the first fault of them where one has a fault, `NoMemory` where there is no
+/// room.
+fn gather(alloc: Global, sections: Vec<PendingSection<'_>>) -> Result<Vec<Change>, Stop>
+    ensures { GivesChanges sections.entry.items result }
+{
+    let mut changes = Vec::new(alloc);
+    for section in sections {
+        changes.push(section.into_change(alloc)?)?;
+    }
+    Ok(changes)
+}
+
+/// The changes that a file makes, as `read_changes` returns them. So many threads at most share the reading of its sections.
+fn read_changes_ahead<R: Threads + Sync>(
+    rt: &R,
+    alloc: Global,
+    threads: usize,
+    file: &[u8],
+) -> Result<Vec<Change>, Stop>
+    ensures { GivesChanges (sections_of file.now) result }
+{
+    let sections = read_sections(rt, alloc, threads, file)?;
+    gather(alloc, sections)
+}
+
+/// The changes that a file makes, in the order of its sections. Where there are several threads, they share the reading of the sections. `File`
+/// with the first fault of the file where it has one, with its position in the file where positions are asked for; `NoMemory` where there is no
+/// room.
+pub fn read_changes_by<R: Threads + Sync>(
+    rt: &R,
+    alloc: Global,
+    threads: usize,
+    positions: bool,
+    file: &[u8],
+) -> Result<Vec<Change>, Stop>
+    ensures { GivesTold positions file.now result }
+{
+    if threads <= 1 {
+        return read_told_changes(alloc, positions, file);
+    }
+    match read_changes_ahead(rt, alloc, threads, file) {
+        Ok(changes) => Ok(changes),
+        Err(stop) => Err(locate(positions, file, stop)),
+    }
+}

@@ -1,0 +1,137 @@
+//! Why the command stops before its end.
+ghost use Rattle.std.specs.Prelude.{◌≡◌, ◌≤◌, IfOk, OnOk};
+ghost use Rattle.std.specs.Io.KnownBytes.{Appends};
+ghost use Rattle.cli_file.specs.Stops.{last_line, stop_status, refusal_stop, open_stop, close_stop};
+
+use crate::FileFault;
+use bc_book::Refusal;
+use bc_share::{CloseFault, OpenFault};
+use std::alloc::{AllocError, AllocFailed};
+use std::io;
+use std::io::Write;
+
+/// Why a command stops before its end.
+#[derive(Clone, Copy, Debug, PartialEq, Eq)]
+pub enum Stop {
+    /// The words of the command line are not those of a command.
+    WrongUse,
+    /// The file cannot be read, or is too long.
+    CannotRead,
+    /// Standard output failed.
+    CannotWrite,
+    /// Standard error failed, so that nothing more can be said.
+    CannotTell,
+    /// Memory ran out.
+    NoMemory,
+    /// The file has a fault.
+    File(FileFault),
+    /// The file puts and asks more than a history may hold.
+    TooManyCalls,
+    /// The history is full.
+    HistoryFull,
+    /// The database was closed with sessions that are not its own, which no command does.
+    Foreign,
+    /// The history does not agree with what the session did.
+    Audit,
+}
+
+impl From<AllocError> for Stop {
+    ghost use Rattle.cli_file.specs.declared.stop.Stop.TheVariants.{NoMemory};
+
+    ghost from_gives = { λ _ stop. stop ≡ NoMemory };
+
+    fn from(_error: AllocError) -> Self {
+        Stop::NoMemory
+    }
+}
+
+impl<T: Drop> From<AllocFailed<T>> for Stop {
+    ghost use Rattle.cli_file.specs.declared.stop.Stop.TheVariants.{NoMemory};
+
+    ghost from_gives = { λ _ stop. stop ≡ NoMemory };
+
+    fn from(_error: AllocFailed<T>) -> Self {
+        Stop::NoMemory
+    }
+}
+
+impl From<Refusal> for Stop {
+    ghost from_gives = { λ refusal stop. stop ≡ refusal_stop refusal };
+
+    fn from(refusal: Refusal) -> Self {
+        match refusal {
+            Refusal::NoMemory => Stop::NoMemory,
+            Refusal::HistoryFull => Stop::HistoryFull,
+        }
+    }
+}
+
+impl From<OpenFault> for Stop {
+    ghost from_gives = { λ fault stop. stop ≡ open_stop fault };
+
+    fn from(fault: OpenFault) -> Self {
+        match fault {
+            OpenFault::Range => Stop::TooManyCalls,
+            OpenFault::NoMemory => Stop::NoMemory,
+        }
+    }
+}
+
+impl From<CloseFault> for Stop {
+    ghost from_gives = { λ fault stop. stop ≡ close_stop fault };
+
+    fn from(fault: CloseFault) -> Self {
+        match fault {
+            CloseFault::Foreign => Stop::Foreign,
+            CloseFault::Audit(_) => Stop::Audit,
+        }
+    }
+}
+
+/// The status of a command that stops: 2 for a fault of the file, 3 for all else.
+fn exit_status(stop: &Stop) -> u8
+    ensures value { result ≡ stop_status stop.now }
+    ensures range { result ≤ 3 }
+{
+    match stop {
+        Stop::File(_) => 2,
+        Stop::WrongUse
+        | Stop::CannotRead
+        | Stop::CannotWrite
+        | Stop::CannotTell
+        | Stop::NoMemory
+        | Stop::TooManyCalls
+        | Stop::HistoryFull
+        | Stop::Foreign
+        | Stop::Audit => 3,
+    }
+}
+
+/// Writes why a command on the file of this name stops: one line, and none where standard error failed already.
+fn write_last_line<E: Write>(file: &str, stop: &Stop, err: &mut E) -> io::Result<()>
+    ensures { OnOk result (Appends (E.contents err.old) (E.contents err.new) (last_line file.now stop.now)) }
+{
+    match *stop {
+        Stop::WrongUse => writeln!(err, "wrong use"),
+        Stop::CannotRead => writeln!(err, "cannot read {file}"),
+        Stop::CannotWrite => writeln!(err, "cannot write"),
+        Stop::CannotTell => Ok(()),
+        Stop::NoMemory => writeln!(err, "no memory"),
+        Stop::File(fault) => writeln!(err, "{fault}"),
+        Stop::TooManyCalls => writeln!(err, "too many calls"),
+        Stop::HistoryFull => writeln!(err, "history full"),
+        Stop::Foreign => writeln!(err, "close: foreign"),
+        Stop::Audit => writeln!(err, "close: audit"),
+    }
+}
+
+/// Writes why a command on the file of this name stops, and returns its exit status: 2 where the file has a fault, 3 for all else. The writer's
+/// fault where this cannot be written.
+pub fn stop_with<E: Write>(file: &str, stop: &Stop, err: &mut E) -> io::Result<u8>
+    ensures range { IfOk result (λ status. status ≤ 3) }
+    ensures status { IfOk result (λ status. status ≡ stop_status stop.now) }
+    ensures said { OnOk result (Appends (E.contents err.old) (E.contents err.new) (last_line file.now stop.now)) }
+{
+    write_last_line(file, stop, err)?;
+    Ok(exit_status(stop))
+}

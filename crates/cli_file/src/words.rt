@@ -1,0 +1,49 @@
+//! What is answered to words of the command line that write no line.
+ghost use Rattle.std.specs.Prelude.{◌≤◌, IfOk};
+ghost use Rattle.cli_file.specs.Words.{Answers};
+
+use crate::stop::{Stop, stop_with};
+use cli_line::{LineFault, Topic, write_usage, write_version};
+use std::io;
+use std::io::Write;
+
+/// Prints the text of help about a topic, or says that standard output failed.
+fn help<O: Write, E: Write>(topic: Topic, out: &mut O, err: &mut E) -> io::Result<u8>
+    ensures range { IfOk result (λ status. status ≤ 3) }
+    ensures answered { IfOk result (λ status. Answers (LineFault.Help topic) status (O.contents out.old) (O.contents out.new) (E.contents err.old) (E.contents err.new)) }
+{
+    match write_usage(topic, out) {
+        Ok(()) => Ok(0),
+        Err(_) => stop_with("", &Stop::CannotWrite, err),
+    }
+}
+
+/// Prints the line of the version, or says that standard output failed.
+fn version<O: Write, E: Write>(out: &mut O, err: &mut E) -> io::Result<u8>
+    ensures range { IfOk result (λ status. status ≤ 3) }
+    ensures answered { IfOk result (λ status. Answers LineFault.Version status (O.contents out.old) (O.contents out.new) (E.contents err.old) (E.contents err.new)) }
+{
+    match write_version(out) {
+        Ok(()) => Ok(0),
+        Err(_) => stop_with("", &Stop::CannotWrite, err),
+    }
+}
+
+/// Answers words that write no line, and returns the exit status: 0 with the text of help about a topic or the line of the version on `out`; else 3
+/// with one line on `err` that says why, which is `cannot write` where `out` failed. The fault of `err` where that cannot be written. It allocates
+/// nothing.
+pub fn answer_words<O: Write, E: Write>(
+    fault: LineFault,
+    out: &mut O,
+    err: &mut E,
+) -> io::Result<u8>
+    ensures range { IfOk result (λ status. status ≤ 3) }
+    ensures answered { IfOk result (λ status. Answers fault status (O.contents out.old) (O.contents out.new) (E.contents err.old) (E.contents err.new)) }
+{
+    match fault {
+        LineFault::Help(topic) => help(topic, out, err),
+        LineFault::Version => version(out, err),
+        LineFault::WrongUse => stop_with("", &Stop::WrongUse, err),
+        LineFault::NoMemory => stop_with("", &Stop::NoMemory, err),
+    }
+}
