@@ -1,33 +1,41 @@
 //! Sixteen sessions make calls on threads and read beside them, and what they leave and see is compared with a map of names. With a number they do
-//! so for that many seconds, and how fast they were is shown.
+//! so in that many longer rounds, and in one whose history is nearly full.
 #![tactic(auto)]
 
 mod load;
 mod model;
 
-use crate::load::{show_agreement, show_load};
+use crate::load::{Shape, Stock, Table};
+use anyhow::Result;
 use bc_analyses::providers;
-use std::io::{BufWriter, ErrorKind, Write};
-use std::{env, io};
+use std::env;
+use std::io::Write;
 
-/// For how many seconds sessions are to make calls, where a word says that; `InvalidData` where it is no number.
-fn seconds_of_load(rt: &HostRuntime) -> io::Result<Option<u64>> {
-    let mut words = env::args(rt)?.skip(1);
-    let Some(word) = words.next() else {
-        return Ok(None);
-    };
-    let Ok(seconds) = word.parse::<u64>() else {
-        return Err(ErrorKind::InvalidData.into());
-    };
-    Ok(Some(seconds))
+/// Rounds of which the first puts more names than may be held, and in the others all sessions write the four names of one function.
+const SHORT: [Shape; 2] = [("many names", 700, 1000, 1), ("four names", 1, 1000, 50)];
+
+/// How many rounds a word asks for, each of more names than may be held; none where no word does.
+fn rounds_of_load(rt: &HostRuntime) -> Result<Option<u32>> {
+    match env::args(rt)?.skip(1).next() {
+        Some(word) => Ok(Some(word.parse()?)),
+        None => Ok(None),
+    }
 }
 
-fn main(rt: HostRuntime) -> io::Result<()> {
-    let mut out = BufWriter::new(rt.alloc(), rt.stdout())?;
+fn main(rt: HostRuntime) -> Result<()> {
     let providers = providers!(rt.alloc());
-    match seconds_of_load(&rt)? {
-        Some(seconds) => show_load(&rt, &providers, seconds, &mut out)?,
-        None => show_agreement(&rt, &providers, &mut out)?,
-    }
-    out.flush()
+    let stock = Stock::new(rt.alloc())?;
+    let table = Table {
+        rt: &rt,
+        stock: &stock,
+        providers: &providers,
+    };
+    let mut out = rt.stdout();
+    let Some(rounds) = rounds_of_load(&rt)? else {
+        out.write_all(b"#sessions on threads\n")?;
+        table.show(SHORT[0], &mut out)?;
+        return table.show(SHORT[1], &mut out);
+    };
+    table.show(("many names", 440, 10_000, rounds), &mut out)?;
+    table.show(("a history that is nearly full", 440, 99_000, 1), &mut out)
 }

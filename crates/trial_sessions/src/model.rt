@@ -10,10 +10,10 @@ use test_fixtures::Sight;
 pub(crate) const CLOSURES: usize = 3;
 
 /// How many names there are of each function: its own, and those of its closures behind it.
-pub(crate) const FAMILY: usize = CLOSURES + 1;
+const FAMILY: usize = CLOSURES + 1;
 
 /// What is known of a unit: it is a closure or a function with so many errors, or a function that creates the closures of these numbers.
-#[derive(Clone, Copy, PartialEq)]
+#[derive(Clone, Copy)]
 pub(crate) enum Kind {
     Closure(usize),
     Function(usize),
@@ -52,91 +52,63 @@ pub(crate) struct Log {
     pub(crate) readings: Vec<Reading>,
 }
 
-/// What is listed of a name.
-fn seen_in(rows: &[(Name, Shared<Outcome>)], name: &Name) -> Option<Sight> {
-    for (at, outcome) in rows {
-        if at == name {
-            return Some(Sight::of(outcome.get()));
-        }
-    }
-    None
+/// What is held under a name, and its answer.
+#[derive(Clone, Copy)]
+struct Place {
+    held: Option<Kind>,
+    answer: Option<Sight>,
 }
 
-/// Whether the names of rows ascend.
-fn ascend(rows: &[(Name, Shared<Outcome>)]) -> bool {
-    let mut last: Option<&Name> = None;
-    for (at, _) in rows {
-        if let Some(before) = last {
-            if before >= at {
-                return false;
-            }
-        }
-        last = Some(at);
-    }
-    true
-}
+/// The place of a name under which nothing is held.
+const EMPTY: Place = Place {
+    held: None,
+    answer: None,
+};
 
-/// What is held under each name, and the answer of each.
+/// What is held under each of these names, which ascend, and how many bodies that are.
 #[derive(Drop)]
-struct Map {
-    held: Vec<Option<Kind>>,
-    answers: Vec<Option<Sight>>,
+struct Map<'a> {
+    names: &'a [Name],
+    places: Vec<Place>,
     count: usize,
 }
 
-impl Map {
-    /// Nothing is held under so many names.
-    fn new(alloc: Global, names: usize) -> Result<Map, AllocError> {
-        let mut held = Vec::with_capacity(alloc, names)?;
-        let mut answers = Vec::with_capacity(alloc, names)?;
-        for _name in 0..names {
-            held.push(None)?;
-            answers.push(None)?;
+impl<'a> Map<'a> {
+    /// Nothing is held under these names.
+    fn new(alloc: Global, names: &'a [Name]) -> Result<Map<'a>, AllocError> {
+        let mut places = Vec::with_capacity(alloc, names.len())?;
+        for _name in names {
+            places.push(EMPTY)?;
         }
         Ok(Map {
-            held,
-            answers,
+            names,
+            places,
             count: 0,
         })
     }
 
-    /// What is held under a name.
-    fn held(&self, name: usize) -> Option<Kind> {
-        match self.held.get(name) {
-            Some(held) => *held,
-            None => None,
-        }
-    }
-
-    /// The answer of a name.
-    fn answer(&self, name: usize) -> Option<Sight> {
-        match self.answers.get(name) {
-            Some(answer) => *answer,
-            None => None,
-        }
-    }
-
-    /// Sets what is held under a name, which makes its answer void, and that of its function.
-    fn write(&mut self, name: usize, held: Option<Kind>) {
-        if let Some(place) = self.held.get_mut(name) {
-            *place = held;
-        }
-        self.set_answer(name, None);
-        self.set_answer(name - name % FAMILY, None);
-    }
-
-    /// Makes all answers void.
-    fn void_all(&mut self) {
-        for answer in self.answers.iter_mut() {
-            *answer = None;
+    /// The place of a name.
+    fn at(&self, name: usize) -> Place {
+        match self.places.get(name) {
+            Some(place) => *place,
+            None => EMPTY,
         }
     }
 
     /// Sets the answer of a name.
     fn set_answer(&mut self, name: usize, answer: Option<Sight>) {
-        if let Some(place) = self.answers.get_mut(name) {
-            *place = answer;
+        if let Some(place) = self.places.get_mut(name) {
+            place.answer = answer;
         }
+    }
+
+    /// Sets what is held under a name, which makes its answer void, and that of its function.
+    fn write(&mut self, name: usize, held: Option<Kind>) {
+        if let Some(place) = self.places.get_mut(name) {
+            place.held = held;
+        }
+        self.set_answer(name, None);
+        self.set_answer(name - name % FAMILY, None);
     }
 
     /// Puts a unit under a name, and gives the reply.
@@ -149,7 +121,7 @@ impl Map {
         if is_root == is_closure {
             return PutReply::WrongKind;
         }
-        let was_held = self.held(name).is_some();
+        let was_held = self.at(name).held.is_some();
         if !was_held && self.count >= MOST_BODIES {
             return PutReply::Full;
         }
@@ -163,7 +135,7 @@ impl Map {
 
     /// Takes the unit of a name away, and gives the reply.
     fn remove(&mut self, name: usize) -> RemoveReply {
-        if self.held(name).is_none() {
+        if self.at(name).held.is_none() {
             return RemoveReply::Absent;
         }
         self.write(name, None);
@@ -173,79 +145,69 @@ impl Map {
 
     /// Answers a name, if it is held.
     fn answer_with(&mut self, name: usize, found: &Sight) {
-        if self.held(name).is_some() {
+        if self.at(name).held.is_some() {
             self.set_answer(name, Some(*found));
         }
     }
 
     /// Asks for a name, and gives what is found.
-    fn ask(&mut self, names: &[Name], name: usize) -> Sight {
-        let found = self.found(names, name);
+    fn ask(&mut self, name: usize) -> Sight {
+        let found = self.found(name);
         self.answer_with(name, &found);
         found
     }
 
     /// Asks for all, and answers whether these rows are what is found: the held functions, ascending, each with what is found of it.
-    fn ask_all(&mut self, names: &[Name], rows: &[(Name, Shared<Outcome>)]) -> bool {
-        let mut count: usize = 0;
-        for (number, name) in names.iter().enumerate() {
-            if number % FAMILY != 0 || self.held(number).is_none() {
+    fn ask_all(&mut self, rows: &[(Name, Shared<Outcome>)]) -> bool {
+        let mut rest = rows.iter();
+        for (number, name) in self.names.iter().enumerate() {
+            if number % FAMILY != 0 || self.at(number).held.is_none() {
                 continue;
             }
-            if seen_in(rows, name) != Some(self.ask(names, number)) {
+            let Some((at, outcome)) = rest.next() else {
+                return false;
+            };
+            if at != name || Sight::of(outcome.get()) != self.ask(number) {
                 return false;
             }
-            count = count.saturating_add(1);
         }
-        count == rows.len() && ascend(rows)
+        rest.next().is_none()
     }
 
     /// Makes a call, and answers whether the event is that call with that reply.
-    fn take(&mut self, names: &[Name], deed: Deed, event: &Event) -> bool {
+    fn take(&mut self, deed: Deed, event: &Event) -> bool {
         match (deed, event) {
             (Deed::Types, Event::Types(_)) => {
-                self.void_all();
+                for place in self.places.iter_mut() {
+                    place.answer = None;
+                }
                 true
             }
             (Deed::Put(name, kind), Event::Put(at, _, reply)) => {
-                names.get(name) == Some(at) && self.put(name, kind) == *reply
+                self.names.get(name) == Some(at) && self.put(name, kind) == *reply
             }
             (Deed::Remove(name), Event::Remove(at, reply)) => {
-                names.get(name) == Some(at) && self.remove(name) == *reply
+                self.names.get(name) == Some(at) && self.remove(name) == *reply
             }
             (Deed::Ask(name), Event::Ask(at, outcome)) => {
-                names.get(name) == Some(at) && self.ask(names, name) == Sight::of(outcome.get())
+                self.names.get(name) == Some(at) && self.ask(name) == Sight::of(outcome.get())
             }
-            (Deed::All, Event::All(listing)) => self.ask_all(names, listing.get().as_slice()),
+            (Deed::All, Event::All(listing)) => self.ask_all(listing.get().as_slice()),
             (Deed::Types | Deed::Put(_, _) | Deed::Remove(_) | Deed::Ask(_) | Deed::All, _) =>
                 false,
         }
     }
 
     /// Whether this is what there is to see of a name now.
-    fn fits(&self, names: &[Name], name: usize, seen: &Seen) -> bool {
+    fn fits(&self, name: usize, seen: &Seen) -> bool {
         match seen {
-            Seen::Answer(answer) => self.answer(name) == *answer,
-            Seen::Found(found) => self.found(names, name) == *found,
+            Seen::Answer(answer) => self.at(name).answer == *answer,
+            Seen::Found(found) => self.found(name) == *found,
         }
-    }
-
-    /// The readings behind those that were made behind so many calls and saw what there is to see now.
-    fn rest<'a>(&self, names: &[Name], readings: &'a [Reading], behind: usize) -> &'a [Reading] {
-        let mut rest = readings;
-        for reading in readings {
-            if reading.behind != behind || !self.fits(names, reading.name, &reading.seen) {
-                break;
-            }
-            if let Some((_, others)) = rest.split_first() {
-                rest = others;
-            }
-        }
-        rest
     }
 
     /// What an Ask of a function finds that creates these closures.
-    fn found_below(&self, names: &[Name], name: usize, creates: [bool; CLOSURES]) -> Sight {
+    fn found_below(&self, name: usize, creates: [bool; CLOSURES]) -> Sight {
         let mut bodies: usize = 1;
         let mut errors: usize = 0;
         for (number, is_created) in creates.iter().enumerate() {
@@ -253,7 +215,7 @@ impl Map {
             if !*is_created {
                 continue;
             }
-            match (self.held(child), names.get(child)) {
+            match (self.at(child).held, self.names.get(child)) {
                 (Some(Kind::Closure(theirs)), _) => {
                     bodies = bodies.saturating_add(1);
                     errors = errors.saturating_add(theirs);
@@ -266,37 +228,49 @@ impl Map {
     }
 
     /// What an Ask of a name finds.
-    fn found(&self, names: &[Name], name: usize) -> Sight {
-        match self.held(name) {
+    fn found(&self, name: usize) -> Sight {
+        match self.at(name).held {
             None => Sight::NoBody,
             Some(Kind::Closure(errors) | Kind::Function(errors)) => Sight::Report(1, errors),
-            Some(Kind::Creator(creates)) => self.found_below(names, name, creates),
+            Some(Kind::Creator(creates)) => self.found_below(name, creates),
         }
     }
 }
 
-/// A session's calls and those of its readings that fit no beginning of the history yet, and how many of the calls that beginning has.
+/// What a session did, how many of its calls a beginning of the history has, and how many of its readings are shown by that.
 #[derive(Clone, Copy)]
 struct Reader<'a> {
-    calls: &'a [Deed],
-    rest: &'a [Reading],
+    log: &'a Log,
     behind: usize,
+    read: usize,
 }
 
 impl Reader<'_> {
+    /// Goes on over the readings that saw what there is to see now.
+    fn read_on(&mut self, map: &Map<'_>) {
+        let log = self.log;
+        for reading in log.readings.get(self.read..).unwrap_or(&[]) {
+            if reading.behind != self.behind || !map.fits(reading.name, &reading.seen) {
+                return;
+            }
+            self.read = self.read.saturating_add(1);
+        }
+    }
+
+    /// The next call, if there is one and it has this number.
+    fn next_deed(&mut self, number: u32) -> Option<Deed> {
+        if number as usize != self.behind {
+            return None;
+        }
+        let deed = self.log.calls.get(self.behind)?;
+        self.behind = self.behind.saturating_add(1);
+        Some(*deed)
+    }
+
     /// Whether the history has all its calls and shows all its readings.
     fn is_done(&self) -> bool {
-        self.rest.is_empty() && self.behind == self.calls.len()
+        self.read == self.log.readings.len() && self.behind == self.log.calls.len()
     }
-}
-
-/// The call of an entry, where it is the next one of its session.
-fn deed_of(readers: &[Reader<'_>], entry: &Entry) -> Option<Deed> {
-    let reader = readers.get(usize::from(entry.session))?;
-    if entry.number as usize != reader.behind {
-        return None;
-    }
-    Some(*reader.calls.get(reader.behind)?)
 }
 
 /// A reader for each session.
@@ -304,49 +278,41 @@ fn readers(alloc: Global, logs: &[Log]) -> Result<Vec<Reader<'_>>, AllocError> {
     let mut readers = Vec::with_capacity(alloc, logs.len())?;
     for log in logs {
         readers.push(Reader {
-            calls: &log.calls,
-            rest: &log.readings,
+            log,
             behind: 0,
+            read: 0,
         })?;
     }
     Ok(readers)
 }
 
-/// Has each session's readings go on that saw what there is to see now.
-fn read_on(map: &Map, names: &[Name], readers: &mut [Reader<'_>]) {
-    for reader in readers.iter_mut() {
-        reader.rest = map.rest(names, reader.rest, reader.behind);
-    }
-}
-
-/// Counts a call of a session.
-fn count(readers: &mut [Reader<'_>], session: u8) {
-    if let Some(reader) = readers.get_mut(usize::from(session)) {
-        reader.behind = reader.behind.saturating_add(1);
-    }
-}
-
 /// Whether the history is what a map of these names says of the calls of the sessions, of which it has each once, those of a session in
 /// their order, and shows all that they saw: each reading of a session saw what a beginning of the history leaves, which is no shorter than
-/// that of the reading before, has the calls that the session had made and none that it made later.
+/// that of the reading before, has the calls that the session had made and none that it made later. The names ascend.
 pub(crate) fn agree(
     alloc: Global,
     names: &[Name],
     logs: &[Log],
     entries: &[Entry],
 ) -> Result<bool, AllocError> {
-    let mut map = Map::new(alloc, names.len())?;
+    let mut map = Map::new(alloc, names)?;
     let mut readers = readers(alloc, logs)?;
     for entry in entries {
-        read_on(&map, names, &mut readers);
-        let Some(deed) = deed_of(&readers, entry) else {
+        for reader in readers.iter_mut() {
+            reader.read_on(&map);
+        }
+        let Some(reader) = readers.get_mut(usize::from(entry.session)) else {
             return Ok(false);
         };
-        if !map.take(names, deed, &entry.event) {
+        let Some(deed) = reader.next_deed(entry.number) else {
+            return Ok(false);
+        };
+        if !map.take(deed, &entry.event) {
             return Ok(false);
         }
-        count(&mut readers, entry.session);
     }
-    read_on(&map, names, &mut readers);
+    for reader in readers.iter_mut() {
+        reader.read_on(&map);
+    }
     Ok(readers.iter().all(|reader| reader.is_done()))
 }
