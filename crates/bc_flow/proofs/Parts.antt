@@ -24,7 +24,7 @@ put_back at width words new = put_mid at (at + width - at) words new
 pub length-part : (at width : ℕ) (words : List ℕ) → at + width ≤ length words → length (part at width words) ≡ width
 length-part at width words h = length-take-le (at + width - at) (drop at words) (omega (arith, h, length-drop at words)) ∙ (let e : at + width - at ≡ width = omega arith in e)
 
-word_of_part : (at width : ℕ) (words : List ℕ) (k : ℕ) → k < width → get_or (part at width words) k 0 ≡ get_or words (at + k) 0
+pub word_of_part : (at width : ℕ) (words : List ℕ) (k : ℕ) → k < width → get_or (part at width words) k 0 ≡ get_or words (at + k) 0
 word_of_part at width words k h = get_or-between words at (at + width) k 0 (omega (arith, h))
 
 pub bit-part : (at width : ℕ) (words : List ℕ) (i : ℕ) → i < 64 * width → bit (part at width words) i ≡ bit words (64 * at + i)
@@ -45,7 +45,7 @@ length-put at width words new h same =
     let rest : List ℕ = drop (at + width - at) (drop at words) in
     omega (arith, h, same, length-append (take at words) (new ++ rest), length-append new rest, front_of at words (omega (arith, h)), length-drop (at + width - at) (drop at words), length-drop at words)
 
-word_in_put : (at width : ℕ) (words new : List ℕ) (k : ℕ) → at + width ≤ length words → length new ≡ width → k < width → get_or (put_back at width words new) (at + k) 0 ≡ get_or new k 0
+pub word_in_put : (at width : ℕ) (words new : List ℕ) (k : ℕ) → at + width ≤ length words → length new ≡ width → k < width → get_or (put_back at width words new) (at + k) 0 ≡ get_or new k 0
 word_in_put at width words new k h same below =
     let rest : List ℕ = drop (at + width - at) (drop at words) in
     let e : at + k - at ≡ k = omega arith in
@@ -136,7 +136,7 @@ abbrev pub IsPartJoined : ℕ → ℕ → ℕ → List ℕ → ℕ → List ℕ 
 IsPartJoined rows width size old len lent new table to added =
     IsRowJoined rows width size (take len (put_back (to * width) width lent new ++ drop (length (put_back (to * width) width lent new)) old)) (put_back (to * width) width lent new) old table to added
 
-part_joined : {rows width size : ℕ} {old : List ℕ} {table : List (List Bool)} (len : ℕ) (lent new : List ℕ) (to : ℕ) (added : ℕ → Bool) → IsTable rows width size old → table_of rows width size old ≡ table → lent ≡ old → to < length table →
+pub part_joined : {rows width size : ℕ} {old : List ℕ} {table : List (List Bool)} (len : ℕ) (lent new : List ℕ) (to : ℕ) (added : ℕ → Bool) → IsTable rows width size old → table_of rows width size old ≡ table → lent ≡ old → to < length table →
     len ≡ length old → length new ≡ length (part (to * width) width lent) →
     ((i : ℕ) → bit new i ≡ (bit (part (to * width) width lent) i || added i)) → ((i : ℕ) → size ≤ i → added i ≡ false) →
     IsPartJoined rows width size old len lent new table to added
@@ -152,7 +152,7 @@ none_below : {rows width size : ℕ} {old : List ℕ} {table : List (List Bool)}
 none_below t view to h count small i past = le-ltb i count (omega (arith, past, small, size_is t view to h))
 
 -- a set's members are its bits
-member_is : {size : ℕ} {words : List ℕ} {set : List Bool} → IsPacked size words → bits_of size words ≡ set → (i : ℕ) → bit words i ≡ has set i
+pub member_is : {size : ℕ} {words : List ℕ} {set : List Bool} → IsPacked size words → bits_of size words ≡ set → (i : ℕ) → bit words i ≡ has set i
 member_is packed view i = sym (has-bits_of packed i) ∙ ap (λ t. has t i) view
 
 -- each number below a count
