@@ -4,3 +4,4 @@ pub mod Keeping
 pub mod Recalling
 pub mod Listing
 pub mod Settling
+pub mod Fitting

@@ -1,6 +1,6 @@
 -- What an Ask, and an Ask for all, leave of what is remembered.
-use Rattle.std.proofs.Common.{◌≡◌, ℕ, Bool, true, false, true≢false, List, [], ◌∷◌, cond, refl, ap, sym, subst, ◌∙◌, Option, Some, None, Result, Ok, Err}
-use Rattle.std.specs.Prelude.{IfOk, IsSome, OnOk, is_some}
+use Rattle.std.proofs.Common.{◌≡◌, ℕ, true≢false, List, refl, ap, sym, subst, ◌∙◌, Option, Some, None, Result, Ok, Err}
+use Rattle.std.specs.Prelude.{IfOk, OnOk, is_some}
 use Rattle.std.specs.Option.{ForSome}
 use Rattle.bc_text.specs.Names.{NameParts}
 use Rattle.bc_prov.specs.declared.outcome.Outcome.{Outcome}
@@ -8,7 +8,6 @@ use Rattle.bc_prov.specs.State.{at_name}
 use Rattle.bc_memo.specs.declared.memo.Remembered.{Remembered}
 use Rattle.bc_memo.specs.declared.change.Change.TheVariants as changes
 use Rattle.bc_memo.specs.Places.{ShelfView}
-use Rattle.bc_memo.specs.Memos.{IsRemembered}
 use Rattle.bc_calls.specs.declared.call.Entry.{Entry}
 use Rattle.bc_calls.specs.declared.call.Event.{Event}
 use Rattle.bc_calls.specs.declared.call.Event.TheVariants as events

@@ -1,10 +1,12 @@
 //! What lies under the lock: the history, what it leaves, what is remembered, and what publishes it.
 ghost use Rattle.std.specs.Prelude.{◌≡◌, ◌<◌, ◌^◌, None, IsSome, [], List, length, IfOk, IfSome, IfErr, OnErr, OnOk};
 ghost use Rattle.bc_prov.specs.Outcome.{IsOutcomeIn};
+ghost use Rattle.bc_prov.specs.Pieces.{rows_of};
 ghost use Rattle.bc_prov.specs.Snapshots.{IsPartOf};
 ghost use Rattle.bc_memo.specs.Memos.{IsRemembered};
+ghost use Rattle.bc_memo.specs.Places.{AreFitting, changed};
 ghost use Rattle.bc_calls.specs.Calls.{IsLegal, IsReply, after};
-ghost use Rattle.bc_calls.specs.Changes.{change_of};
+ghost use Rattle.bc_calls.specs.Changes.{change_of, writes_after, writes_of};
 ghost use Rattle.bc_text.specs.Names.{NameParts};
 ghost use Rattle.bc_prov.specs.State.{at_name};
 ghost use Rattle.bc_calls.specs.declared.call.Event.TheVariants as events;
@@ -36,7 +38,9 @@ struct Findings {
 impl Findings {
     /// Nothing is left beside the entry. It takes no memory.
     fn none(alloc: Global) -> Findings
-        ensures { result.rows.items ≡ [] }
+        ensures rows { result.rows.items ≡ [] }
+        ensures kept { result.kept ≡ None }
+        ensures published { result.published ≡ None }
     {
         Findings {
             rows: Vec::new(alloc),
@@ -52,17 +56,29 @@ impl Findings {
         rows: Vec<(Name, Remembered)>,
         pieces: Option<PieceSet>,
     ) -> Result<Findings, AllocError>
-        ensures { IfOk result (λ findings. findings.rows.items ≡ rows.items) }
+        ensures rows { IfOk result (λ findings. findings.rows.items ≡ rows.items) }
+        ensures kept { IfOk result (λ findings. findings.kept ≡ pieces) }
+        ensures published { IfOk result (λ findings. findings.published ≡ pieces) }
     {
-        let published = match &pieces {
-            Some(set) => Some(set.copy(alloc)?),
-            None => None,
-        };
+        let published = copy_of(alloc, &pieces)?;
         Ok(Findings {
             rows,
             kept: pieces,
             published,
         })
+    }
+}
+
+/// One more owner of each piece of a set, if there is one. Returns `AllocError` only where memory was refused.
+fn copy_of(alloc: Global, pieces: &Option<PieceSet>) -> Result<Option<PieceSet>, AllocError>
+    ensures { IfOk result (λ copy. copy ≡ pieces.now) }
+{
+    match pieces {
+        Some(set) => {
+            let copy = set.copy(alloc)?;
+            Ok(Some(copy))
+        }
+        None => Ok(None),
     }
 }
 
@@ -298,7 +314,8 @@ impl<E: Ending> Book<E> {
     }
 
     // Adds a session's event, whose reply is the one that what is held gives it, publishes it, and remembers outcomes and keeps pieces,
-    // where there are any. The capacity is tested first, all that may be refused comes next, and of that the writer's own room is the
+    // where there are any: the pieces that are kept fit what is held, and those that are published fit what the event leaves of it. The
+    // capacity is tested first, all that may be refused comes next, and of that the writer's own room is the
     // last. Answers two more owners of the event.
     fn append<R: Wait>(
         &mut self,
@@ -311,6 +328,8 @@ impl<E: Ending> Book<E> {
         requires reply { IsReply (after self.old.entries) event }
         requires place { HasPlace (length self.old.shelf.places) event }
         requires rows { AreRows self.old.shelf self.old.entries findings.rows.items }
+        requires fit { AreFitting self.old.shelf (rows_of findings.kept) }
+        requires published { AreFitting (changed self.old.shelf (change_of event) (writes_after (writes_of self.old.entries) event)) (rows_of findings.published) }
         ensures told { IfOk result (λ told. told ≡ event) }
         ensures step { OnOk result (Appends session event self.old self.new) }
         ensures answers { OnOk result (self.new.answers ≡ kept_rows (change_of event) (remembering findings.rows.items self.old.answers)) }

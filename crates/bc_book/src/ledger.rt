@@ -1,14 +1,15 @@
 //! The history, and what it leaves: what lies under the lock but for what publishes. It waits for nobody.
-ghost use Rattle.std.specs.Prelude.{◌≡◌, ◌↔◌, ◌+◌, ◌^◌, ◌<◌, ◌≤◌, [], ◌∷◌, ◌++◌, length, IfOk, IfSome, IsSome, IsTrue, OnOk, IfErr};
+ghost use Rattle.std.specs.Prelude.{◌≡◌, ◌↔◌, ◌+◌, ◌^◌, ◌<◌, ◌≤◌, [], ◌∷◌, ◌++◌, length, IfOk, IfSome, IsSome, IsTrue, None, OnOk, IfErr};
 ghost use Rattle.std.specs.Option.{ForSome, option_copied};
 ghost use Rattle.std.specs.BTreeMap.{insert_entry};
 ghost use Rattle.std.specs.Map.{keys_of};
 ghost use Rattle.bc_text.specs.Names.{name_order};
 ghost use Rattle.bc_prov.specs.Outcome.{IsOutcomeIn};
+ghost use Rattle.bc_prov.specs.Pieces.{rows_of};
 ghost use Rattle.bc_prov.specs.Snapshots.{IsPartOf};
 ghost use Rattle.bc_prov.specs.State.{at_name};
 ghost use Rattle.bc_memo.specs.Memos.{IsRemembered};
-ghost use Rattle.bc_memo.specs.Places.{IsReady, changed, empty_shelf};
+ghost use Rattle.bc_memo.specs.Places.{AreFitting, IsReady, changed, empty_shelf, units_in};
 ghost use Rattle.bc_calls.specs.Calls.{IsLegal, IsListing, IsPutReply, IsRemoveReply, MayComeNext, after, count_of, most_bodies};
 ghost use Rattle.bc_calls.specs.Changes.{change_of, writes_after, writes_of};
 ghost use Rattle.bc_book.specs.Ledgers.{AreRows, HasPlace, IsFoundAll, IsRow, Recalls, SameButAnswers, SameLedger, kept_rows, remembering};
@@ -16,9 +17,9 @@ ghost use Rattle.bc_book.specs.Ledgers.{AreRows, HasPlace, IsFoundAll, IsRow, Re
 use crate::reply::{put_reply, remove_reply};
 use crate::roots::{FoundAll, push_pieces, push_row, reusable, take_work};
 use bc_calls::{Begun, Entry, Event, MOST_BODIES, PutReply, RemoveReply, Work, no_declarations};
-use bc_memo::{Change, Memo, Remembered, Shelf};
+use bc_memo::{Change, Memo, Part, PieceMemo, Remembered, Shelf};
 use bc_outcomes::Found;
-use bc_prov::{Outcome, PieceSet, Providers, Shared};
+use bc_prov::{Outcome, PieceSet, Pieces, Providers, Shared};
 use bc_syntax::Unit;
 use bc_text::Name;
 use std::alloc::{AllocError, Global};
@@ -48,8 +49,8 @@ impl From<AllocError> for Refusal {
     }
 }
 
-/// The append-only history, of at most so many entries, with what is held after it and the remembered outcomes. It is legal. There is
-/// memory for a piece of each body that may be held, and one to spare.
+/// The append-only history, of at most so many entries, with what is held after it, the pieces that are kept of that, and the remembered
+/// outcomes. It is legal. There is memory for a piece of each body that may be held, and one to spare.
 #[derive(Drop)]
 pub(crate) struct Ledger {
     capacity: u32,
@@ -57,12 +58,13 @@ pub(crate) struct Ledger {
     counts: [u32; MOST_SESSIONS],
     writes: u32,
     shelf: Shelf,
+    pieces: PieceMemo,
     memo: Memo,
 }
 
 impl Model for Ledger {
     ghost use Rattle.std.specs.Prelude.{◌-◌, ◌<◌, vec_capacity};
-    ghost use Rattle.bc_memo.specs.Places.{most_pieces};
+    ghost use Rattle.bc_memo.specs.Places.{AreKeptPieces, most_rows};
     ghost use Rattle.bc_calls.specs.Calls.{most_bodies};
     ghost use Rattle.bc_book.specs.Ledgers.{LedgerView, IsLedger};
 
@@ -70,7 +72,7 @@ impl Model for Ledger {
 
     ghost view = { λ l. record { capacity = l.capacity; entries = l.history.items; shelf = l.shelf.held; answers = l.memo.rows; room = vec_capacity l.history - l.history.len; places = l.shelf.room; rows = l.memo.room; ready = l.shelf.ready } };
 
-    ghost invariant = { λ l. IsLedger l.capacity l.history.items l.counts l.writes l.shelf.held l.memo.rows × (most_bodies < most_pieces l.shelf) };
+    ghost invariant = { λ l. IsLedger l.capacity l.history.items l.counts l.writes l.shelf.held l.memo.rows × AreKeptPieces l.shelf.held l.pieces.rows × (most_bodies < most_rows l.pieces) };
 }
 
 impl Ledger {
@@ -86,6 +88,7 @@ impl Ledger {
             counts: [0; MOST_SESSIONS],
             writes: 0,
             shelf: Shelf::new(alloc, types, MOST_BODIES + 1)?,
+            pieces: PieceMemo::new(alloc, MOST_BODIES + 1)?,
             memo: Memo::new(alloc),
         })
     }
@@ -158,22 +161,44 @@ impl Ledger {
         }
     }
 
-    /// A name's part of what is held, with its outcome if it is remembered. Returns `AllocError` only where memory was refused.
+    // A name's part of what is held, with the pieces that are kept of its bodies.
+    fn part(&self, alloc: Global, name: &Name) -> Result<Part, AllocError>
+        ensures part { IfOk result (λ part. IsPartOf part.snapshot name.now (after self.now.entries)) }
+        ensures held { IfOk result (λ part. (part.snapshot.types ≡ self.now.shelf.types) × (part.snapshot.root ≡ name.now) × (part.snapshot.units ≡ units_in name.now self.now.shelf.places)) }
+        ensures bare { IfOk result (λ part. part.snapshot.carried ≡ None) }
+        ensures legal { OnOk result (IsLegal self.now.entries) }
+    {
+        let Part {
+            snapshot,
+            types_revision,
+            revisions,
+        } = self.shelf.part(alloc, name)?;
+        let pieces = self.pieces.part(alloc, name)?;
+        Ok(Part {
+            snapshot: snapshot.keep_pieces(pieces),
+            types_revision,
+            revisions,
+        })
+    }
+
+    /// A name's part of what is held, with the pieces that are kept of its bodies, and with its outcome if it is remembered. Returns
+    /// `AllocError` only where memory was refused.
     pub(crate) fn begin(&self, alloc: Global, name: &Name) -> Result<Begun, AllocError>
         ensures part { IfOk result (λ begun. IsPartOf begun name.now (after self.now.entries)) }
         ensures remembered { IfOk result (λ begun. IsRemembered self.now.shelf self.now.answers name.now begun.carried) }
         ensures right { IfOk result (λ begun. IfSome begun.carried (IsOutcomeIn (after self.now.entries) name.now)) }
         ensures legal { OnOk result (IsLegal self.now.entries) }
-        ensures types { IfOk result (λ begun. begun.types ≡ self.now.shelf.types) }
+        ensures held { IfOk result (λ begun. (begun.types ≡ self.now.shelf.types) × (begun.units ≡ units_in name.now self.now.shelf.places)) }
     {
         let answer = self.shared_answer(name)?;
-        let part = self.shelf.part(alloc, name)?;
+        let part = self.part(alloc, name)?;
         Ok(Begun::carrying(part, answer))
     }
 
     /// The outcome of a name, of which a session may have worked on a part: what is remembered for it; else the work's own where the work
     /// stands; else what its pieces and those that are kept give, as far as they stand, with the other bodies worked on. With it come the
-    /// pieces that are not kept yet. Returns `AllocError` only where memory was refused, as a provider may answer too.
+    /// pieces that are not kept yet, each found from what is held. Returns `AllocError` only where memory was refused, as a provider may
+    /// answer too.
     pub(crate) fn outcome(
         &self,
         alloc: Global,
@@ -184,6 +209,7 @@ impl Ledger {
         requires { IfSome work (λ w. w.snapshot.root ≡ name.now) }
         ensures outcome { IfOk result (λ found. IsOutcomeIn (after self.now.entries) name.now found.outcome) }
         ensures over { IfOk result (λ found. IfSome found.pieces (λ set. set.types ≡ self.now.shelf.types)) }
+        ensures fit { IfOk result (λ found. AreFitting self.now.shelf (rows_of found.pieces)) }
     {
         if let Some(outcome) = self.shared_answer(name)? {
             return Ok(Found::without_pieces(outcome));
@@ -207,6 +233,7 @@ impl Ledger {
     ) -> Result<Found, AllocError>
         ensures outcome { IfOk result (λ found. IsOutcomeIn (after self.now.entries) name.now found.outcome) }
         ensures over { IfOk result (λ found. IfSome found.pieces (λ set. set.types ≡ self.now.shelf.types)) }
+        ensures fit { IfOk result (λ found. AreFitting self.now.shelf (rows_of found.pieces)) }
     {
         let begun = self.begin(alloc, name)?;
         let with_pieces = begun.offer(pieces);
@@ -224,6 +251,7 @@ impl Ledger {
     ) -> Result<FoundAll, AllocError>
         ensures listing { IfOk result (λ found. IsListing (after self.now.entries) found.listing.items) }
         ensures found { IfOk result (λ found. IsFoundAll self.now.shelf self.now.entries self.now.answers found.listing.items found.rows.items) }
+        ensures fit { IfOk result (λ found. AreFitting self.now.shelf found.pieces.rows) }
     {
         let types = self.shelf.types().clone()?;
         let mut found = FoundAll::none(alloc, types);
@@ -249,9 +277,11 @@ impl Ledger {
         requires held { IsSome (at_name self.now.shelf.places name.now) }
         requires work { IfSome work (λ w. w.snapshot.root ≡ name.now) }
         requires over { found.old.pieces.types ≡ self.now.shelf.types }
+        requires fit { AreFitting self.now.shelf found.old.pieces.rows }
         requires found { IsFoundAll self.now.shelf self.now.entries self.now.answers found.old.listing.items found.old.rows.items }
         ensures listed { OnOk result (keys_of found.new.listing.items ≡ keys_of found.old.listing.items ++ name.now ∷ []) }
         ensures over { OnOk result (found.new.pieces.types ≡ self.now.shelf.types) }
+        ensures fit { OnOk result (AreFitting self.now.shelf found.new.pieces.rows) }
         ensures found { OnOk result (IsFoundAll self.now.shelf self.now.entries self.now.answers found.new.listing.items found.new.rows.items) }
     {
         let Found { outcome, pieces } = self.outcome(alloc, name, work, providers)?;
@@ -299,7 +329,7 @@ impl Ledger {
         ensures row { IfOk result (IsRow self.now.shelf self.now.entries name.now) }
         ensures outcome { IfOk result (λ row. row.outcome ≡ outcome.now) }
     {
-        let part = self.shelf.part(alloc, name)?;
+        let part = self.part(alloc, name)?;
         let names = part.snapshot.used(alloc)?;
         let outcome = outcome.clone()?;
         let row = Remembered::of(alloc, &self.shelf, &names, outcome)?;
@@ -345,15 +375,26 @@ impl Ledger {
         self.memo.put(name, row);
     }
 
-    /// Keeps those pieces, if there are any, that were found from what is held. Contracts do not see them. Returns `AllocError` only where
-    /// an owner or memory was refused: then some may be kept, and each is right.
+    /// Keeps these pieces, if there are any, each in the place of one that was kept for its name. It asks that each was found from what is
+    /// held, and compares nothing. Contracts do not see them. Returns `AllocError` only where memory was refused: then none is kept.
     pub(crate) fn keep(&mut self, pieces: Option<PieceSet>) -> Result<(), AllocError>
+        requires { AreFitting self.old.shelf (rows_of pieces) }
         ensures { self.new ≡ self.old }
     {
         match pieces {
-            Some(set) => self.shelf.keep_all(&set),
+            Some(set) => self.keep_rows(set.into_rows()),
             None => Ok(()),
         }
+    }
+
+    // Keeps pieces that were found from what is held.
+    fn keep_rows(&mut self, rows: Pieces) -> Result<(), AllocError>
+        requires { AreFitting self.old.shelf rows.items }
+        ensures { self.new ≡ self.old }
+    {
+        self.pieces.reserve(rows.len())?;
+        self.pieces.keep_all(rows);
+        Ok(())
     }
 
     /// Makes the owners that a change brings for many names. Returns `AllocError` only where memory or an owner was refused. What is kept
@@ -366,8 +407,8 @@ impl Ledger {
         self.shelf.prepare(change)
     }
 
-    /// Takes in the entry that comes next, given what it changes, and the revision that it gives to what it writes. It takes no
-    /// memory.
+    /// Takes in the entry that comes next, given what it changes, and the revision that it gives to what it writes. Pieces that the change
+    /// makes wrong are dropped. It takes no memory.
     pub(crate) fn record(&mut self, entry: Entry, change: Change, revision: u32)
         requires session { entry.session < MOST_SESSIONS }
         requires room { (0 < self.old.room) × (0 < self.old.places) }
@@ -385,6 +426,7 @@ impl Ledger {
     {
         self.writes = revision;
         forget_removed(&mut self.memo, &change);
+        self.pieces.follow(&change);
         self.shelf.change(change, revision);
         self.counts[usize::from(entry.session)] = entry.number + 1;
         self.history.push_reserved(entry);

@@ -1,5 +1,6 @@
 //! What is found for all held roots.
 ghost use Rattle.std.specs.Prelude.{◌≡◌, ◌++◌, [], IfSome, OnOk, Some};
+ghost use Rattle.bc_prov.specs.Pieces.{rows_of};
 ghost use Rattle.bc_book.specs.Ledgers.{row_list};
 
 use bc_calls::Work;
@@ -51,7 +52,8 @@ pub(crate) fn push_row(
 /// Puts the pieces of a set over the same declarations, if there is one, behind others. Returns `AllocError` only where memory was refused.
 pub(crate) fn push_pieces(pieces: &mut PieceSet, more: Option<PieceSet>) -> Result<(), AllocError>
     requires { IfSome more (λ set. set.types ≡ pieces.old.types) }
-    ensures { pieces.new.types ≡ pieces.old.types }
+    ensures types { pieces.new.types ≡ pieces.old.types }
+    ensures rows { OnOk result (pieces.new.rows ≡ pieces.old.rows ++ rows_of more) }
 {
     match more {
         Some(set) => pieces.append(set),

@@ -5,9 +5,13 @@ use Rattle.bc_text.specs.Names.{NameParts}
 use Rattle.bc_prov.specs.declared.outcome.Outcome.{Outcome}
 use Rattle.bc_prov.specs.State.{State, at_name, state_of}
 use Rattle.bc_prov.specs.Outcome.{IsOutcomeIn}
+use Rattle.bc_prov.specs.Pieces.{ArePieces}
 use Rattle.bc_prov.specs.Snapshots.{SnapshotView, IsPartOf}
+use Rattle.bc_syntax.specs.declared.syntax.Declaration.{Declaration}
+use Rattle.bc_syntax.specs.declared.syntax.Body.{Body}
 use Rattle.bc_outcomes.proofs.Local.{outcome_same}
-use Rattle.bc_memo.specs.Places.{ShelfView, units_in}
+use Rattle.bc_memo.specs.Places.{AreFitting, PieceRows, ShelfView, units_in}
+use Rattle.bc_memo.proofs.Found.{fitting_part}
 use Rattle.bc_memo.proofs.Places.{units_at}
 use Rattle.bc_calls.specs.declared.call.Entry.{Entry}
 use Rattle.bc_calls.specs.Calls.{after}
@@ -50,6 +54,12 @@ same_part_of one other name state types root units part = record {
 pub stood_outcome : (shelf : ShelfView) (h : List Entry) (work : WorkView) (outcome : Outcome) → IsShelfOf shelf h → Stood shelf work outcome → IsOutcomeIn (after h) work.snapshot.root outcome
 stood_outcome shelf h work outcome of stood =
     part_outcome work.snapshot work.snapshot.root (after h) outcome (copied_part shelf h work.snapshot.root work.snapshot of stood.types refl stood.units) stood.right
+
+-- pieces of a name's part of what is held fit what is held
+pub part_fitting : (shelf : ShelfView) (name : NameParts) (types : List Declaration) (units : List (NameParts × Body)) (rows : PieceRows) → types ≡ shelf.types → units ≡ units_in name shelf.places
+    → ArePieces types units rows → AreFitting shelf rows
+part_fitting shelf name types units rows same is are =
+    fitting_part name shelf rows (subst (λ (x : List Declaration × List (NameParts × Body)). ArePieces x.0 x.1 rows) (λ i. (same i, is i)) are)
 
 pub ok_map : {A E : Type 0} (r : Result A E) (P Q : A → Type 0) → ((a : A) → P a → Q a) → IfOk r P → IfOk r Q
 ok_map (Ok a) P Q f h = f a h

@@ -3,15 +3,16 @@ ghost use Rattle.std.specs.Prelude.{◌≡◌, ◌↔◌, None, IfOk, IfSome, Is
 ghost use Rattle.std.specs.Option.{option_or};
 ghost use Rattle.bc_text.specs.Names.{NameParts};
 ghost use Rattle.bc_prov.specs.Outcome.{IsOutcomeIn};
-ghost use Rattle.bc_prov.specs.Pieces.{rows_of};
+ghost use Rattle.bc_prov.specs.Pieces.{ArePieces, rows_of};
 ghost use Rattle.bc_prov.specs.Snapshots.{IsPartOf};
 ghost use Rattle.bc_prov.specs.State.{State, state_of};
 ghost use Rattle.bc_outcomes.specs.Reported.{AreAmongPiecesOf};
+ghost use Rattle.bc_memo.specs.Places.{AreFitting};
 ghost use Rattle.bc_calls.specs.Works.{StandsIn, Stood};
 
 use bc_memo::{Part, Shelf};
 use bc_outcomes::{Found, find_outcome};
-use bc_prov::{Outcome, PieceSet, Providers, Shared, Snapshot};
+use bc_prov::{Outcome, PieceSet, Pieces, Providers, Shared, Snapshot};
 use bc_text::Name;
 use std::alloc::{AllocError, Global};
 use std::marker::Model;
@@ -34,7 +35,7 @@ impl Model for Begun {
 }
 
 /// A snapshot with its revisions and its outcome, and the pieces of its bodies that were made for it. The type keeps that these were found
-/// from its declarations. Contracts see all but the pieces.
+/// from its declarations, each from the unit at its name. Contracts see all but the pieces.
 #[derive(Drop)]
 pub struct Work {
     snapshot: Snapshot,
@@ -46,13 +47,14 @@ pub struct Work {
 
 impl Model for Work {
     ghost use Rattle.std.specs.Prelude.{◌≡◌, IfSome};
+    ghost use Rattle.bc_prov.specs.Pieces.{ArePieces, rows_of};
     ghost use Rattle.bc_calls.specs.Works.{WorkView, IsDone};
 
     ghost Value = { WorkView };
 
     ghost view = { λ w. record { snapshot = w.snapshot; types_at = w.types_revision; units_at = w.revisions.items; outcome = w.outcome } };
 
-    ghost invariant = { λ w. IsDone w.snapshot w.outcome × IfSome w.pieces (λ set. set.types ≡ w.snapshot.types) };
+    ghost invariant = { λ w. IsDone w.snapshot w.outcome × IfSome w.pieces (λ set. set.types ≡ w.snapshot.types) × ArePieces w.snapshot.types w.snapshot.units (rows_of w.pieces) };
 }
 
 impl Begun {
@@ -79,6 +81,24 @@ impl Begun {
         }
     }
 
+    /// Adds pieces that are kept of the bodies of what was begun. It takes no memory. It asks that each was found from the declarations and
+    /// from the unit at its name; a report finds them where their names ascend.
+    pub fn keep_pieces(self, pieces: Pieces) -> Begun
+        requires { ArePieces self.types self.units pieces.items }
+        ensures { result ≡ self }
+    {
+        let Begun {
+            snapshot,
+            types_revision,
+            revisions,
+        } = self;
+        Begun {
+            snapshot: snapshot.keep_pieces(pieces),
+            types_revision,
+            revisions,
+        }
+    }
+
     /// Adds the pieces of a set, if there is one, to what was begun; they are taken where all that they were found from is there. It takes
     /// no memory, and asks nothing of its caller.
     pub fn offer(self, pieces: Option<PieceSet>) -> Begun
@@ -100,12 +120,13 @@ impl Begun {
     }
 
     /// Returns the outcome of the snapshot's name in the snapshot: the one that the snapshot carries, without a provider, else the one
-    /// that the providers and the pieces of its bodies give, with the pieces that were made for it. Returns `AllocError` only where
-    /// memory was refused, as a provider may too.
+    /// that the providers and the pieces of its bodies give, with the pieces that were made for it, each from the declarations and from
+    /// the unit at its name. Returns `AllocError` only where memory was refused, as a provider may too.
     pub fn find(&self, alloc: Global, providers: &Providers) -> Result<Found, AllocError>
         ensures outcome { IfOk result (λ found. IsOutcomeIn (state_of self.now.types self.now.units) self.now.root found.outcome) }
         ensures pieces { IfOk result (λ found. AreAmongPiecesOf (state_of self.now.types self.now.units) self.now.root self.now.carried found.outcome (rows_of found.pieces)) }
         ensures over { IfOk result (λ found. IfSome found.pieces (λ set. set.types ≡ self.now.types)) }
+        ensures fit { IfOk result (λ found. ArePieces self.now.types self.now.units (rows_of found.pieces)) }
         ensures carried { IfSome self.now.carried (λ outcome. IfOk result (λ found. (found.outcome ≡ outcome) × (found.pieces ≡ None))) }
     {
         find_outcome(alloc, providers, &self.snapshot)
@@ -146,10 +167,12 @@ impl Work {
     }
 
     /// Returns the outcome that the work found, with the pieces that were made for it, exactly where its snapshot has the revisions
-    /// that a shelf has and is what the shelf holds. Else these pieces are handed back alone. It takes no memory.
+    /// that a shelf has and is what the shelf holds; each of them was then found from what the shelf holds. Else these pieces are handed
+    /// back alone. It takes no memory.
     pub fn standing(self, shelf: &Shelf) -> Result<Found, Option<PieceSet>>
         ensures own { IfOk result (λ found. Stood shelf.now.held self found.outcome) }
         ensures over { IfOk result (λ found. IfSome found.pieces (λ set. set.types ≡ shelf.now.held.types)) }
+        ensures fit { IfOk result (λ found. AreFitting shelf.now.held (rows_of found.pieces)) }
         ensures stands { IsOk result ↔ StandsIn shelf.now.held self }
     {
         let Work {

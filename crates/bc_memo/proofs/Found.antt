@@ -1,5 +1,5 @@
 -- Pieces stay those of what is held.
-use Rattle.std.proofs.Common.{◌≡◌, ◌↔◌, Bool, true, false, true≢false, IsTrue, List, [], ◌∷◌, ◌++◌, cond, refl, ap, sym, subst, ◌∙◌, Option, Some, None}
+use Rattle.std.proofs.Common.{◌≡◌, ℕ, Bool, true, false, true≢false, List, [], ◌∷◌, cond, refl, ap, sym, subst, ◌∙◌, Option, Some, None}
 use Rattle.std.specs.Prelude.{map}
 use Rattle.std.specs.Option.{option_map}
 use Rattle.std.specs.List.{AllByRecursion}
@@ -13,14 +13,14 @@ use Rattle.bc_syntax.specs.declared.syntax.Body.{Body}
 use Rattle.bc_text.specs.Names.{NameParts, name_order, is_same_name, is_within}
 use Rattle.bc_text.proofs.Equality.{name}
 use Rattle.bc_prov.specs.State.{at_name}
-use Rattle.bc_prov.specs.Pieces.{PieceView, AreOver, IsPieceFor}
-use Rattle.bc_prov.specs.Pieces.{ArePieces}
+use Rattle.bc_prov.specs.Pieces.{PieceView, ArePieces, IsPieceFor}
+use Rattle.bc_prov.specs.Outcome.{OutcomeRows}
+use Rattle.bc_prov.specs.declared.outcome.Outcome.{Outcome}
 use Rattle.bc_memo.specs.declared.place.Place.{Place}
 use Rattle.bc_memo.specs.declared.change.Change.{Change}
-use Rattle.bc_memo.specs.Places.{Places, PieceRows, AreKeptInOrder, AreOrdered, AreHeldPieces, with_answer_at, cleared, mark, marked, part_in, pieces_with, unit_of, units_in, with_answer}
-use Rattle.bc_memo.proofs.Marking.{same_unit}
-use Rattle.bc_memo.proofs.Places.{at_head, at_name-map, at_name-put, at_name-take, at_tail, by_bool, less_apart, ordered-filter, same_name, units_at}
-use Rattle.bc_prov.specs.declared.outcome.Outcome.{Outcome}
+use Rattle.bc_memo.specs.declared.change.Change.TheVariants.{Types, Put, Remove, Answer, Answers, Nothing}
+use Rattle.bc_memo.specs.Places.{Places, PieceRows, ShelfView, AreFitting, AreHeldPieces, AreKeptPieces, AreOrdered, changed, mark, marked, part_in, pieces_after, pieces_with, unit_of, units_in, written}
+use Rattle.bc_memo.proofs.Places.{at_head, at_name-map, at_name-put, at_name-take, at_tail, by_bool, less_apart, no_order, ordered-filter, ordered-put, ordered-take, same_name, units_at}
 
 -- the same units at all names but one, whose piece is dropped
 found_past : (types : List Declaration) (ps qs : Places) (m : NameParts) (rows : PieceRows) → AreOrdered rows → ((n : NameParts) → (m ≡ n → ⊥) → unit_of (at_name qs n) ≡ unit_of (at_name ps n))
@@ -41,37 +41,18 @@ unit-map f ps n same = ap unit_of (at_name-map f n ps) ∙ over (at_name ps n)
     over None = refl
     over (Some p) = ap Some (same n p)
 
-unit-cleared : (m : NameParts) (ps : Places) (n : NameParts) → unit_of (at_name (cleared m ps) n) ≡ unit_of (at_name ps n)
-unit-cleared m ps n = unit-map (λ (k : NameParts) (p : Place). cond (is_within k m) (with_answer p None) p) ps n (λ k p. same_unit (is_within k m) p None)
+unit-marked : (c : Change) (ps : Places) (n : NameParts) → unit_of (at_name (marked c ps) n) ≡ unit_of (at_name ps n)
+unit-marked c ps n = unit-map (mark c) ps n (λ k p. refl)
 
 other : {A : Type 0} (m n : NameParts) (a b : A) → (m ≡ n → ⊥) → cond (is_same_name m n) a b ≡ b
 other m n a b apart = by_bool (is_same_name m n) (λ is. absurd (apart ((name m n).0 is))) (λ is. ap (λ (x : Bool). cond x a b) is)
 
-pub found-put : (types : List Declaration) (ps : Places) (rows : PieceRows) (m : NameParts) (p : Place) → AreOrdered rows → AreHeldPieces types ps rows
-    → AreHeldPieces types (cleared m (insert_entry name_order ps m p)) (remove_entry (is_at (name_order m)) rows)
-found-put types ps rows m p ordered =
-    found_past types ps (cleared m (insert_entry name_order ps m p)) m rows ordered
-    (λ n apart. unit-cleared m (insert_entry name_order ps m p) n ∙ ap unit_of (at_name-put m p n ps ∙ other m n (Some p) (at_name ps n) apart))
-
-pub found-take : (types : List Declaration) (ps : Places) (rows : PieceRows) (m : NameParts) → AreOrdered ps → AreOrdered rows → AreHeldPieces types ps rows
-    → AreHeldPieces types (cleared m (remove_entry (is_at (name_order m)) ps)) (remove_entry (is_at (name_order m)) rows)
-found-take types ps rows m in_order ordered =
-    found_past types ps (cleared m (remove_entry (is_at (name_order m)) ps)) m rows ordered
-    (λ n apart. unit-cleared m (remove_entry (is_at (name_order m)) ps) n ∙ ap unit_of (at_name-take m n ps in_order ∙ other m n None (at_name ps n) apart))
-
-pub found-with_answer_at : (types : List Declaration) (ps : Places) (rows : PieceRows) (m : NameParts) (a : Option Outcome) → AreHeldPieces types ps rows → AreHeldPieces types (with_answer_at m a ps) rows
-found-with_answer_at types ps rows m a found n piece at =
-    subst (λ (u : Option Body). IsPieceFor types u piece)
-    (sym (unit-map (λ (k : NameParts) (p : Place). cond (is_same_name m k) (with_answer p a) p) ps n (λ k p. same_unit (is_same_name m k) p a))) (found n piece at)
-
-pub found-marked : (types : List Declaration) (ps : Places) (rows : PieceRows) (c : Change) → AreHeldPieces types ps rows → AreHeldPieces types (marked c ps) rows
-found-marked types ps rows c found n piece at = subst (λ (u : Option Body). IsPieceFor types u piece) (sym (unit-map (mark c) ps n (λ k p. refl))) (found n piece at)
-
-pub found_none : (types : List Declaration) (ps : Places) → AreHeldPieces types ps []
-found_none types ps n piece at = absurd (cc)
+-- the same units at all names
+found-marked : (types : List Declaration) (ps : Places) (rows : PieceRows) (c : Change) → AreHeldPieces types ps rows → AreHeldPieces types (marked c ps) rows
+found-marked types ps rows c found n piece at = subst (λ (u : Option Body). IsPieceFor types u piece) (sym (unit-marked c ps n)) (found n piece at)
 
 -- one piece more, of the unit at its name
-pub found_more : (types : List Declaration) (ps : Places) (rows : PieceRows) (m : NameParts) (more : PieceView) → IsPieceFor types (unit_of (at_name ps m)) more → AreHeldPieces types ps rows
+found_more : (types : List Declaration) (ps : Places) (rows : PieceRows) (m : NameParts) (more : PieceView) → IsPieceFor types (unit_of (at_name ps m)) more → AreHeldPieces types ps rows
     → AreHeldPieces types ps (insert_entry name_order rows m more)
 found_more types ps rows m more fits found n piece at =
     by_bool (is_same_name m n)
@@ -81,24 +62,49 @@ found_more types ps rows m more fits found n piece at =
     subst (λ (p : NameParts × PieceView). IsPieceFor types (unit_of (at_name ps p.0)) p.1) (λ i. ((name m n).0 is i, same i)) fits)
     (λ apart. found n piece (sym (at_name-put m more n rows ∙ ap (λ (b : Bool). cond b (Some more) (at_name rows n)) apart) ∙ at))
 
--- ---- pieces that are kept in their order
+-- ---- pieces that are kept
 
--- one more behind those that were
-pub kept_more : (types : List Declaration) (ps : Places) (pieces before after : PieceRows) (p : NameParts × PieceView) (fits : Bool) → (IsTrue fits ↔ IsPieceFor types (unit_of (at_name ps p.0)) p.1)
-    → AreKeptInOrder types ps pieces before after → AreKeptInOrder types ps (pieces ++ p ∷ []) before (pieces_with fits p.0 p.1 after)
-kept_more types ps [] before after p fits is same = (fits, is, ap (λ (rows : PieceRows). pieces_with fits p.0 p.1 rows) same)
-kept_more types ps (q ∷ pieces) before after p fits is kept = (kept.0, kept.1, kept_more types ps pieces (pieces_with kept.0 q.0 q.1 before) after p fits is kept.2)
+pub kept_none : (shelf : ShelfView) → AreKeptPieces shelf []
+kept_none shelf = record { sorted = no_order PieceView; found = λ n piece at. absurd (cc) }
 
--- none is kept that was found from other declarations
-pub none_kept : (types others : List Declaration) (ps : Places) (pieces before : PieceRows) → AreOver others pieces → (others ≡ types → ⊥) → AreKeptInOrder types ps pieces before before
-none_kept types others ps [] before over apart = refl
-none_kept types others ps (p ∷ pieces) before over apart = (
-  false,
-  (λ t. absurd (true≢false (sym t)), λ (fits : IsPieceFor types (unit_of (at_name ps p.0)) p.1). absurd (apart (sym over.0 ∙ fits.types))),
-  none_kept types others ps pieces before over.1 apart,
-)
+-- pieces stay those of what is held, through a change
+pub kept_after : (shelf : ShelfView) (rows : PieceRows) (change : Change) (revision : ℕ) → AreOrdered shelf.places → AreKeptPieces shelf rows → AreKeptPieces (changed shelf change revision) (pieces_after change rows)
+kept_after shelf rows (Types types) revision ordered kept = kept_none (changed shelf (Types types) revision)
+kept_after shelf rows (Put m unit) revision ordered kept = record {
+  sorted = ordered-take (is_at (name_order m)) rows kept.sorted;
+  found =
+      found_past shelf.types shelf.places (changed shelf (Put m unit) revision).places m rows kept.sorted
+      (λ n apart. unit-marked (Put m unit) (insert_entry name_order shelf.places m (written unit revision)) n
+      ∙ ap unit_of (at_name-put m (written unit revision) n shelf.places ∙ other m n (Some (written unit revision)) (at_name shelf.places n) apart)) kept.found;
+}
+kept_after shelf rows (Remove m) revision ordered kept = record {
+  sorted = ordered-take (is_at (name_order m)) rows kept.sorted;
+  found =
+      found_past shelf.types shelf.places (changed shelf (Remove m) revision).places m rows kept.sorted
+      (λ n apart. unit-marked (Remove m) (remove_entry (is_at (name_order m)) shelf.places) n
+      ∙ ap unit_of (at_name-take m n shelf.places ordered ∙ other m n None (at_name shelf.places n) apart)) kept.found;
+}
+kept_after shelf rows (Answer m outcome) revision ordered kept = record { sorted = kept.sorted; found = found-marked shelf.types shelf.places rows (Answer m outcome) kept.found }
+kept_after shelf rows (Answers listing) revision ordered kept = record { sorted = kept.sorted; found = found-marked shelf.types shelf.places rows (Answers listing) kept.found }
+kept_after shelf rows Nothing revision ordered kept = record { sorted = kept.sorted; found = found-marked shelf.types shelf.places rows Nothing kept.found }
+
+-- and with more that fit
+pub kept_with : (shelf : ShelfView) (more rows : PieceRows) → AreFitting shelf more → AreKeptPieces shelf rows → AreKeptPieces shelf (pieces_with more rows)
+kept_with shelf [] rows fit kept = kept
+kept_with shelf (p ∷ more) rows fit kept = kept_with shelf more (insert_entry name_order rows p.0 p.1) fit.1 (record {
+  sorted = ordered-put p.0 p.1 rows kept.sorted;
+  found = found_more shelf.types shelf.places rows p.0 p.1 fit.0 kept.found;
+})
 
 -- ---- a name's part
+
+-- the value at a name, where all outside a part are left out
+in_part : {V : Type 0} (root n : NameParts) (b : Bool) (rows : List (NameParts × V)) → is_within root n ≡ b → at_name (part_in root rows) n ≡ cond b (at_name rows n) None
+in_part root n b rows is = lookup-filter-keys (is_at (name_order n)) (is_within root) b (λ k at. ap (is_within root) (sym ((same_name n k).0 at)) ∙ is) rows
+
+-- outside the part no unit is found
+no_unit : (root n : NameParts) (ps : Places) → is_within root n ≡ false → at_name (units_in root ps) n ≡ None
+no_unit root n ps is = at_name-map (λ (k : NameParts) (p : Place). p.unit) n (part_in root ps) ∙ ap (option_map (λ (p : Place). p.unit)) (in_part root n false ps is)
 
 -- what is said of each value at its name is said of all entries
 all_at : (P : NameParts → PieceView → Type 0) (rows : PieceRows) → AreOrdered rows → ((n : NameParts) (v : PieceView) → at_name rows n ≡ Some v → P n v) → AllByRecursion (λ (r : NameParts × PieceView). P r.0 r.1) rows
@@ -114,14 +120,35 @@ all_at P (r ∷ rows) ordered each = (
     behind (x ∷ es) all n v e at =
         behind es all.1 n v e (sym (at_tail n x.0 x.1 es (λ (same : n ≡ x.0). less_apart r.0 x.0 all.0 (sym e ∙ same))) ∙ at)
 
-pub part_pieces : (root : NameParts) (types : List Declaration) (ps : Places) (rows : PieceRows) → AreOrdered rows → AreHeldPieces types ps rows → ArePieces types (units_in root ps) (part_in root rows)
-part_pieces root types ps rows ordered found =
-    all_at (λ (n : NameParts) (piece : PieceView). IsPieceFor types (at_name (units_in root ps) n) piece) (part_in root rows) (ordered-filter (is_within root) rows ordered)
+-- a name's part of them is of the name's part of what is held
+pub part_pieces : (root : NameParts) (shelf : ShelfView) (rows : PieceRows) → AreKeptPieces shelf rows → ArePieces shelf.types (units_in root shelf.places) (part_in root rows)
+part_pieces root shelf rows kept =
+    all_at (λ (n : NameParts) (piece : PieceView). IsPieceFor shelf.types (at_name (units_in root shelf.places) n) piece) (part_in root rows) (ordered-filter (is_within root) rows kept.sorted)
     (λ n piece at. by_bool (is_within root n)
     (λ is.
-    let there : at_name rows n ≡ Some piece = sym (kept n true is) ∙ at in
-    subst (λ (u : Option Body). IsPieceFor types u piece) (sym (units_at root ps n is)) (found n piece there))
-    (λ is. absurd (let none : None ≡ Some piece = sym (kept n false is) ∙ at in cc)))
-  where
-    kept : (n : NameParts) (b : Bool) → is_within root n ≡ b → at_name (part_in root rows) n ≡ cond b (at_name rows n) None
-    kept n b is = lookup-filter-keys (is_at (name_order n)) (is_within root) b (λ k at. ap (is_within root) (sym ((same_name n k).0 at)) ∙ is) rows
+    let there : at_name rows n ≡ Some piece = sym (in_part root n true rows is) ∙ at in
+    subst (λ (u : Option Body). IsPieceFor shelf.types u piece) (sym (units_at root shelf.places n is)) (kept.found n piece there))
+    (λ is. absurd (let none : None ≡ Some piece = sym (in_part root n false rows is) ∙ at in cc)))
+
+-- pieces of a name's part fit what is held
+pub fitting_part : (root : NameParts) (shelf : ShelfView) (rows : PieceRows) → ArePieces shelf.types (units_in root shelf.places) rows → AreFitting shelf rows
+fitting_part root shelf [] all = tt
+fitting_part root shelf (p ∷ rows) all = (
+  by_bool (is_within root p.0)
+      (λ is. subst (λ (u : Option Body). IsPieceFor shelf.types u p.1) (units_at root shelf.places p.0 is) all.0)
+      (λ is. absurd (let none : None ≡ Some p.1.unit = sym (no_unit root p.0 shelf.places is) ∙ all.0.unit in cc)),
+  fitting_part root shelf rows all.1,
+)
+
+-- ---- where a change only brings answers
+
+fitting-marked : (shelf : ShelfView) (c : Change) (rows : PieceRows) → AreFitting shelf rows → AllByRecursion (λ (p : NameParts × PieceView). IsPieceFor shelf.types (unit_of (at_name (marked c shelf.places) p.0)) p.1) rows
+fitting-marked shelf c [] fit = tt
+fitting-marked shelf c (p ∷ rows) fit = (subst (λ (u : Option Body). IsPieceFor shelf.types u p.1) (sym (unit-marked c shelf.places p.0)) fit.0, fitting-marked shelf c rows fit.1)
+
+-- what fits still does
+pub fitting_answer : (shelf : ShelfView) (n : NameParts) (outcome : Outcome) (revision : ℕ) (rows : PieceRows) → AreFitting shelf rows → AreFitting (changed shelf (Answer n outcome) revision) rows
+fitting_answer shelf n outcome revision rows fit = fitting-marked shelf (Answer n outcome) rows fit
+
+pub fitting_answers : (shelf : ShelfView) (listing : OutcomeRows) (revision : ℕ) (rows : PieceRows) → AreFitting shelf rows → AreFitting (changed shelf (Answers listing) revision) rows
+fitting_answers shelf listing revision rows fit = fitting-marked shelf (Answers listing) rows fit

@@ -58,7 +58,7 @@ kept-take test ps kept = record { ordered = ordered-take test ps kept.ordered; s
 pub kept-map : (f : NameParts → Place → Place) (ps : Places) → ((n : NameParts) (p : Place) → (f n p).unit ≡ p.unit) → AreKept ps → AreKept (map (λ (p : NameParts × Place). (p.0, f p.0 p.1)) ps)
 kept-map f ps same kept = record { ordered = ordered-map f ps kept.ordered; suited = suited-map f ps same kept.suited }
 
-pub same_unit : (b : Bool) (p : Place) (a : Option Outcome) → (cond b (with_answer p a) p).unit ≡ p.unit
+same_unit : (b : Bool) (p : Place) (a : Option Outcome) → (cond b (with_answer p a) p).unit ≡ p.unit
 same_unit true p a = refl
 same_unit false p a = refl
 

@@ -1,5 +1,5 @@
 -- What is held, with its revisions and its answers, and what a change makes of it.
-use Rattle.std.specs.Prelude.{◌≡◌, ◌↔◌, ℕ, ◌+◌, ◌<◌, ◌≤◌, Bool, true, false, IsTrue, Option, Some, None, List, [], ◌∷◌, length, map, filter, slice_index_or, if◌then◌else◌}
+use Rattle.std.specs.Prelude.{◌≡◌, ℕ, ◌+◌, ◌<◌, ◌≤◌, Bool, true, false, Option, Some, None, List, [], ◌∷◌, length, map, filter, slice_index_or, if◌then◌else◌}
 use Rattle.std.specs.Option.{option_or}
 use Rattle.std.specs.Ordering.{is_gt}
 use Rattle.std.specs.declared.cmp.Ordering.TheVariants.{Less, Greater}
@@ -38,12 +38,10 @@ pub record PieceRoom : Type 0 where
   pub rows : PieceRows
   pub room : ℕ
 
--- what is held, the pieces that are kept of it, the outcomes that are ready for a change, and for how many more of each there is memory
+-- what is held, the outcomes that are ready for a change, and for how many more of each there is memory
 pub record ShelfRoom : Type 0 where
   pub held : ShelfView
-  pub pieces : PieceRows
   pub room : ℕ
-  pub piece_room : ℕ
   pub ready : OutcomeRows
   pub ready_room : ℕ
 
@@ -54,10 +52,6 @@ most_rows memo = memo.room + length memo.rows
 -- for how many places there is memory in all
 abbrev pub most_places : ShelfRoom → ℕ
 most_places shelf = shelf.room + length shelf.held.places
-
--- for how many pieces of them there is memory in all
-abbrev pub most_pieces : ShelfRoom → ℕ
-most_pieces shelf = shelf.piece_room + length shelf.pieces
 
 -- for how many outcomes that are ready there is memory in all
 abbrev pub most_ready : ShelfRoom → ℕ
@@ -95,11 +89,14 @@ answer_of (Some place) = place.answer
 abbrev pub AreHeldPieces : List Declaration → Places → PieceRows → Type 0
 AreHeldPieces types places pieces = (name : NameParts) (piece : PieceView) → at_name pieces name ≡ Some piece → IsPieceFor types (unit_of (at_name places name)) piece
 
--- the places are as they should be, and each piece, in the order of their names, was found from what is held
-pub record IsShelf (types : List Declaration) (places : Places) (pieces : PieceRows) : Type 0 where
-  pub kept : AreKept places
-  pub sorted : AreOrdered pieces
-  pub found : AreHeldPieces types places pieces
+-- pieces that are kept of what is held: in the order of their names, each found from the declarations and from the unit at its name
+pub record AreKeptPieces (shelf : ShelfView) (rows : PieceRows) : Type 0 where
+  pub sorted : AreOrdered rows
+  pub found : AreHeldPieces shelf.types shelf.places rows
+
+-- each of these pieces was found from the declarations and from the unit at its name that are held
+abbrev pub AreFitting : ShelfView → PieceRows → Type 0
+AreFitting shelf rows = AllByRecursion (λ (p : NameParts × PieceView). IsPieceFor shelf.types (unit_of (at_name shelf.places p.0)) p.1) rows
 
 -- the revision of a name; an absent name has none
 abbrev pub revision_at : ShelfView → NameParts → Option ℕ
@@ -217,14 +214,10 @@ pieces_after (Answer name outcome) pieces = pieces
 pieces_after (Answers rows) pieces = pieces
 pieces_after Nothing pieces = pieces
 
--- the pieces with one more, where it was found from what is held
-abbrev pub pieces_with : Bool → NameParts → PieceView → PieceRows → PieceRows
-pieces_with fits name piece pieces = if fits then insert_entry name_order pieces name piece else pieces
-
--- these pieces are kept in their order, each where it was found from what is held
-abbrev pub AreKeptInOrder : List Declaration → Places → PieceRows → PieceRows → PieceRows → Type 0
-AreKeptInOrder types places [] before after = after ≡ before
-AreKeptInOrder types places (p ∷ rest) before after = (fits : Bool) × (IsTrue fits ↔ IsPieceFor types (unit_of (at_name places p.0)) p.1) × AreKeptInOrder types places rest (pieces_with fits p.0 p.1 before) after
+-- the pieces with these more, one after the other, each in the place of the one of its name
+abbrev pub pieces_with : PieceRows → PieceRows → PieceRows
+pieces_with [] rows = rows
+pieces_with (p ∷ more) rows = pieces_with more (insert_entry name_order rows p.0 p.1)
 
 -- the entries of a name and of those that begin with it and `/`
 abbrev pub part_in : {V : Type 0} → NameParts → List (NameParts × V) → List (NameParts × V)

@@ -1,12 +1,13 @@
 //! Pieces that are kept of bodies.
-ghost use Rattle.std.specs.Prelude.{◌≡◌, ◌<◌, ◌≤◌, [], IfOk, IsOk, OnErr, OnOk};
+ghost use Rattle.std.specs.Prelude.{◌≡◌, ◌+◌, ◌<◌, ◌≤◌, [], IfOk, IsOk, OnErr, OnOk, length};
 ghost use Rattle.std.specs.BTreeMap.{insert_entry, is_at};
 ghost use Rattle.std.specs.Map.{remove_entry};
 ghost use Rattle.std.specs.Option.{option_copied};
 ghost use Rattle.bc_text.specs.Names.{name_order};
 ghost use Rattle.bc_prov.specs.State.{at_name};
-ghost use Rattle.bc_memo.specs.Places.{most_rows, part_in};
+ghost use Rattle.bc_memo.specs.Places.{AreOrdered, most_rows, part_in, pieces_after, pieces_with};
 
+use crate::change::Change;
 use crate::rows::{find, put, take, within};
 use bc_prov::{Piece, Pieces, Shared, share_pieces};
 use bc_text::Name;
@@ -50,9 +51,42 @@ impl PieceMemo {
         ensures granted { 0 < self.old.room → IsOk result }
         ensures memory { most_rows self.old ≤ most_rows self.new }
     {
-        self.rows.reserve(1)?;
-        put(&mut self.rows, name, piece);
+        self.reserve(1)?;
+        self.keep_one(name, piece);
         Ok(())
+    }
+
+    /// Makes room for so many pieces more, and changes nothing else. It takes no memory where there is some for as many, and gives none
+    /// back. Returns `AllocError` only where memory was refused.
+    pub fn reserve(&mut self, count: usize) -> Result<(), AllocError>
+        ensures rows { self.new.rows ≡ self.old.rows }
+        ensures room { OnOk result (count ≤ self.new.room) }
+        ensures granted { count ≤ self.old.room → IsOk result }
+        ensures memory { most_rows self.old ≤ most_rows self.new }
+    {
+        self.rows.reserve(count)
+    }
+
+    /// Keeps each of these pieces, in their order, in the place of one that was kept for its name. It takes no memory and gives none back:
+    /// it asks for room for as many.
+    pub fn keep_all(&mut self, pieces: Pieces)
+        requires room { length pieces.items ≤ self.old.room }
+        ensures rows { self.new.rows ≡ pieces_with pieces.items self.old.rows }
+        ensures memory { most_rows self.new ≡ most_rows self.old }
+    {
+        for (name, piece) in pieces {
+            self.keep_one(name, piece);
+        }
+    }
+
+    // Keeps the piece of a name, in the place of one that was kept for it.
+    fn keep_one(&mut self, name: Name, piece: Shared<Piece>)
+        requires { 0 < self.old.room }
+        ensures rows { self.new.rows ≡ insert_entry name_order self.old.rows name piece }
+        ensures memory { most_rows self.new ≡ most_rows self.old }
+        ensures room { self.old.room ≤ self.new.room + 1 }
+    {
+        put(&mut self.rows, name, piece);
     }
 
     /// Returns the piece that is kept for a name, if one is. It takes no memory.
@@ -68,14 +102,16 @@ impl PieceMemo {
     /// Returns one more owner of each piece that is kept for a name or for a name that begins with it and `/`. Returns `AllocError`
     /// only where memory was refused.
     pub fn part(&self, alloc: Global, root: &Name) -> Result<Pieces, AllocError>
-        ensures { IfOk result (λ pieces. pieces.items ≡ part_in root.now self.now.rows) }
+        ensures pieces { IfOk result (λ pieces. pieces.items ≡ part_in root.now self.now.rows) }
+        ensures ordered { AreOrdered self.now.rows }
     {
         share_pieces(alloc, within(&self.rows, root))
     }
 
     /// Copies the memo, as one more owner of each piece that it keeps. Returns `AllocError` only where an owner or memory was refused.
     pub fn copy(&self, alloc: Global) -> Result<PieceMemo, AllocError>
-        ensures { IfOk result (λ copy. copy.rows ≡ self.now.rows) }
+        ensures rows { IfOk result (λ copy. copy.rows ≡ self.now.rows) }
+        ensures ordered { AreOrdered self.now.rows }
     {
         Ok(PieceMemo {
             rows: share_pieces(alloc, &self.rows)?,
@@ -96,5 +132,20 @@ impl PieceMemo {
         ensures memory { most_rows self.new ≡ most_rows self.old }
     {
         self.rows.clear();
+    }
+
+    /// Drops what a change drops: declarations drop all pieces, and a unit that is put or taken away the one of its name alone. It takes
+    /// no memory, and leaves that for as many pieces as before.
+    pub fn follow(&mut self, change: &Change)
+        ensures rows { self.new.rows ≡ pieces_after change.now self.old.rows }
+        ensures memory { most_rows self.new ≡ most_rows self.old }
+        ensures room { self.old.room ≤ self.new.room }
+    {
+        match change {
+            Change::Types(_) => self.forget_all(),
+            Change::Put(name, _) => self.forget(name),
+            Change::Remove(name) => self.forget(name),
+            Change::Answer(_, _) | Change::Answers(_) | Change::Nothing => {}
+        }
     }
 }

@@ -1,32 +1,28 @@
 //! What is held: declarations, and units with their answers in the order of their names.
-ghost use Rattle.std.specs.Prelude.{◌≡◌, ◌↔◌, ◌∷◌, ◌++◌, ◌<◌, ◌≤◌, ℕ, [], IfOk, IsOk, IsTrue, None, OnErr, OnOk, is_some, length, map, take, vec_capacity};
+ghost use Rattle.std.specs.Prelude.{◌≡◌, ◌↔◌, ◌++◌, ◌<◌, ◌≤◌, [], IfOk, IsOk, IsTrue, None, OnOk, is_some, length, map, vec_capacity};
 ghost use Rattle.std.specs.Option.{option_copied};
 ghost use Rattle.bc_text.specs.Names.{NameParts};
-ghost use Rattle.bc_prov.specs.Pieces.{AreOver};
 ghost use Rattle.bc_prov.specs.State.{at_name};
 ghost use Rattle.bc_memo.specs.declared.change.Change.TheVariants.{Answers};
 ghost use Rattle.bc_memo.specs.declared.place.Place.{Place};
-ghost use Rattle.bc_memo.specs.Places.{AreKeptInOrder, AreOrdered, IsHeld, IsReady, MayChange, answer_of, with_answer_at, changed, cleared, empty_shelf, marked, most_pieces, most_places, most_ready, pieces_after, revision_at, revisions_in, roots_in, unanswered, unit_of, units_in};
+ghost use Rattle.bc_memo.specs.Places.{AreOrdered, IsHeld, IsReady, MayChange, answer_of, with_answer_at, changed, cleared, empty_shelf, marked, most_places, most_ready, revision_at, revisions_in, roots_in, unanswered, units_in};
 
 use crate::change::Change;
-use crate::pieces::PieceMemo;
 use crate::place::Place;
 use crate::rows::{find, put, take, within};
-use bc_prov::{Declared, Outcome, Piece, PieceSet, Shared, Snapshot};
+use bc_prov::{Declared, Outcome, Shared, Snapshot};
 use bc_syntax::Unit;
 use bc_text::Name;
 use std::alloc::{AllocError, Global};
 use std::marker::Model;
 
 /// The stored declarations and bodies with their answers: all places, in the order of their names. Contracts see the declarations with
-/// their revision, the places, the pieces that are kept of the bodies, both in that order, the outcomes that are ready for a change, and
-/// for how many more of each there is memory. The type keeps that each piece was found from the declarations and from the unit at its
-/// name.
+/// their revision, the places in that order, the outcomes that are ready for a change, and for how many more places and outcomes there is
+/// memory. The type keeps that each unit suits its name.
 pub struct Shelf {
     types: Shared<Declared>,
     types_revision: u32,
     places: Vec<(Name, Place)>,
-    pieces: PieceMemo,
     ready: Vec<(Name, Shared<Outcome>)>,
 }
 
@@ -37,7 +33,6 @@ impl Drop for Shelf {
             types: _,
             types_revision: _,
             places: _,
-            pieces: _,
             ready: _,
         } = self;
     }
@@ -45,13 +40,13 @@ impl Drop for Shelf {
 
 impl Model for Shelf {
     ghost use Rattle.std.specs.Prelude.{◌-◌, vec_capacity};
-    ghost use Rattle.bc_memo.specs.Places.{IsShelf, ShelfRoom, ShelfView};
+    ghost use Rattle.bc_memo.specs.Places.{AreKept, ShelfRoom, ShelfView};
 
     ghost Value = { ShelfRoom };
 
-    ghost view = { λ s. record { held = record { types = s.types; types_revision = s.types_revision; places = s.places.items }; pieces = s.pieces.rows; room = vec_capacity s.places - s.places.len; piece_room = s.pieces.room; ready = s.ready.items; ready_room = vec_capacity s.ready - s.ready.len } };
+    ghost view = { λ s. record { held = record { types = s.types; types_revision = s.types_revision; places = s.places.items }; room = vec_capacity s.places - s.places.len; ready = s.ready.items; ready_room = vec_capacity s.ready - s.ready.len } };
 
-    ghost invariant = { λ s. IsShelf s.types s.places.items s.pieces.rows };
+    ghost invariant = { λ s. AreKept s.places.items };
 }
 
 /// A name's part of what is held: a snapshot, with the revisions of its declarations and of its units.
@@ -63,13 +58,11 @@ pub struct Part {
 }
 
 impl Shelf {
-    /// Returns a shelf that holds these declarations, at revision 0, and no unit, with memory for so many places, and for a piece and an
-    /// outcome of each. Returns `AllocError` only where memory was refused.
+    /// Returns a shelf that holds these declarations, at revision 0, and no unit, with memory for so many places and for an outcome of
+    /// each. Returns `AllocError` only where memory was refused.
     pub fn new(alloc: Global, types: Shared<Declared>, places: usize) -> Result<Shelf, AllocError>
         ensures held { IfOk result (λ shelf. shelf.held ≡ empty_shelf types) }
-        ensures pieces { IfOk result (λ shelf. shelf.pieces ≡ []) }
         ensures room { IfOk result (λ shelf. places ≤ shelf.room) }
-        ensures piece_room { IfOk result (λ shelf. places ≤ shelf.piece_room) }
         ensures ready_room { IfOk result (λ shelf. places ≤ shelf.ready_room) }
     {
         let rows = Vec::with_capacity(alloc, places)?;
@@ -77,7 +70,6 @@ impl Shelf {
             types,
             types_revision: 0,
             places: rows,
-            pieces: PieceMemo::new(alloc, places)?,
             ready: Vec::with_capacity(alloc, places)?,
         })
     }
@@ -86,10 +78,9 @@ impl Shelf {
     /// back. Returns `AllocError` only where memory was refused.
     pub fn reserve(&mut self) -> Result<(), AllocError>
         ensures same { self.new.held ≡ self.old.held }
-        ensures pieces { self.new.pieces ≡ self.old.pieces }
         ensures room { OnOk result (0 < self.new.room) }
         ensures granted { 0 < self.old.room → IsOk result }
-        ensures memory { (most_places self.old ≤ most_places self.new) × (self.new.piece_room ≡ self.old.piece_room) }
+        ensures memory { most_places self.old ≤ most_places self.new }
         ensures ready { (self.new.ready ≡ self.old.ready) × (self.new.ready_room ≡ self.old.ready_room) }
     {
         self.places.reserve(1)
@@ -100,9 +91,8 @@ impl Shelf {
     /// `AllocError` only where an owner or memory was refused.
     pub fn prepare(&mut self, change: &Change) -> Result<(), AllocError>
         ensures same { self.new.held ≡ self.old.held }
-        ensures pieces { self.new.pieces ≡ self.old.pieces }
         ensures ready { OnOk result (IsReady change.now self.new.ready) }
-        ensures memory { (self.new.room ≡ self.old.room) × (self.new.piece_room ≡ self.old.piece_room) × (most_ready self.old ≤ most_ready self.new) }
+        ensures memory { (self.new.room ≡ self.old.room) × (most_ready self.old ≤ most_ready self.new) }
     {
         self.ready.clear();
         match change {
@@ -168,7 +158,7 @@ impl Shelf {
     }
 
     /// Returns a name's part: the declarations, and the units of the name and of the names that begin with it and `/`, all with their
-    /// revisions, and with the pieces that are kept of them; no outcome is carried. Returns `AllocError` only where memory was refused.
+    /// revisions; no outcome and no piece is carried. Returns `AllocError` only where memory was refused.
     pub fn part(&self, alloc: Global, root: &Name) -> Result<Part, AllocError>
         ensures snapshot { IfOk result (λ part. (part.snapshot.types ≡ self.now.held.types) × (part.snapshot.root ≡ root.now) × (part.snapshot.units ≡ units_in root.now self.now.held.places)) }
         ensures revisions { IfOk result (λ part. (part.types_revision ≡ self.now.held.types_revision) × (part.revisions.items ≡ revisions_in root.now self.now.held.places)) }
@@ -176,10 +166,9 @@ impl Shelf {
     {
         let types = self.types.clone()?;
         let (units, revisions) = units(alloc, within(&self.places, root))?;
-        let pieces = self.pieces.part(alloc, root)?;
         let snapshot = Snapshot::of(types, *root, units);
         Ok(Part {
-            snapshot: snapshot.keep_pieces(pieces),
+            snapshot,
             types_revision: self.types_revision,
             revisions,
         })
@@ -199,18 +188,16 @@ impl Shelf {
     }
 
     /// Applies a change to what is held, and gives what it writes this revision. Declarations make all answers void; a unit that is put
-    /// or taken away makes void the answers of its name and of those with which this begins, up to a `/`. Declarations drop all pieces; a
-    /// unit that is put or taken away drops the one of its name alone.
+    /// or taken away makes void the answers of its name and of those with which this begins, up to a `/`.
     ///
-    /// It takes no memory, and leaves that for as many places and pieces as before. It asks for room for one place, that a unit suits the
-    /// name at which it is put, as `suits` reports, and that answers for many names are ready, as `prepare` makes them.
+    /// It takes no memory, and leaves that for as many places as before. It asks for room for one place, that a unit suits the name at
+    /// which it is put, as `suits` reports, and that answers for many names are ready, as `prepare` makes them.
     pub fn change(&mut self, change: Change, revision: u32)
         requires room { 0 < self.old.room }
         requires suited { MayChange change }
         requires ready { IsReady change self.old.ready }
         ensures held { self.new.held ≡ changed self.old.held change revision }
-        ensures pieces { self.new.pieces ≡ pieces_after change self.old.pieces }
-        ensures memory { (most_places self.new ≡ most_places self.old) × (most_pieces self.new ≡ most_pieces self.old) }
+        ensures memory { most_places self.new ≡ most_places self.old }
         ensures ready_memory { most_ready self.new ≡ most_ready self.old }
     {
         match change {
@@ -218,7 +205,6 @@ impl Shelf {
                 self.types = types;
                 self.types_revision = revision;
                 clear_all(&mut self.places);
-                self.pieces.forget_all();
             }
             Change::Put(name, unit) => {
                 let place = Place {
@@ -228,12 +214,10 @@ impl Shelf {
                 };
                 put(&mut self.places, name, place);
                 clear(&mut self.places, &name);
-                self.pieces.forget(&name);
             }
             Change::Remove(name) => {
                 take(&mut self.places, &name);
                 clear(&mut self.places, &name);
-                self.pieces.forget(&name);
             }
             Change::Answer(name, outcome) => set_answer(&mut self.places, &name, Some(outcome)),
             Change::Answers(_) => set_answers(&mut self.places, &mut self.ready),
@@ -241,73 +225,14 @@ impl Shelf {
         }
     }
 
-    /// Keeps one more owner of each piece of a set, in their order, where it was found from the declarations and from the unit at its
-    /// name that are held; the others are left out. The declarations are compared once, and not at all for a set of no pieces. Returns
-    /// `AllocError` only where an owner or memory was refused: then it stopped at that piece, and nothing is lost with the others but
-    /// the work to make them again.
-    pub fn keep_all(&mut self, set: &PieceSet) -> Result<(), AllocError>
-        ensures held { self.new.held ≡ self.old.held }
-        ensures room { self.new.room ≡ self.old.room }
-        ensures kept { OnOk result (AreKeptInOrder self.old.held.types self.old.held.places set.now.rows self.old.pieces self.new.pieces) }
-        ensures refused { OnErr result ((count : ℕ) × AreKeptInOrder self.old.held.types self.old.held.places (take count set.now.rows) self.old.pieces self.new.pieces) }
-        ensures memory { most_pieces self.old ≤ most_pieces self.new }
-        ensures ready { (self.new.ready ≡ self.old.ready) × (self.new.ready_room ≡ self.old.ready_room) }
-    {
-        let rows = set.rows();
-        if rows.is_empty() {
-            return Ok(());
-        }
-        if set.is_over(&self.types) {
-            self.keep_rows(rows)
-        } else {
-            Ok(())
-        }
-    }
-
-    // Keeps pieces that were found from the declarations that are held, in their order, where they were found from the unit at their name.
-    fn keep_rows(&mut self, rows: &[(Name, Shared<Piece>)]) -> Result<(), AllocError>
-        requires { AreOver self.old.held.types rows.now }
-        ensures held { self.new.held ≡ self.old.held }
-        ensures room { self.new.room ≡ self.old.room }
-        ensures kept { OnOk result (AreKeptInOrder self.old.held.types self.old.held.places rows.now self.old.pieces self.new.pieces) }
-        ensures refused { OnErr result ((count : ℕ) × AreKeptInOrder self.old.held.types self.old.held.places (take count rows.now) self.old.pieces self.new.pieces) }
-        ensures memory { most_pieces self.old ≤ most_pieces self.new }
-        ensures ready { (self.new.ready ≡ self.old.ready) × (self.new.ready_room ≡ self.old.ready_room) }
-    {
-        for entry in rows {
-            self.keep_row(entry.0, &entry.1)?;
-        }
-        Ok(())
-    }
-
-    // Keeps a piece that was found from the declarations that are held, where it was found from the unit at its name.
-    fn keep_row(&mut self, name: Name, piece: &Shared<Piece>) -> Result<(), AllocError>
-        requires { piece.now.types ≡ self.old.held.types }
-        ensures held { self.new.held ≡ self.old.held }
-        ensures room { self.new.room ≡ self.old.room }
-        ensures kept { OnOk result (AreKeptInOrder self.old.held.types self.old.held.places ((name, piece.now) ∷ []) self.old.pieces self.new.pieces) }
-        ensures refused { OnErr result (self.new.pieces ≡ self.old.pieces) }
-        ensures memory { most_pieces self.old ≤ most_pieces self.new }
-        ensures ready { (self.new.ready ≡ self.old.ready) × (self.new.ready_room ≡ self.old.ready_room) }
-    {
-        if self.has_unit_of(&name, piece) {
-            let piece = piece.clone()?;
-            self.pieces.keep(name, piece)?;
-        }
-        Ok(())
-    }
-
-    /// Copies the shelf, as one more owner of all that is held and of the pieces that are kept of it. Returns `AllocError` only
-    /// where an owner or memory was refused.
+    /// Copies the shelf, as one more owner of all that is held. Returns `AllocError` only where an owner or memory was refused.
     pub fn copy(&self, alloc: Global) -> Result<Shelf, AllocError>
         ensures held { IfOk result (λ copy. copy.held ≡ self.now.held) }
-        ensures pieces { IfOk result (λ copy. copy.pieces ≡ self.now.pieces) }
     {
         Ok(Shelf {
             types: self.types.clone()?,
             types_revision: self.types_revision(),
             places: copies(alloc, &self.places)?,
-            pieces: self.pieces.copy(alloc)?,
             ready: Vec::new(alloc),
         })
     }
@@ -317,16 +242,6 @@ impl Shelf {
         ensures { IfOk result (λ names. names.items ≡ roots_in self.now.held.places) }
     {
         roots(alloc, &self.places)
-    }
-
-    // Whether a piece was found from the unit that is held at a name.
-    fn has_unit_of(&self, name: &Name, piece: &Shared<Piece>) -> bool
-        ensures { IsTrue result ↔ (unit_of (at_name self.now.held.places name.now) ≡ Some piece.now.unit) }
-    {
-        match find(&self.places, name) {
-            Ok(place) => *piece.get().unit() == self.places[place].1.unit,
-            Err(_) => false,
-        }
     }
 }
 

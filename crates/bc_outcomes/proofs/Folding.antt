@@ -1,5 +1,5 @@
 -- Bodies that are judged from the last to the first.
-use Rattle.std.proofs.Common.{◌≡◌, ℕ, suc, ◌<◌, ◌≤◌, ⊎_elim, List, [], ◌∷◌, ◌++◌, length, refl, sym, ap, ◌∙◌, subst, append_assoc, append-nil, arith, Some, None, Option, length-append}
+use Rattle.std.proofs.Common.{◌≡◌, ℕ, Bool, true, false, suc, ◌<◌, ◌≤◌, ⊎_elim, List, [], ◌∷◌, ◌++◌, length, refl, sym, ap, ◌∙◌, subst, append_assoc, append-nil, arith, Some, None, Option, length-append}
 use Rattle.std.specs.Prelude.{map, fold, is_none, if◌then◌else◌}
 use Rattle.std.specs.List.{AllZip, AllByRecursion, flat_map, zip}
 use Rattle.std.specs.Option.{option_or, option_map}
@@ -15,7 +15,7 @@ use Rattle.bc_cons.specs.declared.requirements.Requirements.{Requirements}
 use Rattle.bc_cons.specs.Requirements.{MayGoUp, AreOfChildren}
 use Rattle.bc_judge.specs.declared.verdict.Verdict.{Verdict}
 use Rattle.bc_prov.specs.declared.outcome.Outcome.TheVariants.{Missing, Ill, Report}
-use Rattle.bc_prov.specs.Pieces.{PieceView, IsFoundFrom}
+use Rattle.bc_prov.specs.Pieces.{PieceView, AreSomeOf, IsFoundFrom}
 use Rattle.bc_outcomes.specs.Reported.{IsPieceAt, errors_in}
 use Rattle.bc_outcomes.specs.Visited.{VisitView}
 use Rattle.bc_prov.specs.State.{State, AreSuited, child, children_at, mir_at, number_of_child}
@@ -99,7 +99,7 @@ sound_all state name (n ∷ ns) held none few rooms = by_body (state.bodies (chi
         present_from None e h = absurd (cc)
         present_from (Some b) e h = h
 
-all-append : {A : Type 0} (P : A → Type 0) (xs ys : List A) → AllByRecursion P xs → AllByRecursion P ys → AllByRecursion P (xs ++ ys)
+pub all-append : {A : Type 0} (P : A → Type 0) (xs ys : List A) → AllByRecursion P xs → AllByRecursion P ys → AllByRecursion P (xs ++ ys)
 all-append P [] ys h k = k
 all-append P (x ∷ xs) ys h k = (h.0, all-append P xs ys h.1 k)
 
@@ -348,6 +348,11 @@ folded state root left visit required after found taken entry types same t numbe
             t.reported,
           ));
     }
+
+-- one piece more, which is kept or not
+pub some_more : (all unkept : List Entry) (entry : Entry) (is_kept : Bool) → AreSomeOf all unkept → AreSomeOf (entry ∷ all) (if is_kept then unkept else entry ∷ unkept)
+some_more all unkept entry true some = (false ∷ some.0, some.1)
+some_more all unkept entry false some = (true ∷ some.0, ap (λ (ps : List Entry). entry ∷ ps) some.1)
 
 -- at the start no body is judged
 pub folds_none : (state : State) (root : NameParts) (visits : List VisitView) → IsSound state root → visits ≡ map (visit_of state) (units_at state root) → Folds state root visits [] []

@@ -7,4 +7,4 @@ pub mod Gathering
 pub mod Walking
 pub mod Folding
 pub mod Faults
-pub mod Over
+pub mod Fits

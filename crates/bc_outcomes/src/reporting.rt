@@ -2,12 +2,12 @@
 ghost use Rattle.std.specs.Prelude.{◌≡◌, [], None, Some, IfOk, IfSome};
 ghost use Rattle.bc_prov.specs.Outcome.{IsOutcomeAfter, IsOutcomeIn, IsOutcomeOf, fault_at};
 ghost use Rattle.bc_outcomes.specs.Reported.{AreAmongPiecesOf, ArePiecesOf};
-ghost use Rattle.bc_prov.specs.Pieces.{rows_of};
+ghost use Rattle.bc_prov.specs.Pieces.{ArePieces, AreSomeOf, rows_of};
 ghost use Rattle.bc_prov.specs.State.{AreSuited, at_name, state_of};
 ghost use Rattle.bc_outcomes.specs.Visits.{state_in};
 
 use crate::held::Held;
-use crate::verdicts::errors_of;
+use crate::verdicts::{Judged, errors_of};
 use crate::walk::walk;
 use bc_prov::{Check, Outcome, PieceSet, Pieces, Providers, Shared, Snapshot, share};
 use bc_syntax::{Sequence, Unit};
@@ -20,20 +20,21 @@ fn outcome_held(
     providers: &Providers,
     held: &Held<'_>,
     unit: &Shared<Unit>,
-) -> Result<(Outcome, Pieces), AllocError>
+) -> Result<(Outcome, Judged), AllocError>
     requires suited { AreSuited (at_name held.now.snapshot.now.units) }
     requires held { at_name held.now.snapshot.now.units held.now.snapshot.now.root ≡ Some unit.now }
     ensures outcome { IfOk result (λ found. IsOutcomeAfter (state_in held.now) held.now.snapshot.now.root (fault_at (state_in held.now) held.now.snapshot.now.root) found.0) }
-    ensures pieces { IfOk result (λ found. ArePiecesOf (state_in held.now) held.now.snapshot.now.root None found.0 found.1.items) }
+    ensures pieces { IfOk result (λ found. ArePiecesOf (state_in held.now) held.now.snapshot.now.root None found.0 found.1.all.items) }
+    ensures unkept { IfOk result (λ found. AreSomeOf found.1.all.items found.1.unkept.items) }
 {
     let mut visits = Vec::new(alloc);
     let root = held.snapshot.root();
     let _bytes = root.root();
     match walk(alloc, held, *root, unit, &mut visits)? {
-        Some(fault) => Ok((fault, Vec::new(alloc))),
+        Some(fault) => Ok((fault, Judged::none(alloc))),
         None => {
             let pieces = held.pieces_of(alloc, providers, visits)?;
-            let found = errors_of(alloc, &pieces)?;
+            let found = errors_of(alloc, &pieces.all)?;
             Ok((Outcome::Report(Sequence::from(found)), pieces))
         }
     }
@@ -44,13 +45,14 @@ fn outcome_among(
     alloc: Global,
     providers: &Providers,
     held: &Held<'_>,
-) -> Result<(Outcome, Pieces), AllocError>
+) -> Result<(Outcome, Judged), AllocError>
     ensures outcome { IfOk result (λ found. IsOutcomeOf (state_in held.now) held.now.snapshot.now.root (at_name held.now.snapshot.now.units held.now.snapshot.now.root) found.0) }
-    ensures pieces { IfOk result (λ found. ArePiecesOf (state_in held.now) held.now.snapshot.now.root None found.0 found.1.items) }
+    ensures pieces { IfOk result (λ found. ArePiecesOf (state_in held.now) held.now.snapshot.now.root None found.0 found.1.all.items) }
+    ensures unkept { IfOk result (λ found. AreSomeOf found.1.all.items found.1.unkept.items) }
 {
     match held.snapshot.unit(held.snapshot.root()) {
         Some(unit) => outcome_held(alloc, providers, held, unit),
-        None => Ok((Outcome::NoBody, Vec::new(alloc))),
+        None => Ok((Outcome::NoBody, Judged::none(alloc))),
     }
 }
 
@@ -66,13 +68,14 @@ fn worked_out(
     alloc: Global,
     providers: &Providers,
     snapshot: &Snapshot,
-) -> Result<(Outcome, Pieces), AllocError>
+) -> Result<(Outcome, Judged), AllocError>
     ensures outcome { IfOk result (λ found. IsOutcomeIn (state_of snapshot.now.types snapshot.now.units) snapshot.now.root found.0) }
-    ensures pieces { IfOk result (λ found. ArePiecesOf (state_of snapshot.now.types snapshot.now.units) snapshot.now.root None found.0 found.1.items) }
+    ensures pieces { IfOk result (λ found. ArePiecesOf (state_of snapshot.now.types snapshot.now.units) snapshot.now.root None found.0 found.1.all.items) }
+    ensures unkept { IfOk result (λ found. AreSomeOf found.1.all.items found.1.unkept.items) }
 {
     match snapshot.types().get().found() {
         Check::Good(types) => outcome_among(alloc, providers, &Held { types, snapshot }),
-        Check::Bad(index) => Ok((Outcome::BadTypes(*index), Vec::new(alloc))),
+        Check::Bad(index) => Ok((Outcome::BadTypes(*index), Judged::none(alloc))),
     }
 }
 
@@ -90,7 +93,10 @@ pub fn report_pieces(
 {
     match snapshot.carried() {
         Some(outcome) => Ok((copy(outcome.get())?, Vec::new(alloc))),
-        None => worked_out(alloc, providers, snapshot),
+        None => {
+            let (outcome, found) = worked_out(alloc, providers, snapshot)?;
+            Ok((outcome, found.all))
+        }
     }
 }
 
@@ -146,6 +152,7 @@ pub fn find_outcome(
     ensures outcome { IfOk result (λ found. IsOutcomeIn (state_of snapshot.now.types snapshot.now.units) snapshot.now.root found.outcome) }
     ensures pieces { IfOk result (λ found. AreAmongPiecesOf (state_of snapshot.now.types snapshot.now.units) snapshot.now.root snapshot.now.carried found.outcome (rows_of found.pieces)) }
     ensures over { IfOk result (λ found. IfSome found.pieces (λ set. set.types ≡ snapshot.now.types)) }
+    ensures fit { IfOk result (λ found. ArePieces snapshot.now.types snapshot.now.units (rows_of found.pieces)) }
     ensures carried { IfSome snapshot.now.carried (λ outcome. IfOk result (λ found. (found.outcome ≡ outcome) × (found.pieces ≡ None))) }
 {
     match snapshot.carried() {
@@ -164,13 +171,13 @@ fn found_anew(
     ensures outcome { IfOk result (λ found. IsOutcomeIn (state_of snapshot.now.types snapshot.now.units) snapshot.now.root found.outcome) }
     ensures pieces { IfOk result (λ found. AreAmongPiecesOf (state_of snapshot.now.types snapshot.now.units) snapshot.now.root None found.outcome (rows_of found.pieces)) }
     ensures over { IfOk result (λ found. IfSome found.pieces (λ set. set.types ≡ snapshot.now.types)) }
+    ensures fit { IfOk result (λ found. ArePieces snapshot.now.types snapshot.now.units (rows_of found.pieces)) }
 {
     let (outcome, pieces) = worked_out(alloc, providers, snapshot)?;
     let outcome = share(alloc, outcome)?;
     let types = snapshot.types().clone()?;
-    let rows = snapshot.without_kept(pieces);
     Ok(Found {
         outcome,
-        pieces: Some(PieceSet::of(types, rows)),
+        pieces: Some(PieceSet::of(types, pieces.unkept)),
     })
 }

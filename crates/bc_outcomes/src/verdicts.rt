@@ -1,7 +1,8 @@
 //! The pieces of visited bodies, from the last to the first.
-ghost use Rattle.std.specs.Prelude.{◌≡◌, ◌≤◌, ◌++◌, length, map, IfOk};
+ghost use Rattle.std.specs.Prelude.{◌≡◌, ◌≤◌, [], ◌∷◌, ◌++◌, if◌then◌else◌, length, map, IfOk, OnOk};
 ghost use Rattle.std.specs.List.{AllZip};
 ghost use Rattle.bc_prov.specs.Outcome.{units_at};
+ghost use Rattle.bc_prov.specs.Pieces.{AreSomeOf};
 ghost use Rattle.bc_outcomes.specs.Reported.{IsPieceAt, errors_in};
 ghost use Rattle.bc_prov.specs.State.{number_of_child};
 ghost use Rattle.bc_outcomes.specs.Visits.{IsSound, state_in, visit_of};
@@ -14,6 +15,26 @@ use bc_mir::Child;
 use bc_prov::{BodyErrors, Piece, Pieces, Providers, Shared};
 use bc_text::Name;
 use std::alloc::{AllocError, Global};
+
+/// The pieces of bodies, one for each, in the order of a visit, and those of them that the snapshot does not keep, in that order.
+#[derive(Drop)]
+pub(crate) struct Judged {
+    pub(crate) all: Pieces,
+    pub(crate) unkept: Pieces,
+}
+
+impl Judged {
+    /// No pieces. It takes no memory.
+    pub(crate) fn none(alloc: Global) -> Judged
+        ensures all { result.all.items ≡ [] }
+        ensures unkept { AreSomeOf result.all.items result.unkept.items }
+    {
+        Judged {
+            all: Vec::new(alloc),
+            unkept: Vec::new(alloc),
+        }
+    }
+}
 
 /// Takes what the children of a body require, the least child's first.
 pub(crate) fn take_kids(
@@ -41,6 +62,21 @@ pub(crate) fn copy_requirements(requirements: &Requirements) -> Result<Requireme
     })
 }
 
+/// Puts a body's piece at the front, as one more owner of it, unless the snapshot keeps it.
+fn push_unkept(
+    unkept: &mut Stack<(Name, Shared<Piece>)>,
+    piece: &(Name, Shared<Piece>),
+    is_kept: bool,
+) -> Result<(), AllocError>
+    ensures { OnOk result (unkept.new ≡ (if is_kept then unkept.old else piece.now ∷ unkept.old)) }
+{
+    if is_kept {
+        return Ok(());
+    }
+    let again = piece.1.clone()?;
+    unkept.push((piece.0, again))
+}
+
 impl Held<'_> {
     /// The pieces of the bodies that were visited from the root on, in that order. A body comes after its creator, so they are
     /// judged from the last on: what they require, and no creator took yet, lies in a list with that of the next one in front.
@@ -50,22 +86,28 @@ impl Held<'_> {
         alloc: Global,
         providers: &Providers,
         visits: Vec<Visit>,
-    ) -> Result<Pieces, AllocError>
+    ) -> Result<Judged, AllocError>
         requires sound { IsSound (state_in self.now) self.now.snapshot.now.root }
         requires visits { visits.items ≡ map (visit_of (state_in self.now)) (units_at (state_in self.now) self.now.snapshot.now.root) }
-        ensures { IfOk result (λ pieces. AllZip (IsPieceAt (state_in self.now)) (units_at (state_in self.now) self.now.snapshot.now.root) pieces.items) }
+        ensures pieces { IfOk result (λ judged. AllZip (IsPieceAt (state_in self.now)) (units_at (state_in self.now) self.now.snapshot.now.root) judged.all.items) }
+        ensures unkept { IfOk result (λ judged. AreSomeOf judged.all.items judged.unkept.items) }
     {
         let mut visits = visits;
         let mut required = Stack::new(alloc);
         let mut found = Stack::new(alloc);
+        let mut unkept = Stack::new(alloc);
         while let Some(visit) = visits.pop() {
             let kids = take_kids(alloc, visit.children(), &mut required)?;
-            let piece = visit.judged(alloc, providers, self.snapshot.types(), kids)?;
+            let (piece, is_kept) = visit.judged(alloc, providers, self.snapshot.types(), kids)?;
             let requirements = copy_requirements(piece.1.get().requirements())?;
             required.push(requirements)?;
+            push_unkept(&mut unkept, &piece, is_kept)?;
             found.push(piece)?;
         }
-        Ok(found.into_vec())
+        Ok(Judged {
+            all: found.into_vec(),
+            unkept: unkept.into_vec(),
+        })
     }
 }
 

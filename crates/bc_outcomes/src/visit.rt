@@ -11,14 +11,15 @@ use bc_text::Name;
 use std::alloc::{AllocError, Global};
 use std::marker::Model;
 
-/// A visited body: its name, its unit, and the unit as it was typed; a piece, too, that was found from it as it was typed, if one is
-/// kept. Contracts see all but the piece.
+/// A visited body: its name, its unit, and the unit as it was typed; a piece, too, that was found from it as it was typed, if the
+/// snapshot has one, and whether the snapshot keeps that. Contracts see all but the piece.
 #[derive(Drop)]
 pub(crate) struct Visit {
     name: Name,
     unit: Shared<Unit>,
     typed: Shared<Typed>,
     piece: Option<Shared<Piece>>,
+    is_kept: bool,
 }
 
 impl Model for Visit {
@@ -42,11 +43,17 @@ impl Visit {
             unit,
             typed,
             piece: None,
+            is_kept: false,
         }
     }
 
-    /// The visit of a body that a piece was found from. Returns `AllocError` only where one more owner was refused.
-    pub(crate) fn kept(name: Name, piece: &Shared<Piece>) -> Result<Visit, AllocError>
+    /// The visit of a body that a piece was found from, which the snapshot keeps or not. Returns `AllocError` only where one more owner
+    /// was refused.
+    pub(crate) fn with_piece(
+        name: Name,
+        piece: &Shared<Piece>,
+        is_kept: bool,
+    ) -> Result<Visit, AllocError>
         ensures { IfOk result (λ visit. visit ≡ record { name = name; unit = piece.now.unit; typed = piece.now.mir }) }
     {
         let unit = piece.get().unit().clone()?;
@@ -57,6 +64,7 @@ impl Visit {
             unit,
             typed,
             piece: Some(piece),
+            is_kept,
         })
     }
 
@@ -67,33 +75,35 @@ impl Visit {
         self.typed.get().children()
     }
 
-    /// The piece of the body, whose children require so much, under its name: the one that is kept where its children required the
-    /// same, else a new one. Returns `AllocError` only where memory was refused, as a provider may answer too.
+    /// The piece of the body, whose children require so much, under its name: the one that the snapshot has where its children required
+    /// the same, else a new one; and whether the snapshot keeps it. Returns `AllocError` only where memory was refused, as a provider
+    /// may answer too.
     pub(crate) fn judged(
         self,
         alloc: Global,
         providers: &Providers,
         types: &Shared<Declared>,
         kids: Vec<(u8, Requirements)>,
-    ) -> Result<(Name, Shared<Piece>), AllocError>
+    ) -> Result<((Name, Shared<Piece>), bool), AllocError>
         requires types { types.now ≡ self.typed.types }
         requires kids { AreOfChildren self.typed.children kids.items }
-        ensures named { IfOk result (λ found. found.0 ≡ self.name) }
-        ensures found { IfOk result (λ found. IsFoundFrom types.now self.unit self.typed kids.items found.1) }
+        ensures named { IfOk result (λ found. found.0.0 ≡ self.name) }
+        ensures found { IfOk result (λ found. IsFoundFrom types.now self.unit self.typed kids.items found.0.1) }
     {
         let Visit {
             name,
             unit,
             typed,
             piece,
+            is_kept,
         } = self;
         if let Some(piece) = piece {
             if piece.get().is_from(&kids) {
-                return Ok((name, piece));
+                return Ok(((name, piece), is_kept));
             }
         }
         let types = types.clone()?;
         let piece = piece_of(alloc, providers, types, unit, typed, kids)?;
-        Ok((name, share(alloc, piece)?))
+        Ok(((name, share(alloc, piece)?), false))
     }
 }

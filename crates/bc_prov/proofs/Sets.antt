@@ -7,12 +7,12 @@ use Rattle.bc_text.specs.Names.{NameParts}
 use Rattle.bc_prov.specs.Pieces.{PieceView, AreOver, ArePieces}
 use Rattle.bc_prov.specs.State.{at_name}
 
--- some of them were found from these, too
-pub some_over : (types : List Declaration) (stays : List Bool) (all : List (NameParts × PieceView)) → AreOver types all → AreOver types (items_where_true stays all)
-some_over types [] all over = tt
-some_over types (b ∷ stays) [] over = tt
-some_over types (true ∷ stays) (p ∷ all) over = (over.0, some_over types stays all over.1)
-some_over types (false ∷ stays) (p ∷ all) over = some_over types stays all over.1
+-- what is true of all is true of some of them
+pub some_all : {X : Type 0} (P : X → Type 0) (stays : List Bool) (all : List X) → AllByRecursion P all → AllByRecursion P (items_where_true stays all)
+some_all P [] all are = tt
+some_all P (b ∷ stays) [] are = tt
+some_all P (true ∷ stays) (x ∷ all) are = (are.0, some_all P stays all are.1)
+some_all P (false ∷ stays) (x ∷ all) are = some_all P stays all are.1
 
 -- those of the units that a list has at their names are of its bodies
 pub pieces_for : (types : List Declaration) (units : List (NameParts × Body)) (pieces : List (NameParts × PieceView)) → AreOver types pieces

@@ -36,10 +36,6 @@ abbrev pub IsAmongPieces : PieceList → NameParts → PieceView → Type 0
 IsAmongPieces None name piece = ⊥
 IsAmongPieces (Some pieces) name piece = (place : ℕ) × (place < length pieces.items) × (slice_index_or pieces.items place (name, piece) ≡ (name, piece))
 
--- the piece of a name that is kept was found from children with these headers, which required so much
-abbrev pub IsKeptOf : PieceList → NameParts × PieceView → Type 0
-IsKeptOf kept entry = (piece : PieceView) × IsAmongPieces kept entry.0 piece × (piece.mir.children ≡ entry.1.mir.children) × (piece.kids ≡ entry.1.kids)
-
 -- The names and the bodies are as they should be. What is carried, if it is, is the outcome of the name, and each piece that is
 -- kept or carried is of the body at its name; those that are carried stand in the order of their names.
 pub record IsKept (types : List Declaration) (root : NameParts) (units : List (NameParts × Body)) (carried : Option Outcome) (kept offered : PieceList) : Type 0 where

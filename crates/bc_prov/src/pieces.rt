@@ -11,7 +11,7 @@ use crate::providers::Providers;
 use crate::shared::{Shared, share};
 use bc_cons::Requirements;
 use bc_judge::{BorrowError, Verdict};
-use bc_mir::{Child, Typed};
+use bc_mir::Typed;
 use bc_syntax::{Sequence, Unit};
 use bc_text::Name;
 use std::alloc::{AllocError, Global};
@@ -212,33 +212,6 @@ impl Piece {
         ensures right { IsPiece self.now }
     {
         same_kids(&self.kids, kids)
-    }
-
-    /// Whether both were found from children with the same headers, which required the same.
-    pub(crate) fn has_kids_of(&self, other: &Piece) -> bool
-        ensures { IsTrue result ↔ ((self.now.mir.children ≡ other.now.mir.children) × (self.now.kids ≡ other.now.kids)) }
-    {
-        same_children(self.typed.get().children(), other.typed.get().children())
-            && same_kids(&self.kids, &other.kids)
-    }
-}
-
-fn same_child(one: &Child, other: &Child) -> bool
-    ensures { IsTrue result ↔ (one.now ≡ other.now) }
-{
-    one.number == other.number && one.header == other.header
-}
-
-/// Whether children have the same numbers and headers, in the same order.
-fn same_children(one: &[Child], other: &[Child]) -> bool
-    ensures { IsTrue result ↔ (one.now ≡ other.now) }
-{
-    match one {
-        [] => other.is_empty(),
-        [first, more @ ..] => match other {
-            [] => false,
-            [second, rest @ ..] => same_child(first, second) && same_children(more, rest),
-        },
     }
 }
 

@@ -5,8 +5,8 @@ ghost use Rattle.std.specs.List.Sorted.{IsPermutation};
 ghost use Rattle.std.specs.Option.{option_copied};
 ghost use Rattle.bc_prov.specs.Outcome.{IsOutcomeIn};
 ghost use Rattle.bc_syntax.specs.Children.{children_of};
-ghost use Rattle.bc_prov.specs.Pieces.{AreAscending, ArePieces, AreSomeOf, IsPieceFor};
-ghost use Rattle.bc_prov.specs.Snapshots.{IsAmongPieces, IsKeptOf, IsSnapshot, names_used};
+ghost use Rattle.bc_prov.specs.Pieces.{AreAscending, ArePieces, IsPieceFor};
+ghost use Rattle.bc_prov.specs.Snapshots.{IsAmongPieces, IsSnapshot, names_used};
 ghost use Rattle.bc_prov.specs.State.{AreSuited, at_name, child, state_of};
 
 use crate::declared::Declared;
@@ -27,6 +27,13 @@ pub struct Snapshot {
     carried: Option<Shared<Outcome>>,
     kept: Option<Pieces>,
     offered: Option<Pieces>,
+}
+
+/// A piece of a body that a snapshot has, and whether the snapshot keeps it; else it is carried.
+#[derive(Clone, Copy)]
+pub struct Had<'a> {
+    pub piece: &'a Shared<Piece>,
+    pub is_kept: bool,
 }
 
 // Written out: the crates above call this, and prove nothing of its parts again.
@@ -74,16 +81,6 @@ fn piece_of_name<'a>(pieces: &'a Option<Pieces>, name: &Name) -> Option<&'a Shar
     match pieces.binary_search_by(|entry| entry.0.cmp(name)) {
         Ok(at) => Some(&pieces[at].1),
         Err(_) => None,
-    }
-}
-
-/// Whether a piece was found from children with the same headers and requirements as the one that is kept for its name.
-fn is_kept(kept: &Option<Pieces>, entry: &(Name, Shared<Piece>)) -> bool
-    ensures { IsTrue result → IsKeptOf kept.now entry.now }
-{
-    match piece_of_name(kept, &entry.0) {
-        Some(piece) => piece.get().has_kids_of(entry.1.get()),
-        None => false,
     }
 }
 
@@ -227,24 +224,24 @@ impl Snapshot {
         }
     }
 
-    /// Returns a piece of the body at a name, if one is carried or kept. It takes no memory.
-    pub fn piece(&self, name: &Name) -> Option<&Shared<Piece>>
-        ensures { IfSome result (λ piece. IsPieceFor self.now.types (at_name self.now.units name.now) piece.now) }
+    /// Returns a piece of the body at a name, if one is carried or kept: one that is carried before one that is kept. The contract
+    /// does not say which of both it is. It takes no memory.
+    pub fn piece(&self, name: &Name) -> Option<Had<'_>>
+        ensures { IfSome result (λ had. IsPieceFor self.now.types (at_name self.now.units name.now) had.piece.now) }
     {
         match piece_of_name(&self.offered, name) {
-            Some(piece) => Some(piece),
-            None => piece_of_name(&self.kept, name),
+            Some(piece) => Some(Had {
+                piece,
+                is_kept: false,
+            }),
+            None => {
+                let piece = piece_of_name(&self.kept, name)?;
+                Some(Had {
+                    piece,
+                    is_kept: true,
+                })
+            }
         }
-    }
-
-    /// Returns those of these pieces that are not kept already, in their order. The contract does not say which of them are kept. It
-    /// takes no memory.
-    pub fn without_kept(&self, pieces: Pieces) -> Pieces
-        ensures { AreSomeOf pieces.items result.items }
-    {
-        let mut pieces = pieces;
-        pieces.retain(|entry| !is_kept(&self.kept, entry));
-        pieces
     }
 
     /// Adds the outcome of the snapshot's name, which its caller knows. It takes no memory. It asks that this is the outcome.
@@ -325,7 +322,7 @@ impl Snapshot {
         ensures low { IfOk result (λ numbers. list_all (λ number. nat_le number 63) numbers.items ≡ true) }
     {
         match self.piece(name) {
-            Some(piece) => piece.get().children(alloc),
+            Some(had) => had.piece.get().children(alloc),
             None => unit.get().body().children(alloc),
         }
     }

@@ -5,10 +5,12 @@ use mathlib.Core.Option.{some, some-injective, some-ne-none}
 use lib.ListN.{get_elem?}
 use Rattle.crossbeam_utils.specs.Register.{Admits, Turns, TurnsAt}
 use Rattle.atomic_table.proofs.Lists.{at_set, at_snoc}
+use Rattle.bc_memo.specs.Places.{AreFitting, changed}
 use Rattle.bc_calls.specs.declared.call.Entry.{Entry}
 use Rattle.std.specs.Prelude.{MatchResult, Result, Ok, Err, is_ok, fold}
 use Rattle.std.proofs.Common.{true, false, true≢false}
 use Rattle.bc_calls.specs.Calls.{MayComeNext, StartsWith, last_of}
+use Rattle.bc_calls.specs.Changes.{change_of}
 use Rattle.bc_versions.specs.Tables.{TableView, UpdateView, empty_table, updated, IsTableOf}
 use Rattle.bc_versions.specs.Rules.{IsPublished, Looks, Adds, IsDue, entries_of}
 use Rattle.bc_calls.proofs.Histories.{legal_none, legal_snoc}
@@ -45,16 +47,17 @@ all_seen table views seat seen rule at ends = same_end rule.0 seen rule.1 (rule.
 
 -- the writer has seen all that was published, as the last entry shows; so the next entry goes behind it
 pub adds : (seat : ℕ) (seen : List Entry) (table next : TableView) (u : UpdateView)
-    → table.last ≡ last_of seen → next ≡ updated table u → MayComeNext seen u.entry → TurnsAt IsPublished seat seen table next Adds
-adds seat seen table next u ends is fits views h at =
+    → table.last ≡ last_of seen → next ≡ updated table u → MayComeNext seen u.entry → AreFitting (changed table.shelf (change_of u.entry.event) u.revision) u.pieces
+    → TurnsAt IsPublished seat seen table next Adds
+adds seat seen table next u ends is may fits views h at =
     let e = u.entry in
     let whole : h.0 ≡ seen = all_seen table views seat seen h at ends in
-    let fits' : MayComeNext h.0 e = subst (λ (l : List Entry). MayComeNext l e) (sym whole) fits in (
+    let may' : MayComeNext h.0 e = subst (λ (l : List Entry). MayComeNext l e) (sym whole) may in (
       seen ++ e ∷ [],
       (
         h.0 ++ e ∷ [],
-        legal_snoc h.0 e h.1 fits',
-        subst (λ (t : TableView). IsTableOf t (h.0 ++ e ∷ [])) (sym is) (table_snoc table h.0 u h.2 fits'),
+        legal_snoc h.0 e h.1 may',
+        subst (λ (t : TableView). IsTableOf t (h.0 ++ e ∷ [])) (sym is) (table_snoc table h.0 u h.2 may' fits),
         λ j other there. ⊎_elim
             (λ (t : (j ≡ seat) × (seen ++ e ∷ [] ≡ other)). ([], ap (λ l. l ++ e ∷ []) whole ∙ t.1 ∙ sym (append-nil other)))
             (λ (t : (j ≢ seat) × (get_elem? views j ≡ some other)). starts_more h.0 other (e ∷ []) (h.3 j other t.1))
@@ -65,35 +68,35 @@ adds seat seen table next u ends is fits views h at =
 
 -- publishing what is due keeps the rule
 pub due_adds : (seat : ℕ) (seen : List Entry) (table next : TableView) (us : List UpdateView)
-    → table.last ≡ last_of seen → next ≡ fold updated table us → IsDue seen us → TurnsAt IsPublished seat seen table next Adds
+    → table.last ≡ last_of seen → next ≡ fold updated table us → IsDue seen table us → TurnsAt IsPublished seat seen table next Adds
 due_adds seat seen table next [] ends is due = absurd due
-due_adds seat seen table next (u ∷ []) ends is due = adds seat seen table next u ends is due
+due_adds seat seen table next (u ∷ []) ends is due = adds seat seen table next u ends is due.0 due.1
 due_adds seat seen table next (u ∷ v ∷ more) ends is due = absurd due
 
 -- and what is then seen is what had been, and that
 pub due_seen : (seen : List Entry) (table next : TableView) (us : List UpdateView) (now : List Entry)
-    → IsDue seen us → next ≡ fold updated table us → Adds seen table next now → (now ≡ seen ++ entries_of us) × (next.last ≡ last_of now)
+    → IsDue seen table us → next ≡ fold updated table us → Adds seen table next now → (now ≡ seen ++ entries_of us) × (next.last ≡ last_of now)
 due_seen seen table next [] now due is added = absurd due
 due_seen seen table next (u ∷ []) now due is added =
     let same : added.0 ≡ u.entry = (let e : Some added.0 ≡ Some u.entry = sym added.1 ∙ ap (λ (t : TableView). t.last) is in cc) in
     (added.2 ∙ ap (λ x. seen ++ x ∷ []) same, added.1 ∙ sym (last_of-snoc seen added.0) ∙ ap last_of (sym added.2))
 due_seen seen table next (u ∷ v ∷ more) now due is added = absurd due
 
-due_along : (seen seen' : List Entry) (us us' : List UpdateView) → seen' ≡ seen → us' ≡ us → IsDue seen us → IsDue seen' us'
-due_along seen seen' us us' a b due = subst (λ (p : List Entry × List UpdateView). IsDue p.0 p.1) (λ i. (sym a i, sym b i)) due
+due_along : (seen seen' : List Entry) (table table' : TableView) (us us' : List UpdateView) → seen' ≡ seen → table' ≡ table → us' ≡ us → IsDue seen table us → IsDue seen' table' us'
+due_along seen seen' table table' us us' a b c due = subst (λ (p : List Entry × TableView × List UpdateView). IsDue p.0 p.1 p.2) (λ i. (sym a i, sym b i, sym c i)) due
 
 -- the same two, at a writer that is still as it was
 pub due_again : (seat : ℕ) (seen seen' : List Entry) (table table' next : TableView) (us us' : List UpdateView)
-    → seen' ≡ seen → table' ≡ table → us' ≡ us → table.last ≡ last_of seen → IsDue seen us
+    → seen' ≡ seen → table' ≡ table → us' ≡ us → table.last ≡ last_of seen → IsDue seen table us
     → next ≡ fold updated table' us' → TurnsAt IsPublished seat seen' table' next Adds
 due_again seat seen seen' table table' next us us' a b c ends due is =
-    due_adds seat seen' table' next us' (ap (λ (t : TableView). t.last) b ∙ ends ∙ ap last_of (sym a)) is (due_along seen seen' us us' a c due)
+    due_adds seat seen' table' next us' (ap (λ (t : TableView). t.last) b ∙ ends ∙ ap last_of (sym a)) is (due_along seen seen' table table' us us' a b c due)
 
-pub seen_again : (seen seen' : List Entry) (table next : TableView) (us us' : List UpdateView) (now : List Entry)
-    → seen' ≡ seen → us' ≡ us → IsDue seen us → next ≡ fold updated table us' → Adds seen' table next now
+pub seen_again : (seen seen' : List Entry) (table table' next : TableView) (us us' : List UpdateView) (now : List Entry)
+    → seen' ≡ seen → table' ≡ table → us' ≡ us → IsDue seen table us → next ≡ fold updated table' us' → Adds seen' table' next now
     → (now ≡ seen ++ entries_of us) × (next.last ≡ last_of now)
-seen_again seen seen' table next us us' now a c due is added =
-    let d = due_seen seen' table next us' now (due_along seen seen' us us' a c due) is added in
+seen_again seen seen' table table' next us us' now a b c due is added =
+    let d = due_seen seen' table' next us' now (due_along seen seen' table table' us us' a b c due) is added in
     (d.0 ∙ ap (λ (p : List Entry × List UpdateView). p.0 ++ entries_of p.1) (λ i. (a i, c i)), d.1)
 
 -- and what is shown then is what was shown, with what was due

@@ -2,8 +2,10 @@
 use Rattle.std.specs.Prelude.{◌≡◌, ℕ, Some, List, [], ◌∷◌, ◌++◌, map}
 use mathlib.Core.Option.{some}
 use lib.ListN.{get_elem?}
+use Rattle.bc_memo.specs.Places.{AreFitting, changed}
 use Rattle.bc_calls.specs.declared.call.Entry.{Entry}
 use Rattle.bc_calls.specs.Calls.{IsLegal, MayComeNext, StartsWith}
+use Rattle.bc_calls.specs.Changes.{change_of}
 use Rattle.bc_versions.specs.Tables.{TableView, UpdateView, IsTableOf}
 
 -- there is one legal list of what was published. The table is that list's, and what each thread has seen is a beginning of it
@@ -20,11 +22,11 @@ Looks seen table same now = StartsWith now seen × IsLegal now × IsTableOf tabl
 abbrev pub Adds : List Entry → TableView → TableView → List Entry → Type 0
 Adds seen before table now = (e : Entry) × (table.last ≡ Some e) × (now ≡ seen ++ e ∷ [])
 
--- one update waits to be published, and its entry may come next
-abbrev pub IsDue : List Entry → List UpdateView → Type 0
-IsDue seen [] = ⊥
-IsDue seen (u ∷ []) = MayComeNext seen u.entry
-IsDue seen (u ∷ v ∷ more) = ⊥
+-- one update waits to be published: its entry may come next, and its pieces are of what the table holds then
+abbrev pub IsDue : List Entry → TableView → List UpdateView → Type 0
+IsDue seen table [] = ⊥
+IsDue seen table (u ∷ []) = MayComeNext seen u.entry × AreFitting (changed table.shelf (change_of u.entry.event) u.revision) u.pieces
+IsDue seen table (u ∷ v ∷ more) = ⊥
 
 -- the entries of updates
 abbrev pub entries_of : List UpdateView → List Entry

@@ -1,18 +1,25 @@
 -- What a published table holds, and what an entry changes in it.
 use Rattle.std.specs.Prelude.{◌≡◌, ℕ, Option, Some, None, List, [], ◌∷◌, ◌++◌}
-use Rattle.bc_memo.specs.Places.{ShelfView, empty_shelf, changed}
+use Rattle.bc_memo.specs.Places.{AreKeptPieces, PieceRows, ShelfView, changed, empty_shelf, pieces_after, pieces_with}
 use Rattle.bc_calls.specs.declared.call.Entry.{Entry}
 use Rattle.bc_calls.specs.Calls.{last_of}
 use Rattle.bc_calls.specs.Changes.{change_of}
 use Rattle.bc_calls.specs.Answers.{IsShelfOf}
 
--- the last entry, and what is held after it
+-- the last entry, what is held after it, and the pieces that are kept of that
 pub record TableView : Type 0 where
   pub last : Option Entry
   pub shelf : ShelfView
+  pub pieces : PieceRows
 
--- an entry, and the revision that it gives to what it writes
+-- an entry, the revision that it gives to what it writes, and the pieces that it brings
 pub record UpdateView : Type 0 where
+  pub entry : Entry
+  pub revision : ℕ
+  pub pieces : PieceRows
+
+-- an entry that is published, and the revision that it gives to what it writes
+pub record PressedEntry : Type 0 where
   pub entry : Entry
   pub revision : ℕ
 
@@ -21,19 +28,25 @@ pub record PressView : Type 0 where
   pub entries : List Entry
   pub shelf : ShelfView
 
--- no entry, no declaration and no body
+-- no entry, no declaration, no body and no piece
 abbrev pub empty_table : TableView
-empty_table = record { last = None; shelf = empty_shelf [] }
+empty_table = record { last = None; shelf = empty_shelf []; pieces = [] }
 
--- the table after one more entry
+-- the table after one more entry: it keeps the pieces that the entry's change leaves, with those that come with it
 abbrev pub updated : TableView → UpdateView → TableView
-updated table u = record { last = Some u.entry; shelf = changed table.shelf (change_of u.entry.event) u.revision }
+updated table u = record {
+  last = Some u.entry;
+  shelf = changed table.shelf (change_of u.entry.event) u.revision;
+  pieces = pieces_with u.pieces (pieces_after (change_of u.entry.event) table.pieces);
+}
 
 -- what was published, with one more entry, and what is held then
-abbrev pub pressed : PressView → UpdateView → PressView
-pressed press u = record { entries = press.entries ++ u.entry ∷ []; shelf = changed press.shelf (change_of u.entry.event) u.revision }
+abbrev pub pressed : PressView → PressedEntry → PressView
+pressed press p = record { entries = press.entries ++ p.entry ∷ []; shelf = changed press.shelf (change_of p.entry.event) p.revision }
 
--- the table of a history: its last entry, and what the history leaves, where a name has an answer exactly where it is answered
+-- the table of a history: its last entry, and what the history leaves, where a name has an answer exactly where it is answered; its
+-- pieces are of what it holds
 pub record IsTableOf (table : TableView) (h : List Entry) : Type 0 where
   pub last : table.last ≡ last_of h
   pub shelf : IsShelfOf table.shelf h
+  pub pieces : AreKeptPieces table.shelf table.pieces

@@ -2,6 +2,7 @@
 ghost use Rattle.std.specs.Prelude.{◌≡◌, [], Some, IfOk, IfSome, IsTrue};
 ghost use Rattle.left_right.specs.Sides.{view};
 ghost use Rattle.bc_prov.specs.Snapshots.{IsPartOf};
+ghost use Rattle.bc_memo.specs.Places.{AreKeptPieces};
 ghost use Rattle.bc_calls.specs.Calls.{IsLegal, StartsWith, after, last_of};
 ghost use Rattle.bc_calls.specs.Answers.{IsAnswer, IsShelfOf};
 ghost use Rattle.bc_calls.specs.Beginnings.{AreAllBegun};
@@ -10,7 +11,7 @@ use crate::roots::begin_roots;
 use crate::rule::{Look, Published, Seen, TableReader};
 use crate::table::Table;
 use bc_calls::{Begun, Event};
-use bc_memo::Shelf;
+use bc_memo::{PieceMemo, Shelf};
 use bc_prov::{Outcome, Shared};
 use bc_text::Name;
 use core::mem::replace_with;
@@ -110,7 +111,7 @@ impl Front {
         ensures parts { IfOk result (λ begun. AreAllBegun self.new begun.items) }
     {
         match replace_with(&mut self.reader, alloc, read_held) {
-            Some(held) => begin_roots(alloc, &held),
+            Some((held, pieces)) => begin_roots(alloc, &held, &pieces),
             None => Err(AllocError),
         }
     }
@@ -143,7 +144,8 @@ fn read_answer(reader: TableReader, name: Name) -> (TableReader, Option<Option<S
     }
 }
 
-// Reads a name's part, with its answer. There is none to be had where the writer is gone, or memory is refused.
+// Reads a name's part, with its answer and with the pieces that are kept of it. There is none to be had where the writer is gone, or memory
+// is refused.
 fn read_part(reader: TableReader, of: (Global, Name)) -> (TableReader, Option<Begun>)
     ensures later { StartsWith (view result.0.place) (view reader.place) }
     ensures legal { IsLegal (view reader.place) → IsLegal (view result.0.place) }
@@ -153,14 +155,22 @@ fn read_part(reader: TableReader, of: (Global, Name)) -> (TableReader, Option<Be
     let (alloc, name) = of;
     match reader.enter_as::<Look>() {
         Ok(reading) => {
-            let answer = reading.get().answer(&name);
-            let part = reading.get().part(alloc, &name);
+            let table = reading.get();
+            let answer = table.answer(&name);
+            let part = table.part(alloc, &name);
+            let pieces = table.pieces_of(alloc, &name);
             let reader = reading.leave();
             let Ok(answer) = answer else {
                 return (reader, None);
             };
+            let Ok(pieces) = pieces else {
+                return (reader, None);
+            };
             match part {
-                Ok(part) => (reader, Some(Begun::carrying(part, answer))),
+                Ok(part) => (
+                    reader,
+                    Some(Begun::carrying(part, answer).keep_pieces(pieces)),
+                ),
                 Err(_) => (reader, None),
             }
         }
@@ -168,16 +178,26 @@ fn read_part(reader: TableReader, of: (Global, Name)) -> (TableReader, Option<Be
     }
 }
 
-// Copies what is held. There is none to be had where the writer is gone, or memory is refused.
-fn read_held(reader: TableReader, alloc: Global) -> (TableReader, Option<Shelf>)
+// Copies what is held, and the pieces that are kept of it. There is none to be had where the writer is gone, or memory is refused.
+fn read_held(reader: TableReader, alloc: Global) -> (TableReader, Option<(Shelf, PieceMemo)>)
     ensures later { StartsWith (view result.0.place) (view reader.place) }
     ensures legal { IsLegal (view reader.place) → IsLegal (view result.0.place) }
-    ensures held { IfSome result.1 (λ shelf. IsShelfOf shelf.held (view result.0.place)) }
+    ensures held { IfSome result.1 (λ copy. IsShelfOf copy.0.held (view result.0.place)) }
+    ensures pieces { IfSome result.1 (λ copy. AreKeptPieces copy.0.held copy.1.rows) }
 {
     match reader.enter_as::<Look>() {
         Ok(reading) => {
-            let held = reading.get().copy_held(alloc).ok();
-            (reading.leave(), held)
+            let table = reading.get();
+            let held = table.copy_held(alloc);
+            let pieces = table.copy_pieces(alloc);
+            let reader = reading.leave();
+            let Ok(held) = held else {
+                return (reader, None);
+            };
+            match pieces {
+                Ok(pieces) => (reader, Some((held, pieces))),
+                Err(_) => (reader, None),
+            }
         }
         Err(reader) => (reader, None),
     }

@@ -1,8 +1,10 @@
 //! The writer of the published table.
 ghost use Rattle.std.specs.Prelude.{◌≡◌, ◌<◌, ◌^◌, [], ◌++◌, drop, fold, IfOk, MatchResult};
 ghost use Rattle.left_right.specs.Sides.{view};
-ghost use Rattle.bc_memo.specs.Places.{empty_shelf};
+ghost use Rattle.bc_prov.specs.Pieces.{rows_of};
+ghost use Rattle.bc_memo.specs.Places.{AreFitting, changed, empty_shelf};
 ghost use Rattle.bc_calls.specs.Calls.{MayComeNext, last_of};
+ghost use Rattle.bc_calls.specs.Changes.{change_of};
 ghost use Rattle.bc_versions.specs.Rules.{IsDue, entries_of};
 ghost use Rattle.bc_versions.specs.Tables.{empty_table, pressed, updated};
 
@@ -11,7 +13,7 @@ use crate::front::Fronts;
 use crate::rule::{Add, TableWriter};
 use crate::table::{Table, Update};
 use bc_calls::{Entry, MOST_BODIES};
-use bc_memo::Shelf;
+use bc_memo::{PieceMemo, Shelf};
 use bc_prov::{Declared, PieceSet, Shared};
 use core::mem::replace_with;
 use std::alloc::{AllocError, Global};
@@ -74,8 +76,9 @@ impl<E: Ending> Press<E> {
     }
 
     /// Publishes the entry that comes next, with the revision that it gives to what it writes, and with pieces of bodies that were made
-    /// for an Ask, if it is one; it waits for those who still read what was published before. Returns `AllocError` only where memory for
-    /// it was refused, and then nothing is published; what can be refused behind that is tried again until it is not.
+    /// for an Ask, if it is one; it waits for those who still read what was published before. It asks that each piece was found from the
+    /// declarations and from the unit at its name that are held after the entry. Returns `AllocError` only where memory for it was refused,
+    /// and then nothing is published; what can be refused behind that is tried again until it is not.
     pub fn add<R: Wait>(
         &mut self,
         rt: &R,
@@ -83,16 +86,18 @@ impl<E: Ending> Press<E> {
         revision: u32,
         pieces: Option<PieceSet>,
     ) -> Result<(), AllocError>
-        requires { MayComeNext self.old.entries entry }
+        requires next { MayComeNext self.old.entries entry }
+        requires pieces { AreFitting (changed self.old.shelf (change_of entry.event) revision) (rows_of pieces) }
         ensures { MatchResult result (λ _. self.new ≡ pressed self.old (record { entry = entry; revision = revision })) (λ _. self.new ≡ self.old) }
     {
         self.add_update(rt, Update::new(entry, revision, pieces))
     }
 
-    // Publishes an update whose entry comes next.
+    // Publishes an update whose entry comes next, and whose pieces are of what is held then.
     fn add_update<R: Wait>(&mut self, rt: &R, update: Update) -> Result<(), AllocError>
-        requires { MayComeNext self.old.entries update.entry }
-        ensures { MatchResult result (λ _. self.new ≡ pressed self.old update) (λ _. self.new ≡ self.old) }
+        requires next { MayComeNext self.old.entries update.entry }
+        requires pieces { AreFitting (changed self.old.shelf (change_of update.entry.event) update.revision) update.pieces }
+        ensures { MatchResult result (λ _. self.new ≡ pressed self.old (record { entry = update.entry; revision = update.revision })) (λ _. self.new ≡ self.old) }
     {
         if self.writer.append(update).is_err() {
             return Err(AllocError);
@@ -109,12 +114,13 @@ fn roomy_table(alloc: Global, types: Shared<Declared>) -> Result<Table, AllocErr
     ensures { IfOk result (λ table. table ≡ empty_table) }
 {
     let shelf = Shelf::new(alloc, types, MOST_BODIES + 1)?;
-    Ok(Table::new(shelf))
+    let pieces = PieceMemo::new(alloc, MOST_BODIES + 1)?;
+    Ok(Table::new(alloc, shelf, pieces))
 }
 
 // Publishes what waits. A publication that is refused is made again.
 fn publish<R: Wait>(rt: &R, writer: TableWriter) -> TableWriter
-    requires due { IsDue (view writer.desk.place) (drop writer.behind writer.log.items) }
+    requires due { IsDue (view writer.desk.place) writer.desk.shown.value (drop writer.behind writer.log.items) }
     requires last { writer.desk.shown.value.last ≡ last_of (view writer.desk.place) }
     ensures seen { view result.desk.place ≡ view writer.desk.place ++ entries_of (drop writer.behind writer.log.items) }
     ensures last { result.desk.shown.value.last ≡ last_of (view result.desk.place) }

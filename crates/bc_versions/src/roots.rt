@@ -1,35 +1,48 @@
 //! What is begun of a copy of what is published.
 ghost use Rattle.std.specs.Prelude.{List, IfOk};
+ghost use Rattle.bc_memo.specs.Places.{AreKeptPieces};
 ghost use Rattle.bc_calls.specs.declared.call.Entry.{Entry};
 ghost use Rattle.bc_calls.specs.Answers.{IsShelfOf};
 ghost use Rattle.bc_calls.specs.Beginnings.{AreAllBegun, IsBegun};
 
 use crate::table::answer_in;
 use bc_calls::Begun;
-use bc_memo::Shelf;
+use bc_memo::{PieceMemo, Shelf};
 use bc_text::Name;
 use std::alloc::{AllocError, Global};
 
-/// The part of each held name without segments, in the order of the names, each with the name's answer. Returns `AllocError` only
-/// where memory was refused.
-pub(crate) fn begin_roots(alloc: Global, held: &Shelf) -> Result<Vec<Begun>, AllocError>
-    requires { (h : List Entry) × IsShelfOf held.now.held h }
+/// The part of each held name without segments, in the order of the names, each with the name's answer and with the pieces that are kept
+/// of it. It asks that the pieces are of what is held. Returns `AllocError` only where memory was refused.
+pub(crate) fn begin_roots(
+    alloc: Global,
+    held: &Shelf,
+    pieces: &PieceMemo,
+) -> Result<Vec<Begun>, AllocError>
+    requires history { (h : List Entry) × IsShelfOf held.now.held h }
+    requires pieces { AreKeptPieces held.now.held pieces.now.rows }
     ensures { (h : List Entry) → IsShelfOf held.now.held h → IfOk result (λ begun. AreAllBegun h begun.items) }
 {
     let roots = held.roots(alloc)?;
     let mut begun = Vec::with_capacity(alloc, roots.len())?;
     for root in &roots {
-        begun.push(begin_root(alloc, held, root)?)?;
+        begun.push(begin_root(alloc, held, pieces, root)?)?;
     }
     Ok(begun)
 }
 
-// A name's part, with the name's answer.
-fn begin_root(alloc: Global, held: &Shelf, root: &Name) -> Result<Begun, AllocError>
-    requires { (h : List Entry) × IsShelfOf held.now.held h }
+// A name's part, with the name's answer and with the pieces that are kept of it.
+fn begin_root(
+    alloc: Global,
+    held: &Shelf,
+    pieces: &PieceMemo,
+    root: &Name,
+) -> Result<Begun, AllocError>
+    requires history { (h : List Entry) × IsShelfOf held.now.held h }
+    requires pieces { AreKeptPieces held.now.held pieces.now.rows }
     ensures { (h : List Entry) → IsShelfOf held.now.held h → IfOk result (IsBegun h root.now) }
 {
     let answer = answer_in(held, root)?;
     let part = held.part(alloc, root)?;
-    Ok(Begun::carrying(part, answer))
+    let kept = pieces.part(alloc, root)?;
+    Ok(Begun::carrying(part, answer).keep_pieces(kept))
 }

@@ -1,21 +1,22 @@
-//! What is published: the last entry, and what is held after it.
+//! What is published: the last entry, what is held after it, and the pieces that are kept of that.
 ghost use Rattle.std.specs.Prelude.{◌≡◌, ◌<◌, ◌≤◌, [], IfOk, IsOk, None, OnErr, OnOk, Some, length};
-ghost use Rattle.bc_memo.specs.Places.{IsReady, MayChange, answer_of, changed, empty_shelf, most_pieces, most_places, most_ready, revisions_in, units_in};
+ghost use Rattle.bc_memo.specs.Places.{IsReady, MayChange, answer_of, changed, empty_shelf, most_places, most_ready, most_rows, part_in, pieces_after, pieces_with, revisions_in, units_in};
+ghost use Rattle.bc_prov.specs.Pieces.{rows_of};
 ghost use Rattle.bc_prov.specs.State.{at_name};
 ghost use Rattle.bc_calls.specs.Calls.{most_bodies};
 ghost use Rattle.bc_calls.specs.Changes.{change_of};
 ghost use Rattle.bc_versions.specs.Tables.{empty_table, updated};
 
 use bc_calls::Entry;
-use bc_memo::{Change, Part, Shelf};
-use bc_prov::{Outcome, PieceSet, Shared};
+use bc_memo::{Change, Part, PieceMemo, Shelf};
+use bc_prov::{Outcome, PieceSet, Pieces, Shared, share_pieces};
 use bc_text::Name;
 use left_right::Absorb;
 use std::alloc::{AllocError, Global};
 use std::marker::Model;
 
 /// The update that takes an entry into a published table: the entry, the revision that it gives to what it writes, and pieces that were
-/// made for an Ask. Contracts see the entry and the revision.
+/// made for an Ask. Contracts see all three.
 #[derive(Drop)]
 pub struct Update {
     entry: Entry,
@@ -24,13 +25,14 @@ pub struct Update {
 }
 
 impl Model for Update {
+    ghost use Rattle.bc_prov.specs.Pieces.{rows_of};
     ghost use Rattle.bc_memo.specs.Places.{MayChange};
     ghost use Rattle.bc_calls.specs.Changes.{change_of};
     ghost use Rattle.bc_versions.specs.Tables.{UpdateView};
 
     ghost Value = { UpdateView };
 
-    ghost view = { λ u. record { entry = u.entry; revision = u.revision } };
+    ghost view = { λ u. record { entry = u.entry; revision = u.revision; pieces = rows_of u.pieces } };
 
     ghost invariant = { λ u. MayChange (change_of u.entry.event) };
 }
@@ -40,7 +42,7 @@ impl Update {
     /// takes no memory.
     pub(crate) fn new(entry: Entry, revision: u32, pieces: Option<PieceSet>) -> Update
         requires { MayChange (change_of entry.event) }
-        ensures { result ≡ record { entry = entry; revision = revision } }
+        ensures { result ≡ record { entry = entry; revision = revision; pieces = rows_of pieces } }
     {
         Update {
             entry,
@@ -50,38 +52,47 @@ impl Update {
     }
 }
 
-/// The published table: the last entry, and what is held after it with its answers. Contracts see both. The type keeps that there is
-/// memory for all places and one to spare, for a piece of each and one more, and for as many answers as a change brings at once.
+/// The published table: the last entry, what is held after it with its answers, and the pieces that are kept of that. Contracts see all
+/// three. The type keeps that there is memory for all places and one to spare, for a piece of each and one more, and for as many answers
+/// as a change brings at once.
 #[derive(Drop)]
 pub struct Table {
+    alloc: Global,
     last: Option<Entry>,
     shelf: Shelf,
+    pieces: PieceMemo,
 }
 
 impl Model for Table {
     ghost use Rattle.std.specs.Prelude.{◌<◌};
     ghost use Rattle.bc_calls.specs.Calls.{most_bodies};
-    ghost use Rattle.bc_memo.specs.Places.{most_pieces, most_places, most_ready};
+    ghost use Rattle.bc_memo.specs.Places.{most_places, most_ready, most_rows};
     ghost use Rattle.bc_versions.specs.Tables.{TableView};
 
     ghost Value = { TableView };
 
-    ghost view = { λ t. record { last = t.last; shelf = t.shelf.held } };
+    ghost view = { λ t. record { last = t.last; shelf = t.shelf.held; pieces = t.pieces.rows } };
 
-    ghost invariant = { λ t. (most_bodies < most_places t.shelf) × (most_bodies < most_pieces t.shelf) × (most_bodies < most_ready t.shelf) };
+    ghost invariant = { λ t. (most_bodies < most_places t.shelf) × (most_bodies < most_rows t.pieces) × (most_bodies < most_ready t.shelf) };
 }
 
 impl Table {
-    /// A table before any entry, of a shelf that holds no declaration and no unit. It asks for memory for all places and one to spare, for
-    /// a piece of each, and for the answers of all. It takes no memory.
-    pub(crate) fn new(shelf: Shelf) -> Table
+    /// A table before any entry, of a shelf that holds no declaration and no unit, and of no pieces. It asks for memory for all places and
+    /// one to spare, for a piece of each, and for the answers of all. It takes no memory.
+    pub(crate) fn new(alloc: Global, shelf: Shelf, pieces: PieceMemo) -> Table
         requires empty { shelf.held ≡ empty_shelf [] }
+        requires bare { pieces.rows ≡ [] }
         requires room { most_bodies < shelf.room }
-        requires piece_room { most_bodies < shelf.piece_room }
+        requires piece_room { most_bodies < pieces.room }
         requires ready_room { most_bodies < shelf.ready_room }
         ensures { result ≡ empty_table }
     {
-        Table { last: None, shelf }
+        Table {
+            alloc,
+            last: None,
+            shelf,
+            pieces,
+        }
     }
 
     /// The last entry.
@@ -98,12 +109,19 @@ impl Table {
         answer_in(&self.shelf, name)
     }
 
-    /// A name's part. Returns `AllocError` only where memory was refused.
+    /// A name's part, without pieces. Returns `AllocError` only where memory was refused.
     pub(crate) fn part(&self, alloc: Global, root: &Name) -> Result<Part, AllocError>
         ensures snapshot { IfOk result (λ part. (part.snapshot.types ≡ self.now.shelf.types) × (part.snapshot.root ≡ root.now) × (part.snapshot.units ≡ units_in root.now self.now.shelf.places) × (part.snapshot.carried ≡ None)) }
         ensures revisions { IfOk result (λ part. (part.types_revision ≡ self.now.shelf.types_revision) × (part.revisions.items ≡ revisions_in root.now self.now.shelf.places)) }
     {
         self.shelf.part(alloc, root)
+    }
+
+    /// One more owner of each piece that is kept of a name's part. Returns `AllocError` only where memory was refused.
+    pub(crate) fn pieces_of(&self, alloc: Global, root: &Name) -> Result<Pieces, AllocError>
+        ensures { IfOk result (λ pieces. pieces.items ≡ part_in root.now self.now.pieces) }
+    {
+        self.pieces.part(alloc, root)
     }
 
     /// A copy of what is held. Returns `AllocError` only where memory was refused.
@@ -113,21 +131,43 @@ impl Table {
         self.shelf.copy(alloc)
     }
 
-    /// Takes in an entry: all of it, or nothing where an owner is refused, also one of the answers of many names. A piece that is left
-    /// out is only made again.
+    /// A copy of the pieces that are kept. Returns `AllocError` only where memory was refused.
+    pub(crate) fn copy_pieces(&self, alloc: Global) -> Result<PieceMemo, AllocError>
+        ensures { IfOk result (λ copy. copy.rows ≡ self.now.pieces) }
+    {
+        self.pieces.copy(alloc)
+    }
+
+    /// Takes in an entry with its pieces: all of it, or nothing where memory or an owner is refused, also one of the answers of many names
+    /// or of a piece. All that may be refused is done first.
     pub(crate) fn update(&mut self, update: &Update) -> Result<(), AllocError>
         ensures taken { OnOk result (self.new ≡ updated self.old update.now) }
         ensures refused { OnErr result (self.new ≡ self.old) }
     {
         let last = update.entry.copy()?;
         let change = update.entry.event.change()?;
+        let more = shares(self.alloc, &update.pieces)?;
+        self.pieces.reserve(more.len())?;
         self.shelf.prepare(&change)?;
-        take_in(&mut self.shelf, change, update.revision)?;
+        take_in(
+            &mut self.shelf,
+            &mut self.pieces,
+            change,
+            update.revision,
+            more,
+        )?;
         self.last = Some(last);
-        if let Some(pieces) = &update.pieces {
-            let _kept = self.shelf.keep_all(pieces);
-        }
         Ok(())
+    }
+}
+
+// One more owner of each piece of a set, if there is one. Returns `AllocError` only where memory was refused.
+fn shares(alloc: Global, pieces: &Option<PieceSet>) -> Result<Pieces, AllocError>
+    ensures { IfOk result (λ shares. shares.items ≡ rows_of pieces.now) }
+{
+    match pieces {
+        Some(set) => share_pieces(alloc, set.rows()),
+        None => Ok(Vec::new(alloc)),
     }
 }
 
@@ -141,18 +181,28 @@ pub(crate) fn answer_in(held: &Shelf, name: &Name) -> Result<Option<Shared<Outco
     }
 }
 
-// Changes what is held, where the shelf is ready for it, or nothing where memory for a place is refused, which it is not where no more
-// units are held than a legal history leaves.
-fn take_in(shelf: &mut Shelf, change: Change, revision: u32) -> Result<(), AllocError>
+// Changes what is held, where the shelf is ready for it, drops the pieces that the change drops, and keeps these more; or nothing where
+// memory for a place is refused, which it is not where no more units are held than a legal history leaves.
+fn take_in(
+    shelf: &mut Shelf,
+    pieces: &mut PieceMemo,
+    change: Change,
+    revision: u32,
+    more: Pieces,
+) -> Result<(), AllocError>
     requires suited { MayChange change }
     requires ready { IsReady change shelf.old.ready }
+    requires room { length more.items ≤ pieces.old.room }
     ensures taken { OnOk result (shelf.new.held ≡ changed shelf.old.held change revision) }
-    ensures refused { OnErr result (shelf.new.held ≡ shelf.old.held) }
+    ensures kept { OnOk result (pieces.new.rows ≡ pieces_with more.items (pieces_after change pieces.old.rows)) }
+    ensures refused { OnErr result ((shelf.new.held ≡ shelf.old.held) × (pieces.new.rows ≡ pieces.old.rows)) }
     ensures granted { most_bodies < most_places shelf.old → length shelf.old.held.places ≤ most_bodies → IsOk result }
-    ensures memory { (most_places shelf.old ≤ most_places shelf.new) × (most_pieces shelf.new ≡ most_pieces shelf.old) × (most_ready shelf.new ≡ most_ready shelf.old) }
+    ensures memory { (most_places shelf.old ≤ most_places shelf.new) × (most_rows pieces.new ≡ most_rows pieces.old) × (most_ready shelf.new ≡ most_ready shelf.old) }
 {
     shelf.reserve()?;
+    pieces.follow(&change);
     shelf.change(change, revision);
+    pieces.keep_all(more);
     Ok(())
 }
 

@@ -1,9 +1,11 @@
 //! What is held below a session, and what memos keep of it: behind a refused call a memo has to have what it had.
+ghost use Rattle.std.specs.Prelude.{◌≤◌, OnOk};
+
 use anyhow::{Result, bail};
 use bc_calls::no_declarations;
 use bc_memo::{Change, Memo, PieceMemo, Shelf, suits};
 use bc_outcomes::{Found, find_outcome};
-use bc_prov::{Outcome, Piece, PieceSet, Providers, Shared, share};
+use bc_prov::{Outcome, Piece, PieceSet, Providers, Shared, share, share_pieces};
 use bc_text::Name;
 use std::alloc::{AllocError, Global};
 use test_fixtures::{WRITES_LAST, name, shared_unit};
@@ -137,16 +139,35 @@ fn shelf_of(alloc: Global, texts: &[&[u8]]) -> Result<Shelf> {
     Ok(shelf)
 }
 
-/// Whether a shelf keeps the pieces of a set, once more where one is refused.
-fn is_all_kept(shelf: &mut Shelf, set: &PieceSet) -> bool {
-    shelf.keep_all(set).is_ok() || shelf.keep_all(set).is_ok()
+/// Has a memo make room for so many more pieces, once more where it is refused.
+fn make_room(memo: &mut PieceMemo, count: usize) -> Result<(), AllocError>
+    ensures { OnOk result (count ≤ memo.new.room) }
+{
+    match memo.reserve(count) {
+        Ok(()) => Ok(()),
+        Err(_) => memo.reserve(count),
+    }
+}
+
+/// Whether a memo that made room for all pieces of a set keeps one for each of their names.
+fn is_all_kept(alloc: Global, set: &PieceSet) -> Result<bool, AllocError> {
+    let pieces = share_pieces(alloc, set.rows())?;
+    let mut memo = PieceMemo::new(alloc, 0)?;
+    make_room(&mut memo, pieces.len())?;
+    memo.keep_all(pieces);
+    for row in set.rows() {
+        if memo.kept(&row.0).is_none() {
+            return Ok(false);
+        }
+    }
+    Ok(true)
 }
 
 /// Whether what is found of a shelf is kept as it has to be.
-fn is_found_kept(alloc: Global, providers: &Providers, shelf: &mut Shelf) -> Result<bool> {
+fn is_found_kept(alloc: Global, providers: &Providers, shelf: &Shelf) -> Result<bool> {
     let set = pieces_of(alloc, providers, shelf, &name(b"f")?)?;
     let names = names_of(alloc, &[b"f", b"h", b"f/0", b"g", b"f/0/1"])?;
-    Ok(is_kept(alloc, &set, &names)? && is_all_kept(shelf, &set))
+    Ok(is_kept(alloc, &set, &names)? && is_all_kept(alloc, &set)?)
 }
 
 /// Whether memos keep what they have to. Fails where another call is refused.
@@ -155,5 +176,5 @@ pub(crate) fn is_well(alloc: Global, providers: &Providers) -> Result<bool> {
     let names = names_of(alloc, &texts)?;
     let mut shelf = shelf_of(alloc, &texts)?;
     let is_remembered = is_remembered(alloc, &mut shelf, &names)?;
-    Ok(is_remembered && is_found_kept(alloc, providers, &mut shelf)?)
+    Ok(is_remembered && is_found_kept(alloc, providers, &shelf)?)
 }

@@ -28,7 +28,7 @@ returns g c =
           let p = w.publish_as-next.ensures in
           let done = sym w.is_ok.ensures.value ∙ w.if-is_ok.true in
           let values = on_ok w.publish_as-next.result.1 _ _ done p.values in
-          let told = seen_again _ _ _ _ _ _ _ i.0 i.2 c.requires.due values.0 (on_ok w.publish_as-next.result.1 _ _ done p.rule) in
+          let told = seen_again _ _ _ _ _ _ _ _ i.0 i.1 i.2 c.requires.due values.0 (on_ok w.publish_as-next.result.1 _ _ done p.rule) in
           let shown = fold_again _ _ _ _ _ i.1 i.2 values.0 in
           rw w.writer-is (record { seen = told.0; last = told.1; shown = shown; rest = values.1 })
     ]

@@ -2,21 +2,41 @@ use Rattle.std.proofs.Common.{◌≡◌, ◌++◌, List, ap, sym, ◌∙◌, sub
 use Rattle.std.specs.Prelude.{IfOk, OnOk, None}
 use Rattle.bc_text.specs.Names.{NameParts}
 use Rattle.bc_prov.specs.State.{at_name}
+use Rattle.bc_prov.specs.Pieces.{rows_of}
 use Rattle.bc_prov.specs.declared.outcome.Outcome.{Outcome}
 use Rattle.bc_memo.specs.declared.memo.Remembered.{Remembered}
+use Rattle.bc_memo.specs.Places.{AreFitting, changed}
+use Rattle.bc_memo.proofs.Found.{fitting_answer}
 use Rattle.bc_calls.specs.declared.call.Event.TheVariants as events
-use Rattle.bc_calls.specs.Changes.{change_of}
+use Rattle.bc_calls.specs.Changes.{change_of, writes_after, writes_of}
 use Rattle.bc_book.specs.Ledgers.{Appends, AreRows, BookView, KeepsOthers, Remembers, kept_rows, remembering, row_list}
+use Rattle.bc_book.proofs.Fitting.{left_fit}
 use Rattle.bc_book.proofs.Settling.{rows_of_row, settled_absent, settled_others, settled_step}
 use Rattle.bc_book.proofs.book.Book.settle.Goals as goal
 
 pub append-requires-clause-rows : goal.append-requires-clause-rows
 append-requires-clause-rows g c =
     let row = c.in_ok-row.row in
-    let rows : c.in_ok-findings.findings.rows.items ≡ row_list row = c.in_ok-findings.ensures ∙ c.in_ok-push_row.ensures ∙ ap (λ (l : List (NameParts × Remembered)). l ++ row_list row) c.new-rows.ensures.items in
+    let rows : c.in_ok-findings.findings.rows.items ≡ row_list row = c.in_ok-findings.ensures.rows ∙ c.in_ok-push_row.ensures ∙ ap (λ (l : List (NameParts × Remembered)). l ++ row_list row) c.new-rows.ensures.items in
     subst (λ (v : BookView). AreRows v.shelf v.entries c.in_ok-findings.findings.rows.items) c.self.view_is
     (subst (λ (l : List (NameParts × Remembered)). AreRows c.self.inside.ledger.shelf c.self.inside.ledger.entries l) (sym rows)
     (rows_of_row c.self.inside.ledger.shelf c.self.inside.ledger.entries c.name.result.now row c.in_ok-row.ensures.row))
+
+pub append-requires-clause-fit : goal.append-requires-clause-fit
+append-requires-clause-fit g c =
+    let kept = c.in_ok-findings.findings.kept in
+    let fit : AreFitting c.self.inside.ledger.shelf (rows_of kept) = left_fit _ c.in_ok-outcome.field-0.pieces c.reusable-pieces.result kept c.reusable-pieces.ensures c.in_ok-findings.ensures.kept c.in_ok-outcome.ensures.fit in
+    subst (λ (v : BookView). AreFitting v.shelf (rows_of kept)) c.self.view_is fit
+
+pub append-requires-clause-published : goal.append-requires-clause-published
+append-requires-clause-published g c =
+    let l = c.self.inside.ledger in
+    let k : NameParts = c.name.result.now in
+    let x : Outcome = c.in_ok-outcome.field-0.outcome in
+    let published = c.in_ok-findings.findings.published in
+    let fit : AreFitting l.shelf (rows_of published) = left_fit _ c.in_ok-outcome.field-0.pieces c.reusable-pieces.result published c.reusable-pieces.ensures c.in_ok-findings.ensures.published c.in_ok-outcome.ensures.fit in
+    subst (λ (v : BookView). AreFitting (changed v.shelf (change_of (events.Ask k x)) (writes_after (writes_of v.entries) (events.Ask k x))) (rows_of published)) c.self.view_is
+    (fitting_answer l.shelf k x (writes_after (writes_of l.entries) (events.Ask k x)) (rows_of published) fit)
 
 pub returns-clause-step : goal.returns-clause-step
 returns-clause-step g c =
@@ -27,7 +47,7 @@ returns-clause-step g c =
     let k : NameParts = c.name.result.now in
     let n : NameParts = c.args.work.snapshot.root in
     let x : Outcome = c.in_ok-outcome.field-0.outcome in
-    let rows : c.in_ok-findings.findings.rows.items ≡ row_list row = c.in_ok-findings.ensures ∙ c.in_ok-push_row.ensures ∙ ap (λ (l : List (NameParts × Remembered)). l ++ row_list row) c.new-rows.ensures.items in
+    let rows : c.in_ok-findings.findings.rows.items ≡ row_list row = c.in_ok-findings.ensures.rows ∙ c.in_ok-push_row.ensures ∙ ap (λ (l : List (NameParts × Remembered)). l ++ row_list row) c.new-rows.ensures.items in
     let step : OnOk c.append.result (Appends c.args.session (events.Ask k x) old new) = subst (λ (v : BookView). OnOk c.append.result (Appends c.args.session (events.Ask k x) v new)) (sym c.self.view_is) c.append.ensures.step in
     let answers : OnOk c.append.result (new.answers ≡ kept_rows (change_of (events.Ask k x)) (remembering (row_list row) old.answers)) =
     subst (λ (y : List (NameParts × Remembered) × BookView). OnOk c.append.result (new.answers ≡ kept_rows (change_of (events.Ask k x)) (remembering y.0 y.1.answers))) (λ i. (rows i, sym c.self.view_is i)) c.append.ensures.answers in
@@ -43,7 +63,7 @@ returns-clause-others g c =
     let k : NameParts = c.name.result.now in
     let n : NameParts = c.args.work.snapshot.root in
     let x : Outcome = c.in_ok-outcome.field-0.outcome in
-    let rows : c.in_ok-findings.findings.rows.items ≡ row_list row = c.in_ok-findings.ensures ∙ c.in_ok-push_row.ensures ∙ ap (λ (l : List (NameParts × Remembered)). l ++ row_list row) c.new-rows.ensures.items in
+    let rows : c.in_ok-findings.findings.rows.items ≡ row_list row = c.in_ok-findings.ensures.rows ∙ c.in_ok-push_row.ensures ∙ ap (λ (l : List (NameParts × Remembered)). l ++ row_list row) c.new-rows.ensures.items in
     let answers : OnOk c.append.result (new.answers ≡ kept_rows (change_of (events.Ask k x)) (remembering (row_list row) old.answers)) =
     subst (λ (y : List (NameParts × Remembered) × BookView). OnOk c.append.result (new.answers ≡ kept_rows (change_of (events.Ask k x)) (remembering y.0 y.1.answers))) (λ i. (rows i, sym c.self.view_is i)) c.append.ensures.answers in
     subst (λ (v : BookView). OnOk c.append.result (KeepsOthers n v new)) c.self.view_is
@@ -58,7 +78,7 @@ returns-clause-absent g c =
     let k : NameParts = c.name.result.now in
     let n : NameParts = c.args.work.snapshot.root in
     let x : Outcome = c.in_ok-outcome.field-0.outcome in
-    let rows : c.in_ok-findings.findings.rows.items ≡ row_list row = c.in_ok-findings.ensures ∙ c.in_ok-push_row.ensures ∙ ap (λ (l : List (NameParts × Remembered)). l ++ row_list row) c.new-rows.ensures.items in
+    let rows : c.in_ok-findings.findings.rows.items ≡ row_list row = c.in_ok-findings.ensures.rows ∙ c.in_ok-push_row.ensures ∙ ap (λ (l : List (NameParts × Remembered)). l ++ row_list row) c.new-rows.ensures.items in
     let answers : OnOk c.append.result (new.answers ≡ kept_rows (change_of (events.Ask k x)) (remembering (row_list row) old.answers)) =
     subst (λ (y : List (NameParts × Remembered) × BookView). OnOk c.append.result (new.answers ≡ kept_rows (change_of (events.Ask k x)) (remembering y.0 y.1.answers))) (λ i. (rows i, sym c.self.view_is i)) c.append.ensures.answers in
     subst (λ (v : BookView). OnOk c.append.result (at_name v.shelf.places n ≡ None → new.answers ≡ v.answers)) c.self.view_is

@@ -1,13 +1,31 @@
-use Rattle.std.proofs.Common.{◌≡◌, List, rules, sym, subst}
+use Rattle.std.proofs.Common.{◌≡◌, List, Option, rules, sym, subst}
 use Rattle.std.specs.Prelude.{IfOk, OnOk}
 use Rattle.bc_text.specs.Names.{NameParts}
+use Rattle.bc_prov.specs.Pieces.{PieceSetView, rows_of}
 use Rattle.bc_prov.specs.declared.outcome.Outcome.{Outcome}
 use Rattle.bc_memo.specs.declared.memo.Remembered.{Remembered}
+use Rattle.bc_memo.specs.Places.{AreFitting, changed}
+use Rattle.bc_memo.proofs.Found.{fitting_answers}
 use Rattle.bc_calls.specs.declared.call.Event.TheVariants as events
-use Rattle.bc_calls.specs.Changes.{change_of}
+use Rattle.bc_calls.specs.Changes.{change_of, writes_after, writes_of}
 use Rattle.bc_book.specs.Ledgers.{Appends, BookView, IsFoundAll, KeepsUnasked, RemembersEach, kept_rows, remembering}
 use Rattle.bc_book.proofs.Settling.{settled_all, settled_unasked}
 use Rattle.bc_book.proofs.book.Book.settle_all.Goals as goal
+
+pub append-requires-clause-fit : goal.append-requires-clause-fit
+append-requires-clause-fit g c =
+    let kept = c.in_ok-findings.findings.kept in
+    let fit : AreFitting c.self.inside.ledger.shelf (rows_of kept) = subst (λ (p : Option PieceSetView). AreFitting c.self.inside.ledger.shelf (rows_of p)) (sym c.in_ok-findings.ensures.kept) c.in_ok-listing.ensures.fit in
+    subst (λ (v : BookView). AreFitting v.shelf (rows_of kept)) c.self.view_is fit
+
+pub append-requires-clause-published : goal.append-requires-clause-published
+append-requires-clause-published g c =
+    let l = c.self.inside.ledger in
+    let listing : List (NameParts × Outcome) = c.in_ok-listing-2.listing in
+    let published = c.in_ok-findings.findings.published in
+    let fit : AreFitting l.shelf (rows_of published) = subst (λ (p : Option PieceSetView). AreFitting l.shelf (rows_of p)) (sym c.in_ok-findings.ensures.published) c.in_ok-listing.ensures.fit in
+    subst (λ (v : BookView). AreFitting (changed v.shelf (change_of (events.All listing)) (writes_after (writes_of v.entries) (events.All listing))) (rows_of published)) c.self.view_is
+    (fitting_answers l.shelf listing (writes_after (writes_of l.entries) (events.All listing)) (rows_of published) fit)
 
 pub returns-clause-step : goal.returns-clause-step
 returns-clause-step g c =

@@ -2,6 +2,8 @@ use Rattle.std.proofs.Common.{◌≡◌, Option, subst}
 use Rattle.std.specs.Prelude.{IfSome}
 use Rattle.bc_text.specs.Names.{NameParts}
 use Rattle.bc_prov.specs.Outcome.{IsOutcomeIn}
+use Rattle.bc_prov.specs.Pieces.{rows_of}
+use Rattle.bc_memo.specs.Places.{AreFitting}
 use Rattle.bc_calls.specs.Calls.{after}
 use Rattle.bc_calls.specs.Works.{WorkView}
 use Rattle.bc_book.specs.Ledgers.{LedgerView}
@@ -16,3 +18,6 @@ returns-in-Ok-clause-outcome g c =
     let root : w.snapshot.root ≡ c.args.name.now = subst (λ (work : Option WorkView). IfSome work (λ x. x.snapshot.root ≡ c.args.name.now)) c.in-Some-work.is c.requires in
     subst (λ (p : LedgerView × NameParts). IsOutcomeIn (after p.0.entries) p.1 o) (λ k. (c.self.view_is k, root k))
     (stood_outcome i.shelf.held i.history.items w o c.self.invariant.0.shelf_of c.in-Ok.ensures.own)
+
+pub returns-in-Ok-clause-fit : goal.returns-in-Ok-clause-fit
+returns-in-Ok-clause-fit g c = subst (λ (v : LedgerView). AreFitting v.shelf (rows_of c.in-Ok.found.pieces)) c.self.view_is c.in-Ok.ensures.fit

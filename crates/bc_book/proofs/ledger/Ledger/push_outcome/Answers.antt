@@ -1,11 +1,14 @@
-use Rattle.std.proofs.Common.{◌≡◌, ◌++◌, ◌∷◌, [], List, rules, sym, subst}
+use Rattle.std.proofs.Common.{◌≡◌, ◌++◌, ◌∷◌, [], List, refl, rules, sym, subst}
 use Rattle.bc_text.specs.Names.{NameParts}
 use Rattle.bc_prov.specs.declared.outcome.Outcome.{Outcome}
 use Rattle.bc_prov.specs.Outcome.{IsOutcomeIn}
+use Rattle.bc_prov.specs.Pieces.{rows_of}
 use Rattle.bc_memo.specs.declared.memo.Remembered.{Remembered}
+use Rattle.bc_memo.specs.Places.{AreFitting, PieceRows}
 use Rattle.bc_calls.specs.Calls.{after}
-use Rattle.bc_book.specs.Ledgers.{IsFoundAll, row_list}
-use Rattle.bc_book.proofs.Listing.{found_more}
+use Rattle.bc_book.specs.Ledgers.{IsFoundAll}
+use Rattle.bc_book.proofs.Fitting.{left_fit}
+use Rattle.bc_book.proofs.Listing.{all_append, found_more}
 use Rattle.bc_book.proofs.ledger.Ledger.push_outcome.Goals as goal
 
 pub returns-clause-found : goal.returns-clause-found
@@ -19,3 +22,10 @@ returns-clause-found g c =
     let longer : c.push.new.self.items ≡ listing ++ (n, o) ∷ [] = search rules in
     subst (λ (x : List (NameParts × Outcome) × List (NameParts × Remembered)). IsFoundAll l.shelf l.entries l.answers x.0 x.1) (λ i. (sym longer i, sym c.in_ok-push_row.ensures i))
     (found_more l.shelf l.entries l.answers listing rows n o c.in_ok-row.row c.requires.held right c.in_ok-row.ensures.recalls c.in_ok-row.ensures.row c.requires.found)
+
+pub returns-clause-fit : goal.returns-clause-fit
+returns-clause-fit g c =
+    let l = c.args.self.now in
+    let before : PieceRows = c.args.found.now.pieces.rows in
+    let more : AreFitting l.shelf (rows_of c.reusable-pieces.result) = left_fit _ c.in_ok-outcome.field-0.pieces c.reusable-pieces.result c.reusable-pieces.result c.reusable-pieces.ensures refl c.in_ok-outcome.ensures.fit in
+    subst (λ (rows : PieceRows). AreFitting l.shelf rows) (sym c.in_ok-push_pieces.ensures.rows) (all_append _ before (rows_of c.reusable-pieces.result) c.requires.fit more)

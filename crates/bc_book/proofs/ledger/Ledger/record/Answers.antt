@@ -1,6 +1,7 @@
 use Rattle.std.proofs.Common.{◌≡◌, ℕ, ◌+◌, ◌<◌, List, [], ◌∷◌, ◌++◌, length, set, sym, ap, ◌∙◌, subst}
 use Rattle.bc_memo.specs.declared.change.Change.{Change}
-use Rattle.bc_memo.specs.Places.{MayChange, changed, most_pieces}
+use Rattle.bc_memo.specs.Places.{AreKeptPieces, MayChange, PieceRows, ShelfView, changed, most_rows}
+use Rattle.bc_memo.proofs.Found.{kept_after}
 use Rattle.bc_calls.specs.declared.call.Entry.{Entry}
 use Rattle.bc_calls.specs.Calls.{IsLegal, MayComeNext, after, most_bodies}
 use Rattle.bc_calls.specs.Changes.{writes_after, writes_of}
@@ -28,9 +29,13 @@ invariant_of-self c =
     let held = c.change.ensures.held ∙ ap (λ (x : Change). changed i.shelf.held x c.args.revision) c.requires.change in
     let rows = c.forget_removed.ensures ∙ ap (λ (x : Change). kept_rows x i.memo.rows) c.requires.change in
     let kept = kept_snoc i.capacity i.history.items i.counts i.writes c.args.revision i.shelf.held c.change.new.self.held i.memo.rows c.forget_removed.new.memo.rows e c.self.invariant.0 below fits c.requires.session place count held rows in
-    let room : most_bodies < most_pieces c.change.new.self = subst (λ (n : ℕ). most_bodies < n) (sym c.change.ensures.memory.1) c.self.invariant.1 in (
+    let pieces : AreKeptPieces c.change.new.self.held c.follow.new.self.rows =
+    subst (λ (x : ShelfView × PieceRows). AreKeptPieces x.0 x.1) (λ k. (sym c.change.ensures.held k, sym c.follow.ensures.rows k))
+    (kept_after i.shelf.held i.pieces.rows c.args.change c.args.revision c.self.invariant.0.shelf_of.ordered c.self.invariant.1) in
+    let room : most_bodies < most_rows c.follow.new.self = subst (λ (n : ℕ). most_bodies < n) (sym c.follow.ensures.memory) c.self.invariant.2 in (
       subst (λ (x : List Entry × ℕ). IsLedger i.capacity x.0 (set i.counts x.1 (e.number + 1)) c.args.revision c.change.new.self.held c.forget_removed.new.memo.rows)
           (λ k. (sym c.push_reserved.ensures.items k, sym c.from.ensures k)) kept,
+      pieces,
       room,
     )
 

@@ -2,26 +2,23 @@ use Rattle.std.proofs.Common.{List, ◌∙◌, ap, sym, subst}
 use Rattle.std.specs.Prelude.{map}
 use Rattle.bc_syntax.specs.declared.syntax.Body.{Body}
 use Rattle.bc_text.specs.Names.{NameParts}
-use Rattle.bc_syntax.specs.declared.syntax.Declaration.{Declaration}
-use Rattle.bc_prov.specs.Pieces.{ArePieces}
 use Rattle.bc_prov.specs.Snapshots.{SnapshotView, IsSnapshot}
 use Rattle.bc_memo.specs.declared.place.Place.{Place}
-use Rattle.bc_memo.specs.Places.{Places, PieceRows, ShelfRoom, revisions_in, units_in}
+use Rattle.bc_memo.specs.Places.{Places, ShelfRoom, revisions_in, units_in}
 use Rattle.bc_memo.proofs.Parts.{part_snapshot}
-use Rattle.bc_memo.proofs.Found.{part_pieces}
 use Rattle.bc_memo.proofs.shelf.Shelf.part.Goals as goal
 
 pub of-snapshot-requires : goal.of-snapshot-requires
 of-snapshot-requires c =
     let is = c.in_ok-units.ensures.units ∙ ap (map (λ (p : NameParts × Place). (p.0, p.1.unit))) c.within.ensures ∙ ap (λ (ps : Places). units_in c.args.root.now ps) c.deref.ensures.value in
-    subst (λ (us : List (NameParts × Body)). IsSnapshot c.args.root.now us) (sym is) (part_snapshot c.args.root.now c.self.inside.places.items c.self.invariant.kept)
+    subst (λ (us : List (NameParts × Body)). IsSnapshot c.args.root.now us) (sym is) (part_snapshot c.args.root.now c.self.inside.places.items c.self.invariant)
 
 pub returns-clause-snapshot : goal.returns-clause-snapshot
 returns-clause-snapshot c =
     let is = c.in_ok-units.ensures.units ∙ ap (map (λ (p : NameParts × Place). (p.0, p.1.unit))) c.within.ensures ∙ ap (λ (ps : Places). units_in c.args.root.now ps) c.deref.ensures.value in (
-      ap (λ (v : SnapshotView). v.types) (c.keep_pieces.ensures ∙ c.of-snapshot.ensures) ∙ c.in_ok-types.ensures.cases ∙ ap (λ (s : ShelfRoom). s.held.types) c.self.view_is,
-      ap (λ (v : SnapshotView). v.root) (c.keep_pieces.ensures ∙ c.of-snapshot.ensures),
-      ap (λ (v : SnapshotView). v.units) (c.keep_pieces.ensures ∙ c.of-snapshot.ensures) ∙ is ∙ ap (λ (s : ShelfRoom). units_in c.args.root.now s.held.places) c.self.view_is,
+      ap (λ (v : SnapshotView). v.types) c.of-snapshot.ensures ∙ c.in_ok-types.ensures.cases ∙ ap (λ (s : ShelfRoom). s.held.types) c.self.view_is,
+      ap (λ (v : SnapshotView). v.root) c.of-snapshot.ensures,
+      ap (λ (v : SnapshotView). v.units) c.of-snapshot.ensures ∙ is ∙ ap (λ (s : ShelfRoom). units_in c.args.root.now s.held.places) c.self.view_is,
     )
 
 pub returns-clause-revisions : goal.returns-clause-revisions
@@ -32,13 +29,3 @@ returns-clause-revisions c = (
       ∙ ap (λ (ps : Places). revisions_in c.args.root.now ps) c.deref.ensures.value
       ∙ ap (λ (s : ShelfRoom). revisions_in c.args.root.now s.held.places) c.self.view_is,
 )
-
-pub keep_pieces-requires : goal.keep_pieces-requires
-keep_pieces-requires c =
-    let root = c.args.root.now in
-    let places = c.self.inside.places.items in
-    let is = c.in_ok-units.ensures.units ∙ ap (map (λ (p : NameParts × Place). (p.0, p.1.unit))) c.within.ensures ∙ ap (λ (ps : Places). units_in root ps) c.deref.ensures.value in
-    let types = ap (λ (v : SnapshotView). v.types) c.of-snapshot.ensures ∙ c.in_ok-types.ensures.cases in
-    let units = ap (λ (v : SnapshotView). v.units) c.of-snapshot.ensures ∙ is in
-    subst (λ (q : List Declaration × List (NameParts × Body) × PieceRows). ArePieces q.0 q.1 q.2) (λ i. (sym types i, sym units i, sym c.in_ok-pieces.ensures i))
-    (part_pieces root c.self.inside.types places c.self.inside.pieces.rows c.self.invariant.sorted c.self.invariant.found)

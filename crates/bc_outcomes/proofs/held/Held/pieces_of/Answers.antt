@@ -1,18 +1,20 @@
-use Rattle.std.proofs.Common.{List, ◌≡◌, ◌∙◌, ap, map, sym, subst}
+use Rattle.std.proofs.Common.{List, [], ◌≡◌, ◌∙◌, ap, map, refl, sym, subst}
 use Rattle.bc_outcomes.specs.Visited.{VisitView}
 use Rattle.bc_prov.specs.State.{number_of_child}
 use Rattle.bc_outcomes.specs.Visits.{state_in}
-use Rattle.bc_outcomes.proofs.Folding.{Folds, turn, turn-children, turn-enough, folded, folds_none}
+use Rattle.bc_outcomes.proofs.Folding.{Folds, turn, turn-children, turn-enough, folded, folds_none, some_more}
 use Rattle.bc_outcomes.proofs.held.Held.pieces_of.Goals as goal
 
 pub loop-visit-init : goal.loop-visit-init
-loop-visit-init g c = rw (c.new-required.ensures, c.new-found.ensures) (folds_none (state_in c.args.self.now) c.args.self.now.snapshot.now.root c.args.visits.items c.requires.sound c.requires.visits)
+loop-visit-init g c =
+    rw (c.new-required.ensures, c.new-found.ensures, c.new-unkept.ensures)
+    (folds_none (state_in c.args.self.now) c.args.self.now.snapshot.now.root c.args.visits.items c.requires.sound c.requires.visits, ([], refl))
 
 pub take_kids-requires : goal.take_kids-requires
 take_kids-requires g c =
     let state = state_in c.args.self.now in
     let root = c.args.self.now.snapshot.now.root in
-    let folds = subst (λ (vs : List VisitView). Folds state root vs c.loop-visit.required c.loop-visit.found) c.in-Some.ensures.items c.loop-visit.invariant in
+    let folds = subst (λ (vs : List VisitView). Folds state root vs c.loop-visit.required c.loop-visit.found) c.in-Some.ensures.items c.loop-visit.invariant.0 in
     let here = turn state root c.pop.new.self.items c.in-Some.visit c.loop-visit.required c.loop-visit.found c.requires.sound folds in
     rw c.children.ensures (turn-enough state root c.pop.new.self.items c.in-Some.visit c.loop-visit.required c.loop-visit.found here)
 
@@ -20,7 +22,7 @@ pub judged-requires-clause-types : goal.judged-requires-clause-types
 judged-requires-clause-types g c =
     let state = state_in c.args.self.now in
     let root = c.args.self.now.snapshot.now.root in
-    let folds = subst (λ (vs : List VisitView). Folds state root vs c.loop-visit.required c.loop-visit.found) c.in-Some.ensures.items c.loop-visit.invariant in
+    let folds = subst (λ (vs : List VisitView). Folds state root vs c.loop-visit.required c.loop-visit.found) c.in-Some.ensures.items c.loop-visit.invariant.0 in
     let here = turn state root c.pop.new.self.items c.in-Some.visit c.loop-visit.required c.loop-visit.found c.requires.sound folds in
     c.types.ensures ∙ sym c.args.self.now.same ∙ sym (ap (λ (v : VisitView). v.typed.types) here.is_visit)
 
@@ -28,7 +30,7 @@ pub judged-requires-clause-kids : goal.judged-requires-clause-kids
 judged-requires-clause-kids g c =
     let state = state_in c.args.self.now in
     let root = c.args.self.now.snapshot.now.root in
-    let folds = subst (λ (vs : List VisitView). Folds state root vs c.loop-visit.required c.loop-visit.found) c.in-Some.ensures.items c.loop-visit.invariant in
+    let folds = subst (λ (vs : List VisitView). Folds state root vs c.loop-visit.required c.loop-visit.found) c.in-Some.ensures.items c.loop-visit.invariant.0 in
     let here = turn state root c.pop.new.self.items c.in-Some.visit c.loop-visit.required c.loop-visit.found c.requires.sound folds in
     turn-children state root c.pop.new.self.items c.in-Some.visit c.loop-visit.required c.take_kids.new.required c.loop-visit.found c.in_ok-kids.kids.items here
     (c.in_ok-kids.ensures.numbers ∙ ap (map number_of_child) c.children.ensures) c.in_ok-kids.ensures.rest
@@ -37,10 +39,12 @@ pub loop-visit-preserved : goal.loop-visit-preserved
 loop-visit-preserved g c =
     let state = state_in c.args.self.now in
     let root = c.args.self.now.snapshot.now.root in
-    let folds = subst (λ (vs : List VisitView). Folds state root vs c.loop-visit.required c.loop-visit.found) c.in-Some.ensures.items c.loop-visit.invariant in
+    let folds = subst (λ (vs : List VisitView). Folds state root vs c.loop-visit.required c.loop-visit.found) c.in-Some.ensures.items c.loop-visit.invariant.0 in
     let here = turn state root c.pop.new.self.items c.in-Some.visit c.loop-visit.required c.loop-visit.found c.requires.sound folds in
     let types : c.types.result.now ≡ state.types = c.types.ensures ∙ sym c.args.self.now.same in
-    rw (c.in_ok-push.ensures.ok, c.in_ok-push-2.ensures.ok, c.in_ok-requirements.ensures, c.requirements.ensures.value, c.get.ensures)
-    (folded state root c.pop.new.self.items c.in-Some.visit c.loop-visit.required c.take_kids.new.required c.loop-visit.found c.in_ok-kids.kids.items c.in_ok-piece.piece c.types.result.now types here
-    (c.in_ok-kids.ensures.numbers ∙ ap (map number_of_child) c.children.ensures) c.in_ok-kids.ensures.rest
-    c.in_ok-piece.ensures.named c.in_ok-piece.ensures.found)
+    rw (c.in_ok-push.ensures.ok, c.in_ok-push-2.ensures.ok, c.in_ok-push_unkept.ensures, c.in_ok-requirements.ensures, c.requirements.ensures.value, c.get.ensures) (
+      folded state root c.pop.new.self.items c.in-Some.visit c.loop-visit.required c.take_kids.new.required c.loop-visit.found c.in_ok-kids.kids.items c.in_ok-piece.piece c.types.result.now types here
+          (c.in_ok-kids.ensures.numbers ∙ ap (map number_of_child) c.children.ensures) c.in_ok-kids.ensures.rest
+          c.in_ok-piece.ensures.named c.in_ok-piece.ensures.found,
+      some_more c.loop-visit.found c.loop-visit.unkept c.in_ok-piece.piece c.in_ok-piece.is_kept c.loop-visit.invariant.1,
+    )

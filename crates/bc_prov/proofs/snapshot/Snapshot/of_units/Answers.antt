@@ -5,7 +5,7 @@ use Rattle.bc_text.specs.Names.{NameParts}
 use Rattle.bc_prov.specs.Pieces.{PieceView, AreOver}
 use Rattle.bc_prov.specs.State.{at_name}
 use Rattle.bc_prov.proofs.Lookup.{all_by_index}
-use Rattle.bc_prov.proofs.Sets.{pieces_for, some_over}
+use Rattle.bc_prov.proofs.Sets.{pieces_for, some_all}
 use Rattle.bc_prov.proofs.snapshot.Snapshot.of_units.Goals as goal
 
 pub returns : goal.returns
@@ -13,5 +13,5 @@ returns c =
     let types = c.args.self.now.types in
     let over : AreOver types c.into_rows-pieces.result.items = search rules in
     pieces_for types _ _
-    (subst (λ (l : List (NameParts × PieceView)). AreOver types l) (sym c.retain.ensures.filtered.4) (some_over types c.retain.ensures.filtered.0 _ over))
+    (subst (λ (l : List (NameParts × PieceView)). AreOver types l) (sym c.retain.ensures.filtered.4) (some_all (λ (p : NameParts × PieceView). p.1.types ≡ types) c.retain.ensures.filtered.0 _ over))
     (all_by_index _ _ (All-from_retain _ (λ p. at_name c.args.self.now.units p.0 ≡ Some p.1.unit) _ (λ x b f' k. search rules) _ _ c.retain.ensures.filtered))
