@@ -114,8 +114,9 @@ fn roomy_table(alloc: Global, types: Shared<Declared>) -> Result<Table, AllocErr
     ensures { IfOk result (λ table. table ≡ empty_table) }
 {
     let shelf = Shelf::new(alloc, types, MOST_BODIES + 1)?;
-    let pieces = PieceMemo::new(alloc, MOST_BODIES + 1)?;
-    Ok(Table::new(alloc, shelf, pieces))
+    let pieces = PieceMemo::new(alloc, MOST_BODIES + MOST_BODIES + 1)?;
+    let ready = Vec::with_capacity(alloc, MOST_BODIES + 1)?;
+    Ok(Table::new(shelf, pieces, ready))
 }
 
 // Publishes what waits. A publication that is refused is made again.

@@ -1,5 +1,5 @@
 //! What is published: the last entry, what is held after it, and the pieces that are kept of that.
-ghost use Rattle.std.specs.Prelude.{◌≡◌, ◌<◌, ◌≤◌, [], IfOk, IsOk, None, OnErr, OnOk, Some, length};
+ghost use Rattle.std.specs.Prelude.{◌≡◌, ◌<◌, ◌≤◌, ◌+◌, ◌++◌, [], IfOk, IsOk, None, OnErr, OnOk, Some, length, vec_capacity};
 ghost use Rattle.bc_memo.specs.Places.{IsReady, MayChange, answer_of, changed, empty_shelf, most_places, most_ready, most_rows, part_in, pieces_after, pieces_with, revisions_in, units_in};
 ghost use Rattle.bc_prov.specs.Pieces.{rows_of};
 ghost use Rattle.bc_prov.specs.State.{at_name};
@@ -9,7 +9,7 @@ ghost use Rattle.bc_versions.specs.Tables.{empty_table, updated};
 
 use bc_calls::Entry;
 use bc_memo::{Change, Part, PieceMemo, Shelf};
-use bc_prov::{Outcome, PieceSet, Pieces, Shared, share_pieces};
+use bc_prov::{Outcome, Piece, PieceSet, Pieces, Shared};
 use bc_text::Name;
 use left_right::Absorb;
 use std::alloc::{AllocError, Global};
@@ -53,18 +53,18 @@ impl Update {
 }
 
 /// The published table: the last entry, what is held after it with its answers, and the pieces that are kept of that. Contracts see all
-/// three. The type keeps that there is memory for all places and one to spare, for a piece of each and one more, and for as many answers
-/// as a change brings at once.
+/// three. The type keeps that there is memory for all places and one to spare, for a piece of each twice and one more, and for as many
+/// answers and pieces as an update brings at once.
 #[derive(Drop)]
 pub struct Table {
-    alloc: Global,
     last: Option<Entry>,
     shelf: Shelf,
     pieces: PieceMemo,
+    ready: Pieces,
 }
 
 impl Model for Table {
-    ghost use Rattle.std.specs.Prelude.{◌<◌};
+    ghost use Rattle.std.specs.Prelude.{◌<◌, ◌+◌, vec_capacity};
     ghost use Rattle.bc_calls.specs.Calls.{most_bodies};
     ghost use Rattle.bc_memo.specs.Places.{most_places, most_ready, most_rows};
     ghost use Rattle.bc_versions.specs.Tables.{TableView};
@@ -73,25 +73,27 @@ impl Model for Table {
 
     ghost view = { λ t. record { last = t.last; shelf = t.shelf.held; pieces = t.pieces.rows } };
 
-    ghost invariant = { λ t. (most_bodies < most_places t.shelf) × (most_bodies < most_rows t.pieces) × (most_bodies < most_ready t.shelf) };
+    ghost invariant = { λ t. (most_bodies < most_places t.shelf) × (most_bodies + most_bodies < most_rows t.pieces) × (most_bodies < most_ready t.shelf) × (most_bodies < vec_capacity t.ready) };
 }
 
 impl Table {
-    /// A table before any entry, of a shelf that holds no declaration and no unit, and of no pieces. It asks for memory for all places and
-    /// one to spare, for a piece of each, and for the answers of all. It takes no memory.
-    pub(crate) fn new(alloc: Global, shelf: Shelf, pieces: PieceMemo) -> Table
+    /// A table before any entry, of a shelf that holds no declaration and no unit, of no pieces, and with a list for those that an update
+    /// brings. It asks for memory for all places and one to spare, for a piece of each twice, for the answers of all, and in the list for a
+    /// piece of each. It takes no memory.
+    pub(crate) fn new(shelf: Shelf, pieces: PieceMemo, ready: Pieces) -> Table
         requires empty { shelf.held ≡ empty_shelf [] }
         requires bare { pieces.rows ≡ [] }
         requires room { most_bodies < shelf.room }
-        requires piece_room { most_bodies < pieces.room }
+        requires piece_room { most_bodies + most_bodies < pieces.room }
         requires ready_room { most_bodies < shelf.ready_room }
+        requires ready_pieces { most_bodies < vec_capacity ready }
         ensures { result ≡ empty_table }
     {
         Table {
-            alloc,
             last: None,
             shelf,
             pieces,
+            ready,
         }
     }
 
@@ -139,36 +141,51 @@ impl Table {
     }
 
     /// Takes in an entry with its pieces: all of it, or nothing where memory or an owner is refused, also one of the answers of many names
-    /// or of a piece. All that may be refused is done first.
+    /// or of a piece. All that may be refused is done first, and no memory is taken where no more pieces come than bodies may be held.
     pub(crate) fn update(&mut self, update: &Update) -> Result<(), AllocError>
         ensures taken { OnOk result (self.new ≡ updated self.old update.now) }
         ensures refused { OnErr result (self.new ≡ self.old) }
     {
         let last = update.entry.copy()?;
         let change = update.entry.event.change()?;
-        let more = shares(self.alloc, &update.pieces)?;
-        self.pieces.reserve(more.len())?;
+        own_again(&mut self.ready, &update.pieces)?;
+        self.pieces.reserve(self.ready.len())?;
         self.shelf.prepare(&change)?;
         take_in(
             &mut self.shelf,
             &mut self.pieces,
             change,
             update.revision,
-            more,
+            &mut self.ready,
         )?;
         self.last = Some(last);
         Ok(())
     }
 }
 
-// One more owner of each piece of a set, if there is one. Returns `AllocError` only where memory was refused.
-fn shares(alloc: Global, pieces: &Option<PieceSet>) -> Result<Pieces, AllocError>
-    ensures { IfOk result (λ shares. shares.items ≡ rows_of pieces.now) }
+// Makes one more owner of each piece of a set, if there is one, in the place of what was ready before.
+fn own_again(ready: &mut Pieces, pieces: &Option<PieceSet>) -> Result<(), AllocError>
+    ensures owners { OnOk result (ready.new.items ≡ rows_of pieces.now) }
+    ensures memory { vec_capacity ready.old ≤ vec_capacity ready.new }
 {
+    ready.clear();
     match pieces {
-        Some(set) => share_pieces(alloc, set.rows()),
-        None => Ok(Vec::new(alloc)),
+        Some(set) => push_owners(ready, set.rows()),
+        None => Ok(()),
     }
+}
+
+// Puts one more owner of each piece behind what is ready.
+fn push_owners(ready: &mut Pieces, rows: &[(Name, Shared<Piece>)]) -> Result<(), AllocError>
+    ensures rows { OnOk result (ready.new.items ≡ ready.old.items ++ rows.now) }
+    ensures memory { vec_capacity ready.old ≤ vec_capacity ready.new }
+{
+    ready.reserve(rows.len())?;
+    for row in rows {
+        let piece = row.1.clone()?;
+        ready.push((row.0, piece))?;
+    }
+    Ok(())
 }
 
 /// One more owner of the answer of a name in what is held, if it has one. Returns `AllocError` only where that is refused.
@@ -181,29 +198,43 @@ pub(crate) fn answer_in(held: &Shelf, name: &Name) -> Result<Option<Shared<Outco
     }
 }
 
-// Changes what is held, where the shelf is ready for it, drops the pieces that the change drops, and keeps these more; or nothing where
-// memory for a place is refused, which it is not where no more units are held than a legal history leaves.
+// Changes what is held, where the shelf is ready for it, drops the pieces that the change drops, and keeps those that are ready; or nothing
+// where memory for a place is refused, which it is not where no more units are held than a legal history leaves.
 fn take_in(
     shelf: &mut Shelf,
     pieces: &mut PieceMemo,
     change: Change,
     revision: u32,
-    more: Pieces,
+    more: &mut Pieces,
 ) -> Result<(), AllocError>
     requires suited { MayChange change }
     requires ready { IsReady change shelf.old.ready }
-    requires room { length more.items ≤ pieces.old.room }
+    requires room { length more.old.items ≤ pieces.old.room }
     ensures taken { OnOk result (shelf.new.held ≡ changed shelf.old.held change revision) }
-    ensures kept { OnOk result (pieces.new.rows ≡ pieces_with more.items (pieces_after change pieces.old.rows)) }
+    ensures kept { OnOk result (pieces.new.rows ≡ pieces_with more.old.items (pieces_after change pieces.old.rows)) }
     ensures refused { OnErr result ((shelf.new.held ≡ shelf.old.held) × (pieces.new.rows ≡ pieces.old.rows)) }
     ensures granted { most_bodies < most_places shelf.old → length shelf.old.held.places ≤ most_bodies → IsOk result }
-    ensures memory { (most_places shelf.old ≤ most_places shelf.new) × (most_rows pieces.new ≡ most_rows pieces.old) × (most_ready shelf.new ≡ most_ready shelf.old) }
+    ensures memory { (most_places shelf.old ≤ most_places shelf.new) × (most_rows pieces.old ≤ most_rows pieces.new) × (most_ready shelf.new ≡ most_ready shelf.old) × (vec_capacity more.new ≡ vec_capacity more.old) }
 {
     shelf.reserve()?;
     pieces.follow(&change);
     shelf.change(change, revision);
-    pieces.keep_all(more);
+    keep_ready(pieces, more);
     Ok(())
+}
+
+// Keeps each of these pieces, in their order, in the place of one that was kept for its name. It takes no memory.
+fn keep_ready(pieces: &mut PieceMemo, ready: &mut Pieces)
+    requires room { length ready.old.items ≤ pieces.old.room }
+    ensures kept { pieces.new.rows ≡ pieces_with ready.old.items pieces.old.rows }
+    ensures memory { (most_rows pieces.old ≤ most_rows pieces.new) × (vec_capacity ready.new ≡ vec_capacity ready.old) }
+{
+    ready.reverse();
+    while let Some(row) = ready.pop() {
+        if pieces.keep(row.0, row.1).is_err() {
+            unreachable!();
+        }
+    }
 }
 
 impl Absorb<Update> for Table {
