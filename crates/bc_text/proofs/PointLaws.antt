@@ -31,10 +31,10 @@ use Rattle.bc_syntax.specs.Symbol.{same}
 use Rattle.bc_syntax.specs.Fits.{instance_fits, closure_fits, regions_fit, reference_fits, place_fits, operand_fits, operands_fit, borrow_fits, aggregate_fits, creation_fits, rvalue_fits, statement_fits, condition_fits, call_fits, invocation_fits, terminator_fits}
 use Rattle.bc_syntax.specs.Token.{Token, Fixed, Numbered, Word}
 use Rattle.bc_tokens.specs.Token.{Tokens}
-use Rattle.bc_tokens.specs.Parser.{Outcome, and_then, sees, sees_word, is_fixed, after, expect, pure, angled_list}
+use Rattle.bc_tokens.specs.Parser.{Outcome, and_then, sees, sees_word, sees_numbered, is_fixed, after, expect, pure, angled_list}
 use Rattle.bc_text.specs.Reading as read
 use Rattle.bc_syntax.specs.Spelling as spell
-use Rattle.bc_text.proofs.Begins.{Begins, join, split, bind_ok, ok_is, chosen, eaten, eat_again, eat_other, expect_takes, expect_again, numbered_takes, numbered_again, sees_none, sees_word_same, sees_word_none}
+use Rattle.bc_text.proofs.Begins.{Begins, join, split, bind_ok, ok_is, chosen, eaten, eat_again, eat_other, expect_takes, expect_again, numbered_takes, numbered_again, sees_none, no_symbol, sees_numbered_same, sees_word_same, sees_word_none}
 use Rattle.bc_text.proofs.NameLaws.{Declares, NoLess, arguments_take, arguments_again, instance_takes, instance_again, closure_takes, closure_again}
 use Rattle.bc_text.proofs.TypeLaws.{reference_takes, reference_again}
 use Rattle.bc_text.proofs.PlaceLaws.{NoDot, local_takes, local_again, place_takes, place_again, operand_takes, operand_again, operands_take, operands_again}
@@ -73,6 +73,34 @@ record BeginsNone (word : Symbol) : Type 0 where
   borrows : is_fixed word (Fixed s.Ampersand) ≡ false
   closes : is_fixed word (Fixed s.Closure) ≡ false
   calculates : is_fixed word (Fixed s.Calc) ≡ false
+
+-- ---- points past the words that come first in the production
+
+module _ (regions : List RegionName) (locals : ℕ) where
+  past_return : (ts : Tokens) → sees s.Return ts ≡ false → read.point regions locals ts ≡ read.stopping regions locals ts
+  unfolding read.point
+  past_return ts h = eat_other s.Return (pure (read.ending t.Return)) (read.stopping regions locals) ts h
+
+  past_stop : (ts : Tokens) → sees s.Return ts ≡ false → sees s.Stop ts ≡ false → read.point regions locals ts ≡ read.going regions locals ts
+  unfolding read.stopping
+  past_stop ts h1 h2 = past_return ts h1 ∙ eat_other s.Stop (pure (read.ending t.Stop)) (read.going regions locals) ts h2
+
+  past_goto : (ts : Tokens) → sees s.Return ts ≡ false → sees s.Stop ts ≡ false → sees s.Goto ts ≡ false → read.point regions locals ts ≡ read.branching regions locals ts
+  unfolding read.going
+  past_goto ts h1 h2 h3 = past_stop ts h1 h2 ∙ eat_other s.Goto _ (read.branching regions locals) ts h3
+
+  past_if : (ts : Tokens) → sees s.Return ts ≡ false → sees s.Stop ts ≡ false → sees s.Goto ts ≡ false → sees s.If ts ≡ false → read.point regions locals ts ≡ read.statement regions locals ts
+  unfolding read.branching
+  past_if ts h1 h2 h3 h4 = past_goto ts h1 h2 h3 ∙ eat_other s.If _ (read.statement regions locals) ts h4
+
+  -- a point that begins with a local is an assignment
+  pub local_begins : (ts : Tokens) → sees_numbered n.Local ts ≡ true → read.point regions locals ts ≡ read.assignment regions locals ts
+  unfolding read.statement read.dropping read.active
+  local_begins ts seen =
+      past_if ts (no_symbol n.Local s.Return ts seen) (no_symbol n.Local s.Stop ts seen) (no_symbol n.Local s.Goto ts seen) (no_symbol n.Local s.If ts seen)
+      ∙ eat_other s.Dead _ (read.dropping regions locals) ts (no_symbol n.Local s.Dead ts seen)
+      ∙ eat_other s.Drop _ (read.active regions locals) ts (no_symbol n.Local s.Drop ts seen)
+      ∙ eat_other s.Nop _ (read.assignment regions locals) ts (no_symbol n.Local s.Nop ts seen)
 
 module _ (regions : List RegionName) (declares : Declares regions) (locals : ℕ) (few : locals ≤ 256) where
   abbrev count : ℕ
@@ -439,38 +467,17 @@ module _ (regions : List RegionName) (declares : Declares regions) (locals : ℕ
         | inr p ↦ stopping_takes ts y p.1
       ]
 
-  -- ---- points again: past the words that come first in the production
-
-  past_return : (ts : Tokens) → sees s.Return ts ≡ false → read.point regions locals ts ≡ read.stopping regions locals ts
-  unfolding read.point
-  past_return ts h = eat_other s.Return (pure (read.ending t.Return)) (read.stopping regions locals) ts h
-
-  past_stop : (ts : Tokens) → sees s.Return ts ≡ false → sees s.Stop ts ≡ false → read.point regions locals ts ≡ read.going regions locals ts
-  unfolding read.stopping
-  past_stop ts h1 h2 = past_return ts h1 ∙ eat_other s.Stop (pure (read.ending t.Stop)) (read.going regions locals) ts h2
-
-  past_goto : (ts : Tokens) → sees s.Return ts ≡ false → sees s.Stop ts ≡ false → sees s.Goto ts ≡ false → read.point regions locals ts ≡ read.branching regions locals ts
-  unfolding read.going
-  past_goto ts h1 h2 h3 = past_stop ts h1 h2 ∙ eat_other s.Goto _ (read.branching regions locals) ts h3
-
-  past_if : (ts : Tokens) → sees s.Return ts ≡ false → sees s.Stop ts ≡ false → sees s.Goto ts ≡ false → sees s.If ts ≡ false → read.point regions locals ts ≡ read.statement regions locals ts
-  unfolding read.branching
-  past_if ts h1 h2 h3 h4 = past_goto ts h1 h2 h3 ∙ eat_other s.If _ (read.statement regions locals) ts h4
+  -- ---- points again
 
   -- a token that is none of the words that end a block
   abbrev NoEnd : Token → Type 0
   NoEnd token = (is_fixed s.Return token ≡ false) × (is_fixed s.Stop token ≡ false) × (is_fixed s.Goto token ≡ false) × (is_fixed s.If token ≡ false)
 
   no_end : (ts : Tokens) (token : Token) (x : List Token) (rest : Tokens) → Begins ts (token ∷ x) rest → NoEnd token → read.point regions locals ts ≡ read.statement regions locals ts
-  no_end ts token x rest b h = past_if ts (sees_none s.Return ts token x rest b h.0) (sees_none s.Stop ts token x rest b h.1) (sees_none s.Goto ts token x rest b h.2) (sees_none s.If ts token x rest b h.3)
+  no_end ts token x rest b h = past_if regions locals ts (sees_none s.Return ts token x rest b h.0) (sees_none s.Stop ts token x rest b h.1) (sees_none s.Goto ts token x rest b h.2) (sees_none s.If ts token x rest b h.3)
 
   to_assignment : (ts : Tokens) (l : ℕ) (x : List Token) (rest : Tokens) → Begins ts (Numbered n.Local l ∷ x) rest → read.point regions locals ts ≡ read.assignment regions locals ts
-  unfolding read.statement read.dropping read.active
-  to_assignment ts l x rest b =
-      no_end ts (Numbered n.Local l) x rest b (refl, refl, refl, refl)
-      ∙ eat_other s.Dead _ (read.dropping regions locals) ts (sees_none s.Dead ts (Numbered n.Local l) x rest b refl)
-      ∙ eat_other s.Drop _ (read.active regions locals) ts (sees_none s.Drop ts (Numbered n.Local l) x rest b refl)
-      ∙ eat_other s.Nop _ (read.assignment regions locals) ts (sees_none s.Nop ts (Numbered n.Local l) x rest b refl)
+  to_assignment ts l x rest b = local_begins regions locals ts (sees_numbered_same n.Local ts l x rest b)
 
   assign_again : (ts : Tokens) (a : Assignment) (rest : Tokens) → Begins ts (spell.assignment regions a) rest → place_fits locals a.target ≡ true → rvalue_fits count locals a.value ≡ true → NoDot rest
       → read.point regions locals ts ≡ Ok (read.assigned a.target a.value, rest)

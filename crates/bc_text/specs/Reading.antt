@@ -213,18 +213,30 @@ creation regions locals = do
   os ← operands locals
   pure (record { closure = c; operands = os })
 
+-- a closure made, as a value
+abbrev pub closure_value : List RegionName → ℕ → Parser Rvalue
+closure_value regions locals = rvalue_kinds.Closure <$> creation regions locals
+
 unfoldable pub captured : List RegionName → ℕ → Parser Rvalue
 captured regions locals = do
   closes ← eat s.Closure
-  if closes then (rvalue_kinds.Closure <$> creation regions locals) else (rvalue_kinds.Use <$> operand locals)
+  if closes then closure_value regions locals else (rvalue_kinds.Use <$> operand locals)
+
+-- a struct made, as a value
+abbrev pub aggregate_value : List RegionName → ℕ → Parser Rvalue
+aggregate_value regions locals = rvalue_kinds.Aggregate <$> aggregate regions locals
 
 unfoldable pub created : List RegionName → ℕ → Parser Rvalue
-created regions locals = λ ts. if sees_word ts then (rvalue_kinds.Aggregate <$> aggregate regions locals) ts else captured regions locals ts
+created regions locals = λ ts. if sees_word ts then aggregate_value regions locals ts else captured regions locals ts
+
+-- operands that are calculated with, as a value
+abbrev pub calc_value : ℕ → Parser Rvalue
+calc_value locals = rvalue_kinds.Calc <$> operands locals
 
 unfoldable pub computed : List RegionName → ℕ → Parser Rvalue
 computed regions locals = do
   calculates ← eat s.Calc
-  if calculates then (rvalue_kinds.Calc <$> operands locals) else created regions locals
+  if calculates then calc_value locals else created regions locals
 
 unfoldable pub rvalue : List RegionName → ℕ → Parser Rvalue
 rvalue regions locals = do
@@ -257,16 +269,24 @@ assigned p v = point_kinds.Statement (statement_kinds.Assign (record { target = 
 abbrev pub ending : Terminator → Point
 ending t = point_kinds.Terminator t
 
+-- a call of a closure, which ends its block
+abbrev pub closure_called : List RegionName → ℕ → Place → Parser Point
+closure_called regions locals p = (λ i. ending (terminator_kinds.Invoke i)) <$> invoked regions locals p
+
 unfoldable pub invoking : List RegionName → ℕ → Place → Parser Point
 invoking regions locals p = do
   invokes ← eat s.Invoke
-  if invokes then ((λ i. ending (terminator_kinds.Invoke i)) <$> invoked regions locals p) else (assigned p <$> rvalue regions locals)
+  if invokes then closure_called regions locals p else (assigned p <$> rvalue regions locals)
+
+-- a call, which ends its block
+abbrev pub function_called : List RegionName → ℕ → Place → Parser Point
+function_called regions locals p = (λ c. ending (terminator_kinds.Call c)) <$> called regions locals p
 
 -- what stands behind `P =`
 unfoldable pub value_of : List RegionName → ℕ → Place → Parser Point
 value_of regions locals p = do
   calls ← eat s.Call
-  if calls then ((λ c. ending (terminator_kinds.Call c)) <$> called regions locals p) else invoking regions locals p
+  if calls then function_called regions locals p else invoking regions locals p
 
 unfoldable pub assignment : List RegionName → ℕ → Parser Point
 assignment regions locals = do

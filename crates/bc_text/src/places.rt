@@ -189,7 +189,46 @@ fn creation(
     Ok(Creation { closure, operands })
 }
 
+/// Operands that are calculated with, behind their word. They are read apart, as aggregates and closures are: most values are
+/// none of these, and do not have to make room for them.
+#[inline(never)]
+fn calc_value(alloc: Global, cursor: &mut Cursor<'_>, locals: u16) -> Result<Rvalue, Refusal>
+    ensures { Reads (spec.calc_value locals cursor.old) result cursor.new }
+{
+    Ok(Rvalue::Calc(operands(alloc, cursor, locals)?))
+}
+
+#[inline(never)]
+fn aggregate_value(
+    alloc: Global,
+    cursor: &mut Cursor<'_>,
+    regions: &[RegionName],
+    locals: u16,
+) -> Result<Rvalue, Refusal>
+    requires { length regions.now ≤ 15 }
+    ensures { Reads (spec.aggregate_value regions.now locals cursor.old) result cursor.new }
+{
+    let aggregate = aggregate(alloc, cursor, regions, locals)?;
+    Ok(Rvalue::Aggregate(Apart::new(alloc, aggregate)?))
+}
+
+/// A closure made, as a value.
+#[inline(never)]
+fn closure_value(
+    alloc: Global,
+    cursor: &mut Cursor<'_>,
+    regions: &[RegionName],
+    locals: u16,
+) -> Result<Rvalue, Refusal>
+    requires { length regions.now ≤ 15 }
+    ensures { Reads (spec.closure_value regions.now locals cursor.old) result cursor.new }
+{
+    let creation = creation(alloc, cursor, regions, locals)?;
+    Ok(Rvalue::Closure(Apart::new(alloc, creation)?))
+}
+
 /// Reads what an assignment computes.
+#[inline(always)]
 #[tactic(auto, unfolding(crate::specs::Reading::rvalue, crate::specs::Reading::computed, crate::specs::Reading::created, crate::specs::Reading::captured))]
 pub fn rvalue(
     alloc: Global,
@@ -204,16 +243,13 @@ pub fn rvalue(
         return Ok(Rvalue::Borrow(borrow(cursor, regions, locals)?));
     }
     if cursor.eat(Symbol::Calc) {
-        return Ok(Rvalue::Calc(operands(alloc, cursor, locals)?));
+        return calc_value(alloc, cursor, locals);
     }
     if cursor.sees_word() {
-        return Ok(Rvalue::Aggregate(Apart::new(
-            alloc,
-            aggregate(alloc, cursor, regions, locals)?,
-        )?));
+        return aggregate_value(alloc, cursor, regions, locals);
     }
     if cursor.eat(Symbol::Closure) {
-        return Ok(Rvalue::Closure(Apart::new(alloc, creation(alloc, cursor, regions, locals)?)?));
+        return closure_value(alloc, cursor, regions, locals);
     }
     Ok(Rvalue::Use(operand(cursor, locals)?))
 }

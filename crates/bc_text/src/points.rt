@@ -74,6 +74,38 @@ fn invoked(
     })
 }
 
+/// A call for a destination, behind its word. It is read apart: most points are none, and do not have to make room for it.
+#[inline(never)]
+fn call(
+    alloc: Global,
+    cursor: &mut Cursor<'_>,
+    regions: &[RegionName],
+    locals: u16,
+    destination: Place,
+) -> Result<Point, Refusal>
+    requires { length regions.now ≤ 15 }
+    ensures { Reads (spec.function_called regions.now locals destination cursor.old) result cursor.new }
+{
+    let call = called(alloc, cursor, regions, locals, destination)?;
+    Ok(Point::Terminator(Terminator::Call(Apart::new(alloc, call)?)))
+}
+
+/// A call of a closure for a destination, behind its word.
+#[inline(never)]
+fn invocation(
+    alloc: Global,
+    cursor: &mut Cursor<'_>,
+    regions: &[RegionName],
+    locals: u16,
+    destination: Place,
+) -> Result<Point, Refusal>
+    requires { length regions.now ≤ 15 }
+    ensures { Reads (spec.closure_called regions.now locals destination cursor.old) result cursor.new }
+{
+    let invocation = invoked(alloc, cursor, regions, locals, destination)?;
+    Ok(Point::Terminator(Terminator::Invoke(Apart::new(alloc, invocation)?)))
+}
+
 #[inline(always)]
 #[tactic(auto, unfolding(crate::specs::Reading::assignment, crate::specs::Reading::value_of, crate::specs::Reading::invoking))]
 fn assignment(
@@ -88,12 +120,10 @@ fn assignment(
     let target = place(cursor, locals)?;
     cursor.expect(Symbol::Equals)?;
     if cursor.eat(Symbol::Call) {
-        let call = called(alloc, cursor, regions, locals, target)?;
-        return Ok(Point::Terminator(Terminator::Call(Apart::new(alloc, call)?)));
+        return call(alloc, cursor, regions, locals, target);
     }
     if cursor.eat(Symbol::Invoke) {
-        let invocation = invoked(alloc, cursor, regions, locals, target)?;
-        return Ok(Point::Terminator(Terminator::Invoke(Apart::new(alloc, invocation)?)));
+        return invocation(alloc, cursor, regions, locals, target);
     }
     let value = rvalue(alloc, cursor, regions, locals)?;
     let assignment = Assignment { target, value };
@@ -139,9 +169,10 @@ fn statement(
     assignment(alloc, cursor, regions, locals)
 }
 
-/// Reads a statement or a terminator.
+/// A statement or a terminator, tried by one keyword after another.
+#[inline(never)]
 #[tactic(auto, unfolding(crate::specs::Reading::point, crate::specs::Reading::stopping, crate::specs::Reading::going, crate::specs::Reading::branching))]
-pub fn read_point(
+fn other_point(
     alloc: Global,
     cursor: &mut Cursor<'_>,
     regions: &[RegionName],
@@ -164,4 +195,21 @@ pub fn read_point(
         return Ok(Point::Terminator(Terminator::If(condition)));
     }
     statement(alloc, cursor, regions, locals)
+}
+
+/// Reads a statement or a terminator. Most are assignments, and begin with a local.
+#[inline(always)]
+pub fn read_point(
+    alloc: Global,
+    cursor: &mut Cursor<'_>,
+    regions: &[RegionName],
+    locals: u16,
+) -> Result<Point, Refusal>
+    requires { length regions.now ≤ 15 }
+    ensures { Reads (spec.point regions.now locals cursor.old) result cursor.new }
+{
+    if cursor.sees_numbered(Numbering::Local) {
+        return assignment(alloc, cursor, regions, locals);
+    }
+    other_point(alloc, cursor, regions, locals)
 }

@@ -40,6 +40,7 @@ pub fn universal(cursor: &mut Cursor<'_>, regions: &[RegionName]) -> Result<u8, 
 }
 
 /// Reads a region, and returns it by its number.
+#[inline(always)]
 #[tactic(auto, unfolding(crate::specs::Reading::region))]
 pub fn region(
     cursor: &mut Cursor<'_>,

@@ -8,6 +8,7 @@ use bc_syntax::{Base, Mutability, Reference, RegionName, Sequence, ShortSequence
 use bc_tokens::{Cursor, Refusal};
 use std::alloc::Global;
 
+#[inline(always)]
 #[tactic(auto, unfolding(crate::specs::Reading::mutability))]
 fn mutability(cursor: &mut Cursor<'_>) -> Mutability
     ensures { spec.mutability cursor.old ≡ Ok (result, cursor.new) }
@@ -20,6 +21,7 @@ fn mutability(cursor: &mut Cursor<'_>) -> Mutability
 }
 
 /// Reads a reference behind its `&`: a region, and `mut` or not.
+#[inline(always)]
 #[tactic(auto, unfolding(crate::specs::Reading::reference))]
 pub fn reference(
     cursor: &mut Cursor<'_>,

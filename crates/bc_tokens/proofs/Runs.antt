@@ -122,6 +122,11 @@ two : (p : ℕ → Bool) (bytes : List ℕ) → p 0 ≡ false → p (slice_index
 two p [] z h k n = absurd cc
 two p (b ∷ bytes) z h k n = take_while-cons p b bytes ∙ ap (λ t. cond t (b ∷ take_while p bytes) []) h ∙ ap (λ (l : List ℕ). b ∷ l) (one p bytes z k n)
 
+three : (p : ℕ → Bool) (bytes : List ℕ) → p 0 ≡ false → p (slice_index bytes 0) ≡ true → p (slice_index bytes 1) ≡ true → p (slice_index bytes 2) ≡ true
+    → p (slice_index bytes 3) ≡ false → take_while p bytes ≡ take 3 bytes
+three p [] z h k m n = absurd cc
+three p (b ∷ bytes) z h k m n = take_while-cons p b bytes ∙ ap (λ t. cond t (b ∷ take_while p bytes) []) h ∙ ap (λ (l : List ℕ). b ∷ l) (two p bytes z k m n)
+
 -- a digit alone is a number
 pub one_digit : (bytes : List ℕ) → is_ascii_digit (slice_index bytes 0) ≡ true → is_run_byte (slice_index bytes 1) ≡ false
     → (take 1 bytes ≡ run bytes) × (true ≡ is_number (run bytes))
@@ -141,6 +146,18 @@ two_digits (b ∷ []) h other k n = absurd cc
 two_digits (b ∷ c ∷ bytes) h other k n =
     let e : run (b ∷ c ∷ bytes) ≡ b ∷ c ∷ [] = two is_run_byte (b ∷ c ∷ bytes) refl (digit_in_run b h) (digit_in_run c k) n in
     (sym e, rw (e, h, k, other) refl)
+
+-- three digits that do not begin with 0 are a number
+pub three_digits : (bytes : List ℕ) → is_ascii_digit (slice_index bytes 0) ≡ true → (slice_index bytes 0 == 48) ≡ false → is_ascii_digit (slice_index bytes 1) ≡ true
+    → is_ascii_digit (slice_index bytes 2) ≡ true → is_run_byte (slice_index bytes 3) ≡ false
+    → (take 3 bytes ≡ run bytes) × (true ≡ is_number (run bytes))
+unfolding is_number
+three_digits [] h other k m n = absurd cc
+three_digits (b ∷ []) h other k m n = absurd cc
+three_digits (b ∷ c ∷ []) h other k m n = absurd cc
+three_digits (b ∷ c ∷ d ∷ bytes) h other k m n =
+    let e : run (b ∷ c ∷ d ∷ bytes) ≡ b ∷ c ∷ d ∷ [] = three is_run_byte (b ∷ c ∷ d ∷ bytes) refl (digit_in_run b h) (digit_in_run c k) (digit_in_run d m) n in
+    (sym e, rw (e, h, k, m, other) refl)
 
 -- ---- what a run is, by its first byte
 

@@ -1,7 +1,7 @@
 //! A cursor over the tokens of a text, which cuts each as it is reached.
 ghost use Rattle.std.specs.Prelude.{◌≡◌, ◌≢◌, ◌≤◌, ◌<◌, ◌+◌, ◌^◌, ℕ, length, slice_index, Some, None, Err, nat_le, true, false, IsSome, if◌then◌else◌, IfOk, MatchOption, take_while};
 ghost use Rattle.std.specs.Char.{is_ascii_alphabetic, is_ascii_digit};
-ghost use Rattle.bc_syntax.specs.Token.{End, Numbered};
+ghost use Rattle.bc_syntax.specs.Token.{End, Fixed, Numbered};
 ghost use Rattle.bc_tokens.specs.Token.{Keeps, tokens, shown, lexeme, value, is_blank};
 ghost use Rattle.bc_syntax.specs.declared.numbering.Numbering.{Numbering};
 ghost use Rattle.bc_tokens.specs.Parser as spec;
@@ -52,13 +52,16 @@ fn all_blanks(text: &[u8]) -> usize
     text.iter().take_while(|byte| is_blank(**byte)).count()
 }
 
-/// How many blanks stand at the front of a text: mostly one.
+/// How many blanks stand at the front of a text: mostly one or none.
 #[inline(always)]
 fn blanks(text: &[u8]) -> usize
     ensures count { result ≡ length (take_while is_blank text.now) }
     ensures within { result ≤ length text.now }
 {
-    if is_blank(byte_at(text, 0)) && !is_blank(byte_at(text, 1)) {
+    if !is_blank(byte_at(text, 0)) {
+        return 0;
+    }
+    if !is_blank(byte_at(text, 1)) {
         return 1;
     }
     all_blanks(text)
@@ -96,6 +99,8 @@ impl<'a> Cursor<'a> {
 
     /// Returns why the next token is refused where the grammar does not allow it: `NotAscii` or `Token` where it is no token,
     /// else `Grammar`.
+    #[cold]
+    #[inline(never)]
     #[tactic(auto, unfolding(crate::specs::Parser::fault))]
     pub fn fault(&self) -> Refusal
         ensures value { result ≡ spec.fault self.now }
@@ -114,21 +119,6 @@ impl<'a> Cursor<'a> {
     /// Moves the cursor past the next token.
     #[inline(never)]
     pub fn take(&mut self)
-        requires { (first self.old).token ≢ End }
-        ensures { self.new ≡ after self.old }
-    {
-        let text = self.rest;
-        if text.is_empty() || is_blank(text[0]) {
-            self.take_blanks();
-        } else {
-            self.at = self.end;
-            self.cut(text);
-        }
-    }
-
-    /// Goes past the next token, and the blanks behind it.
-    #[inline(never)]
-    fn take_blanks(&mut self)
         requires { (first self.old).token ≢ End }
         ensures { self.new ≡ after self.old }
     {
@@ -156,7 +146,7 @@ impl<'a> Cursor<'a> {
     {
         let first = text[0];
         if let Some(sign) = Symbol::of_low_sign(first) {
-            self.put(Token::bare(Kind::Fixed(sign)), 1, text);
+            self.put_sign(sign, text);
         } else if first.is_ascii_alphabetic() {
             self.cut_letters(text);
         } else if first == b'_' {
@@ -241,7 +231,22 @@ impl<'a> Cursor<'a> {
         self.rest = behind(text, len);
     }
 
+    /// Puts the sign at the front of a text. What the token before had of digits or of a name stays, as no sign has any.
+    #[inline(always)]
+    fn put_sign(&mut self, sign: Symbol, text: &'a [u8])
+        requires token { (Fixed sign, 1) ≡ lexeme text.now }
+        requires some { 0 < length text.now }
+        requires ink { is_blank (slice_index text.now 0) ≡ false }
+        requires fits { spec.position self.old + length text.now < 2 ^ 64 }
+        ensures { self.new ≡ tokens 0 (spec.position self.old) text.now }
+    {
+        self.token.kind = Kind::Fixed(sign);
+        self.end = self.at + 1;
+        self.rest = behind(text, 1);
+    }
+
     /// Returns whether this symbol comes next.
+    #[inline(always)]
     #[tactic(auto, unfolding(crate::specs::Parser::sees))]
     pub fn sees(&self, symbol: Symbol) -> bool
         ensures value { result ≡ spec.sees symbol self.now }
@@ -259,6 +264,7 @@ impl<'a> Cursor<'a> {
     }
 
     /// Moves past this symbol if it comes next, and returns whether it did.
+    #[inline(always)]
     #[tactic(auto, unfolding(crate::specs::Parser::after_symbol))]
     pub fn eat(&mut self, symbol: Symbol) -> bool
         ensures found { result ≡ spec.sees symbol self.old }
@@ -272,6 +278,7 @@ impl<'a> Cursor<'a> {
     }
 
     /// Moves past this symbol, or returns the refusal of what comes in its place.
+    #[inline(always)]
     #[tactic(auto, unfolding(crate::specs::Parser::expect))]
     pub fn expect(&mut self, symbol: Symbol) -> Result<(), Refusal>
         ensures reads { Reads (spec.expect symbol self.old) result self.new }
@@ -284,6 +291,7 @@ impl<'a> Cursor<'a> {
         Ok(())
     }
 
+    #[inline(always)]
     #[tactic(auto, unfolding(crate::specs::Parser::sees_numbered))]
     fn is_numbered(&self, numbering: Numbering) -> bool
         ensures value { result ≡ spec.sees_numbered numbering self.now }
@@ -298,6 +306,7 @@ impl<'a> Cursor<'a> {
 
     /// Reads a number, local, label or variable, and returns its number. Returns `Limit` where the number is above the limit,
     /// else the refusal of what comes in its place.
+    #[inline(always)]
     #[tactic(auto, unfolding(crate::specs::Parser::numbered))]
     pub fn numbered(&mut self, numbering: Numbering, limit: u32) -> Result<u32, Refusal>
         ensures reads { Reads (spec.numbered numbering limit self.old) result self.new }
@@ -315,6 +324,7 @@ impl<'a> Cursor<'a> {
     }
 
     /// The next token's number, if it is within the limit.
+    #[inline(always)]
     fn value_within(&self, limit: u32) -> Option<u32>
         ensures { (numbering : Numbering) → (n : ℕ) → (first self.now).token ≡ Numbered numbering n → result ≡ (if nat_le n limit then Some n else None) }
     {

@@ -82,6 +82,29 @@ fn any_number_run(bytes: &[u8]) -> (&[u8], u64, bool)
     (run, number, is_number_of(run, others == 0))
 }
 
+/// The run at the front, what it counts, and whether it is a number. It may be one of three digits.
+#[inline(always)]
+fn three_digit_run(bytes: &[u8]) -> (&[u8], u64, bool)
+    ensures run { result.0.now ≡ run bytes.now }
+    ensures number { result.2 ≡ is_number (run bytes.now) }
+    ensures counts { result.2 ≡ true → Counts result.1 (value result.0.now) }
+    ensures within { length result.0.now ≤ length bytes.now }
+{
+    let first = byte_at(bytes, 0);
+    let second = byte_at(bytes, 1);
+    let third = byte_at(bytes, 2);
+    if first.is_ascii_digit()
+        && first != b'0'
+        && second.is_ascii_digit()
+        && third.is_ascii_digit()
+        && !is_run_byte(byte_at(bytes, 3))
+    {
+        let tens = u64::from(first - b'0') * 10 + u64::from(second - b'0');
+        return (&bytes[..3], tens * 10 + u64::from(third - b'0'), true);
+    }
+    any_number_run(bytes)
+}
+
 /// The run at the front, what it counts, and whether it is a number. Most numbers have one digit or two.
 #[inline(always)]
 fn number_run(bytes: &[u8]) -> (&[u8], u64, bool)
@@ -102,7 +125,7 @@ fn number_run(bytes: &[u8]) -> (&[u8], u64, bool)
         let number = u64::from(first - b'0') * 10 + u64::from(second - b'0');
         return (&bytes[..2], number, true);
     }
-    any_number_run(bytes)
+    three_digit_run(bytes)
 }
 
 /// The run at the front, and whether it is a name of a region. It is gone over once.

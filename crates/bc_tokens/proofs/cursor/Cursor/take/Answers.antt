@@ -5,7 +5,7 @@ use Rattle.bc_tokens.specs.Token.{is_blank, placed, shown}
 use Rattle.bc_tokens.specs.Cursor.{following}
 use Rattle.bc_tokens.specs.declared.token.Kind.{Kind}
 use Rattle.bc_tokens.proofs.Cuts.{ends, begins_here, cuts, goes_past}
-use Rattle.bc_tokens.proofs.cursor.Cursor.take_blanks.Goals as goal
+use Rattle.bc_tokens.proofs.cursor.Cursor.take.Goals as goal
 
 pub returns-then-is_empty : goal.returns-then-is_empty
 returns-then-is_empty c =

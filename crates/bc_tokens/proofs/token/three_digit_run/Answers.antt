@@ -1,0 +1,28 @@
+use Rattle.std.proofs.Common.{◌≡◌, true, false, slice_index, arith}
+use Rattle.std.specs.Prelude.{◌==◌}
+use Rattle.std.specs.Char.{is_ascii_digit}
+use Rattle.std.proofs.lemmas.Grind.{common_steps}
+use Rattle.std.proofs.lemmas.Bool.Decides.{nat_tests}
+use Rattle.bc_syntax.specs.Bytes.{is_run_byte}
+use Rattle.bc_tokens.proofs.Runs.{three_digits}
+use Rattle.bc_tokens.proofs.token.three_digit_run.Goals as goal
+
+pub returns-then-not-is_run_byte-clause-run : goal.returns-then-not-is_run_byte-clause-run
+returns-then-not-is_run_byte-clause-run c =
+    let bytes = c.args.bytes.now in
+    let digit : is_ascii_digit (slice_index bytes 0) ≡ true = grind (arith, common_steps) in
+    let other : (slice_index bytes 0 == 48) ≡ false = grind (arith, nat_tests, common_steps) in
+    let second : is_ascii_digit (slice_index bytes 1) ≡ true = grind (arith, common_steps) in
+    let third : is_ascii_digit (slice_index bytes 2) ≡ true = grind (arith, common_steps) in
+    let end : is_run_byte (slice_index bytes 3) ≡ false = grind (arith, common_steps) in
+    (three_digits bytes digit other second third end).0
+
+pub returns-then-not-is_run_byte-clause-number : goal.returns-then-not-is_run_byte-clause-number
+returns-then-not-is_run_byte-clause-number c =
+    let bytes = c.args.bytes.now in
+    let digit : is_ascii_digit (slice_index bytes 0) ≡ true = grind (arith, common_steps) in
+    let other : (slice_index bytes 0 == 48) ≡ false = grind (arith, nat_tests, common_steps) in
+    let second : is_ascii_digit (slice_index bytes 1) ≡ true = grind (arith, common_steps) in
+    let third : is_ascii_digit (slice_index bytes 2) ≡ true = grind (arith, common_steps) in
+    let end : is_run_byte (slice_index bytes 3) ≡ false = grind (arith, common_steps) in
+    (three_digits bytes digit other second third end).1
