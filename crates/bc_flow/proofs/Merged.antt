@@ -1,15 +1,14 @@
--- Words that are merged one by one with those of another list: joined with them, or without them.
-use Rattle.std.proofs.Common.{◌≡◌, ℕ, ◌+◌, ◌/◌, ◌%◌, ◌^◌, ◌<◌, ◌≤◌, Bool, true, false, not, ◌||◌, ◌&&◌, List, length, get_or, set, min, inl, inr, refl, sym, ap, ◌∙◌, arith, w64}
+-- Words that are merged one by one with those of another list: joined with them within a mask, or without them.
+use Rattle.std.proofs.Common.{◌≡◌, ℕ, ◌+◌, ◌/◌, ◌%◌, ◌^◌, ◌<◌, ◌≤◌, Bool, true, false, not, ◌||◌, ◌&&◌, eqb, List, length, get_or, set, min, inl, inr, refl, sym, ap, ◌∙◌, arith, w64}
 use Rattle.std.specs.Prelude.{bit_or, bit_and}
-use Rattle.std.specs.Int.{bit_not}
+use Rattle.std.specs.Int.{bit_at, bit_not}
 use Rattle.std.proofs.lemmas.Bool.{cases_lt, cases_eq}
 use Rattle.std.proofs.Math.Bool.{or-false}
 use Rattle.std.proofs.lemmas.List.{get_or-set_same, get_or-set_other}
-use Rattle.std.proofs.lemmas.Nat.Bits.{bit_at_and, bit_at_not, bit_at-lt}
+use Rattle.std.proofs.lemmas.Nat.Bits.{bit_at_or, bit_at_and, bit_at_not, bit_at-lt}
 use Rattle.bc_flow.specs.Packed.{bit}
-use Rattle.bc_flow.proofs.Members.{without_bits}
+use Rattle.bc_flow.proofs.Members.{or_bits, and_bits, min_below, without_bits}
 use Rattle.bc_flow.proofs.Filled.{same_word, bit-past}
-use Rattle.bc_flow.proofs.Fronts.{joined_word}
 
 -- the words below k are those that were wanted, and the others are as they were
 pub record AreMergedBelow (wanted : ℕ → ℕ) (new old : List ℕ) (k : ℕ) : Type 0 where
@@ -29,12 +28,23 @@ merged_more wanted words old k value s within is = record {
   rest = λ j h. get_or-set_other words k j value 0 (λ same. omega (arith, same, h)) ∙ s.rest j (omega (arith, h));
 }
 
--- a word joined with another, and a word without the bits of another
-abbrev pub joined : List ℕ → List ℕ → ℕ → ℕ
-joined old from j = bit_or (get_or old j 0) (get_or from j 0)
+-- a word joined with another within a mask, and a word without the bits of another
+abbrev pub joined_within : List ℕ → List ℕ → List ℕ → ℕ → ℕ
+joined_within old from mask j = bit_or (get_or old j 0) (bit_and (get_or from j 0) (get_or mask j 0))
 
 abbrev pub lessened : List ℕ → List ℕ → ℕ → ℕ
 lessened old from j = bit_and (get_or old j 0) (bit_not w64 (get_or from j 0))
+
+joined_word : (new old from mask : List ℕ) (i : ℕ) → get_or new (i / 64) 0 ≡ bit_or (get_or old (i / 64) 0) (bit_and (get_or from (i / 64) 0) (get_or mask (i / 64) 0)) →
+    bit new i ≡ (bit old i || (bit from i && bit mask i))
+unfolding bit
+joined_word new old from mask i is =
+    rw (
+      is,
+      bit_at_or (get_or old (i / 64) 0) (bit_and (get_or from (i / 64) 0) (get_or mask (i / 64) 0)) (i % 64),
+      bit_at_and (get_or from (i / 64) 0) (get_or mask (i / 64) 0) (i % 64),
+    )
+    (or_bits _ _ (bit_at-lt _ _) (min_below _ _ (bit_at-lt _ _)) ∙ ap (λ t. eqb (bit_at (get_or old (i / 64) 0) (i % 64)) 1 || t) (and_bits _ _ (bit_at-lt _ _) (bit_at-lt _ _)))
 
 lessened_word : (new old from : List ℕ) (i : ℕ) → get_or from (i / 64) 0 < 2 ^ 64 → get_or new (i / 64) 0 ≡ bit_and (get_or old (i / 64) 0) (bit_not w64 (get_or from (i / 64) 0)) →
     bit new i ≡ (bit old i && not (bit from i))
@@ -52,10 +62,10 @@ and_true true = refl
 and_true false = refl
 
 -- all words of the other list were joined
-pub joined_all : (new old from : List ℕ) (k : ℕ) → AreMergedBelow (joined old from) new old k → length from ≤ k → (i : ℕ) → bit new i ≡ (bit old i || bit from i)
-joined_all new old from k s end i = elim (cases_lt (i / 64) k) [
-  | inl h ↦ joined_word new old from i (s.done (i / 64) h)
-  | inr h ↦ same_word new old i (s.rest (i / 64) h) ∙ sym (ap (λ b. bit old i || b) (bit-past from i (omega (arith, h, end))) ∙ or-false (bit old i))
+pub joined_all : (new old from mask : List ℕ) (k : ℕ) → AreMergedBelow (joined_within old from mask) new old k → length from ≤ k → (i : ℕ) → bit new i ≡ (bit old i || (bit from i && bit mask i))
+joined_all new old from mask k s end i = elim (cases_lt (i / 64) k) [
+  | inl h ↦ joined_word new old from mask i (s.done (i / 64) h)
+  | inr h ↦ same_word new old i (s.rest (i / 64) h) ∙ sym (ap (λ b. bit old i || (b && bit mask i)) (bit-past from i (omega (arith, h, end))) ∙ or-false (bit old i))
 ]
 
 -- the words of one list are at an end

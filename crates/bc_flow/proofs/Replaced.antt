@@ -1,4 +1,4 @@
--- A row whose words were lent out and came back as those of another row, without its bits, or joined with them.
+-- A row whose words were lent out and came back as those of another row, without its bits, or joined with them within a mask.
 use Rattle.std.proofs.Common.{◌≡◌, ℕ, ◌+◌, ◌-◌, ◌*◌, ◌/◌, ◌^◌, ◌<◌, ◌≤◌, Bool, false, not, ◌||◌, ◌&&◌, List, length, get_or, take, drop, ◌++◌, inl, inr, sym, ap, ◌∙◌, subst, arith}
 use borrow.Rule.Slice.PartMut.{put_same}
 use Rattle.std.proofs.lemmas.Bool.{cases_lt}
@@ -103,16 +103,23 @@ taken_from {rows} {width} {size} {items} {table} {to} taken r = record {
   members = r.members;
 }
 
--- ---- joined with a row
+-- ---- joined with a row within another
 
-pub joined_row : {rows width size size2 : ℕ} {old from : List ℕ} {table : List (List Bool)} {set : List Bool} (len : ℕ) (lent new : List ℕ) (to : ℕ) → IsTable rows width size old → table_of rows width size old ≡ table → lent ≡ old → to < length table →
-    IsPacked size2 from → bits_of size2 from ≡ set → length set ≡ length (row table to) → len ≡ length old → length new ≡ length (part (to * width) width lent) →
-    ((i : ℕ) → bit new i ≡ (bit (part (to * width) width lent) i || bit from i)) →
-    IsPartJoined rows width size old len lent new table to (has set)
-joined_row {rows} {width} {size} {size2} {old} {from} {table} {set} len lent new to t view e h packed view2 alike whole same bits =
-    part_joined len lent new to (has set) t view e h whole same
-    (λ i. bits i ∙ ap (λ b. bit (part (to * width) width lent) i || b) (member_is packed view2 i))
-    (none_past set t view to h alike)
+-- two rows of one size have as many words
+pub same_words : {rows width size size2 size3 : ℕ} {old from mask : List ℕ} {table : List (List Bool)} {set set2 : List Bool} (lent : List ℕ) → IsTable rows width size old → table_of rows width size old ≡ table → lent ≡ old → (to : ℕ) → to < length table →
+    IsPacked size2 from → bits_of size2 from ≡ set → length set ≡ length (row table to) → IsPacked size3 mask → bits_of size3 mask ≡ set2 → length set2 ≡ length (row table to) → length from ≤ length mask
+same_words lent t view e to h packed view2 alike packed3 view3 alike3 =
+    omega (arith, same_room lent t view e to h packed view2 alike, same_room lent t view e to h packed3 view3 alike3)
+
+pub joined_row : {rows width size size2 size3 : ℕ} {old from mask : List ℕ} {table : List (List Bool)} {set set2 : List Bool} (len : ℕ) (lent new : List ℕ) (to : ℕ) → IsTable rows width size old → table_of rows width size old ≡ table → lent ≡ old → to < length table →
+    IsPacked size2 from → bits_of size2 from ≡ set → length set ≡ length (row table to) → IsPacked size3 mask → bits_of size3 mask ≡ set2 → len ≡ length old → length new ≡ length (part (to * width) width lent) →
+    ((i : ℕ) → bit new i ≡ (bit (part (to * width) width lent) i || (bit from i && bit mask i))) →
+    IsPartJoined rows width size old len lent new table to (λ f. has set f && has set2 f)
+joined_row {rows} {width} {size} {size2} {size3} {old} {from} {mask} {table} {set} {set2} len lent new to t view e h packed view2 alike packed3 view3 whole same bits =
+    part_joined len lent new to (λ f. has set f && has set2 f) t view e h whole same
+    (λ i. bits i ∙ (ap (λ b. bit (part (to * width) width lent) i || (b && bit mask i)) (member_is packed view2 i)
+    ∙ ap (λ b. bit (part (to * width) width lent) i || (has set i && b)) (member_is packed3 view3 i)))
+    (λ i past. ap (λ b. b && has set2 i) (none_past set t view to h alike i past))
 
 -- the part came back as it was
 pub same_table : {rows width size : ℕ} {old : List ℕ} {table : List (List Bool)} (len : ℕ) (lent new : List ℕ) (to : ℕ) → IsTable rows width size old → table_of rows width size old ≡ table → lent ≡ old → len ≡ length old → new ≡ part (to * width) width lent →

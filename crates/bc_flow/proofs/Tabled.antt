@@ -13,7 +13,7 @@ use Rattle.bc_flow.specs.BitSet.{has, absent_count}
 use Rattle.bc_flow.specs.Packed.{bit, is_set}
 use Rattle.bc_flow.specs.Flow.{row, holds, HaveSize}
 use Rattle.bc_flow.specs.Tabled.{row_of, table_of, IsTable}
-use Rattle.bc_flow.proofs.Members.{same_from_absent, word_from_bits, refilled, or_bits, min_below, without_bits, word_with, bit-set_same, bit-set_other, word_without, bit-clear_same, bit-clear_other, same_by_has, not_one}
+use Rattle.bc_flow.proofs.Members.{same_from_absent, word_from_bits, refilled, or_bits, min_below, without_bits, word_with, bit-set_same, bit-set_other, same_by_has, not_one}
 use Rattle.bc_flow.proofs.Filled.{bit_is, same_word}
 use Rattle.bc_flow.proofs.Words.{Differs, Differs-more}
 
@@ -320,37 +320,7 @@ union_table_without {rows} {width} {size} {rows2} {width2} {size2} {old} {kills}
     ap (λ b. bit old (64 * (to * width) + i) || (holds table from i && not b)) (cell_is t2 view2 kill i killing (omega (arith, p, wide)))))
     (λ i p. ap (λ b. b && not (holds killed kill i)) (no_fact t view from i there p))
 
--- ---- one number written
-
--- a number of the row is a member or not, as was wanted
-pub record IsNumberSet (rows width size : ℕ) (new : List ℕ) (table : List (List Bool)) (to e : ℕ) (member : Bool) : Type 0 where
-  pub written : IsRowWritten rows width size new table to
-  pub row_is : row (table_of rows width size new) to ≡ set (row table to) e member
-
-number_set : {rows width size : ℕ} {words : List ℕ} {table : List (List Bool)} → IsTable rows width size words → table_of rows width size words ≡ table → (to e value : ℕ) (member : Bool) → to < length table → e < length (row table to) →
-    bit (set words (to * width + e / 64) value) (64 * (to * width) + e) ≡ member →
-    ((i : ℕ) → (i ≡ e → ⊥) → bit (set words (to * width + e / 64) value) (64 * (to * width) + i) ≡ bit words (64 * (to * width) + i)) →
-    IsNumberSet rows width size (set words (to * width + e / 64) value) table to e member
-number_set {rows} {width} {size} {words} {table} t view to e value member h below here_is rest =
-    let here : to < rows = omega (arith, h, rows_is t view) in
-    let p : e < size = omega (arith, below, size_is t view to h) in
-    let at : ℕ = to * width in
-    let new : List ℕ = set words (at + e / 64) value in
-    let wide = t.wide in
-    let written = row_written new to t view h (length-set words (at + e / 64) value)
-    (λ j outside. get_or-set_other words (at + e / 64) j value 0 (λ same. let o = outside (omega (arith, same)) in omega (arith, same, o, p, wide)))
-    (λ i low high. rest i (λ same. omega (arith, same, low, p)) ∙ t.clean to i here low high) in
-    record {
-      written = written;
-      row_is = same_by_has (row (table_of rows width size new) to) (set (row table to) e member) (written.size_is ∙ sym (length-set (row table to) e member))
-          (λ i. elim (cases_eq i e) [
-            | inl same ↦ rw same (holds_at rows width size new to e here p ∙ (here_is ∙ sym (get_or-set_same (row table to) e member false below)))
-            | inr differs ↦ elim (cases_lt i size) [
-              | inl inside ↦ holds_at rows width size new to i here inside ∙ (rest i differs ∙ (sym (holds_at rows width size words to i here inside) ∙ (ap (λ v. holds v to i) view ∙ sym (get_or-set_other (row table to) e i member false differs))))
-              | inr past ↦ holds_past rows width size new to i here past ∙ (sym (no_fact t view to i here past) ∙ sym (get_or-set_other (row table to) e i member false differs))
-            ]
-          ]);
-    }
+-- ---- one number added
 
 pub record IsInserted (rows width size w : ℕ) (new : List ℕ) (table : List (List Bool)) (to e : ℕ) : Type 0 where
   pub written : IsRowWritten rows width size new table to
@@ -371,27 +341,25 @@ inserted {rows} {width} {size} {words} {table} t view to e w h below is =
     let on : bit new (64 * at + e) ≡ true = rw (q, m) at (bit-set_same words (64 * at + e) w (rw q within)) in
     let off : (i : ℕ) → (i ≡ e → ⊥) → bit new (64 * at + i) ≡ bit words (64 * at + i) =
     λ i differs. rw f (rw (q, m) at (bit-set_other words (64 * at + e) (64 * at + i) (rw q within) (λ same. differs (omega (arith, same))))) in
-    let n = number_set t view to e (word_with w e) true h below on off in
+    let wide = t.wide in
+    let written = row_written new to t view h (length-set words (at + e / 64) (word_with w e))
+    (λ j outside. get_or-set_other words (at + e / 64) j (word_with w e) 0 (λ same. let o = outside (omega (arith, same)) in omega (arith, same, o, p, wide)))
+    (λ i low high. off i (λ same. omega (arith, same, low, p)) ∙ t.clean to i here low high) in
+    let row_is : row (table_of rows width size new) to ≡ set (row table to) e true =
+    same_by_has (row (table_of rows width size new) to) (set (row table to) e true) (written.size_is ∙ sym (length-set (row table to) e true))
+    (λ i. elim (cases_eq i e) [
+      | inl same ↦ rw same (holds_at rows width size new to e here p ∙ (on ∙ sym (get_or-set_same (row table to) e true false (omega (arith, p, size_is t view to h)))))
+      | inr differs ↦ elim (cases_lt i size) [
+        | inl below ↦ holds_at rows width size new to i here below ∙ (off i differs ∙ (sym (holds_at rows width size words to i here below) ∙ (ap (λ v. holds v to i) view ∙ sym (get_or-set_other (row table to) e i true false differs))))
+        | inr past ↦ holds_past rows width size new to i here past ∙ (sym (no_fact t view to i here past) ∙ sym (get_or-set_other (row table to) e i true false differs))
+      ]
+    ]) in
     record {
-      written = n.written;
-      row_is = n.row_is;
+      written = written;
+      row_is = row_is;
       added = rw (one_shl (e % 64) 64 (omega arith), and_pow w (e % 64), f)
           (not_one (bit_at (get_or words (at + e / 64) 0) (e % 64)) (2 ^ (e % 64)) (bit_at-lt _ _) (pow_pos (e % 64)) ∙ ap not (sym (bit_place words at e) ∙ (sym (holds_at rows width size words to e here p) ∙ ap (λ v. holds v to e) view)));
     }
-
-pub removed : {rows width size : ℕ} {words : List ℕ} {table : List (List Bool)} → IsTable rows width size words → table_of rows width size words ≡ table → (to e w : ℕ) → to < length table → e < length (row table to) →
-    w ≡ get_or words (to * width + e / 64) w → IsNumberSet rows width size (set words (to * width + e / 64) (word_without w e)) table to e false
-removed {rows} {width} {size} {words} {table} t view to e w h below is =
-    let at : ℕ = to * width in
-    let within : at + e / 64 < length words = cell_in t view to e h below in
-    let f : w ≡ get_or words (at + e / 64) 0 = is ∙ get_or_default_zero words (at + e / 64) w within in
-    let q : (64 * at + e) / 64 ≡ at + e / 64 = omega arith in
-    let m : (64 * at + e) % 64 ≡ e % 64 = omega arith in
-    let new : List ℕ = set words (at + e / 64) (word_without w e) in
-    let off : bit new (64 * at + e) ≡ false = rw (q, m) at (bit-clear_same words (64 * at + e) w (rw q within)) in
-    let rest : (i : ℕ) → (i ≡ e → ⊥) → bit new (64 * at + i) ≡ bit words (64 * at + i) =
-    λ i differs. rw f (rw (q, m) at (bit-clear_other words (64 * at + e) (64 * at + i) (rw q within) (λ same. differs (omega (arith, same))))) in
-    number_set t view to e (word_without w e) false h below off rest
 
 -- ---- one word of a row
 

@@ -2,12 +2,12 @@
 ghost use Rattle.std.specs.Prelude.{◌≡◌, ℕ, ◌+◌, ◌*◌, ◌/◌, ◌%◌, ◌^◌, ◌<◌, ◌≤◌, Bool, true, false, not, ◌||◌, ◌&&◌, nat_lt, length, IfOk, MatchOption, slice_index, slice_set, bit_or, bit_and};
 ghost use Rattle.std.specs.List.{All};
 ghost use Rattle.std.specs.Int.{Width, w64, bit_not};
-ghost use Rattle.bc_flow.specs.BitSet.{has, absent_count, IsNextMember, IsNextAbsent};
+ghost use Rattle.bc_flow.specs.BitSet.{has, absent_count, IsNextMember};
 ghost use Rattle.bc_flow.specs.Packed.{is_set};
 ghost use Rattle.bc_flow.specs.Flow.{row, holds, HaveSize, AreAdded, AreTaken};
 
 use crate::bit_words::{
-    fill_below, join_words, next_bit, next_zero, subtract_words, union_words_below,
+    fill_below, join_words_within, next_bit, subtract_words, union_words_below,
 };
 use std::alloc::{AllocError, Global};
 use std::marker::Model;
@@ -105,13 +105,6 @@ impl<'a> BitRow<'a> {
         ensures { MatchOption result ((i : ℕ) → from ≤ i → has self.now i ≡ false) (λ member. IsNextMember self.now from member) }
     {
         next_bit(self.words, self.size, from)
-    }
-
-    /// Returns the least number that is `from` or greater and no member. Past the size no number is a member. It takes no memory.
-    pub fn next_absent(&self, from: usize) -> usize
-        ensures { IsNextAbsent self.now from result }
-    {
-        next_zero(self.words, self.size, from)
     }
 }
 
@@ -221,20 +214,6 @@ impl BitTable {
         added
     }
 
-    /// Takes a number out of a row.
-    pub fn remove(&mut self, node: usize, element: usize)
-        requires node { node < length self.old }
-        requires element { element < length (row self.old node) }
-        ensures rows { length self.new ≡ length self.old }
-        ensures others { self.new ≡ slice_set self.old node (row self.new node) }
-        ensures size { length (row self.new node) ≡ length (row self.old node) }
-        ensures set { row self.new node ≡ slice_set (row self.old node) element false }
-    {
-        let mask = 1_u64 << (element % 64);
-        let word = &mut self.words[node * self.width + element / 64];
-        *word &= !mask;
-    }
-
     /// Adds each number below `count` to a row.
     pub fn insert_below(&mut self, node: usize, count: usize)
         requires node { node < length self.old }
@@ -264,16 +243,18 @@ impl BitTable {
         union_words_below(&mut self.words[at..at + self.width], from.words, count);
     }
 
-    /// Adds to a row the members of `from`, a row of the same size, and returns whether there was a new one.
-    pub fn join_row(&mut self, node: usize, from: &BitRow<'_>) -> bool
+    /// Adds to a row those members of `from` that `mask` has too, both rows of the same size, and returns whether there was a new
+    /// one.
+    pub fn join_row_within(&mut self, node: usize, from: &BitRow<'_>, mask: &BitRow<'_>) -> bool
         requires node { node < length self.old }
         requires from { length from.now ≡ length (row self.old node) }
-        ensures added { AreAdded self.old self.new node (has from.now) }
+        requires mask { length mask.now ≡ length (row self.old node) }
+        ensures added { AreAdded self.old self.new node (λ f. has from.now f && has mask.now f) }
         ensures unchanged { result ≡ false → self.new ≡ self.old }
         ensures grown { result ≡ true → absent_count (row self.new node) < absent_count (row self.old node) }
     {
         let at = node * self.width;
-        join_words(&mut self.words[at..at + self.width], from.words)
+        join_words_within(&mut self.words[at..at + self.width], from.words, mask.words)
     }
 
     /// Takes the members of `from` out of a row. The rows may differ in size.

@@ -1,7 +1,7 @@
 //! Runs of words, one bit for each number, the least in the lowest bit of the first word.
 ghost use Rattle.std.specs.Prelude.{◌≡◌, ℕ, ◌+◌, ◌*◌, ◌^◌, ◌<◌, ◌≤◌, true, false, not, ◌||◌, ◌&&◌, nat_lt, length, MatchOption, slice_index, bit_or, bit_and};
 ghost use Rattle.std.specs.Int.{Width, w64, bit_not};
-ghost use Rattle.bc_flow.specs.Packed.{is_set, bit, IsNextBit, IsNextZero};
+ghost use Rattle.bc_flow.specs.Packed.{is_set, bit, IsNextBit};
 
 /// The first bit from `from` on that is set. All bits that are set are below `size`.
 pub(crate) fn next_bit(words: &[u64], size: usize, from: usize) -> Option<usize>
@@ -15,23 +15,6 @@ pub(crate) fn next_bit(words: &[u64], size: usize, from: usize) -> Option<usize>
         word = *words.get(index)?;
     }
     Some(64 * index + word.trailing_zeros() as usize)
-}
-
-/// The first bit from `from` on that is not set, which may lie past the words. All bits that are set are below `size`.
-pub(crate) fn next_zero(words: &[u64], size: usize, from: usize) -> usize
-    requires { (i : ℕ) → bit words.now i ≡ true → i < size }
-    ensures { IsNextZero words.now from result }
-{
-    let mut mask = u64::MAX << (from % 64);
-    for index in from / 64..words.len() {
-        let absent = !words[index] & mask;
-        if absent != 0 {
-            return 64 * index + absent.trailing_zeros() as usize;
-        }
-        mask = u64::MAX;
-    }
-    let end = 64 * words.len();
-    from.max(end)
 }
 
 /// Adds the first `count` bits of `from`, which may have fewer or more words.
@@ -48,17 +31,18 @@ pub(crate) fn union_words_below(into: &mut [u64], from: &[u64], count: usize)
     }
 }
 
-/// Adds the bits of `from`, which may have fewer words. Answers whether that changed any.
-pub(crate) fn join_words(into: &mut [u64], from: &[u64]) -> bool
-    requires { length from.now ≤ length into.old }
-    ensures bits { (i : ℕ) → bit into.new i ≡ (bit into.old i || bit from.now i) }
+/// Adds those bits of `from` that `mask` has too. Both others may have more words than `from`. Answers whether that changed any.
+pub(crate) fn join_words_within(into: &mut [u64], from: &[u64], mask: &[u64]) -> bool
+    requires into { length from.now ≤ length into.old }
+    requires mask { length from.now ≤ length mask.now }
+    ensures bits { (i : ℕ) → bit into.new i ≡ (bit into.old i || (bit from.now i && bit mask.now i)) }
     ensures unchanged { result ≡ false → into.new ≡ into.old }
     ensures changed { result ≡ true → (k : ℕ) × (k < length into.old) × (slice_index into.new k < 2 ^ 64) × (slice_index into.old k < 2 ^ 64) × (slice_index into.new k ≡ slice_index into.old k → ⊥) }
 {
     let mut changed = false;
     for k in 0..from.len() {
         let before = into[k];
-        let after = before | from[k];
+        let after = before | (from[k] & mask[k]);
         into[k] = after;
         changed |= after != before;
     }

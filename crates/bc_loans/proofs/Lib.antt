@@ -1,7 +1,9 @@
 pub mod Listing
 pub mod Overwriting
-pub mod Regions
-pub mod Graphs
 pub mod Ways
+pub mod Regions
+pub mod Telling
 pub mod Walking
-pub mod Flowing
+pub mod Closing
+pub mod Seeding
+pub mod Sweeping

@@ -3,7 +3,7 @@ use Rattle.std.proofs.Common.{◌≡◌, ℕ, ◌+◌, ◌<◌, ◌↔◌, Bool,
 use Rattle.std.specs.Prelude.{slice_get}
 use Rattle.std.specs.List.{All, Contains, enumerate_from}
 use Rattle.std.specs.Option.{option_map_or}
-use Rattle.std.proofs.lemmas.Bool.{cases_eq, eq-eqb, ne_eqb, false_from_ne_true}
+use Rattle.std.proofs.lemmas.Bool.{cases_eq, eq-eqb, eqb-true, ne_eqb, false_from_ne_true, false≢true}
 use Rattle.std.proofs.lemmas.Option.{slice_get_within, get_or_from_slice_get}
 use Rattle.std.proofs.lemmas.List.Elements.{Contains-get_or, All-contains}
 use Rattle.bc_flow.specs.declared.tables.Entry.{Entry}
@@ -12,9 +12,12 @@ use Rattle.bc_flow.proofs.Membership.{Contains-nil, Contains-one, Contains-head,
 use Rattle.bc_points.specs.declared.loan.Loan.{Loan}
 use Rattle.bc_mir.specs.Mir.{Mir}
 use Rattle.bc_points.specs.Points.{loan_of}
-use Rattle.bc_loans.specs.Entries.{local_at, local_entries}
+use Rattle.bc_points.specs.Prefixes.{same_projection}
+use Rattle.bc_syntax.specs.declared.syntax.Projection.{Projection}
+use Rattle.bc_syntax.specs.declared.syntax.Projection.TheVariants.{Deref, Field}
+use Rattle.bc_loans.specs.Entries.{local_at, local_entries, projection_number, entry_at, listed, projection_at, projection_entries}
 use Rattle.bc_loans.specs.Loans.{with_point, loans_of_step, loans_of}
-use Rattle.bc_loans.specs.Overwrites.{begins_with}
+use Rattle.bc_loans.specs.Overwrites.{begins_with, AreProjecting}
 
 abbrev Made : Type 0
 Made = ℕ × Loan
@@ -75,3 +78,75 @@ locals_within loans bound below k d h =
     let small = All-contains (λ (made : Made). made.1.path.local < bound) loans t.0 below
     (subst (λ (m : Made). Contains loans m) (get_or_from_slice_get loans _ t.0 t.0 t.1) (Contains-get_or loans _ t.0 within)) in
     (rw (← t.2) small, within)
+
+-- ---- projections
+
+same_truth : (a b : Bool) → (a ≡ true → b ≡ true) → (b ≡ true → a ≡ true) → a ≡ b
+same_truth true b to from = sym (to refl)
+same_truth false true to from = from refl
+same_truth false false to from = refl
+
+-- projections with one number are one
+same_number : (p q : Projection) → projection_number p ≡ projection_number q → same_projection p q ≡ true
+same_number Deref Deref is = refl
+same_number Deref (Field k) is = absurd (omega (arith, is))
+same_number (Field j) Deref is = absurd (omega (arith, is))
+same_number (Field j) (Field k) is = eq-eqb j k (omega (arith, is))
+
+one_number : (p q : Projection) → same_projection p q ≡ true → projection_number p ≡ projection_number q
+one_number Deref Deref is = refl
+one_number Deref (Field k) is = absurd (false≢true is)
+one_number (Field j) Deref is = absurd (false≢true is)
+one_number (Field j) (Field k) is = ap (λ n. n + 1) (eqb-true j k is)
+
+few_projections : (p : Projection) (o : Option Projection) (loan : ℕ) (e : Entry) → Contains (listed (entry_at loan o)) e → (q : Projection) × (o ≡ Some q) × (loan ≡ e.fact) × (projection_number q ≡ e.node)
+few_projections p None loan e h = absurd (Contains-nil e h)
+few_projections p (Some q) loan e h =
+    let is = Contains-one (let x : Entry = record { node = projection_number q; fact = loan } in x) e h in
+    (q, refl, ap (λ (x : Entry). x.fact) is, ap (λ (x : Entry). x.node) is)
+
+from_projections : (depth : ℕ) (loans : List Made) (e : Entry) → Contains (projection_entries depth loans) e →
+    (made : Made) × (slice_get loans e.fact ≡ Some made) × (q : Projection) × (slice_get made.1.path.projections depth ≡ Some q) × (projection_number q ≡ e.node)
+from_projections depth loans e h =
+    let a = from_flat_map (projection_at depth) (enumerate_from 0 loans) e h in
+    let b = from_enumerate 0 loans a.0 a.1 in
+    let c = few_projections Deref (slice_get a.0.1.1.path.projections depth) a.0.0 e a.2 in
+    let number : b.0 ≡ e.fact = omega (arith, b.1, c.2) in
+    (a.0.1, subst (λ k. slice_get loans k ≡ Some a.0.1) number b.2, c.0, c.1, c.3)
+
+in_projections : (depth : ℕ) (loans : List Made) (l : ℕ) (made : Made) (q : Projection) → slice_get loans l ≡ Some made → slice_get made.1.path.projections depth ≡ Some q →
+    Contains (projection_entries depth loans) (record { node = projection_number q; fact = l })
+in_projections depth loans l made q is at =
+    let number : 0 + l ≡ l = omega arith in
+    in_flat_map (projection_at depth) (enumerate_from 0 loans) (l, made) (record { node = projection_number q; fact = l })
+    (subst (λ k. Contains (enumerate_from 0 loans) (k, made)) number (in_enumerate 0 loans l made is))
+    (subst (λ (o : Option Projection). Contains (listed (entry_at l o)) (record { node = projection_number q; fact = l })) (sym at) (Contains-head (record { node = projection_number q; fact = l }) []))
+
+-- a set has a loan that projects there where it is listed
+listed_at : (depth : ℕ) (loans : List Made) (p : Projection) (l : ℕ) (made : Made) (found : Option Projection) → slice_get loans l ≡ Some made → slice_get made.1.path.projections depth ≡ found → (b : Bool) →
+    (b ≡ true) ↔ Lists (projection_entries depth loans) (projection_number p) l → b ≡ option_map_or (same_projection p) found false
+listed_at depth loans p l made None is at b listed = false_from_ne_true b (λ h.
+    let a = from_projections depth loans (record { node = projection_number p; fact = l }) (listed.0 h) in
+    let one : made ≡ a.0 = same_found (slice_get loans l) made a.0 is a.1 in
+    let bad : None ≡ Some a.2 = sym at ∙ ap (λ (m : Made). slice_get m.1.path.projections depth) one ∙ a.3 in
+    absurd cc)
+listed_at depth loans p l made (Some q) is at b listed = same_truth b (same_projection p q)
+    (λ h.
+    let a = from_projections depth loans (record { node = projection_number p; fact = l }) (listed.0 h) in
+    let one : made ≡ a.0 = same_found (slice_get loans l) made a.0 is a.1 in
+    let there : slice_get made.1.path.projections depth ≡ Some a.2 = ap (λ (m : Made). slice_get m.1.path.projections depth) one ∙ a.3 in
+    let both : Some q ≡ Some a.2 = sym at ∙ there in
+    let same : q ≡ a.2 = cc in
+    same_number p q (sym (ap projection_number same ∙ a.4)))
+    (λ h. listed.1 (subst (λ n. Lists (projection_entries depth loans) n l) (sym (one_number p q h)) (in_projections depth loans l made q is at)))
+
+listed_projects : (depth : ℕ) (loans : List Made) (p : Projection) (l : ℕ) (found : Option Made) → slice_get loans l ≡ found → (b : Bool) → (b ≡ true) ↔ Lists (projection_entries depth loans) (projection_number p) l →
+    b ≡ option_map_or (λ (made : Made). option_map_or (same_projection p) (slice_get made.1.path.projections depth) false) found false
+listed_projects depth loans p l None is b listed = false_from_ne_true b (λ h.
+    let a = from_projections depth loans (record { node = projection_number p; fact = l }) (listed.0 h) in
+    let bad : None ≡ Some a.0 = sym is ∙ a.1 in
+    absurd cc)
+listed_projects depth loans p l (Some made) is b listed = listed_at depth loans p l made (slice_get made.1.path.projections depth) is refl b listed
+
+pub rows_project : (depth : ℕ) (loans : List Made) (rows : List (List Bool)) → HaveEntries rows (projection_entries depth loans) → AreProjecting loans depth rows
+rows_project depth loans rows entries p l = listed_projects depth loans p l (slice_get loans l) refl (holds rows (projection_number p) l) (entries (projection_number p) l)

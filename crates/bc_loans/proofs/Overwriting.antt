@@ -1,21 +1,19 @@
--- The loans whose paths a place is a prefix of: by the local first, and then one by one.
-use Rattle.std.proofs.Common.{◌≡◌, ℕ, ◌+◌, ◌<◌, ◌≤◌, inl, inr, Bool, true, false, cond, ◌||◌, ◌&&◌, ◌==◌, List, [], length, set, get_or, Option, Some, None, is_some, refl, sym, ap, ◌∙◌, subst, arith}
+-- The loans whose paths a place is a prefix of: by the local, and then by one projection after another.
+use Rattle.std.proofs.Common.{◌≡◌, ℕ, ◌+◌, ◌<◌, ◌≤◌, inl, inr, Bool, true, false, not, cond, ◌&&◌, ◌==◌, List, [], ◌∷◌, ◌++◌, length, take, get_or, suc, Option, Some, None, is_some, eqb-true, refl, sym, ap, ◌∙◌, subst, arith}
 use Rattle.std.specs.Prelude.{slice_get}
 use Rattle.std.specs.Option.{option_map_or}
-use Rattle.std.proofs.lemmas.Bool.{cases_eq, cases_lt, both_ways}
-use Rattle.std.proofs.lemmas.List.{get_or-set_same, get_or-set_other, length-set, get_or_past}
-use Rattle.std.proofs.lemmas.Option.{slice_get_read}
-use Rattle.std.proofs.Math.Bool.{or-false, or-true}
-use Rattle.bc_flow.specs.BitSet.{has, IsNextMember}
-use Rattle.bc_flow.specs.Flow.{row, holds, AreAdded}
+use Rattle.std.proofs.lemmas.Bool.{cases_lt, both_ways}
+use Rattle.std.proofs.lemmas.List.{get_or_past, take_more, take_all, length-take-le}
+use Rattle.bc_flow.specs.BitSet.{has}
+use Rattle.bc_flow.specs.Flow.{row, holds, AreTaken}
 use Rattle.bc_syntax.specs.declared.syntax.Place.{Place}
 use Rattle.bc_syntax.specs.declared.syntax.Projection.{Projection}
 use Rattle.bc_points.specs.declared.loan.Loan.{Loan}
 use Rattle.bc_mir.specs.declared.mir.Step.{Step}
 use Rattle.bc_mir.specs.declared.mir.Instruction.{Instruction}
 use Rattle.bc_points.specs.Accesses.{overwritten}
-use Rattle.bc_points.specs.Prefixes.{is_prefix, rest_after}
-use Rattle.bc_loans.specs.Overwrites.{begins_with, has_prefix, is_overwritten, is_overwritten_at}
+use Rattle.bc_points.specs.Prefixes.{is_prefix, rest_after, same_projection}
+use Rattle.bc_loans.specs.Overwrites.{begins_with, projects, has_prefix, is_overwritten, is_overwritten_at}
 
 -- a member is a number below the size
 pub member_within : (set : List Bool) (i : ℕ) → has set i ≡ true → i < length set
@@ -23,61 +21,6 @@ member_within set i there = elim (cases_lt i (length set)) [
   | inl within ↦ within
   | inr past ↦ absurd (both_ways (has set i) (get_or_past set i false past) there)
 ]
-
--- those of some loans below a number were tried
-pub record ArePrefixed (loans : List (ℕ × Loan)) (prefix : Place) (some : List Bool) (from : ℕ) (old new : List Bool) : Type 0 where
-  pub size : length new ≡ length old
-  pub done : (l : ℕ) → l < from → has new l ≡ (has old l || (has some l && has_prefix loans prefix l))
-  pub rest : (l : ℕ) → from ≤ l → has new l ≡ has old l
-
--- before the next one there is none
-skipped : (loans : List (ℕ × Loan)) (prefix : Place) (some : List Bool) (from number : ℕ) (old new : List Bool) → ArePrefixed loans prefix some from old new → IsNextMember some from number →
-    (l : ℕ) → l < number → has new l ≡ (has old l || (has some l && has_prefix loans prefix l))
-skipped loans prefix some from number old new p next l below = elim (cases_lt l from) [
-  | inl early ↦ p.done l early
-  | inr late ↦ p.rest l late ∙ sym (ap (λ t. has old l || (t && has_prefix loans prefix l)) (next.least l late below) ∙ or-false (has old l))
-]
-
-at_number : (loans : List (ℕ × Loan)) (prefix : Place) (some : List Bool) (number : ℕ) (old : List Bool) (b : Bool) → has some number ≡ true → has_prefix loans prefix number ≡ b →
-    (has old number || (has some number && has_prefix loans prefix number)) ≡ (has old number || b)
-at_number loans prefix some number old b member is = ap (λ t. has old number || (t && has_prefix loans prefix number)) member ∙ ap (λ t. has old number || t) is
-
--- the next one has the prefix
-pub ArePrefixed-added : (loans : List (ℕ × Loan)) (prefix : Place) (some : List Bool) (from number : ℕ) (old new : List Bool) → ArePrefixed loans prefix some from old new → IsNextMember some from number →
-    number < length new → has_prefix loans prefix number ≡ true → ArePrefixed loans prefix some (number + 1) old (set new number true)
-ArePrefixed-added loans prefix some from number old new p next within is = record {
-  size = length-set new number true ∙ p.size;
-  done = λ l below. elim (cases_eq l number) [
-    | inl same ↦ rw same (get_or-set_same new number true false within ∙ sym (at_number loans prefix some number old true next.is_member is ∙ or-true (has old number)))
-    | inr apart ↦ get_or-set_other new number l true false apart ∙ skipped loans prefix some from number old new p next l (omega (arith, below, apart))
-  ];
-  rest = λ l past. get_or-set_other new number l true false (λ e. absurd (omega (arith, e, past))) ∙ p.rest l (let ahead = next.onward in omega (arith, ahead, past));
-}
-
--- the next one has not
-pub ArePrefixed-left : (loans : List (ℕ × Loan)) (prefix : Place) (some : List Bool) (from number : ℕ) (old new : List Bool) → ArePrefixed loans prefix some from old new → IsNextMember some from number →
-    has_prefix loans prefix number ≡ false → ArePrefixed loans prefix some (number + 1) old new
-ArePrefixed-left loans prefix some from number old new p next is = record {
-  size = p.size;
-  done = λ l below. elim (cases_eq l number) [
-    | inl same ↦ rw same (p.rest number next.onward ∙ sym (at_number loans prefix some number old false next.is_member is ∙ or-false (has old number)))
-    | inr apart ↦ skipped loans prefix some from number old new p next l (omega (arith, below, apart))
-  ];
-  rest = λ l past. p.rest l (let ahead = next.onward in omega (arith, ahead, past));
-}
-
--- there is no next one
-pub ArePrefixed-end : (loans : List (ℕ × Loan)) (prefix : Place) (some : List Bool) (from : ℕ) (old new : List Bool) → ArePrefixed loans prefix some from old new → ((l : ℕ) → from ≤ l → has some l ≡ false) →
-    (l : ℕ) → has new l ≡ (has old l || (has some l && has_prefix loans prefix l))
-ArePrefixed-end loans prefix some from old new p none l = elim (cases_lt l from) [
-  | inl early ↦ p.done l early
-  | inr late ↦ p.rest l late ∙ sym (ap (λ t. has old l || (t && has_prefix loans prefix l)) (none l late) ∙ or-false (has old l))
-]
-
--- the answer for one loan
-pub prefix_is : (loans : List (ℕ × Loan)) (prefix : Place) (number : ℕ) (made : ℕ × Loan) (b : Bool) → number < length loans → made ≡ get_or loans number made → b ≡ is_prefix prefix made.1.path →
-    has_prefix loans prefix number ≡ b
-prefix_is loans prefix number made b within is told = rw (slice_get_read loans (length loans) number made refl within is) (sym told)
 
 -- ---- prefixes and locals
 
@@ -110,54 +53,121 @@ whole_local loans place l alone = whole_found place (slice_get loans l) alone
 
 -- no path begins with a local that has no row
 pub no_row : (loans : List (ℕ × Loan)) (by_local : List (List Bool)) (place : Place) (local : ℕ) → local ≡ place.local → length by_local ≤ local → ((k l : ℕ) → holds by_local k l ≡ begins_with loans k l) →
-    (old : List Bool) (l : ℕ) → has old l ≡ (has old l || has_prefix loans place l)
-no_row loans by_local place local at past are old l =
+    (l : ℕ) → has_prefix loans place l ≡ false
+no_row loans by_local place local at past are l =
     let none : begins_with loans place.local l ≡ false = sym (are place.local l) ∙ ap (λ s. has s l) (get_or_past by_local place.local [] (omega (arith, past, at))) in
-    sym (ap (λ t. has old l || t) (only_of_local loans place l ∙ ap (λ t. t && has_prefix loans place l) none) ∙ or-false (has old l))
+    only_of_local loans place l ∙ ap (λ t. t && has_prefix loans place l) none
+
+-- the loans of a local, by its row
+pub of_local_is : (loans : List (ℕ × Loan)) (by_local : List (List Bool)) (place : Place) (local : ℕ) (set : List Bool) → set ≡ row by_local local → local ≡ place.local → ((k l : ℕ) → holds by_local k l ≡ begins_with loans k l) →
+    (l : ℕ) → has set l ≡ begins_with loans place.local l
+of_local_is loans by_local place local set is at are l = ap (λ (s : List Bool). has s l) is ∙ are local l ∙ ap (λ (k : ℕ). begins_with loans k l) at
+
+-- a list without elements
+pub empty_list : (projections : List Projection) → true ≡ (length projections == 0) → projections ≡ []
+empty_list [] is = refl
+empty_list (first ∷ rest) is = let none : suc (length rest) ≡ 0 = eqb-true (suc (length rest)) 0 (sym is) in absurd (omega (arith, none))
+
+-- ---- one projection more
+
+is_cond : {A : Type 0} (b : Bool) (rest : Option A) → is_some (cond b rest None) ≡ (b && is_some rest)
+is_cond true rest = refl
+is_cond false rest = refl
+
+-- a beginning that is longer by one projection
+and_one : (b : Bool) → (b && true) ≡ b
+and_one true = refl
+and_one false = refl
+
+cond_longer : (b there : Bool) (more less : Option (List Projection)) → is_some more ≡ (is_some less && there) → is_some (cond b more None) ≡ (is_some (cond b less None) && there)
+cond_longer true there more less is = is
+cond_longer false there more less is = refl
+
+longer : (beginning : List Projection) (p : Projection) (projections : List Projection) →
+    is_some (rest_after (beginning ++ p ∷ []) projections) ≡ (is_some (rest_after beginning projections) && option_map_or (same_projection p) (slice_get projections (length beginning)) false)
+longer [] p [] = refl
+longer [] p (q ∷ projections) = is_cond (same_projection p q) (Some projections) ∙ and_one (same_projection p q)
+longer (first ∷ beginning) p [] = refl
+longer (first ∷ beginning) p (q ∷ projections) =
+    cond_longer (same_projection first q) (option_map_or (same_projection p) (slice_get projections (length beginning)) false)
+    (rest_after (beginning ++ p ∷ []) projections) (rest_after beginning projections) (longer beginning p projections)
+
+longer_place : (local : ℕ) (beginning : List Projection) (p : Projection) (path : Place) →
+    is_prefix (record { local = local; projections = beginning ++ p ∷ [] }) path
+    ≡ (is_prefix (record { local = local; projections = beginning }) path && option_map_or (same_projection p) (slice_get path.projections (length beginning)) false)
+longer_place local beginning p path =
+    cond_longer (local == path.local) (option_map_or (same_projection p) (slice_get path.projections (length beginning)) false)
+    (rest_after (beginning ++ p ∷ []) path.projections) (rest_after beginning path.projections) (longer beginning p path.projections)
+
+longer_found : (local : ℕ) (beginning : List Projection) (p : Projection) (found : Option (ℕ × Loan)) →
+    option_map_or (λ (made : ℕ × Loan). is_prefix (record { local = local; projections = beginning ++ p ∷ [] }) made.1.path) found false
+    ≡ (option_map_or (λ (made : ℕ × Loan). is_prefix (record { local = local; projections = beginning }) made.1.path) found false
+    && option_map_or (λ (made : ℕ × Loan). option_map_or (same_projection p) (slice_get made.1.path.projections (length beginning)) false) found false)
+longer_found local beginning p None = refl
+longer_found local beginning p (Some made) = longer_place local beginning p made.1.path
+
+-- a place with the first projections of another
+abbrev pub cut : Place → ℕ → Place
+cut place depth = record { local = place.local; projections = take depth place.projections }
+
+-- the loans whose paths have one projection more of it as a prefix
+cut_more : (loans : List (ℕ × Loan)) (place : Place) (depth : ℕ) (p : Projection) → depth < length place.projections → (l : ℕ) →
+    has_prefix loans (cut place (depth + 1)) l ≡ (has_prefix loans (cut place depth) l && projects loans depth (get_or place.projections depth p) l)
+cut_more loans place depth p within l =
+    let next : Projection = get_or place.projections depth p in
+    let size : length (take depth place.projections) ≡ depth = length-take-le depth place.projections (omega (arith, within)) in
+    ap (λ (some : List Projection). has_prefix loans (record { local = place.local; projections = some }) l) (take_more place.projections depth p within)
+    ∙ longer_found place.local (take depth place.projections) next (slice_get loans l)
+    ∙ ap (λ (k : ℕ). has_prefix loans (cut place depth) l && projects loans k next l) size
+
+-- a set of those whose paths have the first projections, of which those that project once more are left
+pub cut_step : (loans : List (ℕ × Loan)) (place : Place) (depth : ℕ) (projections : List Projection) (p : Projection) (old new : ℕ → Bool) → projections ≡ place.projections → depth < length projections →
+    ((l : ℕ) → old l ≡ has_prefix loans (cut place depth) l) → ((l : ℕ) → new l ≡ (old l && projects loans depth (get_or projections depth p) l)) → (l : ℕ) → new l ≡ has_prefix loans (cut place (depth + 1)) l
+cut_step loans place depth projections p old new same within were are l =
+    are l
+    ∙ ap (λ (b : Bool). b && projects loans depth (get_or projections depth p) l) (were l)
+    ∙ ap (λ (some : List Projection). has_prefix loans (cut place depth) l && projects loans depth (get_or some depth p) l) same
+    ∙ sym (cut_more loans place depth p (omega (arith, within, ap length same)) l)
+
+-- the local alone
+pub cut_none : (loans : List (ℕ × Loan)) (place : Place) (l : ℕ) → has_prefix loans (cut place 0) l ≡ begins_with loans place.local l
+cut_none loans place l = whole_local loans (cut place 0) l refl
+
+pub cut_all : (loans : List (ℕ × Loan)) (place : Place) (depth : ℕ) (l : ℕ) → length place.projections ≤ depth → has_prefix loans (cut place depth) l ≡ has_prefix loans place l
+cut_all loans place depth l all = ap (λ (some : List Projection). has_prefix loans (record { local = place.local; projections = some }) l) (take_all depth place.projections all)
+
+-- what is left of a set without those that lack something
+pub left_over : (there projecting : Bool) → (there && not (there && not projecting)) ≡ (there && projecting)
+left_over true true = refl
+left_over true false = refl
+left_over false projecting = refl
 
 -- ---- all points
 
-at_point : (loans : List (ℕ × Loan)) (steps : List Step) (p : ℕ) (step : Step) → slice_get steps p ≡ Some step → (l : ℕ) → is_overwritten loans step.instruction l ≡ is_overwritten_at loans steps p l
+pub at_point : (loans : List (ℕ × Loan)) (steps : List Step) (p : ℕ) (step : Step) → slice_get steps p ≡ Some step → (l : ℕ) → is_overwritten loans step.instruction l ≡ is_overwritten_at loans steps p l
 at_point loans steps p step is l = rw is refl
-
--- the rows of the points, one after another, behind `points` others
-pub record AreOverwritten (loans : List (ℕ × Loan)) (steps : List Step) (points count : ℕ) (old new : List (List Bool)) : Type 0 where
-  pub others : (n : ℕ) → n < points → row new n ≡ row old n
-  pub done : (p l : ℕ) → p < count → holds new (points + p) l ≡ is_overwritten_at loans steps p l
-  pub rest : (p l : ℕ) → count ≤ p → p < points → holds new (points + p) l ≡ false
-
-pub AreOverwritten-more : (loans : List (ℕ × Loan)) (steps : List Step) (points count at : ℕ) (step : Step) (old mid new : List (List Bool)) → slice_get steps count ≡ Some step → count < points → at ≡ points + count →
-    AreAdded mid new at (is_overwritten loans step.instruction) → AreOverwritten loans steps points count old mid → AreOverwritten loans steps points (count + 1) old new
-AreOverwritten-more loans steps points count at step old mid new is below place added before = record {
-  others = λ n low. added.others n (λ same. omega (arith, same, place, low)) ∙ before.others n low;
-  done = λ p l small. elim (cases_eq p count) [
-    | inl here ↦
-        let there : at ≡ points + p = omega (arith, place, here) in
-        let now : holds new at l ≡ is_overwritten_at loans steps count l =
-        added.members l ∙ ap (λ (b : Bool). b || is_overwritten loans step.instruction l) (ap (λ (n : ℕ). holds mid n l) place ∙ before.rest count l (omega arith) below) ∙ at_point loans steps count step is l in
-        sym (ap (λ (n : ℕ). holds new n l) there) ∙ now ∙ ap (λ (q : ℕ). is_overwritten_at loans steps q l) (sym here)
-    | inr apart ↦ ap (λ s. has s l) (added.others (points + p) (λ same. apart (omega (arith, same, place)))) ∙ before.done p l (omega (arith, small, apart))
-  ];
-  rest = λ p l past low. ap (λ s. has s l) (added.others (points + p) (λ same. omega (arith, same, place, past))) ∙ before.rest p l (omega (arith, past)) low;
-}
 
 -- ---- what an instruction overwrites
 
--- the same facts were added, by another name
-pub added_same : (old new : List (List Bool)) (at : ℕ) (one other : ℕ → Bool) → ((l : ℕ) → one l ≡ other l) → AreAdded old new at one → AreAdded old new at other
-added_same old new at one other same added = record {
-  rows = added.rows;
-  others = added.others;
-  size = added.size;
-  members = λ l. added.members l ∙ ap (λ (b : Bool). holds old at l || b) (same l);
+-- the same facts were taken, by another name
+pub taken_same : (old new : List (List Bool)) (at : ℕ) (one other : ℕ → Bool) → ((l : ℕ) → one l ≡ other l) → AreTaken old new at one → AreTaken old new at other
+taken_same old new at one other same taken = record {
+  rows = taken.rows;
+  others = taken.others;
+  size = taken.size;
+  members = λ l. taken.members l ∙ ap (λ (b : Bool). holds old at l && not b) (same l);
 }
 
-pub none_added : (rows : List (List Bool)) (at : ℕ) (none : ℕ → Bool) → ((l : ℕ) → none l ≡ false) → AreAdded rows rows at none
-none_added rows at none are = record {
+and_true : (b : Bool) → b ≡ (b && true)
+and_true true = refl
+and_true false = refl
+
+pub none_taken : (rows : List (List Bool)) (at : ℕ) (none : ℕ → Bool) → ((l : ℕ) → none l ≡ false) → AreTaken rows rows at none
+none_taken rows at none are = record {
   rows = refl;
   others = λ n apart. refl;
   size = refl;
-  members = λ l. sym (ap (λ (b : Bool). holds rows at l || b) (are l) ∙ or-false (holds rows at l));
+  members = λ l. and_true (holds rows at l) ∙ sym (ap (λ (b : Bool). holds rows at l && not b) (are l));
 }
 
 pub place_overwritten : (loans : List (ℕ × Loan)) (here : Instruction) (place : Place) → Some place ≡ overwritten here → (l : ℕ) → has_prefix loans place l ≡ is_overwritten loans here l

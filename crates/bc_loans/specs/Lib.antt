@@ -4,4 +4,4 @@ pub mod Overwrites
 pub mod Walks
 pub mod Entries
 pub mod Inside
-pub mod Split
+pub mod Sweeps

@@ -1,13 +1,17 @@
 -- Which points leave a path as it is.
 -- And which loans a point overwrites: those with a prefix of their path overwritten there. Loans and points are numbers.
-use Rattle.std.specs.Prelude.{ℕ, Bool, true, false, not, ◌==◌, List, slice_get}
+use Rattle.std.specs.Prelude.{◌≡◌, ◌<◌, ◌≤◌, ℕ, Bool, true, false, not, ◌==◌, List, [], length, slice_get, slice_index_or as get_or}
+use Rattle.std.specs.List.{All}
 use Rattle.std.specs.Option.{option_map_or}
 use Rattle.bc_syntax.specs.declared.syntax.Place.{Place}
+use Rattle.bc_syntax.specs.declared.syntax.Projection.{Projection}
 use Rattle.bc_mir.specs.declared.mir.Step.{Step}
 use Rattle.bc_mir.specs.declared.mir.Instruction.{Instruction}
 use Rattle.bc_points.specs.declared.loan.Loan.{Loan}
+use Rattle.bc_flow.specs.Flow.{holds, HaveSize}
 use Rattle.bc_points.specs.Points.{kills}
-use Rattle.bc_points.specs.Prefixes.{is_prefix}
+use Rattle.bc_points.specs.Prefixes.{is_prefix, same_projection}
+use Rattle.bc_loans.specs.Entries.{projection_number}
 
 -- no prefix of the path is overwritten at the point, by its number among all points
 abbrev pub keeps : List Step → Place → ℕ → Bool
@@ -16,6 +20,22 @@ keeps steps path point = option_map_or (λ (step : Step). not (kills path step.i
 -- the loan's path begins with a local
 abbrev pub begins_with : List (ℕ × Loan) → ℕ → ℕ → Bool
 begins_with loans local loan = option_map_or (λ (made : ℕ × Loan). local == made.1.path.local) (slice_get loans loan) false
+
+-- the loan's path has a projection at a depth
+abbrev pub projects : List (ℕ × Loan) → ℕ → Projection → ℕ → Bool
+projects loans depth projection loan =
+    option_map_or (λ (made : ℕ × Loan). option_map_or (same_projection projection) (slice_get made.1.path.projections depth) false) (slice_get loans loan) false
+
+-- for each projection the loans whose paths have it at a depth
+abbrev pub AreProjecting : List (ℕ × Loan) → ℕ → List (List Bool) → Type 0
+AreProjecting loans depth rows = (projection : Projection) → (l : ℕ) → holds rows (projection_number projection) l ≡ projects loans depth projection l
+
+-- a table of that kind for each depth below their count, and no path goes on behind the last
+pub record AreByDepth (loans : List (ℕ × Loan)) (tables : List (List (List Bool))) : Type 0 where
+  pub projections : All (λ rows. length rows ≡ 257) tables
+  pub sizes : All (λ rows. HaveSize (length loans) rows) tables
+  pub projecting : (depth : ℕ) → depth < length tables → AreProjecting loans depth (get_or tables depth [])
+  pub short : All (λ (made : ℕ × Loan). length made.1.path.projections ≤ length tables) loans
 
 -- the loan's path has a prefix
 abbrev pub has_prefix : List (ℕ × Loan) → Place → ℕ → Bool

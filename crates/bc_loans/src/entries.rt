@@ -1,9 +1,11 @@
-//! With which local the paths of loans begin, as entries of a table of loans.
-ghost use Rattle.std.specs.Prelude.{◌≡◌, IfOk};
-ghost use Rattle.bc_loans.specs.Entries.{local_entries as at_locals};
+//! With which local the paths of loans begin, and how they go on, as entries of tables of loans.
+ghost use Rattle.std.specs.Prelude.{◌≡◌, ◌<◌, ⊤, length, slice_get, IfOk, MatchOption};
+ghost use Rattle.bc_flow.specs.Flow.{AreEntriesWithin};
+ghost use Rattle.bc_loans.specs.Entries.{local_entries as at_locals, projection_number as number_of, entry_at as at_projection, projection_entries as at_projections};
 
 use bc_flow::Entry;
 use bc_points::Loan;
+use bc_syntax::Projection;
 use std::alloc::{AllocError, Global};
 
 /// Each loan at the local with which its path begins.
@@ -19,6 +21,50 @@ pub(crate) fn local_entries(
             node: usize::from(made.1.path.local()),
             fact: number,
         })?;
+    }
+    Ok(entries)
+}
+
+/// The number of a projection among all 257: 0 for a dereference, and one more than its own for a field.
+pub(crate) fn projection_number(projection: &Projection) -> usize
+    ensures number { result ≡ number_of projection.now }
+    ensures within { result < 257 }
+{
+    match projection {
+        Projection::Deref => 0,
+        Projection::Field(field) => usize::from(*field) + 1,
+    }
+}
+
+/// A loan at the projection that its path has at a depth, if it is so long.
+fn entry_at(number: usize, loan: &Loan<'_>, depth: usize) -> Option<Entry>
+    ensures entry { result ≡ at_projection number (slice_get loan.now.path.projections depth) }
+    ensures within { MatchOption result ⊤ (λ entry. (entry.node < 257) × (entry.fact ≡ number)) }
+{
+    match loan.path.projections().get(depth) {
+        Some(projection) => Some(Entry {
+            node: projection_number(projection),
+            fact: number,
+        }),
+        None => None,
+    }
+}
+
+/// Each loan at the projection that its path has at a depth, if it is so long.
+pub(crate) fn projection_entries(
+    alloc: Global,
+    loans: &[(usize, Loan<'_>)],
+    depth: usize,
+) -> Result<Vec<Entry>, AllocError>
+    ensures entries { IfOk result (λ entries. entries.items ≡ at_projections depth loans.now) }
+    ensures within { IfOk result (λ entries. AreEntriesWithin entries.items 257 (length loans.now)) }
+{
+    let mut entries = Vec::with_capacity(alloc, loans.len())?;
+    for (number, made) in loans.iter().enumerate() {
+        match entry_at(number, &made.1, depth) {
+            Some(entry) => entries.push(entry)?,
+            None => {}
+        }
     }
     Ok(entries)
 }

@@ -2,12 +2,13 @@
 #![tactic(auto)]
 
 mod entries;
-mod flows;
 mod insides;
 mod loan_list;
 mod overwrites;
 mod overwritten;
 mod scopes;
+mod seeds;
+mod sweeps;
 mod walks;
 
 pub use loan_list::loans;

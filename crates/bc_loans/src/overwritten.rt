@@ -1,17 +1,18 @@
-//! For each point the loans a prefix of whose path it overwrites, as rows of loans.
-ghost use Rattle.std.specs.Prelude.{◌≡◌, ◌<◌, ◌≤◌, ◌+◌, ◌||◌, ◌&&◌, ℕ, false, length, IfOk};
+//! The loans a prefix of whose path a point overwrites, as rows of loans.
+ghost use Rattle.std.specs.Prelude.{◌≡◌, ◌<◌, ◌≤◌, ◌&&◌, ℕ, length, IfOk};
 ghost use Rattle.std.specs.List.{All};
 ghost use Rattle.bc_flow.specs.BitSet.{has};
-ghost use Rattle.bc_flow.specs.Flow.{row, holds, HaveSize, AreAdded};
+ghost use Rattle.bc_flow.specs.Flow.{holds, HaveSize, AreTaken};
 ghost use Rattle.bc_points.specs.Accesses.{overwritten as overwritten_place};
 ghost use Rattle.bc_points.specs.declared.loan.Loan.{Loan as LoanValue};
-ghost use Rattle.bc_loans.specs.Overwrites.{begins_with, has_prefix, is_overwritten, is_overwritten_at};
+ghost use Rattle.bc_loans.specs.Sweeps.{HasSet};
+ghost use Rattle.bc_loans.specs.Overwrites.{begins_with, projects, has_prefix, is_overwritten, AreProjecting, AreByDepth};
 
-use crate::entries::local_entries;
+use crate::entries::{local_entries, projection_entries, projection_number};
 use bc_flow::{BitRow, BitTable, table};
-use bc_mir::{Instruction, Step};
-use bc_points::{Loan, PlaceRef, is_prefix};
-use bc_syntax::{Statement, Terminator};
+use bc_mir::Instruction;
+use bc_points::{Loan, PlaceRef};
+use bc_syntax::{Projection, Statement, Terminator};
 use std::alloc::{AllocError, Global};
 
 /// A number above those of the locals with which paths begin: one more than the greatest, or 0 without loans.
@@ -38,6 +39,46 @@ pub(crate) fn loans_by_local(
     Ok(rows)
 }
 
+/// A number that no path of a loan has more projections than: as many as the longest has, or 0 without loans.
+fn depth_bound(loans: &[(usize, Loan<'_>)]) -> usize
+    ensures { All (λ (made : ℕ × LoanValue). length made.1.path.projections ≤ result) loans.now }
+{
+    let mut bound = 0;
+    for made in loans {
+        bound = bound.max(made.1.path.projections().len());
+    }
+    bound
+}
+
+/// For each projection the loans whose paths have it at a depth.
+fn loans_by_projection(
+    alloc: Global,
+    loans: &[(usize, Loan<'_>)],
+    depth: usize,
+) -> Result<BitTable, AllocError>
+    ensures projections { IfOk result (λ rows. length rows ≡ 257) }
+    ensures sizes { IfOk result (λ rows. HaveSize (length loans.now) rows) }
+    ensures loans { IfOk result (λ rows. AreProjecting loans.now depth rows) }
+{
+    let entries = projection_entries(alloc, loans, depth)?;
+    let rows = table(alloc, 257, loans.len(), &entries)?;
+    Ok(rows)
+}
+
+/// For each depth up to that of the longest path, and each projection, the loans whose paths have it there.
+pub(crate) fn loans_by_depth(
+    alloc: Global,
+    loans: &[(usize, Loan<'_>)],
+) -> Result<Vec<BitTable>, AllocError>
+    ensures loans { IfOk result (λ tables. AreByDepth loans.now tables.items) }
+{
+    let mut tables = Vec::new(alloc);
+    for depth in 0..depth_bound(loans) {
+        tables.push(loans_by_projection(alloc, loans, depth)?)?;
+    }
+    Ok(tables)
+}
+
 /// The place that an instruction overwrites, if it overwrites one.
 fn overwritten(instruction: &Instruction) -> Option<PlaceRef<'_>>
     ensures { result ≡ overwritten_place instruction.now }
@@ -60,106 +101,109 @@ fn overwritten(instruction: &Instruction) -> Option<PlaceRef<'_>>
     }
 }
 
-/// Adds to a row the loans whose paths begin with a local.
-fn add_loans_of(rows: &mut BitTable, at: usize, by_local: &BitTable, local: usize)
-    requires at { at < length rows.old }
-    requires sizes { HaveSize (length (row rows.old at)) by_local.now }
-    ensures { AreAdded rows.old rows.new at (holds by_local.now local) }
-{
-    match by_local.get(local) {
-        Some(loans) => rows.union_row(at, &loans),
-        None => {}
-    }
-}
-
-/// Adds to a row those of some loans whose paths have a prefix.
-fn add_prefixed(
-    rows: &mut BitTable,
-    at: usize,
+/// Leaves in the first row of `ended` those loans alone whose paths have a projection at a depth. The first row of `lacking` is written anew.
+fn keep_projecting(
+    ended: &mut BitTable,
+    lacking: &mut BitTable,
     loans: &[(usize, Loan<'_>)],
-    some: &BitRow<'_>,
-    prefix: &PlaceRef<'_>,
+    by_depth: &[BitTable],
+    depth: usize,
+    projection: &Projection,
 )
-    requires at { at < length rows.old }
-    requires row { length (row rows.old at) ≡ length loans.now }
-    requires some { length some.now ≡ length loans.now }
-    ensures { AreAdded rows.old rows.new at (λ l. has some.now l && has_prefix loans.now prefix.now l) }
+    requires ended { HasSet (length loans.now) ended.old }
+    requires lacking { HasSet (length loans.now) lacking.old }
+    requires loans { AreByDepth loans.now by_depth.now }
+    ensures ended { HasSet (length loans.now) ended.new }
+    ensures lacking { HasSet (length loans.now) lacking.new }
+    ensures kept { (l : ℕ) → holds ended.new 0 l ≡ (holds ended.old 0 l && projects loans.now depth projection.now l) }
 {
-    let mut from = 0;
-    while let Some(number) = some.next_member(from) {
-        if is_prefix(prefix, &loans[number].1.path) {
-            let _added = rows.insert(at, number);
-        }
-        from = number + 1;
+    lacking.copy_row(0, &ended.row(0));
+    if let Some(rows) = by_depth.get(depth) {
+        lacking.subtract_row(0, &rows.row(projection_number(projection)));
     }
+    ended.subtract_row(0, &lacking.row(0));
 }
 
-/// Adds to a row the loans whose paths have a place as a prefix: those of its local by words where it is the local alone.
-fn add_overwritten(
-    rows: &mut BitTable,
-    at: usize,
+/// Writes the loans whose paths have a place as a prefix into the first row of `ended`: those of the local, and of these, at one depth after
+/// another, those that have the projection there.
+fn fill_prefixed(
+    ended: &mut BitTable,
+    lacking: &mut BitTable,
     loans: &[(usize, Loan<'_>)],
-    by_local: &BitTable,
+    of_local: &BitRow<'_>,
+    by_depth: &[BitTable],
     place: &PlaceRef<'_>,
 )
-    requires at { at < length rows.old }
-    requires row { length (row rows.old at) ≡ length loans.now }
-    requires sizes { HaveSize (length loans.now) by_local.now }
-    requires loans { (k l : ℕ) → holds by_local.now k l ≡ begins_with loans.now k l }
-    ensures { AreAdded rows.old rows.new at (has_prefix loans.now place.now) }
+    requires ended { HasSet (length loans.now) ended.old }
+    requires lacking { HasSet (length loans.now) lacking.old }
+    requires size { length of_local.now ≡ length loans.now }
+    requires local { (l : ℕ) → has of_local.now l ≡ begins_with loans.now place.now.local l }
+    requires loans { AreByDepth loans.now by_depth.now }
+    ensures ended { HasSet (length loans.now) ended.new }
+    ensures lacking { HasSet (length loans.now) lacking.new }
+    ensures prefixed { (l : ℕ) → holds ended.new 0 l ≡ has_prefix loans.now place.now l }
 {
-    let local = usize::from(place.local());
-    if place.projections().is_empty() {
-        add_loans_of(rows, at, by_local, local);
-    } else {
-        match by_local.get(local) {
-            Some(some) => add_prefixed(rows, at, loans, &some, place),
-            None => {}
-        }
+    ended.copy_row(0, of_local);
+    for (depth, projection) in place.projections().iter().enumerate() {
+        keep_projecting(ended, lacking, loans, by_depth, depth, projection);
     }
 }
 
-/// Adds to a row the loans a prefix of whose path an instruction overwrites.
-fn add_overwrites(
-    rows: &mut BitTable,
-    at: usize,
+/// Takes the loans whose paths have a place as a prefix out of the first row of `here`. The first rows of `ended` and `lacking` may be written
+/// anew.
+fn take_prefixed(
+    here: &mut BitTable,
+    ended: &mut BitTable,
+    lacking: &mut BitTable,
     loans: &[(usize, Loan<'_>)],
     by_local: &BitTable,
+    by_depth: &[BitTable],
+    place: &PlaceRef<'_>,
+)
+    requires here { 0 < length here.old }
+    requires ended { HasSet (length loans.now) ended.old }
+    requires lacking { HasSet (length loans.now) lacking.old }
+    requires sizes { HaveSize (length loans.now) by_local.now }
+    requires locals { (k l : ℕ) → holds by_local.now k l ≡ begins_with loans.now k l }
+    requires depths { AreByDepth loans.now by_depth.now }
+    ensures taken { AreTaken here.old here.new 0 (has_prefix loans.now place.now) }
+    ensures ended { HasSet (length loans.now) ended.new }
+    ensures lacking { HasSet (length loans.now) lacking.new }
+{
+    let Some(of_local) = by_local.get(usize::from(place.local())) else {
+        return;
+    };
+    if place.projections().is_empty() {
+        here.subtract_row(0, &of_local);
+    } else {
+        fill_prefixed(ended, lacking, loans, &of_local, by_depth, place);
+        here.subtract_row(0, &ended.row(0));
+    }
+}
+
+/// Takes out of the first row of `here` the loans a prefix of whose path an instruction overwrites. The first rows of `ended` and `lacking` may
+/// be written anew.
+pub(crate) fn take_overwritten(
+    here: &mut BitTable,
+    ended: &mut BitTable,
+    lacking: &mut BitTable,
+    loans: &[(usize, Loan<'_>)],
+    by_local: &BitTable,
+    by_depth: &[BitTable],
     instruction: &Instruction,
 )
-    requires at { at < length rows.old }
-    requires row { length (row rows.old at) ≡ length loans.now }
+    requires here { 0 < length here.old }
+    requires ended { HasSet (length loans.now) ended.old }
+    requires lacking { HasSet (length loans.now) lacking.old }
     requires sizes { HaveSize (length loans.now) by_local.now }
-    requires loans { (k l : ℕ) → holds by_local.now k l ≡ begins_with loans.now k l }
-    ensures { AreAdded rows.old rows.new at (is_overwritten loans.now instruction.now) }
+    requires locals { (k l : ℕ) → holds by_local.now k l ≡ begins_with loans.now k l }
+    requires depths { AreByDepth loans.now by_depth.now }
+    ensures taken { AreTaken here.old here.new 0 (is_overwritten loans.now instruction.now) }
+    ensures ended { HasSet (length loans.now) ended.new }
+    ensures lacking { HasSet (length loans.now) lacking.new }
 {
     match overwritten(instruction) {
-        Some(place) => add_overwritten(rows, at, loans, by_local, &place),
+        Some(place) => take_prefixed(here, ended, lacking, loans, by_local, by_depth, &place),
         None => {}
-    }
-}
-
-/// Adds to the rows behind the first `points`, one for each of so many points, the loans that these overwrite.
-pub(crate) fn add_all_overwrites(
-    rows: &mut BitTable,
-    nodes: usize,
-    points: usize,
-    loans: &[(usize, Loan<'_>)],
-    by_local: &BitTable,
-    steps: &[Step],
-)
-    requires points { points ≡ length steps.now }
-    requires nodes { nodes ≡ points + points }
-    requires rows { nodes ≤ length rows.old }
-    requires size { HaveSize (length loans.now) rows.old }
-    requires fresh { (p l : ℕ) → p < points → holds rows.old (points + p) l ≡ false }
-    requires sizes { HaveSize (length loans.now) by_local.now }
-    requires loans { (k l : ℕ) → holds by_local.now k l ≡ begins_with loans.now k l }
-    ensures size { HaveSize (length loans.now) rows.new }
-    ensures others { (n : ℕ) → n < points → row rows.new n ≡ row rows.old n }
-    ensures overwritten { (p l : ℕ) → p < points → holds rows.new (points + p) l ≡ is_overwritten_at loans.now steps.now p l }
-{
-    for (point, step) in steps.iter().enumerate() {
-        add_overwrites(rows, points + point, loans, by_local, &step.instruction);
     }
 }

@@ -8,8 +8,8 @@ ghost use Rattle.bc_points.specs.declared.loan.Loan.{Loan as LoanValue};
 ghost use Rattle.bc_loans.specs.Scope.{IsInScope};
 ghost use Rattle.bc_loans.specs.Walks.{IsWalked};
 
-use crate::flows::flowed_rows;
 use crate::loan_list::loans;
+use crate::sweeps::swept_rows;
 use crate::walks::walked_rows;
 use bc_flow::{BitTable, Edge};
 use bc_mir::{Step, Typed};
@@ -50,8 +50,8 @@ impl Scopes {
     }
 }
 
-/// For each point the loans that come there. Each loan walks from the point that makes it, as long as all walks together cost no more than
-/// the flow of whole rows does; where loans live long, they flow.
+/// For each point the loans that come there. Each loan walks from the point that makes it, until the walks have gone on from four times as
+/// many points as there are; then they are given up, and rows are swept.
 fn scope_rows(
     alloc: Global,
     universals: u8,
@@ -66,11 +66,11 @@ fn scope_rows(
     ensures loans { IfOk result (λ rows. HaveSize (length loans.now) rows) }
     ensures walked { IfOk result (λ rows. (l p : ℕ) → (holds rows p l ≡ true) ↔ IsWalked edges.now steps.now universals (holds values.now) loans.now l p) }
 {
-    let budget = steps.len().saturating_mul(8 + loans.len() / 32);
+    let budget = steps.len().saturating_mul(4);
     let walked = walked_rows(alloc, universals, loans, steps, edges, values, budget)?;
     match walked {
         Some(rows) => Ok(rows),
-        None => flowed_rows(alloc, universals, loans, steps, edges, values),
+        None => swept_rows(alloc, universals, loans, steps, edges, values),
     }
 }
 
