@@ -198,6 +198,7 @@ fn calc_value(alloc: Global, cursor: &mut Cursor<'_>, locals: u16) -> Result<Rva
     Ok(Rvalue::Calc(operands(alloc, cursor, locals)?))
 }
 
+/// An aggregate made, as a value.
 #[inline(never)]
 fn aggregate_value(
     alloc: Global,
