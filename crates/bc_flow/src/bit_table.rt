@@ -3,7 +3,7 @@ ghost use Rattle.std.specs.Prelude.{◌≡◌, ℕ, ◌+◌, ◌*◌, ◌/◌, �
 ghost use Rattle.std.specs.List.{All};
 ghost use Rattle.std.specs.Int.{Width, w64, bit_not};
 ghost use Rattle.bc_flow.specs.BitSet.{has, absent_count, IsNextMember};
-ghost use Rattle.bc_flow.specs.Packed.{is_set};
+ghost use Rattle.bc_flow.specs.Packed.{is_set, word_has};
 ghost use Rattle.bc_flow.specs.Flow.{row, holds, HaveSize, AreAdded, AreTaken};
 
 use crate::bit_words::{
@@ -106,6 +106,18 @@ impl<'a> BitRow<'a> {
     {
         next_bit(self.words, self.size, from)
     }
+
+    /// Returns which of 64 numbers are members, by the number of the run of 64: bit `i % 64` tells of the number `i`. A number that is not
+    /// below the size is none. It takes no memory.
+    pub fn word(&self, index: usize) -> u64
+        ensures { (i : ℕ) → i / 64 ≡ index → is_set result (i % 64) ≡ has self.now i }
+    {
+        if index < self.words.len() {
+            self.words[index]
+        } else {
+            0
+        }
+    }
 }
 
 impl BitTable {
@@ -173,8 +185,8 @@ impl BitTable {
         }
     }
 
-    /// One word of a row.
-    pub(crate) fn word(&self, node: usize, index: usize) -> u64
+    /// Returns which of 64 numbers a row has, by the number of the run of 64: bit `i % 64` tells of the number `i`. It takes no memory.
+    pub fn word(&self, node: usize, index: usize) -> u64
         requires node { node < length self.now }
         requires within { 64 * index < length (row self.now node) }
         ensures { (i : ℕ) → i / 64 ≡ index → holds self.now node i ≡ is_set result (i % 64) }
@@ -195,6 +207,25 @@ impl BitTable {
     {
         let at = node * self.width + index;
         self.words[at] = value;
+    }
+
+    /// Adds the numbers of one run of 64 that are bits of a word to a row, none of them beyond its size, and returns whether there was a
+    /// new one.
+    pub fn join_word(&mut self, node: usize, index: usize, word: u64) -> bool
+        requires node { node < length self.old }
+        requires within { 64 * index < length (row self.old node) }
+        requires clean { (i : ℕ) → i / 64 ≡ index → length (row self.old node) ≤ i → is_set word (i % 64) ≡ false }
+        ensures added { AreAdded self.old self.new node (word_has index word) }
+        ensures unchanged { result ≡ false → self.new ≡ self.old }
+        ensures grown { result ≡ true → absent_count (row self.new node) < absent_count (row self.old node) }
+    {
+        let before = self.word(node, index);
+        let after = before | word;
+        if after == before {
+            return false;
+        }
+        self.set_word(node, index, after);
+        true
     }
 
     /// Adds a number to a row, and returns whether it was not there.

@@ -3,7 +3,6 @@ pub mod Overwriting
 pub mod Ways
 pub mod Regions
 pub mod Telling
-pub mod Walking
 pub mod Closing
 pub mod Seeding
 pub mod Sweeping

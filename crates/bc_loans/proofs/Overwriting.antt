@@ -1,11 +1,11 @@
 -- The loans whose paths a place is a prefix of: by the local, and then by one projection after another.
-use Rattle.std.proofs.Common.{◌≡◌, ℕ, ◌+◌, ◌<◌, ◌≤◌, inl, inr, Bool, true, false, not, cond, ◌&&◌, ◌==◌, List, [], ◌∷◌, ◌++◌, length, take, get_or, suc, Option, Some, None, is_some, eqb-true, refl, sym, ap, ◌∙◌, subst, arith}
+use Rattle.std.proofs.Common.{◌≡◌, ℕ, ◌+◌, ◌<◌, ◌≤◌, inl, inr, Bool, true, false, cond, ◌&&◌, ◌==◌, List, [], ◌∷◌, ◌++◌, length, take, get_or, Option, Some, None, is_some, refl, sym, ap, ◌∙◌, subst, arith}
 use Rattle.std.specs.Prelude.{slice_get}
 use Rattle.std.specs.Option.{option_map_or}
 use Rattle.std.proofs.lemmas.Bool.{cases_lt, both_ways}
 use Rattle.std.proofs.lemmas.List.{get_or_past, take_more, take_all, length-take-le}
 use Rattle.bc_flow.specs.BitSet.{has}
-use Rattle.bc_flow.specs.Flow.{row, holds, AreTaken}
+use Rattle.bc_flow.specs.Flow.{holds}
 use Rattle.bc_syntax.specs.declared.syntax.Place.{Place}
 use Rattle.bc_syntax.specs.declared.syntax.Projection.{Projection}
 use Rattle.bc_points.specs.declared.loan.Loan.{Loan}
@@ -57,16 +57,6 @@ pub no_row : (loans : List (ℕ × Loan)) (by_local : List (List Bool)) (place :
 no_row loans by_local place local at past are l =
     let none : begins_with loans place.local l ≡ false = sym (are place.local l) ∙ ap (λ s. has s l) (get_or_past by_local place.local [] (omega (arith, past, at))) in
     only_of_local loans place l ∙ ap (λ t. t && has_prefix loans place l) none
-
--- the loans of a local, by its row
-pub of_local_is : (loans : List (ℕ × Loan)) (by_local : List (List Bool)) (place : Place) (local : ℕ) (set : List Bool) → set ≡ row by_local local → local ≡ place.local → ((k l : ℕ) → holds by_local k l ≡ begins_with loans k l) →
-    (l : ℕ) → has set l ≡ begins_with loans place.local l
-of_local_is loans by_local place local set is at are l = ap (λ (s : List Bool). has s l) is ∙ are local l ∙ ap (λ (k : ℕ). begins_with loans k l) at
-
--- a list without elements
-pub empty_list : (projections : List Projection) → true ≡ (length projections == 0) → projections ≡ []
-empty_list [] is = refl
-empty_list (first ∷ rest) is = let none : suc (length rest) ≡ 0 = eqb-true (suc (length rest)) 0 (sym is) in absurd (omega (arith, none))
 
 -- ---- one projection more
 
@@ -120,12 +110,13 @@ cut_more loans place depth p within l =
     ∙ longer_found place.local (take depth place.projections) next (slice_get loans l)
     ∙ ap (λ (k : ℕ). has_prefix loans (cut place depth) l && projects loans k next l) size
 
--- a set of those whose paths have the first projections, of which those that project once more are left
-pub cut_step : (loans : List (ℕ × Loan)) (place : Place) (depth : ℕ) (projections : List Projection) (p : Projection) (old new : ℕ → Bool) → projections ≡ place.projections → depth < length projections →
-    ((l : ℕ) → old l ≡ has_prefix loans (cut place depth) l) → ((l : ℕ) → new l ≡ (old l && projects loans depth (get_or projections depth p) l)) → (l : ℕ) → new l ≡ has_prefix loans (cut place (depth + 1)) l
-cut_step loans place depth projections p old new same within were are l =
-    are l
-    ∙ ap (λ (b : Bool). b && projects loans depth (get_or projections depth p) l) (were l)
+-- of those whose paths have the first projections, those that project once more
+pub cut_step : (loans : List (ℕ × Loan)) (place : Place) (depth : ℕ) (projections : List Projection) (p : Projection) (l : ℕ) (old new more : Bool) → projections ≡ place.projections → depth < length projections →
+    old ≡ has_prefix loans (cut place depth) l → more ≡ projects loans depth (get_or projections depth p) l → new ≡ (old && more) → new ≡ has_prefix loans (cut place (depth + 1)) l
+cut_step loans place depth projections p l old new more same within were projecting both =
+    both
+    ∙ ap (λ (b : Bool). b && more) were
+    ∙ ap (λ (b : Bool). has_prefix loans (cut place depth) l && b) projecting
     ∙ ap (λ (some : List Projection). has_prefix loans (cut place depth) l && projects loans depth (get_or some depth p) l) same
     ∙ sym (cut_more loans place depth p (omega (arith, within, ap length same)) l)
 
@@ -136,39 +127,12 @@ cut_none loans place l = whole_local loans (cut place 0) l refl
 pub cut_all : (loans : List (ℕ × Loan)) (place : Place) (depth : ℕ) (l : ℕ) → length place.projections ≤ depth → has_prefix loans (cut place depth) l ≡ has_prefix loans place l
 cut_all loans place depth l all = ap (λ (some : List Projection). has_prefix loans (record { local = place.local; projections = some }) l) (take_all depth place.projections all)
 
--- what is left of a set without those that lack something
-pub left_over : (there projecting : Bool) → (there && not (there && not projecting)) ≡ (there && projecting)
-left_over true true = refl
-left_over true false = refl
-left_over false projecting = refl
-
 -- ---- all points
 
 pub at_point : (loans : List (ℕ × Loan)) (steps : List Step) (p : ℕ) (step : Step) → slice_get steps p ≡ Some step → (l : ℕ) → is_overwritten loans step.instruction l ≡ is_overwritten_at loans steps p l
 at_point loans steps p step is l = rw is refl
 
 -- ---- what an instruction overwrites
-
--- the same facts were taken, by another name
-pub taken_same : (old new : List (List Bool)) (at : ℕ) (one other : ℕ → Bool) → ((l : ℕ) → one l ≡ other l) → AreTaken old new at one → AreTaken old new at other
-taken_same old new at one other same taken = record {
-  rows = taken.rows;
-  others = taken.others;
-  size = taken.size;
-  members = λ l. taken.members l ∙ ap (λ (b : Bool). holds old at l && not b) (same l);
-}
-
-and_true : (b : Bool) → b ≡ (b && true)
-and_true true = refl
-and_true false = refl
-
-pub none_taken : (rows : List (List Bool)) (at : ℕ) (none : ℕ → Bool) → ((l : ℕ) → none l ≡ false) → AreTaken rows rows at none
-none_taken rows at none are = record {
-  rows = refl;
-  others = λ n apart. refl;
-  size = refl;
-  members = λ l. and_true (holds rows at l) ∙ sym (ap (λ (b : Bool). holds rows at l && not b) (are l));
-}
 
 pub place_overwritten : (loans : List (ℕ × Loan)) (here : Instruction) (place : Place) → Some place ≡ overwritten here → (l : ℕ) → has_prefix loans place l ≡ is_overwritten loans here l
 place_overwritten loans here place is l =

@@ -1,14 +1,14 @@
 -- The points inside the region of each loan, one loan after another, and the loans inside at each point.
-use Rattle.std.proofs.Common.{◌≡◌, ℕ, ◌<◌, ◌≤◌, inl, inr, Bool, false, ◌&&◌, List, [], length, Some, refl, sym, ap, ◌∙◌, arith}
-use Rattle.std.specs.Prelude.{slice_get, nat_lt}
-use Rattle.std.proofs.lemmas.Bool.{cases_lt, lt-ltb}
+use Rattle.std.proofs.Common.{◌≡◌, ℕ, ◌≤◌, inl, inr, Bool, false, List, [], length, Some, refl, ap, arith}
+use Rattle.std.specs.Prelude.{slice_get}
+use Rattle.std.proofs.lemmas.Bool.{cases_lt}
 use Rattle.std.proofs.lemmas.List.{get_or_past}
 use Rattle.std.proofs.lemmas.Option.{slice_get_past}
 use Rattle.bc_flow.specs.BitSet.{has}
 use Rattle.bc_flow.specs.Flow.{row, holds, HaveSize}
 use Rattle.bc_points.specs.declared.loan.Loan.{Loan}
 use Rattle.bc_points.specs.Regions.{region_number}
-use Rattle.bc_loans.specs.Inside.{is_inside, inside_at}
+use Rattle.bc_loans.specs.Inside.{is_inside}
 
 -- a number of no loan has no place in rows
 pub no_place : (rows : List (List Bool)) (count l p : ℕ) → HaveSize count rows → count ≤ l → holds rows p l ≡ false
@@ -22,14 +22,5 @@ pub inside_of : (universals : ℕ) (loans : List (ℕ × Loan)) (value : ℕ →
     (p : ℕ) → value region p ≡ is_inside universals loans value l p
 inside_of universals loans value l made region is number p = rw (is, number) refl
 
-no_loan : (universals : ℕ) (loans : List (ℕ × Loan)) (value : ℕ → ℕ → Bool) (l p : ℕ) → length loans ≤ l → is_inside universals loans value l p ≡ false
+pub no_loan : (universals : ℕ) (loans : List (ℕ × Loan)) (value : ℕ → ℕ → Bool) (l p : ℕ) → length loans ≤ l → is_inside universals loans value l p ≡ false
 no_loan universals loans value l p past = rw (slice_get_past loans l past) refl
-
--- the points of each loan, by a point and a loan
-pub inside_there : (universals : ℕ) (loans : List (ℕ × Loan)) (value : ℕ → ℕ → Bool) (points : ℕ) (by_loan : List (List Bool)) → length by_loan ≡ length loans →
-    ((l p : ℕ) → l < length loans → holds by_loan l p ≡ (nat_lt p points && is_inside universals loans value l p)) →
-    (p l : ℕ) → p < points → inside_at by_loan p l ≡ is_inside universals loans value l p
-inside_there universals loans value points by_loan count members p l low = elim (cases_lt l (length loans)) [
-  | inl loan ↦ members l p loan ∙ ap (λ (b : Bool). b && is_inside universals loans value l p) (lt-ltb p points low)
-  | inr past ↦ ap (λ (s : List Bool). has s p) (get_or_past by_loan l [] (omega (arith, past, count))) ∙ sym (no_loan universals loans value l p past)
-]

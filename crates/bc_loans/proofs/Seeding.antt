@@ -1,7 +1,6 @@
 -- Loans that come to points from those that make them, one loan after another.
 use Rattle.std.proofs.Common.{◌≡◌, ℕ, ◌+◌, ◌<◌, ◌≤◌, ◌⊎◌, inl, inr, ◌↔◌, Bool, true, false, List, length, Some, sym, ◌∙◌, arith}
 use Rattle.std.specs.Prelude.{slice_get}
-use Rattle.std.specs.List.{Contains}
 use Rattle.std.proofs.lemmas.Bool.{cases_eq, cases_lt, both_ways}
 use Rattle.std.proofs.lemmas.Option.{slice_get_past}
 use Rattle.bc_flow.specs.declared.graph.Edge.{Edge}
@@ -54,21 +53,6 @@ AreSeeded-all edges steps loans inside count rows all sizes below n l = elim (ca
     rw (slice_get_past loans l past) (λ h. absurd h),
   )
 ]
-
--- each point to which a loan comes is in the list
-pub found_more : (number : ℕ) (old new : List (List Bool)) (before after : List ℕ) → ((n l : ℕ) → (l ≡ number → ⊥) → holds new n l ≡ holds old n l) →
-    ((n : ℕ) → holds new n number ≡ true → (holds old n number ≡ true) ⊎ Contains after n) → ((n : ℕ) → Contains before n → Contains after n) →
-    ((n l : ℕ) → holds old n l ≡ true → Contains before n) → (n l : ℕ) → holds new n l ≡ true → Contains after n
-found_more number old new before after others found kept were n l h = elim (cases_eq l number) [
-  | inl this ↦ elim (found n (rw this at h)) [
-    | inl was ↦ kept n (were n number was)
-    | inr there ↦ there
-  ]
-  | inr apart ↦ kept n (were n l (sym (others n l apart) ∙ h))
-]
-
-pub found_none : (rows : List (List Bool)) (list : List ℕ) → ((n l : ℕ) → holds rows n l ≡ false) → (n l : ℕ) → holds rows n l ≡ true → Contains list n
-found_none rows list none n l h = absurd (both_ways (holds rows n l) (none n l) h)
 
 -- ---- one loan
 

@@ -1,89 +1,75 @@
-//! For each loan the points that its region's value has, and for each point the loans, where that is asked for.
-ghost use Rattle.std.specs.Prelude.{◌≡◌, ◌<◌, ◌≤◌, ◌&&◌, ◌^◌, ℕ, true, nat_lt, length, IfOk};
-ghost use Rattle.bc_flow.specs.BitSet.{has};
-ghost use Rattle.bc_flow.specs.Flow.{row, holds, HaveSize, AreAdded};
-ghost use Rattle.bc_loans.specs.Inside.{is_inside, inside_at, AreTold};
+//! Which loans are inside at a point: those whose region's value has it. Told for 64 points and 64 loans at once.
+ghost use Rattle.std.specs.Prelude.{◌≡◌, ◌*◌, ◌/◌, ◌%◌, ◌+◌, ◌<◌, ◌≤◌, ℕ, length, slice_index};
+ghost use Rattle.bc_flow.specs.Packed.{is_set};
+ghost use Rattle.bc_flow.specs.Flow.{row, holds};
+ghost use Rattle.bc_loans.specs.Inside.{inside_at, AreTold, IsWritten};
 
-use bc_flow::{BitRow, BitTable, turn_block};
+use bc_flow::{BitTable, turned_words};
 use bc_points::{Loan, region_number};
 use bc_solve::Values;
-use std::alloc::{AllocError, Global};
 
-/// Adds to a loan's row the points that the value of a region has.
-fn add_inside(rows: &mut BitTable, loan: usize, values: &Values, region: usize, points: usize)
-    requires loan { loan < length rows.old }
-    requires points { points ≤ length (row rows.old loan) }
-    ensures { AreAdded rows.old rows.new loan (λ p. nat_lt p points && holds values.now region p) }
+/// Which of a run of 64 points the value of a region has. A number that is no region has none.
+fn value_word(values: &Values, region: usize, run: usize) -> u64
+    ensures { (p : ℕ) → p / 64 ≡ run → is_set result (p % 64) ≡ holds values.now region p }
 {
     match values.get(region) {
-        Some(value) => rows.union_row_below(loan, &value, points),
-        None => {}
+        Some(value) => value.word(run),
+        None => 0,
     }
 }
 
-/// For each loan the points below a number that its region's value has.
-pub(crate) fn points_inside(
-    alloc: Global,
+/// For each of a run of 64 points, which of a run of 64 loans are inside there.
+fn inside_block(
     universals: u8,
     loans: &[(usize, Loan<'_>)],
     values: &Values,
-    points: usize,
-) -> Result<BitTable, AllocError>
-    ensures loans { IfOk result (λ rows. length rows ≡ length loans.now) }
-    ensures points { IfOk result (λ rows. HaveSize points rows) }
-    ensures members { IfOk result (λ rows. (l p : ℕ) → l < length loans.now
-        → holds rows l p ≡ (nat_lt p points && is_inside universals loans.now (holds values.now) l p)) }
+    word: usize,
+    run: usize,
+) -> [u64; 64]
+    requires { 64 * word < length loans.now }
+    ensures { (p l : ℕ) → p / 64 ≡ run → l / 64 ≡ word → is_set (slice_index result (p % 64)) (l % 64) ≡ inside_at universals loans.now (holds values.now) p l }
 {
-    let mut rows = BitTable::new(alloc, loans.len(), points)?;
-    for (number, made) in loans.iter().enumerate() {
-        let region = region_number(universals, made.1.region);
-        add_inside(&mut rows, number, values, region, points);
+    let count = loans.len();
+    let first = 64 * word;
+    let mut block = [0; 64];
+    for k in 0..(count - first).min(64) {
+        let region = region_number(universals, loans[first + k].1.region);
+        block[k] = value_word(values, region, run);
     }
-    Ok(rows)
+    turned_words(&block)
 }
 
-/// For each point the loans that are inside there, as far as it was told. A run of 64 points is told for a run of 64 loans at once, and
-/// only where one of the loans comes to one of the points.
-#[derive(Drop)]
-pub(crate) struct Told {
-    /// For each point the loans that are inside.
-    pub(crate) rows: BitTable,
-    /// For each run of points the runs of loans that are told.
-    pub(crate) runs: BitTable,
-}
-
-/// Nothing is told of so many points, and of the loans of a table that has the points of each.
-pub(crate) fn nothing_told(
-    alloc: Global,
-    inside: &BitTable,
-    points: usize,
-) -> Result<Told, AllocError>
-    requires points { HaveSize points inside.now }
-    requires few { length inside.now < 2 ^ 63 }
-    ensures points { IfOk result (λ told. length told.rows ≡ points) }
-    ensures told { IfOk result (λ told. AreTold inside.now told.rows told.runs) }
+/// Writes 64 words over those from a place on.
+fn write_words(words: &mut [u64], first: usize, block: &[u64; 64])
+    requires { first + 64 ≤ length words.old }
+    ensures { IsWritten first 64 block.now words.old words.new }
 {
-    let loans = inside.len();
-    let rows = BitTable::new(alloc, points, loans)?;
-    let runs = BitTable::new(alloc, points.div_ceil(64), loans.div_ceil(64))?;
-    Ok(Told { rows, runs })
+    for k in 0..64 {
+        words[first + k] = block[k];
+    }
 }
 
-/// Tells of a point, for each loan of a set, whether it is inside there, by a table that has the points of each loan.
-pub(crate) fn tell(told: &mut Told, inside: &BitTable, point: usize, loans: &BitRow<'_>)
-    requires point { point < length told.old.rows }
-    requires loans { length loans.now ≡ length inside.now }
-    requires told { AreTold inside.now told.old.rows told.old.runs }
-    ensures points { length told.new.rows ≡ length told.old.rows }
-    ensures told { AreTold inside.now told.new.rows told.new.runs }
-    ensures here { (l : ℕ) → has loans.now l ≡ true → holds told.new.rows point l ≡ inside_at inside.now point l }
+/// Tells of a point, and of those of its run, which of a run of 64 loans are inside there, unless that was told: `told` has a word for each
+/// point, and the first row of `runs` the runs of points that are told.
+pub(crate) fn tell(
+    told: &mut [u64],
+    runs: &mut BitTable,
+    universals: u8,
+    loans: &[(usize, Loan<'_>)],
+    values: &Values,
+    word: usize,
+    point: usize,
+)
+    requires word { 64 * word < length loans.now }
+    requires point { point < length told.old }
+    requires told { AreTold (inside_at universals loans.now (holds values.now)) word told.old runs.old }
+    ensures size { length told.new ≡ length told.old }
+    ensures told { AreTold (inside_at universals loans.now (holds values.now)) word told.new runs.new }
+    ensures here { (l : ℕ) → l / 64 ≡ word → is_set (slice_index told.new point) (l % 64) ≡ inside_at universals loans.now (holds values.now) point l }
 {
-    let mut from = 0;
-    while let Some(loan) = loans.next_member(from) {
-        let run = loan / 64;
-        if told.runs.insert(point / 64, run) {
-            turn_block(&mut told.rows, inside, run, point / 64);
-        }
-        from = 64 * (run + 1);
+    let run = point / 64;
+    if runs.insert(0, run) {
+        let block = inside_block(universals, loans, values, word, run);
+        write_words(told, 64 * run, &block);
     }
 }

@@ -9,7 +9,6 @@ mod overwritten;
 mod scopes;
 mod seeds;
 mod sweeps;
-mod walks;
 
 pub use loan_list::loans;
 pub use scopes::{Scopes, in_scope};

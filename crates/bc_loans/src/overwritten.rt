@@ -1,15 +1,14 @@
-//! The loans a prefix of whose path a point overwrites, as rows of loans.
-ghost use Rattle.std.specs.Prelude.{◌≡◌, ◌<◌, ◌≤◌, ◌&&◌, ℕ, length, IfOk};
+//! The loans a prefix of whose path a point overwrites, by words of 64 loans.
+ghost use Rattle.std.specs.Prelude.{◌≡◌, ◌*◌, ◌/◌, ◌%◌, ◌<◌, ◌≤◌, ℕ, length, IfOk};
 ghost use Rattle.std.specs.List.{All};
-ghost use Rattle.bc_flow.specs.BitSet.{has};
-ghost use Rattle.bc_flow.specs.Flow.{holds, HaveSize, AreTaken};
+ghost use Rattle.bc_flow.specs.Packed.{is_set};
+ghost use Rattle.bc_flow.specs.Flow.{holds, HaveSize};
 ghost use Rattle.bc_points.specs.Accesses.{overwritten as overwritten_place};
 ghost use Rattle.bc_points.specs.declared.loan.Loan.{Loan as LoanValue};
-ghost use Rattle.bc_loans.specs.Sweeps.{HasSet};
 ghost use Rattle.bc_loans.specs.Overwrites.{begins_with, projects, has_prefix, is_overwritten, AreProjecting, AreByDepth};
 
 use crate::entries::{local_entries, projection_entries, projection_number};
-use bc_flow::{BitRow, BitTable, table};
+use bc_flow::{BitTable, table};
 use bc_mir::Instruction;
 use bc_points::{Loan, PlaceRef};
 use bc_syntax::{Projection, Statement, Terminator};
@@ -101,109 +100,66 @@ fn overwritten(instruction: &Instruction) -> Option<PlaceRef<'_>>
     }
 }
 
-/// Leaves in the first row of `ended` those loans alone whose paths have a projection at a depth. The first row of `lacking` is written anew.
-fn keep_projecting(
-    ended: &mut BitTable,
-    lacking: &mut BitTable,
+/// Which of a run of 64 loans have paths that have a projection at a depth.
+fn projecting_word(
     loans: &[(usize, Loan<'_>)],
     by_depth: &[BitTable],
+    word: usize,
     depth: usize,
     projection: &Projection,
-)
-    requires ended { HasSet (length loans.now) ended.old }
-    requires lacking { HasSet (length loans.now) lacking.old }
+) -> u64
+    requires word { 64 * word < length loans.now }
     requires loans { AreByDepth loans.now by_depth.now }
-    ensures ended { HasSet (length loans.now) ended.new }
-    ensures lacking { HasSet (length loans.now) lacking.new }
-    ensures kept { (l : ℕ) → holds ended.new 0 l ≡ (holds ended.old 0 l && projects loans.now depth projection.now l) }
+    ensures { (l : ℕ) → l / 64 ≡ word → is_set result (l % 64) ≡ projects loans.now depth projection.now l }
 {
-    lacking.copy_row(0, &ended.row(0));
-    if let Some(rows) = by_depth.get(depth) {
-        lacking.subtract_row(0, &rows.row(projection_number(projection)));
+    match by_depth.get(depth) {
+        Some(rows) => rows.word(projection_number(projection), word),
+        None => 0,
     }
-    ended.subtract_row(0, &lacking.row(0));
 }
 
-/// Writes the loans whose paths have a place as a prefix into the first row of `ended`: those of the local, and of these, at one depth after
-/// another, those that have the projection there.
-fn fill_prefixed(
-    ended: &mut BitTable,
-    lacking: &mut BitTable,
+/// Which of a run of 64 loans have paths that have a place as a prefix: those of its local, and of these, at one depth after another, those
+/// that have its projection there.
+fn prefixed_word(
     loans: &[(usize, Loan<'_>)],
-    of_local: &BitRow<'_>,
+    by_local: &BitTable,
     by_depth: &[BitTable],
+    word: usize,
     place: &PlaceRef<'_>,
-)
-    requires ended { HasSet (length loans.now) ended.old }
-    requires lacking { HasSet (length loans.now) lacking.old }
-    requires size { length of_local.now ≡ length loans.now }
-    requires local { (l : ℕ) → has of_local.now l ≡ begins_with loans.now place.now.local l }
-    requires loans { AreByDepth loans.now by_depth.now }
-    ensures ended { HasSet (length loans.now) ended.new }
-    ensures lacking { HasSet (length loans.now) lacking.new }
-    ensures prefixed { (l : ℕ) → holds ended.new 0 l ≡ has_prefix loans.now place.now l }
+) -> u64
+    requires word { 64 * word < length loans.now }
+    requires sizes { HaveSize (length loans.now) by_local.now }
+    requires locals { (k l : ℕ) → holds by_local.now k l ≡ begins_with loans.now k l }
+    requires depths { AreByDepth loans.now by_depth.now }
+    ensures { (l : ℕ) → l / 64 ≡ word → is_set result (l % 64) ≡ has_prefix loans.now place.now l }
 {
-    ended.copy_row(0, of_local);
+    let local = usize::from(place.local());
+    if local >= by_local.len() {
+        return 0;
+    }
+    let mut found = by_local.word(local, word);
     for (depth, projection) in place.projections().iter().enumerate() {
-        keep_projecting(ended, lacking, loans, by_depth, depth, projection);
+        found &= projecting_word(loans, by_depth, word, depth, projection);
     }
+    found
 }
 
-/// Takes the loans whose paths have a place as a prefix out of the first row of `here`. The first rows of `ended` and `lacking` may be written
-/// anew.
-fn take_prefixed(
-    here: &mut BitTable,
-    ended: &mut BitTable,
-    lacking: &mut BitTable,
+/// Which of a run of 64 loans end where an instruction is: it overwrites a prefix of their paths.
+pub(crate) fn overwritten_word(
     loans: &[(usize, Loan<'_>)],
     by_local: &BitTable,
     by_depth: &[BitTable],
-    place: &PlaceRef<'_>,
-)
-    requires here { 0 < length here.old }
-    requires ended { HasSet (length loans.now) ended.old }
-    requires lacking { HasSet (length loans.now) lacking.old }
-    requires sizes { HaveSize (length loans.now) by_local.now }
-    requires locals { (k l : ℕ) → holds by_local.now k l ≡ begins_with loans.now k l }
-    requires depths { AreByDepth loans.now by_depth.now }
-    ensures taken { AreTaken here.old here.new 0 (has_prefix loans.now place.now) }
-    ensures ended { HasSet (length loans.now) ended.new }
-    ensures lacking { HasSet (length loans.now) lacking.new }
-{
-    let Some(of_local) = by_local.get(usize::from(place.local())) else {
-        return;
-    };
-    if place.projections().is_empty() {
-        here.subtract_row(0, &of_local);
-    } else {
-        fill_prefixed(ended, lacking, loans, &of_local, by_depth, place);
-        here.subtract_row(0, &ended.row(0));
-    }
-}
-
-/// Takes out of the first row of `here` the loans a prefix of whose path an instruction overwrites. The first rows of `ended` and `lacking` may
-/// be written anew.
-pub(crate) fn take_overwritten(
-    here: &mut BitTable,
-    ended: &mut BitTable,
-    lacking: &mut BitTable,
-    loans: &[(usize, Loan<'_>)],
-    by_local: &BitTable,
-    by_depth: &[BitTable],
+    word: usize,
     instruction: &Instruction,
-)
-    requires here { 0 < length here.old }
-    requires ended { HasSet (length loans.now) ended.old }
-    requires lacking { HasSet (length loans.now) lacking.old }
+) -> u64
+    requires word { 64 * word < length loans.now }
     requires sizes { HaveSize (length loans.now) by_local.now }
     requires locals { (k l : ℕ) → holds by_local.now k l ≡ begins_with loans.now k l }
     requires depths { AreByDepth loans.now by_depth.now }
-    ensures taken { AreTaken here.old here.new 0 (is_overwritten loans.now instruction.now) }
-    ensures ended { HasSet (length loans.now) ended.new }
-    ensures lacking { HasSet (length loans.now) lacking.new }
+    ensures { (l : ℕ) → l / 64 ≡ word → is_set result (l % 64) ≡ is_overwritten loans.now instruction.now l }
 {
     match overwritten(instruction) {
-        Some(place) => take_prefixed(here, ended, lacking, loans, by_local, by_depth, &place),
-        None => {}
+        Some(place) => prefixed_word(loans, by_local, by_depth, word, &place),
+        None => 0,
     }
 }

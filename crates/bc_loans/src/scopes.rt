@@ -1,19 +1,13 @@
 //! The loans in scope on entry to each point.
-ghost use Rattle.std.specs.Prelude.{◌≡◌, ◌<◌, ◌↔◌, ℕ, true, length, IfOk};
-ghost use Rattle.std.specs.List.{All};
+ghost use Rattle.std.specs.Prelude.{◌≡◌, ◌↔◌, ℕ, true, length, IfOk};
 ghost use Rattle.bc_flow.specs.Flow.{holds, HaveSize};
 ghost use Rattle.bc_loans.specs.Loans.{loans_of};
-ghost use Rattle.bc_flow.specs.Graph.{AreWithin};
-ghost use Rattle.bc_points.specs.declared.loan.Loan.{Loan as LoanValue};
 ghost use Rattle.bc_loans.specs.Scope.{IsInScope};
-ghost use Rattle.bc_loans.specs.Walks.{IsWalked};
 
 use crate::loan_list::loans;
 use crate::sweeps::swept_rows;
-use crate::walks::walked_rows;
-use bc_flow::{BitTable, Edge};
-use bc_mir::{Step, Typed};
-use bc_points::Loan;
+use bc_flow::BitTable;
+use bc_mir::Typed;
 use bc_solve::Values;
 use std::alloc::{AllocError, Global};
 use std::marker::Model;
@@ -50,30 +44,6 @@ impl Scopes {
     }
 }
 
-/// For each point the loans that come there. Each loan walks from the point that makes it, until the walks have gone on from four times as
-/// many points as there are; then they are given up, and rows are swept.
-fn scope_rows(
-    alloc: Global,
-    universals: u8,
-    loans: &[(usize, Loan<'_>)],
-    steps: &[Step],
-    edges: &[Edge],
-    values: &Values,
-) -> Result<BitTable, AllocError>
-    requires makers { All (λ (made : ℕ × LoanValue). made.0 < length steps.now) loans.now }
-    requires edges { AreWithin edges.now (length steps.now) }
-    ensures points { IfOk result (λ rows. length rows ≡ length steps.now) }
-    ensures loans { IfOk result (λ rows. HaveSize (length loans.now) rows) }
-    ensures walked { IfOk result (λ rows. (l p : ℕ) → (holds rows p l ≡ true) ↔ IsWalked edges.now steps.now universals (holds values.now) loans.now l p) }
-{
-    let budget = steps.len().saturating_mul(4);
-    let walked = walked_rows(alloc, universals, loans, steps, edges, values, budget)?;
-    match walked {
-        Some(rows) => Ok(rows),
-        None => swept_rows(alloc, universals, loans, steps, edges, values),
-    }
-}
-
 /// The loans in scope on entry to each point, over the values that are handed in. A loan is in scope where a path of at
 /// least one step leads from the point that makes it: all points of the path after the first are in the value of the
 /// loan's region, and none before the last overwrites a prefix of the loan's path. Answers `AllocError` only where memory
@@ -85,7 +55,7 @@ pub fn in_scope(alloc: Global, typed: &Typed, values: &Values) -> Result<Scopes,
 {
     let loans = loans(alloc, typed)?;
     let edges = typed.edges(alloc)?;
-    let rows = scope_rows(
+    let rows = swept_rows(
         alloc,
         typed.universals(),
         &loans,

@@ -1,6 +1,6 @@
 //! Where loans come to from the points that make them.
 ghost use Rattle.std.specs.Prelude.{◌≡◌, ◌<◌, ◌⊎◌, ◌↔◌, ℕ, true, length, IfOk, OnOk};
-ghost use Rattle.std.specs.List.{All, Contains};
+ghost use Rattle.std.specs.List.{All};
 ghost use Rattle.bc_flow.specs.BitSet.{has};
 ghost use Rattle.bc_flow.specs.Graph.{HasEdge, AreWithin};
 ghost use Rattle.bc_flow.specs.Chains.{AreChains};
@@ -38,8 +38,6 @@ fn add_seed(
     ensures points { OnOk result (length coming.new ≡ length coming.old) }
     ensures rows { OnOk result (HaveSize (length (row coming.old maker)) coming.new) }
     ensures reached { OnOk result (All (λ n. n < length coming.old) reached.new.items) }
-    ensures kept { OnOk result ((n : ℕ) → Contains reached.old.items n → Contains reached.new.items n) }
-    ensures found { OnOk result ((n : ℕ) → holds coming.new n number ≡ true → (holds coming.old n number ≡ true) ⊎ Contains reached.new.items n) }
     ensures others { OnOk result ((n l : ℕ) → (l ≡ number → ⊥) → holds coming.new n l ≡ holds coming.old n l) }
     ensures seeded { OnOk result ((n : ℕ) → (holds coming.new n number ≡ true) ↔ ((holds coming.old n number ≡ true) ⊎ ((keeps_path steps.now path.now maker ≡ true) × HasEdge edges.now maker n × (has value.now n ≡ true)))) }
 {
@@ -71,8 +69,6 @@ fn add_seed_inside(
     ensures points { OnOk result (length coming.new ≡ length coming.old) }
     ensures rows { OnOk result (HaveSize (length (row coming.old maker)) coming.new) }
     ensures reached { OnOk result (All (λ n. n < length coming.old) reached.new.items) }
-    ensures kept { OnOk result ((n : ℕ) → Contains reached.old.items n → Contains reached.new.items n) }
-    ensures found { OnOk result ((n : ℕ) → holds coming.new n number ≡ true → (holds coming.old n number ≡ true) ⊎ Contains reached.new.items n) }
     ensures others { OnOk result ((n l : ℕ) → (l ≡ number → ⊥) → holds coming.new n l ≡ holds coming.old n l) }
     ensures seeded { OnOk result ((n : ℕ) → (holds coming.new n number ≡ true) ↔ ((holds coming.old n number ≡ true) ⊎ ((keeps_path steps.now path.now maker ≡ true) × HasEdge edges.now maker n × (holds values.now region n ≡ true)))) }
 {
@@ -84,14 +80,7 @@ fn add_seed_inside(
     }
 }
 
-/// For each point the loans that come there from the point that makes them, and a list of the points to which one comes.
-#[derive(Drop)]
-pub(crate) struct Seeds {
-    pub(crate) rows: BitTable,
-    pub(crate) reached: Vec<usize>,
-}
-
-/// The loans that come to points from those that make them, within their regions' values.
+/// For each point the loans that come there from the point that makes them, within their regions' values.
 pub(crate) fn seed_rows(
     alloc: Global,
     universals: u8,
@@ -100,15 +89,13 @@ pub(crate) fn seed_rows(
     edges: &[Edge],
     chains: &EdgeChains,
     values: &Values,
-) -> Result<Seeds, AllocError>
+) -> Result<BitTable, AllocError>
     requires makers { All (λ (made : ℕ × LoanValue). made.0 < length steps.now) loans.now }
     requires edges { AreWithin edges.now (length steps.now) }
     requires chains { AreChains 0 (length steps.now) edges.now chains.now.first.items chains.now.next.items }
-    ensures points { IfOk result (λ seeds. length seeds.rows ≡ length steps.now) }
-    ensures loans { IfOk result (λ seeds. HaveSize (length loans.now) seeds.rows) }
-    ensures within { IfOk result (λ seeds. All (λ n. n < length steps.now) seeds.reached.items) }
-    ensures reached { IfOk result (λ seeds. (n l : ℕ) → holds seeds.rows n l ≡ true → Contains seeds.reached.items n) }
-    ensures seeds { IfOk result (λ seeds. (n l : ℕ) → (holds seeds.rows n l ≡ true) ↔ IsSeed edges.now steps.now loans.now (λ p k. is_inside universals loans.now (holds values.now) k p) n l) }
+    ensures points { IfOk result (λ rows. length rows ≡ length steps.now) }
+    ensures loans { IfOk result (λ rows. HaveSize (length loans.now) rows) }
+    ensures seeds { IfOk result (λ rows. (n l : ℕ) → (holds rows n l ≡ true) ↔ IsSeed edges.now steps.now loans.now (λ p k. is_inside universals loans.now (holds values.now) k p) n l) }
 {
     let mut rows = BitTable::new(alloc, steps.len(), loans.len())?;
     let mut reached = Vec::new(alloc);
@@ -127,5 +114,5 @@ pub(crate) fn seed_rows(
             region,
         )?;
     }
-    Ok(Seeds { rows, reached })
+    Ok(rows)
 }

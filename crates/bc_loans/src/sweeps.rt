@@ -1,21 +1,21 @@
-//! Loans that are in scope at points as rows, all at once, a word of 64 of them at a time: by sweeps over the points in their order,
-//! until none is new at a point that a sweep has passed.
-ghost use Rattle.std.specs.Prelude.{◌≡◌, ◌<◌, ◌&&◌, ◌↔◌, [], ◌∷◌, ℕ, true, not, length, IfOk};
-ghost use Rattle.std.specs.List.{All, Contains};
-ghost use Rattle.bc_flow.specs.BitSet.{has};
-ghost use Rattle.bc_flow.specs.Graph.{AreWithin};
+//! Loans that are in scope at points, a word of 64 of them at a time: by sweeps over the points that one of them got to, in their order, until
+//! none is new at a point that a sweep has passed.
+ghost use Rattle.std.specs.Prelude.{◌≡◌, ◌+◌, ◌*◌, ◌/◌, ◌%◌, ◌<◌, ◌≤◌, ◌↔◌, [], ◌∷◌, ℕ, true, false, length, IfOk, OnOk};
+ghost use Rattle.std.specs.List.{All};
+ghost use Rattle.bc_flow.specs.Packed.{is_set, word_has};
+ghost use Rattle.bc_flow.specs.Graph.{HasEdge, AreWithin};
 ghost use Rattle.bc_flow.specs.Chains.{AreChains};
 ghost use Rattle.bc_flow.specs.Flow.{row, holds, HaveSize, AreAdded};
 ghost use Rattle.bc_points.specs.declared.loan.Loan.{Loan as LoanValue};
 ghost use Rattle.bc_loans.specs.Inside.{inside_at, AreTold};
-ghost use Rattle.bc_loans.specs.Overwrites.{begins_with, is_overwritten, AreByDepth};
-ghost use Rattle.bc_loans.specs.Sweeps.{IsSeed, ArePushed, HasSet, AreReached, AreSets, IsSwept, WalksTo};
+ghost use Rattle.bc_loans.specs.Overwrites.{begins_with, AreByDepth};
+ghost use Rattle.bc_loans.specs.Sweeps.{IsSeed, ArePushed, HasSet, AreReached, AreTargets, IsSwept, WalksTo, goes_on_from};
 ghost use Rattle.bc_loans.specs.Walks.{IsWalked};
 
-use crate::insides::{Told, nothing_told, points_inside, tell};
-use crate::overwritten::{loans_by_depth, loans_by_local, take_overwritten};
+use crate::insides::tell;
+use crate::overwritten::{loans_by_depth, loans_by_local, overwritten_word};
 use crate::seeds::seed_rows;
-use bc_flow::{BitRow, BitTable, Edge, EdgeChains, edge_chains};
+use bc_flow::{BitTable, Edge, EdgeChains, edge_chains};
 use bc_mir::{Instruction, Step};
 use bc_points::Loan;
 use bc_solve::Values;
@@ -34,206 +34,168 @@ fn note(reached: &mut BitTable, point: usize, grown: bool)
     }
 }
 
-/// Lets the loans of a row in where an edge leads, those that are inside there. Answers whether there was a new one, and that is
+/// Lets the loans of a word in where an edge leads, those that are inside there. Answers whether there was a new one, and that is
 /// the point which the edge leaves, or one before it.
 fn enter(
     rows: &mut BitTable,
     reached: &mut BitTable,
-    told: &mut Told,
-    inside: &BitTable,
+    told: &mut [u64],
+    runs: &mut BitTable,
+    universals: u8,
+    loans: &[(usize, Loan<'_>)],
+    values: &Values,
+    word: usize,
     edge: Edge,
-    here: &BitRow<'_>,
+    here: u64,
 ) -> bool
+    requires word { 64 * word < length loans.now }
     requires to { edge.to < length rows.old }
-    requires here { length here.now ≡ length (row rows.old edge.to) }
-    requires inside { length inside.now ≡ length here.now }
-    requires there { length told.old.rows ≡ length rows.old }
-    requires told { AreTold inside.now told.old.rows told.old.runs }
+    requires rows { HaveSize (length loans.now) rows.old }
+    requires clean { (l : ℕ) → l / 64 ≡ word → length loans.now ≤ l → is_set here (l % 64) ≡ false }
+    requires told { AreTold (inside_at universals loans.now (holds values.now)) word told.old runs.old }
+    requires room { length rows.old ≤ length told.old }
     requires set { HasSet (length rows.old) reached.old }
-    requires reached { AreReached rows.old reached.old }
-    ensures added { AreAdded rows.old rows.new edge.to (λ l. has here.now l && inside_at inside.now edge.to l) }
-    ensures pushed { ArePushed (edge ∷ []) edge.from (has here.now) (inside_at inside.now) result rows.old rows.new }
-    ensures there { length told.new.rows ≡ length told.old.rows }
-    ensures told { AreTold inside.now told.new.rows told.new.runs }
+    requires reached { AreReached word rows.old reached.old }
+    ensures points { length rows.new ≡ length rows.old }
+    ensures rows { HaveSize (length loans.now) rows.new }
+    ensures pushed { ArePushed (edge ∷ []) edge.from (word_has word here) (inside_at universals loans.now (holds values.now)) result rows.old rows.new }
+    ensures room { length told.new ≡ length told.old }
+    ensures told { AreTold (inside_at universals loans.now (holds values.now)) word told.new runs.new }
     ensures set { HasSet (length rows.old) reached.new }
-    ensures reached { AreReached rows.new reached.new }
+    ensures reached { AreReached word rows.new reached.new }
 {
-    tell(told, inside, edge.to, here);
-    let grown = rows.join_row_within(edge.to, here, &told.rows.row(edge.to));
+    tell(told, runs, universals, loans, values, word, edge.to);
+    let grown = rows.join_word(edge.to, word, here & told[edge.to]);
     note(reached, edge.to, grown);
     edge.to <= edge.from && grown
 }
 
-/// Lets the loans of a row in where edges lead from a point. Answers whether a new one got to that point itself or to one before
+/// Lets the loans of a word in where edges lead from a point. Answers whether a new one got to that point itself or to one before
 /// it.
 fn push_on(
     rows: &mut BitTable,
     reached: &mut BitTable,
-    told: &mut Told,
-    inside: &BitTable,
+    told: &mut [u64],
+    runs: &mut BitTable,
+    universals: u8,
+    loans: &[(usize, Loan<'_>)],
+    values: &Values,
+    word: usize,
     point: usize,
     edges: &[Edge],
     chains: &EdgeChains,
-    here: &BitRow<'_>,
+    here: u64,
 ) -> bool
+    requires word { 64 * word < length loans.now }
     requires point { point < length rows.old }
     requires edges { AreWithin edges.now (length rows.old) }
     requires chains { AreChains 0 (length rows.old) edges.now chains.now.first.items chains.now.next.items }
-    requires rows { HaveSize (length here.now) rows.old }
-    requires inside { length inside.now ≡ length here.now }
-    requires there { length told.old.rows ≡ length rows.old }
-    requires told { AreTold inside.now told.old.rows told.old.runs }
+    requires rows { HaveSize (length loans.now) rows.old }
+    requires clean { (l : ℕ) → l / 64 ≡ word → length loans.now ≤ l → is_set here (l % 64) ≡ false }
+    requires told { AreTold (inside_at universals loans.now (holds values.now)) word told.old runs.old }
+    requires room { length rows.old ≤ length told.old }
     requires set { HasSet (length rows.old) reached.old }
-    requires reached { AreReached rows.old reached.old }
+    requires reached { AreReached word rows.old reached.old }
     ensures points { length rows.new ≡ length rows.old }
-    ensures rows { HaveSize (length here.now) rows.new }
-    ensures pushed { ArePushed edges.now point (has here.now) (inside_at inside.now) result rows.old rows.new }
-    ensures there { length told.new.rows ≡ length told.old.rows }
-    ensures told { AreTold inside.now told.new.rows told.new.runs }
+    ensures rows { HaveSize (length loans.now) rows.new }
+    ensures pushed { ArePushed edges.now point (word_has word here) (inside_at universals loans.now (holds values.now)) result rows.old rows.new }
+    ensures room { length told.new ≡ length told.old }
+    ensures told { AreTold (inside_at universals loans.now (holds values.now)) word told.new runs.new }
     ensures set { HasSet (length rows.old) reached.new }
-    ensures reached { AreReached rows.new reached.new }
+    ensures reached { AreReached word rows.new reached.new }
 {
     let mut again = false;
     let mut at = chains.first[point];
     while at < edges.len() {
-        again |= enter(rows, reached, told, inside, edges[at], here);
+        again |= enter(
+            rows, reached, told, runs, universals, loans, values, word, edges[at], here,
+        );
         at = chains.next[at];
     }
     again
 }
 
-/// Sets of loans, each the one row of a table, which a sweep writes anew for each point: those that go on from it, those that it overwrites, and
-/// those that lack a projection of what it overwrites.
-#[derive(Drop)]
-struct Sets {
-    here: BitTable,
-    ended: BitTable,
-    lacking: BitTable,
-}
-
-/// Empty sets of so many loans.
-fn new_sets(alloc: Global, loans: usize) -> Result<Sets, AllocError>
-    ensures { IfOk result (λ sets. AreSets loans sets.here sets.ended sets.lacking) }
-{
-    let here = BitTable::new(alloc, 1, loans)?;
-    let ended = BitTable::new(alloc, 1, loans)?;
-    let lacking = BitTable::new(alloc, 1, loans)?;
-    Ok(Sets {
-        here,
-        ended,
-        lacking,
-    })
-}
-
-/// Lets the loans of a point go on from there, where the point does not overwrite them. Answers whether a new one got to that
-/// point itself or to one before it.
+/// Lets the loans of a word that are at a point go on from there, where the point does not overwrite them. Answers whether a new one got to
+/// that point itself or to one before it.
 fn visit(
     rows: &mut BitTable,
     reached: &mut BitTable,
-    sets: &mut Sets,
-    told: &mut Told,
-    inside: &BitTable,
+    told: &mut [u64],
+    runs: &mut BitTable,
+    universals: u8,
+    loans: &[(usize, Loan<'_>)],
+    values: &Values,
+    word: usize,
     point: usize,
     instruction: &Instruction,
-    loans: &[(usize, Loan<'_>)],
     by_local: &BitTable,
     by_depth: &[BitTable],
     edges: &[Edge],
     chains: &EdgeChains,
 ) -> bool
+    requires word { 64 * word < length loans.now }
     requires point { point < length rows.old }
     requires rows { HaveSize (length loans.now) rows.old }
-    requires sets { AreSets (length loans.now) sets.old.here sets.old.ended sets.old.lacking }
-    requires inside { length inside.now ≡ length loans.now }
-    requires there { length told.old.rows ≡ length rows.old }
-    requires told { AreTold inside.now told.old.rows told.old.runs }
-    requires set { HasSet (length rows.old) reached.old }
-    requires reached { AreReached rows.old reached.old }
     requires sizes { HaveSize (length loans.now) by_local.now }
     requires locals { (k l : ℕ) → holds by_local.now k l ≡ begins_with loans.now k l }
     requires depths { AreByDepth loans.now by_depth.now }
     requires edges { AreWithin edges.now (length rows.old) }
     requires chains { AreChains 0 (length rows.old) edges.now chains.now.first.items chains.now.next.items }
+    requires told { AreTold (inside_at universals loans.now (holds values.now)) word told.old runs.old }
+    requires room { length rows.old ≤ length told.old }
+    requires set { HasSet (length rows.old) reached.old }
+    requires reached { AreReached word rows.old reached.old }
     ensures points { length rows.new ≡ length rows.old }
     ensures rows { HaveSize (length loans.now) rows.new }
-    ensures sets { AreSets (length loans.now) sets.new.here sets.new.ended sets.new.lacking }
-    ensures pushed { ArePushed edges.now point (λ l. holds rows.old point l && not (is_overwritten loans.now instruction.now l)) (inside_at inside.now) result rows.old rows.new }
-    ensures there { length told.new.rows ≡ length told.old.rows }
-    ensures told { AreTold inside.now told.new.rows told.new.runs }
+    ensures pushed { ArePushed edges.now point (goes_on_from word loans.now instruction.now rows.old point) (inside_at universals loans.now (holds values.now)) result rows.old rows.new }
+    ensures room { length told.new ≡ length told.old }
+    ensures told { AreTold (inside_at universals loans.now (holds values.now)) word told.new runs.new }
     ensures set { HasSet (length rows.old) reached.new }
-    ensures reached { AreReached rows.new reached.new }
+    ensures reached { AreReached word rows.new reached.new }
 {
-    sets.here.copy_row(0, &rows.row(point));
-    take_overwritten(
-        &mut sets.here,
-        &mut sets.ended,
-        &mut sets.lacking,
-        loans,
-        by_local,
-        by_depth,
-        instruction,
-    );
+    let ended = overwritten_word(loans, by_local, by_depth, word, instruction);
+    let here = rows.word(point, word) & !ended;
     push_on(
-        rows,
-        reached,
-        told,
-        inside,
-        point,
-        edges,
-        chains,
-        &sets.here.row(0),
+        rows, reached, told, runs, universals, loans, values, word, point, edges, chains, here,
     )
 }
 
-/// The set that has these numbers, all of them below a size, as the one row of a table.
-fn set_of(alloc: Global, numbers: &[usize], size: usize) -> Result<BitTable, AllocError>
-    requires { All (λ n. n < size) numbers.now }
-    ensures set { IfOk result (λ set. HasSet size set) }
-    ensures members { IfOk result (λ set. (n : ℕ) → Contains numbers.now n → holds set 0 n ≡ true) }
-{
-    let mut set = BitTable::new(alloc, 1, size)?;
-    for number in numbers {
-        let _new = set.insert(0, *number);
-    }
-    Ok(set)
-}
-
-/// Lets the loans of each point go on, one point after another. Answers whether one is new at a point that was passed, so that
-/// another sweep is needed.
+/// Lets the loans of a word go on from the points that one of them got to, one point after another. Answers whether one is new at a point
+/// that was passed, so that another sweep is needed.
 fn sweep(
     rows: &mut BitTable,
     reached: &mut BitTable,
-    sets: &mut Sets,
-    told: &mut Told,
-    inside: &BitTable,
+    told: &mut [u64],
+    runs: &mut BitTable,
+    universals: u8,
     loans: &[(usize, Loan<'_>)],
+    values: &Values,
+    word: usize,
     by_local: &BitTable,
     by_depth: &[BitTable],
     steps: &[Step],
     edges: &[Edge],
     chains: &EdgeChains,
 ) -> bool
+    requires word { 64 * word < length loans.now }
     requires points { length rows.old ≡ length steps.now }
     requires rows { HaveSize (length loans.now) rows.old }
-    requires sets { AreSets (length loans.now) sets.old.here sets.old.ended sets.old.lacking }
-    requires inside { length inside.now ≡ length loans.now }
-    requires there { length told.old.rows ≡ length steps.now }
-    requires told { AreTold inside.now told.old.rows told.old.runs }
-    requires set { HasSet (length rows.old) reached.old }
-    requires reached { AreReached rows.old reached.old }
     requires sizes { HaveSize (length loans.now) by_local.now }
     requires locals { (k l : ℕ) → holds by_local.now k l ≡ begins_with loans.now k l }
     requires depths { AreByDepth loans.now by_depth.now }
     requires edges { AreWithin edges.now (length steps.now) }
     requires chains { AreChains 0 (length steps.now) edges.now chains.now.first.items chains.now.next.items }
+    requires told { AreTold (inside_at universals loans.now (holds values.now)) word told.old runs.old }
+    requires room { length rows.old ≤ length told.old }
+    requires set { HasSet (length rows.old) reached.old }
+    requires reached { AreReached word rows.old reached.old }
     ensures points { length rows.new ≡ length rows.old }
     ensures rows { HaveSize (length loans.now) rows.new }
-    ensures sets { AreSets (length loans.now) sets.new.here sets.new.ended sets.new.lacking }
-    ensures swept { IsSwept edges.now steps.now loans.now (inside_at inside.now) (length steps.now) result rows.old rows.new }
-    ensures there { length told.new.rows ≡ length told.old.rows }
-    ensures told { AreTold inside.now told.new.rows told.new.runs }
+    ensures swept { IsSwept edges.now steps.now loans.now (inside_at universals loans.now (holds values.now)) word (length steps.now) result rows.old rows.new }
+    ensures room { length told.new ≡ length told.old }
+    ensures told { AreTold (inside_at universals loans.now (holds values.now)) word told.new runs.new }
     ensures set { HasSet (length rows.old) reached.new }
-    ensures reached { AreReached rows.new reached.new }
+    ensures reached { AreReached word rows.new reached.new }
 {
     let mut again = false;
     let mut from = 0;
@@ -241,12 +203,14 @@ fn sweep(
         again |= visit(
             rows,
             reached,
-            sets,
             told,
-            inside,
+            runs,
+            universals,
+            loans,
+            values,
+            word,
             point,
             &steps[point].instruction,
-            loans,
             by_local,
             by_depth,
             edges,
@@ -257,41 +221,151 @@ fn sweep(
     again
 }
 
-/// Lets the loans go on by sweeps, until none is new at a point that was passed.
+/// Lets the loans of a word go on by sweeps, until none is new at a point that was passed.
 fn sweep_all(
     rows: &mut BitTable,
     reached: &mut BitTable,
-    sets: &mut Sets,
-    told: &mut Told,
-    inside: &BitTable,
+    told: &mut [u64],
+    runs: &mut BitTable,
+    universals: u8,
     loans: &[(usize, Loan<'_>)],
+    values: &Values,
+    word: usize,
     by_local: &BitTable,
     by_depth: &[BitTable],
     steps: &[Step],
     edges: &[Edge],
     chains: &EdgeChains,
 )
+    requires word { 64 * word < length loans.now }
     requires points { length rows.old ≡ length steps.now }
     requires rows { HaveSize (length loans.now) rows.old }
-    requires seeds { (n l : ℕ) → (holds rows.old n l ≡ true) ↔ IsSeed edges.now steps.now loans.now (inside_at inside.now) n l }
-    requires sets { AreSets (length loans.now) sets.old.here sets.old.ended sets.old.lacking }
-    requires inside { length inside.now ≡ length loans.now }
-    requires there { length told.old.rows ≡ length steps.now }
-    requires told { AreTold inside.now told.old.rows told.old.runs }
-    requires set { HasSet (length rows.old) reached.old }
-    requires reached { AreReached rows.old reached.old }
+    requires seeds { (n l : ℕ) → l / 64 ≡ word → IsSeed edges.now steps.now loans.now (inside_at universals loans.now (holds values.now)) n l → holds rows.old n l ≡ true }
+    requires sound { (n l : ℕ) → holds rows.old n l ≡ true → WalksTo edges.now steps.now loans.now (inside_at universals loans.now (holds values.now)) n l }
     requires sizes { HaveSize (length loans.now) by_local.now }
     requires locals { (k l : ℕ) → holds by_local.now k l ≡ begins_with loans.now k l }
     requires depths { AreByDepth loans.now by_depth.now }
     requires edges { AreWithin edges.now (length steps.now) }
     requires chains { AreChains 0 (length steps.now) edges.now chains.now.first.items chains.now.next.items }
+    requires told { AreTold (inside_at universals loans.now (holds values.now)) word told.old runs.old }
+    requires room { length rows.old ≤ length told.old }
+    requires set { HasSet (length rows.old) reached.old }
+    requires reached { AreReached word rows.old reached.old }
     ensures points { length rows.new ≡ length rows.old }
     ensures rows { HaveSize (length loans.now) rows.new }
-    ensures walks { (n l : ℕ) → (holds rows.new n l ≡ true) ↔ WalksTo edges.now steps.now loans.now (inside_at inside.now) n l }
+    ensures room { length told.new ≡ length told.old }
+    ensures others { (n l : ℕ) → (l / 64 ≡ word → ⊥) → holds rows.new n l ≡ holds rows.old n l }
+    ensures walks { (n l : ℕ) → l / 64 ≡ word → (holds rows.new n l ≡ true) ↔ WalksTo edges.now steps.now loans.now (inside_at universals loans.now (holds values.now)) n l }
 {
     'sweeps: while sweep(
-        rows, reached, sets, told, inside, loans, by_local, by_depth, steps, edges, chains,
+        rows, reached, told, runs, universals, loans, values, word, by_local, by_depth, steps,
+        edges, chains,
     ) {}
+}
+
+/// Adds the points to which edges lead from a point to the first row of a table.
+fn reach_from(reached: &mut BitTable, point: usize, edges: &[Edge], chains: &EdgeChains)
+    requires set { 0 < length reached.old }
+    requires point { point < length (row reached.old 0) }
+    requires edges { AreWithin edges.now (length (row reached.old 0)) }
+    requires chains { AreChains 0 (length (row reached.old 0)) edges.now chains.now.first.items chains.now.next.items }
+    ensures set { HasSet (length (row reached.old 0)) reached.new }
+    ensures kept { (n : ℕ) → holds reached.old 0 n ≡ true → holds reached.new 0 n ≡ true }
+    ensures reached { (n : ℕ) → HasEdge edges.now point n → holds reached.new 0 n ≡ true }
+{
+    let mut at = chains.first[point];
+    while at < edges.len() {
+        let _new = reached.insert(0, edges[at].to);
+        at = chains.next[at];
+    }
+}
+
+/// The points to which edges lead from the points that make the loans of a word.
+fn first_reached(
+    alloc: Global,
+    loans: &[(usize, Loan<'_>)],
+    word: usize,
+    points: usize,
+    edges: &[Edge],
+    chains: &EdgeChains,
+) -> Result<BitTable, AllocError>
+    requires word { 64 * word < length loans.now }
+    requires makers { All (λ (made : ℕ × LoanValue). made.0 < points) loans.now }
+    requires edges { AreWithin edges.now points }
+    requires chains { AreChains 0 points edges.now chains.now.first.items chains.now.next.items }
+    ensures set { IfOk result (λ reached. HasSet points reached) }
+    ensures targets { IfOk result (λ reached. (l : ℕ) → l / 64 ≡ word → AreTargets edges.now loans.now l reached) }
+{
+    let mut reached = BitTable::new(alloc, 1, points)?;
+    let count = loans.len();
+    let first = 64 * word;
+    for k in 0..(count - first).min(64) {
+        reach_from(&mut reached, loans[first + k].0, edges, chains);
+    }
+    Ok(reached)
+}
+
+/// Lets the loans of a word go on from the points to which they came from those that make them.
+fn walk_word(
+    alloc: Global,
+    rows: &mut BitTable,
+    told: &mut [u64],
+    universals: u8,
+    loans: &[(usize, Loan<'_>)],
+    values: &Values,
+    word: usize,
+    by_local: &BitTable,
+    by_depth: &[BitTable],
+    steps: &[Step],
+    edges: &[Edge],
+    chains: &EdgeChains,
+) -> Result<(), AllocError>
+    requires word { 64 * word < length loans.now }
+    requires makers { All (λ (made : ℕ × LoanValue). made.0 < length steps.now) loans.now }
+    requires points { length rows.old ≡ length steps.now }
+    requires rows { HaveSize (length loans.now) rows.old }
+    requires room { length told.old ≡ 64 * ((length steps.now + 63) / 64) }
+    requires seeds { (n l : ℕ) → l / 64 ≡ word → (holds rows.old n l ≡ true) ↔ IsSeed edges.now steps.now loans.now (inside_at universals loans.now (holds values.now)) n l }
+    requires sound { (n l : ℕ) → holds rows.old n l ≡ true → WalksTo edges.now steps.now loans.now (inside_at universals loans.now (holds values.now)) n l }
+    requires sizes { HaveSize (length loans.now) by_local.now }
+    requires locals { (k l : ℕ) → holds by_local.now k l ≡ begins_with loans.now k l }
+    requires depths { AreByDepth loans.now by_depth.now }
+    requires edges { AreWithin edges.now (length steps.now) }
+    requires chains { AreChains 0 (length steps.now) edges.now chains.now.first.items chains.now.next.items }
+    ensures points { OnOk result (length rows.new ≡ length rows.old) }
+    ensures rows { OnOk result (HaveSize (length loans.now) rows.new) }
+    ensures room { OnOk result (length told.new ≡ length told.old) }
+    ensures others { OnOk result ((n l : ℕ) → (l / 64 ≡ word → ⊥) → holds rows.new n l ≡ holds rows.old n l) }
+    ensures walks { OnOk result ((n l : ℕ) → l / 64 ≡ word → (holds rows.new n l ≡ true) ↔ WalksTo edges.now steps.now loans.now (inside_at universals loans.now (holds values.now)) n l) }
+{
+    let mut reached = first_reached(alloc, loans, word, steps.len(), edges, chains)?;
+    let mut runs = BitTable::new(alloc, 1, steps.len().div_ceil(64))?;
+    sweep_all(
+        rows,
+        &mut reached,
+        told,
+        &mut runs,
+        universals,
+        loans,
+        values,
+        word,
+        by_local,
+        by_depth,
+        steps,
+        edges,
+        chains,
+    );
+    Ok(())
+}
+
+/// A word for each of so many points, and for those that fill the last run of 64.
+fn point_words(alloc: Global, points: usize) -> Result<Vec<u64>, AllocError>
+    ensures { IfOk result (λ words. length words.items ≡ 64 * ((points + 63) / 64)) }
+{
+    let Some(count) = points.div_ceil(64).checked_mul(64) else {
+        return Err(AllocError);
+    };
+    vec![in alloc; 0; count]
 }
 
 /// For each point the loans that walk there within their regions' values.
@@ -312,23 +386,13 @@ pub(crate) fn swept_rows(
     let chains = edge_chains(alloc, steps.len(), edges)?;
     let by_local = loans_by_local(alloc, loans)?;
     let by_depth = loans_by_depth(alloc, loans)?;
-    let inside = points_inside(alloc, universals, loans, values, steps.len())?;
-    let mut told = nothing_told(alloc, &inside, steps.len())?;
-    let mut sets = new_sets(alloc, loans.len())?;
-    let mut seeds = seed_rows(alloc, universals, loans, steps, edges, &chains, values)?;
-    let mut reached = set_of(alloc, &seeds.reached, steps.len())?;
-    sweep_all(
-        &mut seeds.rows,
-        &mut reached,
-        &mut sets,
-        &mut told,
-        &inside,
-        loans,
-        &by_local,
-        &by_depth,
-        steps,
-        edges,
-        &chains,
-    );
-    Ok(seeds.rows)
+    let mut told = point_words(alloc, steps.len())?;
+    let mut rows = seed_rows(alloc, universals, loans, steps, edges, &chains, values)?;
+    for word in 0..loans.len().div_ceil(64) {
+        walk_word(
+            alloc, &mut rows, &mut told, universals, loans, values, word, &by_local, &by_depth,
+            steps, edges, &chains,
+        )?;
+    }
+    Ok(rows)
 }

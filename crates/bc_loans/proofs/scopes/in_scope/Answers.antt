@@ -3,8 +3,8 @@ use Rattle.bc_loans.proofs.Listing.{makers_within}
 use Rattle.bc_loans.proofs.Ways.{walked_is_scope}
 use Rattle.bc_loans.proofs.scopes.in_scope.Goals as goal
 
-pub scope_rows-requires-clause-makers : goal.scope_rows-requires-clause-makers
-scope_rows-requires-clause-makers c = rw (c.deref.ensures.value, c.in_ok-loans.ensures, c.steps.ensures.value) (makers_within c.args.typed.now)
+pub swept_rows-requires-clause-makers : goal.swept_rows-requires-clause-makers
+swept_rows-requires-clause-makers c = rw (c.deref.ensures.value, c.in_ok-loans.ensures, c.steps.ensures.value) (makers_within c.args.typed.now)
 
 pub returns-clause-scopes : goal.returns-clause-scopes
 returns-clause-scopes c = λ l p.

@@ -6,7 +6,7 @@ use Rattle.bc_flow.specs.Flow.{holds}
 use Rattle.bc_loans.specs.Inside.{is_inside}
 use Rattle.bc_loans.specs.Overwrites.{keeps}
 use Rattle.bc_loans.proofs.Regions.{inside_of}
-use Rattle.bc_loans.proofs.Seeding.{AreSeeded-none, AreSeeded-more, AreSeeded-all, found_none, found_more, seeded_same}
+use Rattle.bc_loans.proofs.Seeding.{AreSeeded-none, AreSeeded-more, AreSeeded-all, seeded_same}
 use Rattle.bc_loans.proofs.seeds.seed_rows.Goals as goal
 
 pub add_seed_inside-requires : goal.add_seed_inside-requires
@@ -29,7 +29,6 @@ loop-number-init c = record {
   points = c.in_ok-rows.ensures.rows;
   size = c.in_ok-rows.ensures.size;
   reached = rw c.new-reached.ensures.items (All-nil (λ (n : ℕ). n < length c.args.steps.now));
-  found = found_none c.in_ok-rows.rows c.new-reached.result.items c.in_ok-rows.ensures.empty;
   seeded = AreSeeded-none c.args.edges.now c.args.steps.now c.args.loans.now (λ (p k : ℕ). is_inside c.args.universals c.args.loans.now (holds c.args.values.now) k p) c.in_ok-rows.rows c.in_ok-rows.ensures.empty;
 }
 
@@ -46,7 +45,6 @@ loop-number-preserved c =
       points = added.points ∙ invariant.points;
       size = rw wide at added.rows;
       reached = rw invariant.points at added.reached;
-      found = found_more number c.loop-number.rows c.add_seed_inside.new.coming c.loop-number.reached.items c.add_seed_inside.new.reached.items added.others added.found added.kept invariant.found;
       seeded = AreSeeded-more c.args.edges.now c.args.steps.now c.args.loans.now (λ (p k : ℕ). is_inside c.args.universals c.args.loans.now (holds c.args.values.now) k p) number made c.loop-number.rows c.add_seed_inside.new.coming is added.others
           (seeded_same c.args.edges.now made.0 number (holds c.args.values.now c.region_number-region.result) (is_inside c.args.universals c.args.loans.now (holds c.args.values.now) number) c.loop-number.rows c.add_seed_inside.new.coming
           (keeps c.args.steps.now made.1.path made.0) (inside_of c.args.universals c.args.loans.now (holds c.args.values.now) number made c.region_number-region.result is c.region_number-region.ensures.value) added.seeded)

@@ -1,5 +1,5 @@
-use Rattle.std.proofs.Common.{◌≡◌, ◌<◌, true, ℕ, length}
-use Rattle.std.specs.List.{All, Contains}
+use Rattle.std.proofs.Common.{◌≡◌, ◌<◌, length}
+use Rattle.std.specs.List.{All}
 use Rattle.bc_flow.specs.Flow.{holds, HaveSize}
 use Rattle.bc_loans.specs.Inside.{is_inside}
 use Rattle.bc_loans.proofs.Seeding.{AreSeeded}
@@ -10,6 +10,5 @@ invariant-loop-number l = record {
   points : length l.rows ≡ length l.steps;
   size : HaveSize (length l.loans) l.rows;
   reached : All (λ n. n < length l.steps) l.reached.items;
-  found : (n k : ℕ) → holds l.rows n k ≡ true → Contains l.reached.items n;
   seeded : AreSeeded l.edges l.steps l.loans (λ p k. is_inside l.universals l.loans (holds l.values) k p) l.number l.rows;
 }

@@ -1,10 +1,10 @@
-use Rattle.std.proofs.Common.{◌≡◌, ◌+◌, [], length, take, arith, get_or, refl, sym, ◌∙◌}
+use Rattle.std.proofs.Common.{◌≡◌, ◌+◌, take, arith, get_or, refl, ◌∙◌}
 use Rattle.std.proofs.lemmas.List.{take_more}
 use Rattle.bc_flow.specs.declared.graph.Edge.{Edge}
-use Rattle.bc_flow.specs.BitSet.{has}
-use Rattle.bc_loans.specs.Inside.{inside_at}
+use Rattle.bc_flow.specs.Packed.{word_has}
+use Rattle.bc_flow.specs.Flow.{holds}
 use Rattle.bc_flow.proofs.Chains.{skipped, first_is, next_is}
-use Rattle.bc_flow.proofs.Rows.{sizes_kept}
+use Rattle.bc_loans.specs.Inside.{inside_at}
 use Rattle.bc_loans.proofs.Sweeping.{ArePushed-none, ArePushed-same, ArePushed-more}
 use Rattle.bc_loans.proofs.sweeps.push_on.Goals as goal
 
@@ -13,14 +13,14 @@ loop-at-init c =
     let is = first_is _ _ _ _ c.args.point c.index-at.result.now c.requires.chains c.requires.point c.index-at.ensures in
     record {
       points = refl;
-      there = refl;
+      sizes = c.requires.rows;
+      room = refl;
       told = c.requires.told;
       set = c.requires.set;
       reached = c.requires.reached;
-      sizes = c.requires.rows;
       within = is.within;
       leaves = is.leaves;
-      pushed = ArePushed-same c.args.point _ _ _ _ _ _ _ (skipped c.args.edges.now c.args.point 0 c.index-at.result.now is) (ArePushed-none c.args.point (has c.args.here.now) (inside_at c.args.inside.now) c.args.rows.now);
+      pushed = ArePushed-same c.args.point _ _ _ _ _ _ _ (skipped c.args.edges.now c.args.point 0 c.index-at.result.now is) (ArePushed-none c.args.point (word_has c.args.word c.args.here) (inside_at c.args.universals c.args.loans.now (holds c.args.values.now)) c.args.rows.now);
     }
 
 pub enter-again-requires-clause-to : goal.enter-again-requires-clause-to
@@ -29,18 +29,11 @@ enter-again-requires-clause-to c =
     let small = (c.requires.edges c.loop-at.at none c.loop-at-test.true).1 in
     omega (arith, small, c.loop-at.invariant.points)
 
-pub enter-again-requires-clause-there : goal.enter-again-requires-clause-there
-enter-again-requires-clause-there c = c.loop-at.invariant.there ∙ c.requires.there ∙ sym c.loop-at.invariant.points
+pub enter-again-requires-clause-room : goal.enter-again-requires-clause-room
+enter-again-requires-clause-room c = omega (arith, c.requires.room, c.loop-at.invariant.points, c.loop-at.invariant.room)
 
 pub enter-again-requires-clause-set : goal.enter-again-requires-clause-set
 enter-again-requires-clause-set c = rw c.loop-at.invariant.points c.loop-at.invariant.set
-
-pub enter-again-requires-clause-here : goal.enter-again-requires-clause-here
-enter-again-requires-clause-here c =
-    let none : Edge = record { from = 0; to = 0 } in
-    let e : Edge = get_or c.args.edges.now c.loop-at.at none in
-    let small = (c.requires.edges c.loop-at.at none c.loop-at-test.true).1 in
-    sym (c.loop-at.invariant.sizes e.to [] (omega (arith, small, c.loop-at.invariant.points)))
 
 pub loop-at-smaller : goal.loop-at-smaller
 loop-at-smaller c =
@@ -53,17 +46,16 @@ loop-at-preserved c =
     let e : Edge = get_or c.args.edges.now c.loop-at.at none in
     let own : e.from ≡ c.args.point = c.loop-at.invariant.leaves c.loop-at-test.true none in
     let is = next_is _ _ _ _ c.args.point c.loop-at.at c.index-at-in-loop-at.result.now c.requires.chains c.loop-at-test.true (c.loop-at.invariant.leaves c.loop-at-test.true) c.index-at-in-loop-at.ensures in
-    let added = c.enter-again.ensures.added in
     record {
-      points = added.rows ∙ c.loop-at.invariant.points;
-      there = c.enter-again.ensures.there ∙ c.loop-at.invariant.there;
+      points = c.enter-again.ensures.points ∙ c.loop-at.invariant.points;
+      sizes = c.enter-again.ensures.rows;
+      room = c.enter-again.ensures.room ∙ c.loop-at.invariant.room;
       told = c.enter-again.ensures.told;
       set = rw c.loop-at.invariant.points at c.enter-again.ensures.set;
       reached = c.enter-again.ensures.reached;
-      sizes = sizes_kept (length c.args.here.now) c.loop-at.rows c.enter-again.new.rows e.to added.rows added.others added.size c.loop-at.invariant.sizes;
       within = is.within;
       leaves = is.leaves;
       pushed = ArePushed-same c.args.point _ _ _ _ _ _ _ (skipped c.args.edges.now c.args.point (c.loop-at.at + 1) c.index-at-in-loop-at.result.now is)
           (rw (take_more c.args.edges.now c.loop-at.at none c.loop-at-test.true)
-          (ArePushed-more c.args.point (take c.loop-at.at c.args.edges.now) e (has c.args.here.now) (inside_at c.args.inside.now) c.loop-at.again c.enter-again.result c.args.rows.now c.loop-at.rows c.enter-again.new.rows c.loop-at.invariant.pushed (rw own at c.enter-again.ensures.pushed)));
+          (ArePushed-more c.args.point (take c.loop-at.at c.args.edges.now) e (word_has c.args.word c.args.here) (inside_at c.args.universals c.args.loans.now (holds c.args.values.now)) c.loop-at.again c.enter-again.result c.args.rows.now c.loop-at.rows c.enter-again.new.rows c.loop-at.invariant.pushed (rw own at c.enter-again.ensures.pushed)));
     }

@@ -1,6 +1,7 @@
 use Rattle.std.proofs.Common.{◌≡◌, ◌<◌, Bool, List, length, get_or, refl, sym, ap, arith, ◌∙◌}
 use Rattle.std.proofs.lemmas.Option.{slice_get-get_or}
 use Rattle.bc_flow.specs.BitSet.{has}
+use Rattle.bc_flow.specs.Flow.{holds}
 use Rattle.bc_loans.specs.Inside.{inside_at}
 use Rattle.bc_loans.proofs.Overwriting.{member_within}
 use Rattle.bc_loans.proofs.Sweeping.{IsSwept-none, IsSwept-skip, IsSwept-more, ArePushed-here, here_is, unreached}
@@ -10,12 +11,11 @@ pub loop-point-init : goal.loop-point-init
 loop-point-init c = record {
   points = refl;
   sizes = c.requires.rows;
-  sets = c.requires.sets;
-  there = refl;
+  room = refl;
   told = c.requires.told;
   set = rw c.requires.points at c.requires.set;
   reached = c.requires.reached;
-  swept = IsSwept-none c.args.edges.now c.args.steps.now c.args.loans.now (inside_at c.args.inside.now) c.args.rows.now;
+  swept = IsSwept-none c.args.edges.now c.args.steps.now c.args.loans.now (inside_at c.args.universals c.args.loans.now (holds c.args.values.now)) c.args.word c.args.rows.now;
 }
 
 pub bounds-steps-point : goal.bounds-steps-point
@@ -30,8 +30,8 @@ pub visit-again-requires-clause-point : goal.visit-again-requires-clause-point
 visit-again-requires-clause-point c =
     omega (arith, member_within c.row.result c.in-Some.point c.in-Some.ensures.is_member, ap length c.row.ensures, c.loop-point.invariant.set.size, c.loop-point.invariant.points, c.requires.points)
 
-pub visit-again-requires-clause-there : goal.visit-again-requires-clause-there
-visit-again-requires-clause-there c = c.loop-point.invariant.there ∙ c.requires.there ∙ sym (c.loop-point.invariant.points ∙ c.requires.points)
+pub visit-again-requires-clause-room : goal.visit-again-requires-clause-room
+visit-again-requires-clause-room c = omega (arith, c.requires.room, c.loop-point.invariant.points, c.loop-point.invariant.room)
 
 pub visit-again-requires-clause-set : goal.visit-again-requires-clause-set
 visit-again-requires-clause-set c =
@@ -60,16 +60,15 @@ loop-point-preserved c =
     record {
       points = c.visit-again.ensures.points ∙ invariant.points;
       sizes = c.visit-again.ensures.rows;
-      sets = c.visit-again.ensures.sets;
-      there = c.visit-again.ensures.there ∙ invariant.there;
+      room = c.visit-again.ensures.room ∙ invariant.room;
       told = c.visit-again.ensures.told;
       set = rw count at c.visit-again.ensures.set;
       reached = c.visit-again.ensures.reached;
-      swept = IsSwept-more c.args.edges.now c.args.steps.now c.args.loans.now (inside_at c.args.inside.now) point c.loop-point.again c.visit-again.result c.args.rows.now c.loop-point.rows c.visit-again.new.rows
-          (IsSwept-skip c.args.edges.now c.args.steps.now c.args.loans.now (inside_at c.args.inside.now) c.loop-point.from point c.loop-point.again c.args.rows.now c.loop-point.rows invariant.swept
-          (λ m low high. unreached c.loop-point.rows c.loop-point.reached invariant.reached m (ap (λ (s : List Bool). has s m) (sym c.row.ensures) ∙ c.in-Some.ensures.least m low high)))
-          (ArePushed-here c.args.edges.now point _ _ (inside_at c.args.inside.now) c.visit-again.result c.loop-point.rows c.visit-again.new.rows
-          (here_is c.args.loans.now c.args.steps.now c.loop-point.rows point (get_or c.args.steps.now point step) is) c.visit-again.ensures.pushed);
+      swept = IsSwept-more c.args.edges.now c.args.steps.now c.args.loans.now (inside_at c.args.universals c.args.loans.now (holds c.args.values.now)) c.args.word point c.loop-point.again c.visit-again.result c.args.rows.now c.loop-point.rows c.visit-again.new.rows
+          (IsSwept-skip c.args.edges.now c.args.steps.now c.args.loans.now (inside_at c.args.universals c.args.loans.now (holds c.args.values.now)) c.args.word c.loop-point.from point c.loop-point.again c.args.rows.now c.loop-point.rows invariant.swept
+          (λ m low high. unreached c.args.word c.loop-point.rows c.loop-point.reached invariant.reached m (ap (λ (s : List Bool). has s m) (sym c.row.ensures) ∙ c.in-Some.ensures.least m low high)))
+          (ArePushed-here c.args.edges.now point _ _ (inside_at c.args.universals c.args.loans.now (holds c.args.values.now)) c.visit-again.result c.loop-point.rows c.visit-again.new.rows
+          (here_is c.args.word c.args.loans.now c.args.steps.now c.loop-point.rows point (get_or c.args.steps.now point step) is) c.visit-again.ensures.pushed);
     }
 
 pub returns-clause-set : goal.returns-clause-set
@@ -77,5 +76,5 @@ returns-clause-set c = rw c.requires.points c.loop-point.invariant.set
 
 pub returns-clause-swept : goal.returns-clause-swept
 returns-clause-swept c =
-    IsSwept-skip c.args.edges.now c.args.steps.now c.args.loans.now (inside_at c.args.inside.now) c.loop-point.from (length c.args.steps.now) c.loop-point.again c.args.rows.now c.loop-point.rows c.loop-point.invariant.swept
-    (λ m low high. unreached c.loop-point.rows c.loop-point.reached c.loop-point.invariant.reached m (ap (λ (s : List Bool). has s m) (sym c.row.ensures) ∙ c.in_default.ensures m low))
+    IsSwept-skip c.args.edges.now c.args.steps.now c.args.loans.now (inside_at c.args.universals c.args.loans.now (holds c.args.values.now)) c.args.word c.loop-point.from (length c.args.steps.now) c.loop-point.again c.args.rows.now c.loop-point.rows c.loop-point.invariant.swept
+    (λ m low high. unreached c.args.word c.loop-point.rows c.loop-point.reached c.loop-point.invariant.reached m (ap (λ (s : List Bool). has s m) (sym c.row.ensures) ∙ c.in_default.ensures m low))

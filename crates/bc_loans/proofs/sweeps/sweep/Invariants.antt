@@ -1,19 +1,18 @@
 use Rattle.std.proofs.Common.{◌≡◌, ◌-◌, length}
+use Rattle.bc_flow.specs.Flow.{holds, HaveSize}
 use Rattle.bc_loans.specs.Inside.{inside_at, AreTold}
-use Rattle.bc_flow.specs.Flow.{HaveSize}
-use Rattle.bc_loans.specs.Sweeps.{HasSet, AreReached, AreSets, IsSwept}
+use Rattle.bc_loans.specs.Sweeps.{HasSet, AreReached, IsSwept}
 use Rattle.bc_loans.proofs.sweeps.sweep.Given as goal
 
 abbrev pub invariant-loop-point : goal.invariant-loop-point
 invariant-loop-point l = record {
   points : length l.rows ≡ length l.initial.rows;
   sizes : HaveSize (length l.loans) l.rows;
-  sets : AreSets (length l.loans) l.sets.here l.sets.ended l.sets.lacking;
-  there : length l.told.rows ≡ length l.initial.told.rows;
-  told : AreTold l.inside l.told.rows l.told.runs;
+  room : length l.told ≡ length l.initial.told;
+  told : AreTold (inside_at l.universals l.loans (holds l.values)) l.word l.told l.runs;
   set : HasSet (length l.steps) l.reached;
-  reached : AreReached l.rows l.reached;
-  swept : IsSwept l.edges l.steps l.loans (inside_at l.inside) l.from l.again l.initial.rows l.rows;
+  reached : AreReached l.word l.rows l.reached;
+  swept : IsSwept l.edges l.steps l.loans (inside_at l.universals l.loans (holds l.values)) l.word l.from l.again l.initial.rows l.rows;
 }
 
 abbrev pub decreases-loop-point : goal.decreases-loop-point

@@ -1,29 +1,39 @@
-use Rattle.std.proofs.Common.{ℕ, length, sym}
+use Rattle.std.proofs.Common.{◌≡◌, length, ap, arith, ◌∙◌}
+use Rattle.bc_flow.proofs.Members.{refilled}
 use Rattle.bc_flow.specs.Flow.{holds}
-use Rattle.bc_loans.specs.Inside.{is_inside, inside_at}
-use Rattle.bc_loans.proofs.Regions.{inside_there}
-use Rattle.bc_loans.proofs.Closing.{seed_same, walks_is_walked}
+use Rattle.bc_loans.specs.Inside.{inside_at}
+use Rattle.bc_loans.proofs.Closing.{walks_is_walked}
+use Rattle.bc_loans.proofs.Sweeping.{AreWalked-sound, AreWalked-more, AreWalked-all}
 use Rattle.bc_loans.proofs.sweeps.swept_rows.Goals as goal
 
-pub sweep_all-requires-clause-seeds : goal.sweep_all-requires-clause-seeds
-sweep_all-requires-clause-seeds c = λ n l.
-    let seeds = c.in_ok-seeds.ensures.seeds n l in
-    let are = inside_there c.args.universals c.args.loans.now (holds c.args.values.now) (length c.args.steps.now) c.in_ok-inside.inside c.in_ok-inside.ensures.loans c.in_ok-inside.ensures.members in (
-      λ h. seed_same c.args.edges.now c.args.steps.now c.args.loans.now (λ (p k : ℕ). is_inside c.args.universals c.args.loans.now (holds c.args.values.now) k p) (inside_at c.in_ok-inside.inside) (length c.args.steps.now) c.requires.edges
-          (λ p k low. sym (are p k low)) n l (seeds.0 h),
-      λ h. seeds.1 (seed_same c.args.edges.now c.args.steps.now c.args.loans.now (inside_at c.in_ok-inside.inside) (λ (p k : ℕ). is_inside c.args.universals c.args.loans.now (holds c.args.values.now) k p) (length c.args.steps.now) c.requires.edges
-          are n l h),
-    )
+pub loop-word-init : goal.loop-word-init
+loop-word-init c = record {
+  points = c.in_ok-rows.ensures.points;
+  sizes = c.in_ok-rows.ensures.loans;
+  room = c.in_ok-told.ensures;
+  walked = record { done = λ n l low. absurd (omega (arith, low)); rest = λ n l _. c.in_ok-rows.ensures.seeds n l };
+}
+
+pub loop-word-preserved : goal.loop-word-preserved
+loop-word-preserved c =
+    let invariant = c.loop-word.invariant in
+    let walked = c.in_ok-walk_word.ensures in
+    let size : length c.walk_word.new.told ≡ length c.loop-word.told.items = walked.room ∙ ap length c.deref_mut.ensures.value in
+    record {
+      points = walked.points ∙ invariant.points;
+      sizes = walked.rows;
+      room = ap length (refilled c.loop-word.told.len c.walk_word.new.told c.loop-word.told.items size c.loop-word.told.ok.0) ∙ size ∙ invariant.room;
+      walked = AreWalked-more c.args.edges.now c.args.steps.now c.args.loans.now (inside_at c.args.universals c.args.loans.now (holds c.args.values.now)) c.loop-word.word c.loop-word.rows c.walk_word.new.rows invariant.walked walked.others walked.walks;
+    }
+
+pub walk_word-requires-clause-seeds : goal.walk_word-requires-clause-seeds
+walk_word-requires-clause-seeds c = λ n l at. c.loop-word.invariant.walked.rest n l (omega (arith, at))
+
+pub walk_word-requires-clause-sound : goal.walk_word-requires-clause-sound
+walk_word-requires-clause-sound c = AreWalked-sound c.args.edges.now c.args.steps.now c.args.loans.now (inside_at c.args.universals c.args.loans.now (holds c.args.values.now)) c.loop-word.word c.loop-word.rows c.loop-word.invariant.walked
 
 pub returns-clause-walked : goal.returns-clause-walked
 returns-clause-walked c = λ l p.
-    let walks = c.sweep_all.ensures.walks p l in
-    let are = inside_there c.args.universals c.args.loans.now (holds c.args.values.now) (length c.args.steps.now) c.in_ok-inside.inside c.in_ok-inside.ensures.loans c.in_ok-inside.ensures.members in
-    let walked = walks_is_walked c.args.edges.now c.args.steps.now c.args.universals (holds c.args.values.now) c.args.loans.now (inside_at c.in_ok-inside.inside) c.requires.edges are l p in
+    let walks = AreWalked-all c.args.edges.now c.args.steps.now c.args.loans.now (inside_at c.args.universals c.args.loans.now (holds c.args.values.now)) c.loop-word.word c.loop-word.rows (omega (arith, c.loop-word-test.false, c.div_ceil-word-end.ensures)) c.loop-word.invariant.walked p l in
+    let walked = walks_is_walked c.args.edges.now c.args.steps.now c.args.universals (holds c.args.values.now) c.args.loans.now c.requires.edges l p in
     (λ h. walked.0 (walks.0 h), λ h. walks.1 (walked.1 h))
-
-pub sweep_all-requires-clause-set : goal.sweep_all-requires-clause-set
-sweep_all-requires-clause-set c = rw c.in_ok-seeds.ensures.points c.in_ok-reached.ensures.set
-
-pub sweep_all-requires-clause-reached : goal.sweep_all-requires-clause-reached
-sweep_all-requires-clause-reached c = λ n l h. c.in_ok-reached.ensures.members n (rw c.deref.ensures.value (c.in_ok-seeds.ensures.reached n l h))

@@ -1,60 +1,32 @@
-use Rattle.std.proofs.Common.{◌≡◌, [], not, ◌&&◌, Bool, List, length, ap, sym, arith, ◌∙◌}
-use Rattle.bc_flow.specs.BitSet.{has}
-use Rattle.bc_loans.specs.Inside.{inside_at}
+use Rattle.std.proofs.Common.{◌<◌, ◌^◌, ◌&&◌, ◌%◌, rules, Bool, false, not, [], ap, sym, arith, ◌∙◌}
+use Rattle.std.proofs.lemmas.Bool.{and_left}
+use Rattle.std.proofs.lemmas.List.{get_or_past}
+use Rattle.bc_flow.specs.Packed.{is_set, word_has}
 use Rattle.bc_flow.specs.Flow.{row, holds}
+use Rattle.bc_flow.proofs.Joined.{is_set_without}
 use Rattle.bc_loans.specs.Overwrites.{is_overwritten}
+use Rattle.bc_loans.specs.Inside.{inside_at}
+use Rattle.bc_loans.specs.Sweeps.{goes_on_from}
 use Rattle.bc_loans.proofs.Sweeping.{ArePushed-here}
+use Rattle.bc_loans.proofs.Telling.{word_same}
 use Rattle.bc_loans.proofs.sweeps.visit.Goals as goal
 
-pub copy_row-requires-clause-node : goal.copy_row-requires-clause-node
-copy_row-requires-clause-node c = c.requires.sets.here_set.some
+pub word-requires-clause-within : goal.word-requires-clause-within
+word-requires-clause-within c = omega (arith, c.requires.word, c.requires.rows c.args.point [] c.requires.point)
 
-pub copy_row-requires-clause-from : goal.copy_row-requires-clause-from
-copy_row-requires-clause-from c = ap length c.row.ensures ∙ c.requires.rows c.args.point [] c.requires.point ∙ sym c.requires.sets.here_set.size
-
-pub take_overwritten-requires-clause-here : goal.take_overwritten-requires-clause-here
-take_overwritten-requires-clause-here c = omega (arith, c.requires.sets.here_set.some, c.copy_row.ensures.rows)
-
-pub take_overwritten-requires-clause-ended : goal.take_overwritten-requires-clause-ended
-take_overwritten-requires-clause-ended c = c.requires.sets.ended_set
-
-pub take_overwritten-requires-clause-lacking : goal.take_overwritten-requires-clause-lacking
-take_overwritten-requires-clause-lacking c = c.requires.sets.lacking_set
-
-pub row-requires-2 : goal.row-requires-2
-row-requires-2 c = omega (arith, c.requires.sets.here_set.some, c.copy_row.ensures.rows, c.take_overwritten.ensures.taken.rows)
-
-pub push_on-requires-clause-rows : goal.push_on-requires-clause-rows
-push_on-requires-clause-rows c =
-    let wide : length c.row-2.result ≡ length c.args.loans.now = ap length c.row-2.ensures ∙ c.take_overwritten.ensures.taken.size ∙ ap length c.copy_row.ensures.copied ∙ ap length c.row.ensures ∙ c.requires.rows c.args.point [] c.requires.point in
-    rw wide c.requires.rows
-
-pub push_on-requires-clause-inside : goal.push_on-requires-clause-inside
-push_on-requires-clause-inside c =
-    let wide : length c.row-2.result ≡ length c.args.loans.now = ap length c.row-2.ensures ∙ c.take_overwritten.ensures.taken.size ∙ ap length c.copy_row.ensures.copied ∙ ap length c.row.ensures ∙ c.requires.rows c.args.point [] c.requires.point in
-    c.requires.inside ∙ sym wide
-
-pub returns-clause-rows : goal.returns-clause-rows
-returns-clause-rows c =
-    let wide : length c.row-2.result ≡ length c.args.loans.now = ap length c.row-2.ensures ∙ c.take_overwritten.ensures.taken.size ∙ ap length c.copy_row.ensures.copied ∙ ap length c.row.ensures ∙ c.requires.rows c.args.point [] c.requires.point in
-    rw wide at c.push_on.ensures.rows
-
-pub returns-clause-sets : goal.returns-clause-sets
-returns-clause-sets c =
-    let sets = c.requires.sets in
-    let taken = c.take_overwritten.ensures.taken in
-    record {
-      here_set = record {
-        some = omega (arith, sets.here_set.some, c.copy_row.ensures.rows, taken.rows);
-        size = taken.size ∙ ap length c.copy_row.ensures.copied ∙ ap length c.row.ensures ∙ c.requires.rows c.args.point [] c.requires.point;
-      };
-      ended_set = c.take_overwritten.ensures.ended;
-      lacking_set = c.take_overwritten.ensures.lacking;
-    }
+pub push_on-requires-clause-clean : goal.push_on-requires-clause-clean
+push_on-requires-clause-clean c = λ l at past.
+    let fits : c.overwritten_word-ended.result < 2 ^ 64 = search rules in
+    is_set_without c.word.result c.overwritten_word-ended.result (l % 64) fits (omega arith)
+    ∙ and_left (is_set c.word.result (l % 64)) (not (is_set c.overwritten_word-ended.result (l % 64)))
+    (sym (c.word.ensures l at) ∙ get_or_past (row c.args.rows.now c.args.point) l false (omega (arith, past, c.requires.rows c.args.point [] c.requires.point)))
 
 pub returns-clause-pushed : goal.returns-clause-pushed
 returns-clause-pushed c =
-    let copied : row c.copy_row.new.self 0 ≡ row c.args.rows.now c.args.point = c.copy_row.ensures.copied ∙ c.row.ensures in
-    let pushed = rw c.row-2.ensures at c.push_on.ensures.pushed in
-    ArePushed-here c.args.edges.now c.args.point (holds c.take_overwritten.new.here 0) _ (inside_at c.args.inside.now) c.push_on.result c.args.rows.now c.push_on.new.rows
-    (λ l. c.take_overwritten.ensures.taken.members l ∙ ap (λ (s : List Bool). has s l && not (is_overwritten c.args.loans.now c.args.instruction.now l)) copied) pushed
+    let fits : c.overwritten_word-ended.result < 2 ^ 64 = search rules in
+    ArePushed-here c.args.edges.now c.args.point (word_has c.args.word _) (goes_on_from c.args.word c.args.loans.now c.args.instruction.now c.args.rows.now c.args.point) (inside_at c.args.universals c.args.loans.now (holds c.args.values.now)) c.push_on.result c.args.rows.now c.push_on.new.rows
+    (word_same c.args.word _ (λ l. holds c.args.rows.now c.args.point l && not (is_overwritten c.args.loans.now c.args.instruction.now l))
+    (λ l at. is_set_without c.word.result c.overwritten_word-ended.result (l % 64) fits (omega arith)
+    ∙ ap (λ (b : Bool). b && not (is_set c.overwritten_word-ended.result (l % 64))) (sym (c.word.ensures l at))
+    ∙ ap (λ (b : Bool). holds c.args.rows.now c.args.point l && not b) (c.overwritten_word-ended.ensures l at)))
+    c.push_on.ensures.pushed
