@@ -4,11 +4,9 @@ ghost use Rattle.std.specs.List.{All};
 ghost use Rattle.std.specs.Int.{Width, w64, bit_not};
 ghost use Rattle.bc_flow.specs.BitSet.{has, absent_count, IsNextMember};
 ghost use Rattle.bc_flow.specs.Packed.{is_set, word_has};
-ghost use Rattle.bc_flow.specs.Flow.{row, holds, HaveSize, AreAdded, AreTaken};
+ghost use Rattle.bc_flow.specs.Flow.{row, holds, HaveSize, AreAdded};
 
-use crate::bit_words::{
-    fill_below, join_words_within, next_bit, subtract_words, union_words_below,
-};
+use crate::bit_words::{fill_below, next_bit, union_words_below};
 use std::alloc::{AllocError, Global};
 use std::marker::Model;
 
@@ -272,41 +270,6 @@ impl BitTable {
     {
         let at = node * self.width;
         union_words_below(&mut self.words[at..at + self.width], from.words, count);
-    }
-
-    /// Adds to a row those members of `from` that `mask` has too, both rows of the same size, and returns whether there was a new
-    /// one.
-    pub fn join_row_within(&mut self, node: usize, from: &BitRow<'_>, mask: &BitRow<'_>) -> bool
-        requires node { node < length self.old }
-        requires from { length from.now ≡ length (row self.old node) }
-        requires mask { length mask.now ≡ length (row self.old node) }
-        ensures added { AreAdded self.old self.new node (λ f. has from.now f && has mask.now f) }
-        ensures unchanged { result ≡ false → self.new ≡ self.old }
-        ensures grown { result ≡ true → absent_count (row self.new node) < absent_count (row self.old node) }
-    {
-        let at = node * self.width;
-        join_words_within(&mut self.words[at..at + self.width], from.words, mask.words)
-    }
-
-    /// Takes the members of `from` out of a row. The rows may differ in size.
-    pub fn subtract_row(&mut self, node: usize, from: &BitRow<'_>)
-        requires { node < length self.old }
-        ensures { AreTaken self.old self.new node (has from.now) }
-    {
-        let at = node * self.width;
-        subtract_words(&mut self.words[at..at + self.width], from.words);
-    }
-
-    /// Gives a row the members of `from`, a row of the same size, and no others.
-    pub fn copy_row(&mut self, node: usize, from: &BitRow<'_>)
-        requires node { node < length self.old }
-        requires from { length from.now ≡ length (row self.old node) }
-        ensures rows { length self.new ≡ length self.old }
-        ensures others { self.new ≡ slice_set self.old node (row self.new node) }
-        ensures copied { row self.new node ≡ from.now }
-    {
-        let at = node * self.width;
-        self.words[at..at + self.width].copy_from_slice(from.words);
     }
 
     /// Adds the numbers of the row `from` to those of the row `to`. The answer is whether there was a new one.

@@ -31,33 +31,6 @@ pub(crate) fn union_words_below(into: &mut [u64], from: &[u64], count: usize)
     }
 }
 
-/// Adds those bits of `from` that `mask` has too. Both others may have more words than `from`. Answers whether that changed any.
-pub(crate) fn join_words_within(into: &mut [u64], from: &[u64], mask: &[u64]) -> bool
-    requires into { length from.now ≤ length into.old }
-    requires mask { length from.now ≤ length mask.now }
-    ensures bits { (i : ℕ) → bit into.new i ≡ (bit into.old i || (bit from.now i && bit mask.now i)) }
-    ensures unchanged { result ≡ false → into.new ≡ into.old }
-    ensures changed { result ≡ true → (k : ℕ) × (k < length into.old) × (slice_index into.new k < 2 ^ 64) × (slice_index into.old k < 2 ^ 64) × (slice_index into.new k ≡ slice_index into.old k → ⊥) }
-{
-    let mut changed = false;
-    for k in 0..from.len() {
-        let before = into[k];
-        let after = before | (from[k] & mask[k]);
-        into[k] = after;
-        changed |= after != before;
-    }
-    changed
-}
-
-/// Takes away the bits of `from`, which may have fewer or more words.
-pub(crate) fn subtract_words(into: &mut [u64], from: &[u64])
-    ensures { (i : ℕ) → bit into.new i ≡ (bit into.old i && not (bit from.now i)) }
-{
-    for k in 0..into.len().min(from.len()) {
-        into[k] &= !from[k];
-    }
-}
-
 /// Sets the first `count` bits.
 pub(crate) fn fill_below(words: &mut [u64], count: usize)
     requires { count ≤ 64 * length words.old }

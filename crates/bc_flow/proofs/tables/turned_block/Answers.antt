@@ -1,4 +1,4 @@
-use Rattle.std.proofs.Common.{◌*◌, ◌%◌, ℕ, refl, arith, ◌∙◌}
+use Rattle.std.proofs.Common.{◌*◌, ◌%◌, refl, arith, ◌∙◌}
 use Rattle.bc_flow.proofs.Members.{zeros}
 use Rattle.bc_flow.proofs.Turned.{AreGathered-more, gathered_all}
 use Rattle.bc_flow.proofs.tables.turned_block.Goals as goal

@@ -1,4 +1,4 @@
-use Rattle.std.proofs.Common.{eqb, ap, sym, ◌∙◌}
+use Rattle.std.proofs.Common.{sym, ◌∙◌}
 use Rattle.std.proofs.lemmas.Grind.{get_or_default_zero}
 use Rattle.std.proofs.lemmas.List.{get_or_past}
 use Rattle.bc_flow.proofs.Filled.{bit_is}

@@ -1,4 +1,4 @@
-use Rattle.std.proofs.Common.{rules, ◌≡◌, ◌^◌, ◌<◌, ℕ, refl, sym}
+use Rattle.std.proofs.Common.{rules, ◌^◌, ◌<◌, refl, sym}
 use Rattle.std.specs.Prelude.{bit_or}
 use Rattle.std.proofs.lemmas.Nat.{or_lt}
 use Rattle.bc_flow.specs.Packed.{word_has}
