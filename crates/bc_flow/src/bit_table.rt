@@ -15,12 +15,23 @@ use std::marker::Model;
 ///
 /// Contracts see it as the list of its rows, each the list that says of each number whether it is a member. (After `BitMatrix` of
 /// `rustc_index`.)
-#[derive(Drop)]
 pub struct BitTable {
     words: Vec<u64>,
     rows: usize,
     width: usize,
     size: usize,
+}
+
+// Written out: what lets a table go calls this, and proves nothing of its parts again.
+impl Drop for BitTable {
+    fn drop(self) {
+        let Self {
+            words: _,
+            rows: _,
+            width: _,
+            size: _,
+        } = self;
+    }
 }
 
 impl Model for BitTable {

@@ -154,13 +154,11 @@ fn type_to_borrow(
 fn type_referenced(alloc: Global, reference: Reference, ty: Ty) -> Result<Ty, AllocError>
     ensures { IfOk result (λ whole. whole ≡ referenced reference ty) }
 {
+    let (behind, base) = ty.into_parts();
     let mut references = ShortSequence::new(alloc);
     references.push(reference)?;
-    push_references(&mut references, ty.references.as_slice())?;
-    Ok(Ty {
-        references,
-        base: ty.base,
-    })
+    push_references(&mut references, behind.as_slice())?;
+    Ok(Ty { references, base })
 }
 
 /// The type of a borrow, or `None` where it breaks a rule.

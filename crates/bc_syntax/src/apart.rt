@@ -5,9 +5,14 @@ use std::alloc::{AllocError, Global};
 use std::marker::Model;
 
 /// A value in its own allocation, so that what holds it stays small. It is for values that are rare and large.
-#[derive(Drop)]
 pub struct Apart<T> {
     value: Box<T>,
+}
+
+impl<T: Drop> Drop for Apart<T> {
+    fn drop(self) {
+        let Self { value: _ } = self;
+    }
 }
 
 impl<T> Model for Apart<T> {

@@ -8,9 +8,15 @@ use std::default::MadeWith;
 use std::marker::Model;
 
 /// A list of items, which grows.
-#[derive(Drop)]
 pub struct Sequence<T> {
     items: Vec<T>,
+}
+
+// Written out: what lets a list go calls this, and proves nothing of its parts again.
+impl<T: Drop> Drop for Sequence<T> {
+    fn drop(self) {
+        let Self { items: _ } = self;
+    }
 }
 
 impl<T> Model for Sequence<T> {
@@ -99,9 +105,15 @@ impl<T: PartialEq> PartialEq for Sequence<T> {
 }
 
 /// A list that holds up to `N` items in the value itself, and allocates memory for more.
-#[derive(Drop)]
 pub struct ShortSequence<T, const N: usize> {
     items: SmallVec<T, N>,
+}
+
+// Written out: whatever lets a list go calls this, and proves nothing of its parts again.
+impl<T: Drop, const N: usize> Drop for ShortSequence<T, N> {
+    fn drop(self) {
+        let Self { items: _ } = self;
+    }
 }
 
 impl<T, const N: usize> Model for ShortSequence<T, N> {

@@ -1,4 +1,6 @@
 //! Bodies with their headers, as their texts give them: plain data.
+ghost use Rattle.std.specs.Prelude.{◌≡◌};
+
 use crate::apart::Apart;
 use crate::projections::Projections;
 use crate::sequence::{Sequence, ShortSequence};
@@ -44,10 +46,19 @@ pub struct ItemName {
 }
 
 /// A declared struct or extern function with regions for its own, in their order.
-#[derive(Clone, Drop, PartialEq)]
+#[derive(Clone, PartialEq)]
 pub struct Instance {
     pub name: ItemName,
     pub regions: ShortSequence<Region, 4>,
+}
+
+impl Drop for Instance {
+    fn drop(self) {
+        let Self {
+            name: _,
+            regions: _,
+        } = self;
+    }
 }
 
 /// A closure of the unit, by its number, with regions for its external ones, in their order.
@@ -66,10 +77,30 @@ pub enum Base {
 }
 
 /// A type: its references, the outermost first, and what they lead to.
-#[derive(Clone, Drop, PartialEq)]
+#[derive(Clone, PartialEq)]
 pub struct Ty {
     pub references: ShortSequence<Reference, 7>,
     pub base: Base,
+}
+
+impl Drop for Ty {
+    fn drop(self) {
+        let Self {
+            references: _,
+            base: _,
+        } = self;
+    }
+}
+
+impl Ty {
+    /// Returns the references of the type, and what they lead to. It takes no memory.
+    pub fn into_parts(self) -> (ShortSequence<Reference, 7>, Base)
+        ensures references { result.0 ≡ self.references }
+        ensures base { result.1 ≡ self.base }
+    {
+        let Self { references, base } = self;
+        (references, base)
+    }
 }
 
 /// One step from a place to a part of it. (rustc-dev-guide, "The MIR".)
@@ -162,7 +193,7 @@ pub struct Condition {
 }
 
 /// `destination = call function(operands) target`, where the target is a label.
-#[derive(Clone, Drop, PartialEq)]
+#[derive(Clone, PartialEq)]
 pub struct Call {
     pub destination: Place,
     pub function: Instance,
@@ -170,15 +201,38 @@ pub struct Call {
     pub target: u8,
 }
 
+impl Drop for Call {
+    fn drop(self) {
+        let Self {
+            destination: _,
+            function: _,
+            operands: _,
+            target: _,
+        } = self;
+    }
+}
+
 /// `destination = invoke closure<regions>(operands) target`: the closure in a place is called, with regions for its local
 /// ones in their order, and used up. The target is a label.
-#[derive(Clone, Drop, PartialEq)]
+#[derive(Clone, PartialEq)]
 pub struct Invocation {
     pub destination: Place,
     pub closure: Place,
     pub regions: ShortSequence<Region, 4>,
     pub operands: ShortSequence<Operand, 2>,
     pub target: u8,
+}
+
+impl Drop for Invocation {
+    fn drop(self) {
+        let Self {
+            destination: _,
+            closure: _,
+            regions: _,
+            operands: _,
+            target: _,
+        } = self;
+    }
 }
 
 /// The last point of a block. Labels are numbers of blocks. (rustc-dev-guide, "The MIR".)
@@ -193,10 +247,19 @@ pub enum Terminator {
 }
 
 /// A block: its statements in order, and its terminator. (rustc-dev-guide, "The MIR".)
-#[derive(Drop, PartialEq)]
+#[derive(PartialEq)]
 pub struct Block {
     pub statements: Sequence<Statement>,
     pub terminator: Terminator,
+}
+
+impl Drop for Block {
+    fn drop(self) {
+        let Self {
+            statements: _,
+            terminator: _,
+        } = self;
+    }
 }
 
 /// A `where` clause between universal regions: the value of `longer` contains that of `shorter`.
@@ -221,7 +284,7 @@ pub enum UnitKind {
 
 /// The regions and clauses that a unit or an extern function declares, what it takes and what it returns. The regions'
 /// numbers are 1 and up, in this order.
-#[derive(Clone, Drop, PartialEq)]
+#[derive(Clone, PartialEq)]
 pub struct Signature {
     pub regions: Sequence<RegionName>,
     pub clauses: Sequence<Outlives>,
@@ -229,21 +292,52 @@ pub struct Signature {
     pub result: Ty,
 }
 
+impl Drop for Signature {
+    fn drop(self) {
+        let Self {
+            regions: _,
+            clauses: _,
+            parameters: _,
+            result: _,
+        } = self;
+    }
+}
+
 /// A unit's header, which comes before its body. A function has no captures.
-#[derive(Clone, Drop, PartialEq)]
+#[derive(Clone, PartialEq)]
 pub struct Header {
     pub kind: UnitKind,
     pub captures: Sequence<Ty>,
     pub signature: Signature,
 }
 
+impl Drop for Header {
+    fn drop(self) {
+        let Self {
+            kind: _,
+            captures: _,
+            signature: _,
+        } = self;
+    }
+}
+
 /// A header with its body. Local 0 has the result's type; then come the captures, the parameters and the `let` locals.
 /// (rustc-dev-guide, "The MIR".)
-#[derive(Drop, PartialEq)]
+#[derive(PartialEq)]
 pub struct Body {
     pub header: Header,
     pub lets: Sequence<Ty>,
     pub blocks: Sequence<Block>,
+}
+
+impl Drop for Body {
+    fn drop(self) {
+        let Self {
+            header: _,
+            lets: _,
+            blocks: _,
+        } = self;
+    }
 }
 
 /// How a type follows a region parameter of its struct: with it, or with none but the same region (rustc-dev-guide,
@@ -256,7 +350,7 @@ pub enum Variance {
 
 /// `struct NAME<regions> drop { fields }`: the regions' numbers in the fields' types are 1 and up, in this order, and
 /// each has its variance.
-#[derive(Clone, Drop, PartialEq)]
+#[derive(Clone, PartialEq)]
 pub struct StructDeclaration {
     pub name: ItemName,
     pub regions: Sequence<RegionName>,
@@ -265,11 +359,32 @@ pub struct StructDeclaration {
     pub fields: Sequence<Ty>,
 }
 
+impl Drop for StructDeclaration {
+    fn drop(self) {
+        let Self {
+            name: _,
+            regions: _,
+            variances: _,
+            has_drop: _,
+            fields: _,
+        } = self;
+    }
+}
+
 /// `extern NAME<regions> where clauses (parameters) -> result`.
-#[derive(Drop, PartialEq)]
+#[derive(PartialEq)]
 pub struct ExternDeclaration {
     pub name: ItemName,
     pub signature: Signature,
+}
+
+impl Drop for ExternDeclaration {
+    fn drop(self) {
+        let Self {
+            name: _,
+            signature: _,
+        } = self;
+    }
 }
 
 /// A struct, or a function that is declared alone.

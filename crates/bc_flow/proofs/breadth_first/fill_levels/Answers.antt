@@ -1,6 +1,7 @@
-use Rattle.std.proofs.Common.{◌+◌, [], arith}
-use Rattle.bc_flow.specs.Levels.{GivesLevel, IsSuccessor}
-use Rattle.bc_flow.proofs.BreadthFirst.{AreLevelsUpTo-more, front_within}
+use Rattle.std.proofs.Common.{◌+◌, [], arith, length}
+use Rattle.bc_flow.specs.Levels.{is_unreached, GivesLevel, IsSuccessor}
+use Rattle.std.proofs.lemmas.List.Sums.{count_by-le-length}
+use Rattle.bc_flow.proofs.BreadthFirst.{AreLevelsUpTo-first, AreLevelsUpTo-more, front_within}
 use Rattle.bc_flow.proofs.breadth_first.fill_levels.Goals as goal
 
 pub next_level-requires-clause-front : goal.next_level-requires-clause-front
@@ -15,3 +16,10 @@ levels-preserved c =
       spread = rw c.swap.ensures.x_after spread;
       few = rw c.swap.ensures.x_after (grind (arith, marks.counted));
     }
+
+pub levels-init : goal.levels-init
+levels-init c = record {
+  count = c.first_level.auto.levels;
+  spread = AreLevelsUpTo-first c.args.edges.now c.args.sources.now c.args.levels.now c.first_level.new.levels c.in_ok-front.front.items c.requires.none c.in_ok-front.ensures;
+  few = omega (arith, c.in_ok-front.ensures.counted, count_by-le-length is_unreached c.args.levels.now);
+}
