@@ -5,3 +5,4 @@ pub mod Growing
 pub mod Demanding
 pub mod Marking
 pub mod Arguments
+pub mod Appending

@@ -1,13 +1,14 @@
 -- Pairs of regions in a table of bits.
-use Rattle.std.proofs.Common.{◌≡◌, ℕ, zero, suc, ◌+◌, ◌<◌, Bool, cond, List, [], ◌∷◌, ◌++◌, length, map, refl, sym, ap, ◌∙◌, arith}
+use Rattle.std.proofs.Common.{◌≡◌, ℕ, zero, suc, ◌+◌, ◌<◌, Bool, cond, ◌||◌, List, [], ◌∷◌, ◌++◌, length, take, get_or, map, refl, sym, ap, subst, ◌∙◌, arith}
 use Rattle.std.specs.List.{flat_map, range_with_len}
 use Rattle.std.proofs.lemmas.List.{map-append}
-use Rattle.bc_flow.specs.Flow.{holds}
+use Rattle.std.proofs.lemmas.List.Folds.{list_any_more}
+use Rattle.bc_flow.specs.Flow.{holds, HaveSize}
 use Rattle.bc_syntax.specs.declared.syntax.Region.TheVariants.{Universal}
 use Rattle.bc_types.specs.declared.subtype.Constraint.{Constraint}
-use Rattle.bc_types.specs.RegionPairs.{AreMarked}
+use Rattle.bc_types.specs.RegionPairs.{AreMarked, IsMarked}
 use Rattle.bc_types.specs.Subtype.{outlives}
-use Rattle.bc_types.specs.WellFormed.{is_demanded, pair_where, row_where, pairs_where}
+use Rattle.bc_types.specs.WellFormed.{is_demanded, is_pair, pair_where, row_where, pairs_where}
 
 -- a function of each element of lists that were made of elements
 pub map-flat_map : {A B C : Type 0} (f : B → C) (g : A → List B) (xs : List A) → map f (flat_map g xs) ≡ flat_map (λ x. map f (g x)) xs
@@ -38,3 +39,14 @@ pairs-same p q count same =
 pub marked-pairs : (count : ℕ) (pairs : List Constraint) (table : List (List Bool)) → AreMarked count pairs table → pairs_where (holds table) (length table) ≡ pairs_where (is_demanded pairs) count
 marked-pairs count pairs table are =
     ap (pairs_where (holds table)) are.count ∙ pairs-same (holds table) (is_demanded pairs) count are.bits
+
+-- the table with the bits of the first pairs, and that of one pair more
+pub marked-more : (count : ℕ) (pairs : List Constraint) (i : ℕ) (d : Constraint) (old new : List (List Bool)) → i < length pairs → AreMarked count (take i pairs) old → IsMarked old new (get_or pairs i d) → AreMarked count (take (i + 1) pairs) new
+marked-more count pairs i d old new below are one = record {
+  count = one.count ∙ are.count;
+  size = subst (λ n. HaveSize n new) are.count one.size;
+  bits = λ longer shorter first second.
+      one.bits longer shorter (subst (λ n. longer < n) (sym are.count) first) (subst (λ n. shorter < n) (sym are.count) second)
+      ∙ ap (λ b. b || is_pair longer shorter (get_or pairs i d)) (are.bits longer shorter first second)
+      ∙ sym (list_any_more (is_pair longer shorter) pairs i d below);
+}
