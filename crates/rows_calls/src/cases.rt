@@ -18,8 +18,32 @@ pub struct Opened<E: Ending> {
 /// The state of a case: what its rows have opened, and the works that were done and not settled yet.
 #[derive(Drop)]
 pub struct Case<E: Ending> {
-    opened: Vec<Opened<E>>,
+    pub opened: Vec<Opened<E>>,
     pub works: Vec<Work>,
+}
+
+/// The place of a letter; one that is too large where it is none.
+fn place(letter: &str) -> usize {
+    match letter.as_bytes() {
+        [letter] => usize::from(letter.wrapping_sub(b'a')),
+        _ => usize::MAX,
+    }
+}
+
+/// Returns the session of a letter and a number; fails where there is none.
+pub fn session_at<'a, E: Ending>(
+    opened: &'a mut [Opened<E>],
+    who: &str,
+) -> Result<&'a mut Session<E>> {
+    let (letter, number) = who.split_at_checked(1).unwrap_or(("", ""));
+    let number: usize = number.parse()?;
+    let Some(opened) = opened.get_mut(place(letter)) else {
+        bail!("no database has this letter");
+    };
+    match opened.sessions.get_mut(number) {
+        Some(session) => Ok(session),
+        None => bail!("no session has this number"),
+    }
 }
 
 impl<E: Ending> Case<E> {
@@ -43,29 +67,10 @@ impl<E: Ending> Case<E> {
 
     /// Returns what was opened under a letter; fails where nothing was.
     pub fn at(&mut self, letter: &str) -> Result<&mut Opened<E>> {
-        let place = match letter.as_bytes() {
-            [letter] => usize::from(letter.wrapping_sub(b'a')),
-            _ => usize::MAX,
-        };
-        match self.opened.get_mut(place) {
+        match self.opened.get_mut(place(letter)) {
             Some(opened) => Ok(opened),
             None => bail!("no database has this letter"),
         }
-    }
-
-    /// Returns the session of a letter and a number; fails where there is none.
-    pub fn session(&mut self, who: &str) -> Result<&mut Session<E>> {
-        let (letter, number) = who.split_at_checked(1).unwrap_or(("", ""));
-        let number: usize = number.parse()?;
-        match self.at(letter)?.sessions.get_mut(number) {
-            Some(session) => Ok(session),
-            None => bail!("no session has this number"),
-        }
-    }
-
-    /// Takes the works that were done and not settled yet, in the order in which they were done.
-    pub fn take_works(&mut self, alloc: Global) -> Vec<Work> {
-        mem::replace(&mut self.works, Vec::new(alloc))
     }
 
     /// Takes the database of a letter; fails where it was closed before.
@@ -81,7 +86,6 @@ impl<E: Ending> Case<E> {
         if letter.is_empty() {
             return Ok(Vec::new(alloc));
         }
-        let opened = self.at(letter)?;
-        Ok(mem::replace(&mut opened.sessions, Vec::new(alloc)))
+        Ok(mem::replace(&mut self.at(letter)?.sessions, Vec::new(alloc)))
     }
 }

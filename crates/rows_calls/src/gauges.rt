@@ -1,8 +1,8 @@
 //! Gauges of providers, which count their calls and may have them want memory.
+use crate::answers::Answer;
 use crate::meetings::Meeting;
 use anyhow::bail;
 use std::alloc::{AllocError, Global};
-use std::io;
 use std::io::Write;
 use std::sync::Arc;
 use std::sync::atomic::AtomicU64;
@@ -70,7 +70,7 @@ impl Gauges {
 
     /// Counts anew from now on, and has those providers run out of memory that a word names, and no other: at each call, or the solver
     /// at its first one.
-    pub fn refuse(&self, which: &str) -> anyhow::Result<()> {
+    pub fn refuse(&self, alloc: Global, which: &str) -> Answer {
         let (live, solve, scopes) = match which {
             "none" => (0, 0, 0),
             "live" => (u64::MAX, 0, 0),
@@ -80,17 +80,29 @@ impl Gauges {
             "first" => (0, 1, 0),
             _ => bail!("no such providers"),
         };
+        self.want(live, solve, scopes);
+        Ok(Vec::new(alloc))
+    }
+
+    /// Counts anew from now on, and has each provider run out of memory at so many of its first calls.
+    fn want(&self, live: u64, solve: u64, scopes: u64) {
         self.live.set(live);
         self.solve.set(solve);
         self.scopes.set(scopes);
-        Ok(())
     }
 
-    /// Writes how often each provider was called, and counts anew.
-    pub fn write_counts<W: Write>(&self, out: &mut W) -> io::Result<()> {
+    /// Counts anew from now on, and has no provider run out of memory.
+    pub fn want_none(&self) {
+        self.want(0, 0, 0);
+    }
+
+    /// Returns how often each provider was called, and counts anew.
+    pub fn counts(&self, alloc: Global) -> Answer {
         let live = self.live.calls.swap(0, SeqCst);
         let solve = self.solve.calls.swap(0, SeqCst);
         let scopes = self.scopes.calls.swap(0, SeqCst);
-        writeln!(out, "live {live}, solve {solve}, scopes {scopes}")
+        let mut counts = Vec::new(alloc);
+        writeln!(counts, "live {live}, solve {solve}, scopes {scopes}")?;
+        Ok(counts)
     }
 }

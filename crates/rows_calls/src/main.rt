@@ -29,6 +29,7 @@
 //! of its file; and an empty line.
 #![tactic(auto)]
 
+mod answers;
 mod calls;
 mod cases;
 mod gauges;
@@ -39,41 +40,53 @@ mod waits;
 
 use crate::gauges::Gauges;
 use crate::rows::Context;
+use anyhow::Result;
 use bc_analyses::{find_live, find_scopes, find_values};
 use bc_cons::Facts;
 use bc_mir::Typed;
 use bc_prov::{Liveness, Providers, Scoping, Solver};
 use bc_solve::Values;
 use std::alloc::Global;
-use std::fs::Files;
 use std::io::Write;
-use std::rt::Env;
 use std::sync::{Arc, Wait};
 use std::thread::Threads;
 use std::time::Clock;
 use std::{env, fs};
 
-/// Shows the rows of each file that is named.
-fn show_files<R: AllocGlobal + Clock + Env + Files + Threads + Wait + Sync, W: Write>(
-    rt: &R,
+/// The texts of the files that are named.
+fn texts(rt: &HostRuntime) -> Result<Vec<String>> {
+    let mut texts = Vec::new(rt.alloc());
+    for name in env::args(rt)?.skip(1) {
+        texts.push(fs::read_to_string(rt, &name)?)?;
+    }
+    Ok(texts)
+}
+
+/// Writes the rows of each text with their answers.
+fn show_texts<R>(
+    rt: R,
+    alloc: Global,
+    texts: &[String],
     gauges: &Gauges,
     providers: &Providers,
-    out: &mut W,
-) -> anyhow::Result<()> {
-    for name in env::args(rt)?.skip(1) {
-        let rows = &fs::read_to_string(rt, &name)?;
+    out: &mut Vec<u8>,
+) -> Result<()>
+where
+    R: Clock + Copy + Send + Sync + Threads + Wait,
+{
+    for rows in texts {
         let context = Context {
-            rt,
+            alloc,
             gauges,
             providers,
             rows,
         };
-        context.show_rows(out)?;
+        context.show_rows(rt, out)?;
     }
     Ok(())
 }
 
-fn main(rt: HostRuntime) -> anyhow::Result<()> {
+fn main(rt: HostRuntime) -> Result<()> {
     let alloc = rt.alloc();
     let gauges = Gauges::shared(alloc)?;
     let to_live = Arc::try_clone(&gauges)?;
@@ -96,5 +109,9 @@ fn main(rt: HostRuntime) -> anyhow::Result<()> {
         },
     )?;
     let providers = Providers::new(live, solve, in_scope);
-    show_files(&rt, &gauges, &providers, &mut rt.stdout())
+    let texts = texts(&rt)?;
+    let mut out = Vec::new(alloc);
+    let shown = show_texts(rt, alloc, &texts, &gauges, &providers, &mut out);
+    rt.stdout().write_all(&out)?;
+    shown
 }

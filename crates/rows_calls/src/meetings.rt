@@ -1,12 +1,14 @@
 //! Two sessions that make calls by themselves, without scripts, each on a thread.
+use crate::answers::{Answer, line};
 use crate::cases::Case;
 use crate::rows::{Context, halves};
 use crate::waits::Patience;
 use anyhow::{Result, bail};
 use bc_book::Refusal;
 use bc_calls::Call;
-use bc_prov::Providers;
+use bc_prov::{Providers, Shared};
 use bc_share::Session;
+use bc_syntax::Unit;
 use bc_text::Name;
 use bc_versions::Ending;
 use std::sync::Wait;
@@ -58,11 +60,9 @@ fn put_and_read<R: Clock + Wait, E: Ending>(
     rt: &R,
     session: &mut Session<E>,
     meeting: &Meeting,
-    call: &Call,
+    at: &Name,
+    unit: &Shared<Unit>,
 ) -> Result<(), Refusal> {
-    let Call::Put(at, unit) = call else {
-        return Ok(());
-    };
     meeting.await_solving(rt, 1);
     session.put(rt, *at, unit.clone()?.into_arc())?;
     meeting.steps.fetch_add(1, SeqCst);
@@ -80,61 +80,53 @@ fn take_part<R: Clock + Wait, E: Ending>(
     providers: &Providers,
     meeting: &Meeting,
     at: &Name,
-    call: &Call,
+    unit: &Shared<Unit>,
 ) {
     if session.number() == 0 {
         let _outcome = session.ask(rt, at, providers);
     } else {
-        let _made = put_and_read(rt, session, meeting, call);
+        let _made = put_and_read(rt, session, meeting, at, unit);
     }
 }
 
 /// Has session 0 ask for the name of a put while session 1 makes that put, and reads.
-fn meet_at<R: Threads + Wait + Clock + Sync, E: Ending + Send>(
+fn meet_at<R: Clock + Sync + Threads + Wait, E: Ending + Send>(
     rt: &R,
     sessions: &mut [Session<E>],
     providers: &Providers,
     meeting: &Meeting,
     at: &Name,
-    call: &Call,
+    unit: &Shared<Unit>,
 ) {
+    meeting.is_held.store(true, SeqCst);
     thread::for_each_mut(
         rt,
         sessions,
         2,
         &|_index: usize, session: &mut Session<E>| {
-            take_part(rt, session, providers, meeting, at, call);
+            take_part(rt, session, providers, meeting, at, unit);
         },
     );
+    meeting.is_held.store(false, SeqCst);
 }
 
-impl<R: AllocGlobal + Clock + Threads + Wait + Sync> Context<'_, R> {
-    /// Has the two sessions of a letter meet at the put that a row spells, and writes that they did; fails where one waited too long.
-    pub fn meet<E: Ending + Send>(
+impl Context<'_> {
+    /// Has the two sessions of a letter meet at the put that a row spells, and answers that they did; fails where one waited too long.
+    pub fn meet<R: Clock + Sync + Threads + Wait, E: Ending + Send>(
         &self,
+        rt: &R,
         case: &mut Case<E>,
         row: &str,
-        out: &mut Vec<u8>,
-    ) -> Result<()> {
+    ) -> Answer {
         let (letter, row) = halves(row);
         let opened = case.at(letter)?;
-        let call = self.call(row)?;
-        let Call::Put(at, _) = &call else {
-            bail!("sessions meet at a put");
-        };
         let meeting = &self.gauges.meeting;
-        meeting.is_held.store(true, SeqCst);
-        meet_at(
-            self.rt,
-            &mut opened.sessions,
-            self.providers,
-            meeting,
-            at,
-            &call,
-        );
-        meeting.is_held.store(false, SeqCst);
+        let (sessions, providers) = (&mut opened.sessions, self.providers);
+        match self.call(row)? {
+            Call::Put(at, unit) => meet_at(rt, sessions, providers, meeting, &at, &unit),
+            _ => bail!("sessions meet at a put"),
+        }
         meeting.patience.is_kept()?;
-        out.extend_from_slice(b"met\n")?;
-        Ok(())
+        line(self.alloc, "met")
     }
 }

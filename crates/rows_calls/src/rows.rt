@@ -1,19 +1,20 @@
 //! The lines of a file of rows.
+use crate::answers::{Answer, counted, line, marked, refusal};
 use crate::cases::Case;
 use crate::gauges::Gauges;
 use anyhow::{Result, bail};
 use bc_prov::Providers;
 use bc_share::Db;
 use bc_versions::{Ending, Waiting};
-use std::io::Write;
+use std::alloc::Global;
 use std::sync::Wait;
 use std::thread::Threads;
 use std::time::Clock;
 
 /// The surroundings of a row: what rows are answered by, and all lines of their file.
 #[derive(Clone, Copy)]
-pub struct Context<'a, R> {
-    pub rt: &'a R,
+pub struct Context<'a> {
+    pub alloc: Global,
     pub gauges: &'a Gauges,
     pub providers: &'a Providers,
     pub rows: &'a str,
@@ -24,7 +25,36 @@ pub fn halves(text: &str) -> (&str, &str) {
     text.split_once(' ').unwrap_or((text, ""))
 }
 
-impl<'a, R: AllocGlobal + Wait> Context<'a, R> {
+/// The tag, the capacity and the number of sessions that a row spells.
+fn sizes(row: &str) -> Result<(u64, u32, u8)> {
+    let (tag, row) = halves(row);
+    let (capacity, sessions) = halves(row);
+    Ok((tag.parse()?, capacity.parse()?, sessions.parse()?))
+}
+
+/// Whether a line is a row: it is not empty, and neither begins a case nor gives a text a name.
+fn is_row(line: &str) -> bool {
+    !(line.is_empty() || line.starts_with('#') || line.starts_with("text "))
+}
+
+/// The line as it is printed: behind a mark where it is a row.
+fn headed(alloc: Global, text: &str) -> Answer {
+    if is_row(text) {
+        return marked(alloc, "> ", text);
+    }
+    line(alloc, text)
+}
+
+/// How often the row of a line is made, and the row.
+fn turns(line: &str) -> (u32, &str) {
+    let (word, rest) = halves(line);
+    match word.parse() {
+        Ok(turns) => (turns, rest),
+        Err(_) => (1, line),
+    }
+}
+
+impl<'a> Context<'a> {
     /// Returns the text that the file has under a name, and the empty one under none; fails where it has none.
     pub fn text(&self, name: &str) -> Result<&'a str> {
         if name.is_empty() {
@@ -38,73 +68,66 @@ impl<'a, R: AllocGlobal + Wait> Context<'a, R> {
         }
         bail!("no text has this name")
     }
+}
 
+impl Context<'_> {
     /// Opens a database of a tag, for so many entries and so many sessions.
-    fn open(&self, case: &mut Case<Waiting<&'a R>>, row: &str) -> Result<()> {
-        let (tag, row) = halves(row);
-        let (capacity, count) = halves(row);
-        let tag = tag.parse()?;
-        let capacity = capacity.parse()?;
-        let count = count.parse()?;
-        let ending = Waiting::new(self.rt);
-        let (db, sessions) = Db::open(self.rt.alloc(), ending, tag, capacity, count)?;
-        case.push(self.rt.alloc(), db, sessions)
+    fn open<E: Ending>(&self, ending: E, case: &mut Case<E>, row: &str) -> Answer {
+        let (tag, capacity, count) = sizes(row)?;
+        let (db, sessions) = Db::open(self.alloc, ending, tag, capacity, count)?;
+        case.push(self.alloc, db, sessions)?;
+        line(self.alloc, "opened")
     }
 
     /// Closes a database with the sessions that one has left, or with none; answers how many entries its history has.
-    fn close<E: Ending>(&self, case: &mut Case<E>, row: &str) -> Result<usize> {
+    fn close<R: Wait, E: Ending>(&self, rt: &R, case: &mut Case<E>, row: &str) -> Answer {
         let (closed, others) = halves(row);
         let db = case.take_db(closed)?;
-        let sessions = case.take_sessions(self.rt.alloc(), others)?;
-        let history = db.close(self.rt, sessions)?;
-        Ok(history.entries().len())
+        let sessions = case.take_sessions(self.alloc, others)?;
+        let history = db.close(rt, sessions)?;
+        counted(self.alloc, history.entries().len(), "entries")
     }
-}
 
-impl<'a, R: AllocGlobal + Clock + Threads + Wait + Sync> Context<'a, R> {
-    /// Writes what a row is answered.
-    fn answer(&self, case: &mut Case<Waiting<&'a R>>, row: &str, out: &mut Vec<u8>) -> Result<()> {
+    /// What a row is answered.
+    fn answer<R>(&self, rt: R, case: &mut Case<Waiting<R>>, row: &str) -> Answer
+    where
+        R: Clock + Copy + Send + Sync + Threads + Wait,
+    {
         let (word, rest) = halves(row);
         match word {
-            "open" => {
-                self.open(case, rest)?;
-                out.extend_from_slice(b"opened\n")?;
-            }
-            "close" => {
-                let count = self.close(case, rest)?;
-                writeln!(out, "{count} entries")?;
-            }
-            "script" => self.give_script(case, rest)?,
-            "run" => self.run(case, rest, out)?,
-            "meet" => self.meet(case, rest, out)?,
-            "refuse" => self.gauges.refuse(rest)?,
-            "count" => self.gauges.write_counts(out)?,
-            _ => self.act(case, word, rest, out)?,
+            "open" => self.open(Waiting::new(rt), case, rest),
+            "close" => self.close(&rt, case, rest),
+            "script" => self.give_script(case, rest),
+            "run" => self.run(&rt, case, rest),
+            "meet" => self.meet(&rt, case, rest),
+            "refuse" => self.gauges.refuse(self.alloc, rest),
+            "count" => self.gauges.counts(self.alloc),
+            _ => self.act(&rt, case, word, rest),
         }
-        Ok(())
     }
 
     /// What a row is answered at a turn, or why it is refused.
-    fn answer_at(&self, case: &mut Case<Waiting<&'a R>>, row: &str, turn: u32) -> Result<Vec<u8>> {
-        let number = format!(in self.rt.alloc(); "{turn}")?;
-        let row = row.replace(self.rt.alloc(), "#", &number)?;
-        let mut answered = Vec::new(self.rt.alloc());
-        if let Err(refused) = self.answer(case, &row, &mut answered) {
-            writeln!(answered, "{refused}")?;
+    fn answer_at<R>(&self, rt: R, case: &mut Case<Waiting<R>>, row: &str, turn: u32) -> Answer
+    where
+        R: Clock + Copy + Send + Sync + Threads + Wait,
+    {
+        let number = format!(in self.alloc; "{turn}")?;
+        let row = row.replace(self.alloc, "#", &number)?;
+        match self.answer(rt, case, &row) {
+            Ok(answer) => Ok(answer),
+            Err(refused) => refusal(self.alloc, &refused),
         }
-        Ok(answered)
     }
 
-    /// What a row is answered at each of so many turns; fails where two are answered differently.
-    fn answer_turns(
-        &self,
-        case: &mut Case<Waiting<&'a R>>,
-        row: &str,
-        turns: u32,
-    ) -> Result<Vec<u8>> {
-        let first = self.answer_at(case, row, 0)?;
+    /// What a line is answered at each of so many turns; fails where two are answered differently.
+    fn answer_turns<R>(&self, rt: R, case: &mut Case<Waiting<R>>, line: &str) -> Answer
+    where
+        R: Clock + Copy + Send + Sync + Threads + Wait,
+    {
+        let (turns, row) = turns(line);
+        let first = self.answer_at(rt, case, row, 0)?;
         for turn in 1..turns {
-            if self.answer_at(case, row, turn)? != first {
+            if self.answer_at(rt, case, row, turn)? != first {
                 bail!("turn {turn} is answered differently");
             }
         }
@@ -112,35 +135,35 @@ impl<'a, R: AllocGlobal + Clock + Threads + Wait + Sync> Context<'a, R> {
     }
 
     /// Writes a line, and below a row what it is answered.
-    fn show_line<W: Write>(
+    fn show_line<R>(
         &self,
-        case: &mut Case<Waiting<&'a R>>,
+        rt: R,
+        case: &mut Case<Waiting<R>>,
         line: &str,
-        out: &mut W,
-    ) -> Result<()> {
-        if line.is_empty() || line.starts_with('#') || line.starts_with("text ") {
-            writeln!(out, "{line}")?;
-            return Ok(());
+        out: &mut Vec<u8>,
+    ) -> Result<()>
+    where
+        R: Clock + Copy + Send + Sync + Threads + Wait,
+    {
+        out.append(&mut headed(self.alloc, line)?)?;
+        if is_row(line) {
+            out.append(&mut self.answer_turns(rt, case, line)?)?;
         }
-        writeln!(out, "> {line}")?;
-        let (word, rest) = halves(line);
-        let (turns, row) = match word.parse() {
-            Ok(turns) => (turns, rest),
-            Err(_) => (1, line),
-        };
-        out.write_all(&self.answer_turns(case, row, turns)?)?;
         Ok(())
     }
 
     /// Writes each line of the file, and below a row what it is answered.
-    pub fn show_rows<W: Write>(&self, out: &mut W) -> Result<()> {
-        let mut case = Case::new(self.rt.alloc());
+    pub fn show_rows<R>(&self, rt: R, out: &mut Vec<u8>) -> Result<()>
+    where
+        R: Clock + Copy + Send + Sync + Threads + Wait,
+    {
+        let mut case = Case::new(self.alloc);
         for line in self.rows.lines() {
             if line.starts_with('#') {
-                case = Case::new(self.rt.alloc());
-                self.gauges.refuse("none")?;
+                case = Case::new(self.alloc);
+                self.gauges.want_none();
             }
-            self.show_line(&mut case, line, out)?;
+            self.show_line(rt, &mut case, line, out)?;
         }
         Ok(())
     }

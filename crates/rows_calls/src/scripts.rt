@@ -1,12 +1,14 @@
 //! Scripts, which the sessions of a database make on threads, and where their Asks pause.
-use crate::cases::Case;
+use crate::answers::Answer;
+use crate::cases::{Case, Opened};
 use crate::gauges::Gauges;
 use crate::rows::{Context, halves};
 use crate::waits::Patience;
 use anyhow::{Result, bail};
 use bc_scripts::{End, Gate, Script, Stage, run_sessions};
-use bc_share::{Db, Session};
+use bc_share::Session;
 use bc_versions::Ending;
+use std::alloc::Global;
 use std::io::Write;
 use std::mem;
 use std::sync::Wait;
@@ -29,11 +31,46 @@ impl Mark {
             solved: AtomicU64::new(0),
         }
     }
+
+    /// What is noted, between the name of the stage and an end.
+    fn told(&self, alloc: Global, stage: &str, end: &str) -> Answer {
+        let came = self.came.load(SeqCst);
+        let solved = self.solved.load(SeqCst);
+        let mut told = Vec::new(alloc);
+        write!(told, "{stage} {came}, {solved} solved{end}")?;
+        Ok(told)
+    }
 }
 
-/// A gate that notes where session 0 comes. Where it holds sessions up, it holds session 0 at one stage of an Ask until the other sessions
-/// have begun so many Asks, and each of the others, where it has begun one, until session 0 has come to that stage and they all have begun
-/// so many.
+/// Where sessions are held up: session 0 at a stage of an Ask until the other sessions have begun so many Asks, and each of the others, where
+/// it has begun one, until session 0 has come to that stage and they all have begun so many.
+#[derive(Clone, Copy)]
+struct Hold {
+    stage: Stage,
+    first_awaits: u64,
+    others_await: u64,
+}
+
+impl Hold {
+    /// The one that words spell; none where there are no words.
+    fn read(words: &str) -> Result<Option<Hold>> {
+        let (stage, counts) = halves(words);
+        let stage = match stage {
+            "" => return Ok(None),
+            "begun" => Stage::Begun,
+            "worked" => Stage::Worked,
+            _ => bail!("an Ask has no such stage"),
+        };
+        let (first, others) = halves(counts);
+        Ok(Some(Hold {
+            stage,
+            first_awaits: first.parse()?,
+            others_await: others.parse()?,
+        }))
+    }
+}
+
+/// A gate that notes where session 0 comes, and may hold sessions up.
 #[derive(Drop)]
 struct Turnstile<'a, R> {
     rt: &'a R,
@@ -42,33 +79,21 @@ struct Turnstile<'a, R> {
     begun: Mark,
     worked: Mark,
     begun_beside: AtomicU64,
-    held: Option<Stage>,
-    first_awaits: u64,
-    others_await: u64,
+    hold: Option<Hold>,
 }
 
 impl<'a, R: Clock> Turnstile<'a, R> {
-    /// One that holds sessions up as words say, or nobody where there are none.
-    fn new(rt: &'a R, gauges: &'a Gauges, words: &str) -> Result<Turnstile<'a, R>> {
-        let (stage, counts) = halves(words);
-        let (first, others) = halves(counts);
-        let (held, first_awaits, others_await) = match stage {
-            "" => (None, 0, 0),
-            "begun" => (Some(Stage::Begun), first.parse()?, others.parse()?),
-            "worked" => (Some(Stage::Worked), first.parse()?, others.parse()?),
-            _ => bail!("an Ask has no such stage"),
-        };
-        Ok(Turnstile {
+    /// One that holds sessions up so, or nobody.
+    fn new(rt: &'a R, gauges: &'a Gauges, hold: Option<Hold>) -> Turnstile<'a, R> {
+        Turnstile {
             rt,
             gauges,
             patience: Patience::new(),
             begun: Mark::new(),
             worked: Mark::new(),
             begun_beside: AtomicU64::new(0),
-            held,
-            first_awaits,
-            others_await,
-        })
+            hold,
+        }
     }
 
     /// What is noted of a stage.
@@ -84,31 +109,30 @@ impl<'a, R: Clock> Turnstile<'a, R> {
         let mark = self.mark(stage);
         mark.solved.store(self.gauges.solve.calls(), SeqCst);
         mark.came.fetch_add(1, SeqCst);
-        if self.held == Some(stage) {
-            self.patience
-                .hold(self.rt, &self.begun_beside, self.first_awaits);
+        if let Some(hold) = self.hold {
+            if hold.stage == stage {
+                self.patience
+                    .hold(self.rt, &self.begun_beside, hold.first_awaits);
+            }
         }
     }
 
     /// Another session has begun an Ask.
     fn hold_other(&self) {
         self.begun_beside.fetch_add(1, SeqCst);
-        if let Some(stage) = self.held {
-            self.patience.hold(self.rt, &self.mark(stage).came, 1);
+        if let Some(hold) = self.hold {
+            self.patience.hold(self.rt, &self.mark(hold.stage).came, 1);
             self.patience
-                .hold(self.rt, &self.begun_beside, self.others_await);
+                .hold(self.rt, &self.begun_beside, hold.others_await);
         }
     }
 
-    /// Writes what is noted; fails where a session waited too long.
-    fn write_marks(&self, out: &mut Vec<u8>) -> Result<()> {
+    /// What is noted; fails where a session waited too long.
+    fn marks(&self, alloc: Global) -> Answer {
         self.patience.is_kept()?;
-        let (begun, worked) = (&self.begun, &self.worked);
-        let (came, solved) = (begun.came.load(SeqCst), begun.solved.load(SeqCst));
-        write!(out, "begun {came}, {solved} solved; ")?;
-        let (came, solved) = (worked.came.load(SeqCst), worked.solved.load(SeqCst));
-        writeln!(out, "worked {came}, {solved} solved")?;
-        Ok(())
+        let mut marks = self.begun.told(alloc, "begun", "; ")?;
+        marks.append(&mut self.worked.told(alloc, "worked", "\n")?)?;
+        Ok(marks)
     }
 }
 
@@ -131,10 +155,24 @@ fn write_end(end: End, out: &mut Vec<u8>) -> Result<()> {
     Ok(())
 }
 
-impl<R: AllocGlobal + Clock + Threads + Wait + Sync> Context<'_, R> {
+/// Gives sessions back, and returns how the script of each ended.
+fn ends<E: Ending>(
+    alloc: Global,
+    ran: Vec<(Session<E>, End)>,
+    sessions: &mut Vec<Session<E>>,
+) -> Answer {
+    let mut ends = Vec::new(alloc);
+    for (session, end) in ran {
+        write_end(end, &mut ends)?;
+        sessions.push(session)?;
+    }
+    Ok(ends)
+}
+
+impl Context<'_> {
     /// The script of the calls that a row spells, with a semicolon and a blank between two.
     fn script(&self, row: &str) -> Result<Script> {
-        let mut calls = Vec::new(self.rt.alloc());
+        let mut calls = Vec::new(self.alloc);
         for call in row.split(';') {
             calls.push(self.call(call.strip_prefix(' ').unwrap_or(call))?)?;
         }
@@ -142,57 +180,60 @@ impl<R: AllocGlobal + Clock + Threads + Wait + Sync> Context<'_, R> {
     }
 
     /// Gives the next session of a letter the script that a row spells.
-    pub fn give_script<E: Ending>(&self, case: &mut Case<E>, row: &str) -> Result<()> {
+    pub fn give_script<E: Ending>(&self, case: &mut Case<E>, row: &str) -> Answer {
         let (letter, calls) = halves(row);
-        let opened = case.at(letter)?;
-        opened.scripts.push(self.script(calls)?)?;
-        Ok(())
+        let script = self.script(calls)?;
+        case.at(letter)?.scripts.push(script)?;
+        Ok(Vec::new(self.alloc))
     }
+}
 
-    /// Has each of these sessions make the calls of its script, on a thread of its own. Gives them back, each with how that ended.
-    fn make_scripts<E: Ending + Send>(
-        &self,
-        db: &Db<E>,
-        sessions: Vec<Session<E>>,
-        scripts: Vec<Script>,
-        gate: &Turnstile<'_, R>,
-    ) -> Result<Vec<(Session<E>, End)>> {
-        if scripts.len() != sessions.len() {
-            bail!("as many scripts as sessions");
-        }
-        match run_sessions(
-            self.rt,
-            self.rt.alloc(),
-            db,
-            sessions,
-            scripts,
-            self.providers,
-            gate,
-        ) {
-            Ok(ran) => Ok(ran),
-            Err(_) => bail!("no memory"),
-        }
+/// Has each session make the calls of its script, on a thread of its own. Gives them back, each with how that ended.
+fn make_scripts<R: Clock + Sync + Threads + Wait, E: Ending + Send>(
+    rt: &R,
+    context: &Context<'_>,
+    opened: &mut Opened<E>,
+    gate: &Turnstile<'_, R>,
+) -> Result<Vec<(Session<E>, End)>> {
+    let alloc = context.alloc;
+    let Some(db) = &opened.db else {
+        bail!("this database was closed before");
+    };
+    let scripts = mem::replace(&mut opened.scripts, Vec::new(alloc));
+    let sessions = mem::replace(&mut opened.sessions, Vec::new(alloc));
+    if scripts.len() != sessions.len() {
+        bail!("as many scripts as sessions");
     }
+    match run_sessions(rt, alloc, db, sessions, scripts, context.providers, gate) {
+        Ok(ran) => Ok(ran),
+        Err(_) => bail!("no memory"),
+    }
+}
 
-    /// Has the sessions of a letter make their scripts, and writes how each ended, and where session 0 came.
-    pub fn run<E: Ending + Send>(
+/// Has sessions make their scripts, held up or not, and answers how each ended, and where session 0 came.
+fn run_held<R: Clock + Sync + Threads + Wait, E: Ending + Send>(
+    rt: &R,
+    context: &Context<'_>,
+    opened: &mut Opened<E>,
+    hold: Option<Hold>,
+) -> Answer {
+    let gate = Turnstile::new(rt, context.gauges, hold);
+    let ran = make_scripts(rt, context, opened, &gate)?;
+    let mut answer = ends(context.alloc, ran, &mut opened.sessions)?;
+    answer.append(&mut gate.marks(context.alloc)?)?;
+    Ok(answer)
+}
+
+impl Context<'_> {
+    /// Has the sessions of a letter make their scripts, and answers how each ended, and where session 0 came.
+    pub fn run<R: Clock + Sync + Threads + Wait, E: Ending + Send>(
         &self,
+        rt: &R,
         case: &mut Case<E>,
         row: &str,
-        out: &mut Vec<u8>,
-    ) -> Result<()> {
-        let (letter, held) = halves(row);
-        let gate = Turnstile::new(self.rt, self.gauges, held)?;
-        let opened = case.at(letter)?;
-        let Some(db) = &opened.db else {
-            bail!("this database was closed before");
-        };
-        let scripts = mem::replace(&mut opened.scripts, Vec::new(self.rt.alloc()));
-        let sessions = mem::replace(&mut opened.sessions, Vec::new(self.rt.alloc()));
-        for (session, end) in self.make_scripts(db, sessions, scripts, &gate)? {
-            write_end(end, out)?;
-            opened.sessions.push(session)?;
-        }
-        gate.write_marks(out)
+    ) -> Answer {
+        let (letter, words) = halves(row);
+        let hold = Hold::read(words)?;
+        run_held(rt, self, case.at(letter)?, hold)
     }
 }
