@@ -9,13 +9,13 @@ ghost use Rattle.bc_print.specs.Printing.{Writes, texts, printed};
 ghost use Rattle.bc_print.specs.PrintedTypes.{comma_before, first_word, behind_word};
 ghost use Rattle.bc_syntax.specs.Spelling as spell;
 
-use crate::fault::{WriterFault, put};
 use crate::names::{write_item_name, write_ty};
 use crate::tokens::{write_named, write_symbol};
 use crate::units::write_signature;
 use bc_syntax::{
     Declaration, ExternDeclaration, RegionName, StructDeclaration, Symbol, Ty, Types, Variance,
 };
+use bc_writer::{WriterFault, write_bytes};
 use std::io::Write;
 
 /// Writes a comma, but not before the first item.
@@ -182,7 +182,7 @@ fn write_all_declarations<W: Write>(
     ensures { OnOk result (Appends (W.contents out.old) (W.contents out.new) (texts (flat_map spell.declaration declarations.now))) }
 {
     if let Some((first, others)) = declarations.split_first() {
-        put(first_word(first).text(), out)?;
+        write_bytes(first_word(first).text(), out)?;
         write_behind_word(first, out)?;
         write_declarations(others, out)?;
     }
@@ -195,5 +195,5 @@ pub fn print_types<W: Write>(types: &Types, out: &mut W) -> Result<(), WriterFau
     ensures { OnOk result (Appends (W.contents out.old) (W.contents out.new) (printed (spell.types types.now))) }
 {
     write_all_declarations(types.declarations(), out)?;
-    put(b"\n", out)
+    write_bytes(b"\n", out)
 }

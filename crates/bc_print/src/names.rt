@@ -7,12 +7,12 @@ ghost use Rattle.bc_print.specs.Printing.{Writes};
 ghost use Rattle.bc_syntax.specs.Spelling as spell;
 ghost use Rattle.bc_syntax.specs.Universals.{universal_names};
 
-use crate::fault::WriterFault;
 use crate::tokens::{Spelled, write_angled, write_named, write_numbered, write_symbol, write_word};
 use bc_syntax::{
     Base, ClosureInstance, Instance, ItemName, Mutability, Numbering, Outlives, Reference, Region,
     RegionName, Symbol, Ty,
 };
+use bc_writer::WriterFault;
 use std::io::Write;
 
 /// The name of a universal region.

@@ -6,13 +6,13 @@ ghost use Rattle.std.specs.List.{flat_map};
 ghost use Rattle.bc_print.specs.Printing.{Writes};
 ghost use Rattle.bc_syntax.specs.Spelling as spell;
 
-use crate::fault::WriterFault;
 use crate::names::{write_closure_instance, write_instance, write_reference};
 use crate::tokens::{Spelled, write_angled, write_commas, write_numbered, write_symbol};
 use bc_syntax::{
     Aggregate, Assignment, Block, Borrow, Call, Condition, Creation, Invocation, Numbering,
     Operand, Place, Projection, RegionName, Rvalue, Statement, Symbol, Terminator,
 };
+use bc_writer::WriterFault;
 use std::io::Write;
 
 fn write_projection<W: Write>(projection: Projection, out: &mut W) -> Result<(), WriterFault>

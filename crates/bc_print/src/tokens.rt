@@ -4,8 +4,8 @@ ghost use Rattle.bc_print.specs.Printing.{Writes, mark};
 ghost use Rattle.bc_syntax.specs.Token.{Numbered, Word, Region};
 ghost use Rattle.bc_syntax.specs.Spelling as spell;
 
-use crate::fault::{WriterFault, put};
 use bc_syntax::{Numbering, RegionName, Symbol};
+use bc_writer::{WriterFault, write_bytes};
 use itoa::Buffer;
 use std::io::Write;
 
@@ -14,8 +14,8 @@ use std::io::Write;
 pub fn write_symbol<W: Write>(symbol: Symbol, out: &mut W) -> Result<(), WriterFault>
     ensures { OnOk result (Writes (W.contents out.old) (W.contents out.new) (spell.symbol symbol)) }
 {
-    put(b" ", out)?;
-    put(symbol.text(), out)
+    write_bytes(b" ", out)?;
+    write_bytes(symbol.text(), out)
 }
 
 /// A space, and what stands before a number of this kind.
@@ -40,8 +40,8 @@ pub fn write_numbered<W: Write>(
 ) -> Result<(), WriterFault>
     ensures { OnOk result (Writes (W.contents out.old) (W.contents out.new) (Numbered numbering number ∷ [])) }
 {
-    put(spaced_mark(numbering), out)?;
-    put(Buffer::new().format(number).as_bytes(), out)
+    write_bytes(spaced_mark(numbering), out)?;
+    write_bytes(Buffer::new().format(number).as_bytes(), out)
 }
 
 /// Writes a space and a word.
@@ -49,8 +49,8 @@ pub fn write_numbered<W: Write>(
 pub fn write_word<W: Write>(name: &[u8], out: &mut W) -> Result<(), WriterFault>
     ensures { OnOk result (Writes (W.contents out.old) (W.contents out.new) (Word name.now ∷ [])) }
 {
-    put(b" ", out)?;
-    put(name, out)
+    write_bytes(b" ", out)?;
+    write_bytes(name, out)
 }
 
 /// Writes a space and a region, by its name.
@@ -58,8 +58,8 @@ pub fn write_word<W: Write>(name: &[u8], out: &mut W) -> Result<(), WriterFault>
 pub fn write_named<W: Write>(name: &[u8], out: &mut W) -> Result<(), WriterFault>
     ensures { OnOk result (Writes (W.contents out.old) (W.contents out.new) (Region name.now ∷ [])) }
 {
-    put(b" '", out)?;
-    put(name, out)
+    write_bytes(b" '", out)?;
+    write_bytes(name, out)
 }
 
 /// A value that has a spelling where these regions are declared.

@@ -7,13 +7,13 @@ ghost use Rattle.bc_syntax.specs.Locals.{locals_of};
 ghost use Rattle.bc_print.specs.Printing.{Writes, printed};
 ghost use Rattle.bc_syntax.specs.Spelling as spell;
 
-use crate::fault::{WriterFault, put};
 use crate::names::write_ty;
 use crate::points::write_blocks;
 use crate::tokens::{write_angled, write_commas, write_numbered, write_symbol};
 use bc_syntax::{
     Body, Header, Numbering, Outlives, RegionName, Signature, Symbol, Ty, Unit, UnitKind,
 };
+use bc_writer::{WriterFault, write_bytes};
 use std::io::Write;
 
 /// Writes `where` and the clauses, or nothing where there are none.
@@ -162,8 +162,8 @@ pub fn print_unit<W: Write>(unit: &Unit, out: &mut W) -> Result<(), WriterFault>
     ensures { OnOk result (Appends (W.contents out.old) (W.contents out.new) (printed (spell.unit unit.now))) }
 {
     let body = unit.body();
-    put(kind_word(body.header.kind).text(), out)?;
+    write_bytes(kind_word(body.header.kind).text(), out)?;
     write_header_rest(&body.header, out)?;
     write_body(body, out)?;
-    put(b"\n", out)
+    write_bytes(b"\n", out)
 }

@@ -6,11 +6,11 @@ ghost use Rattle.bc_mir.specs.Lines.{place_text};
 ghost use Rattle.bc_report.specs.Text.{line};
 ghost use Rattle.bc_report.specs.Report.{body_line};
 
-use crate::fault::{WriterFault, write_bytes};
 use crate::parts::{write_name, write_number, write_place};
 use bc_mir::Where;
 use bc_prov::BodyErrors;
 use bc_text::Name;
+use bc_writer::{WriterFault, write_bytes};
 use std::io::Write;
 
 /// Writes the line of a body, its name and the number of its errors. Returns `WriterFault` only where a write failed. It takes no memory.

@@ -4,10 +4,10 @@ ghost use Rattle.std.specs.Io.KnownBytes.{Appends};
 ghost use Rattle.bc_text.specs.Names.{name_text, segment_text};
 ghost use Rattle.bc_mir.specs.Lines.{place_text, point_text};
 
-use crate::fault::{WriterFault, write_bytes};
 use crate::texts::put_point;
 use bc_mir::{Point, Where};
 use bc_text::Name;
+use bc_writer::{WriterFault, write_bytes};
 use itoa::Buffer;
 use std::io::Write;
 

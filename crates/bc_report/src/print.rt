@@ -4,13 +4,13 @@ ghost use Rattle.std.specs.Io.KnownBytes.{Appends};
 ghost use Rattle.bc_judge.specs.Lines.{next_region};
 ghost use Rattle.bc_report.specs.Report.{error_line, chain_line, error_lines, body_lines, report};
 
-use crate::fault::{WriterFault, write_bytes};
 use crate::line::put;
 use crate::one_line::{write_bad_declaration, write_body_line, write_ill, write_missing};
 use crate::texts::{put_error, put_region, put_regions};
 use bc_judge::BorrowError;
 use bc_prov::{BodyErrors, Outcome};
 use bc_syntax::Region;
+use bc_writer::{WriterFault, write_bytes};
 use std::io::Write;
 
 /// How many bytes the line of an error has at most.

@@ -7,7 +7,8 @@ ghost use Rattle.bc_source.specs.Points.{without_last_blanks, statement_at, in_o
 use crate::starts::Start;
 use crate::unit::SourceUnit;
 use bc_mir::Point;
-use bc_report::{WriterFault, write_bytes, write_number};
+use bc_report::write_number;
+use bc_writer::{WriterFault, write_bytes};
 use std::io::Write;
 
 /// Whether a byte is a blank of a text.

@@ -7,8 +7,9 @@ ghost use Rattle.bc_report.specs.Text.{line as ended};
 ghost use Rattle.bc_source.specs.Regions.{is_universal, tells_of, tells_of_some, named, all_named, regions_text, regions_line};
 
 use bc_judge::BorrowError;
-use bc_report::{WriterFault, write_bytes, write_number};
+use bc_report::write_number;
 use bc_syntax::{Region, RegionName};
+use bc_writer::{WriterFault, write_bytes};
 use std::io::Write;
 
 /// Whether a region is the universal one of this number.

@@ -7,6 +7,6 @@ use Rattle.bc_print.proofs.declarations.print_types.Goals as goal
 
 pub returns : goal.returns
 returns g c =
-    on_ok_weaker c.put.result
+    on_ok_weaker c.write_bytes.result
     (Appends-trans _ _ _ (texts (spell.types c.args.types.now)) (codes "\n") (rw c.declarations.ensures.value at c.in_ok-write_all_declarations.ensures))
-    c.put.ensures
+    c.write_bytes.ensures

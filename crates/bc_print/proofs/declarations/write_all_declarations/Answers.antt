@@ -4,7 +4,7 @@ use Rattle.bc_print.proofs.declarations.write_all_declarations.Goals as goal
 
 pub returns-in_ok-write_declarations : goal.returns-in_ok-write_declarations
 returns-in_ok-write_declarations g c =
-    writes_first _ _ _ _ c.in-Some.first.now c.in-Some.others.now c.args.declarations.now c.in-Some.ensures.cases.0 (rw (c.text.ensures, c.first_word.ensures) at c.in_ok-put.ensures)
+    writes_first _ _ _ _ c.in-Some.first.now c.in-Some.others.now c.args.declarations.now c.in-Some.ensures.cases.0 (rw (c.text.ensures, c.first_word.ensures) at c.in_ok-write_bytes.ensures)
     c.in_ok-write_behind_word.ensures c.in_ok-write_declarations.ensures
 
 pub write_behind_word-requires : goal.write_behind_word-requires

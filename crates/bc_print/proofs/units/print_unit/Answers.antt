@@ -12,7 +12,7 @@ pub returns : goal.returns
 returns g c =
     let body = c.body-body.result.now in
     let kind = body.header.kind in
-    let first_word = rw (c.text.ensures, c.kind_word.ensures) at c.in_ok-put.ensures in
-    on_ok_weaker c.put-2.result
-    (λ done. subst (λ (u : Body). Appends (g.W.Write.contents c.args.out.now) (g.W.Write.contents c.put-2.new.out) (printed (spell.unit u))) c.body-body.ensures.value
-    (prints _ _ _ _ _ (Fixed (spell.kind_word kind)) (spell.header_rest body.header) (spell.body body) first_word c.in_ok-write_header_rest.ensures c.in_ok-write_body.ensures done)) c.put-2.ensures
+    let first_word = rw (c.text.ensures, c.kind_word.ensures) at c.in_ok-write_bytes.ensures in
+    on_ok_weaker c.write_bytes-2.result
+    (λ done. subst (λ (u : Body). Appends (g.W.Write.contents c.args.out.now) (g.W.Write.contents c.write_bytes-2.new.out) (printed (spell.unit u))) c.body-body.ensures.value
+    (prints _ _ _ _ _ (Fixed (spell.kind_word kind)) (spell.header_rest body.header) (spell.body body) first_word c.in_ok-write_header_rest.ensures c.in_ok-write_body.ensures done)) c.write_bytes-2.ensures

@@ -1,4 +1,6 @@
-//! The fault of a writer, and the one place where it is made.
+//! Bytes that are written whole, or the fault of the writer, which is made here and nowhere else.
+#![tactic(auto)]
+
 ghost use Rattle.std.specs.Prelude.{OnOk};
 ghost use Rattle.std.specs.Io.KnownBytes.{Appends};
 
@@ -6,21 +8,21 @@ use std::io;
 use std::io::Write;
 use thiserror::Error;
 
-/// Why a unit or declarations were not printed whole: a write failed, and this is its fault. Only `put` makes one, and only of the fault
-/// of a write, so that no function which answers one can give up for another reason.
+/// The reason why something was not written whole: a write failed, and this is its fault. Only `write_bytes` makes one, and only of the
+/// fault of a write, so that no function which returns one can give up for another reason.
 #[derive(Debug, Drop, Error)]
 #[error(transparent)]
 pub struct WriterFault(io::Error);
 
 impl From<WriterFault> for io::Error {
-    /// The fault of the write itself.
+    /// Returns the fault of the write itself.
     fn from(fault: WriterFault) -> io::Error {
         fault.0
     }
 }
 
 /// Writes all bytes. Returns `WriterFault` where the writer does not take them all.
-pub(crate) fn put<W: Write>(bytes: &[u8], out: &mut W) -> Result<(), WriterFault>
+pub fn write_bytes<W: Write>(bytes: &[u8], out: &mut W) -> Result<(), WriterFault>
     ensures { OnOk result (Appends (W.contents out.old) (W.contents out.new) bytes.now) }
 {
     match out.write_all(bytes) {
