@@ -29,7 +29,7 @@ Commands:
   run      Makes the calls that FILE lists for each session, and prints what
            they answer. A section begins with '@K types', '@K put NAME',
            '@K remove NAME', '@K ask NAME' or '@K askall' (each root name that
-           is held), where K is the session, from 0.
+           has a body), where K is the session, from 0.
   serve    Answers requests until standard input ends. Each is one line with a
            JSON object, and so is its reply. A request has the members 'call'
            ('types', 'put', 'remove', 'ask', 'askall' or 'glance'), 'name' and
@@ -44,11 +44,11 @@ FILE may be '-', for standard input.
 Options:
   --json         (check, run) Print each report, or each entry of the history,
                  as a line of JSON. Default: as plain text.
-  --source       (check) Print behind each error and its chain the texts of its
+  --source       (check) Print after each error and its chain the texts of its
                  point and of its loan's, with line and column in FILE, and the
                  names of the regions that it numbers. Default: none of these.
-                 It does not stand beside --json.
-  --positions    (check, run, print) In a fault of FILE, tell line and column
+                 Not allowed with --json.
+  --positions    (check, run, print) Give line and column of a fault in FILE,
                  beside the byte. Default: the byte alone.
   --jobs N       (check) How many threads share the work, 1 to 255, which
                  changes no report. Default: as many as there are processors.
@@ -57,7 +57,7 @@ Options:
                  changes no report. Default: components.
   --capacity C   (serve) How many calls the history may have, 1 to 1000000.
                  Default: 1000000.
-  -h, --help     Print this text; behind a command, the text for it alone.
+  -h, --help     Print this text; after a command, the text for it alone.
   -V, --version  Print the version.
 
 Exit status, the greatest that applies:
@@ -66,7 +66,7 @@ Exit status, the greatest that applies:
   2   A text or the form of FILE was refused, a put replied 'full' or
       'wrongkind', or an outcome is no report.
   3   Wrong use, a file that cannot be read, too many calls, a failed output,
-      want of memory, a refused call or close, or a session that did not end.
+      out of memory, a refused call or close, or a session that did not end.
       Of 'serve': standard input, standard output, memory, a thread or the
       close failed.
 
@@ -100,12 +100,12 @@ FILE may be '-', for standard input. A section of it begins with a line '@types'
 
 Options:
   --json         Print each report as a line of JSON. Default: as plain text.
-                 It does not stand beside --source.
-  --source       Print behind each error and its chain the texts of its point
+                 Not allowed with --source.
+  --source       Print after each error and its chain the texts of its point
                  and of its loan's, with line and column in FILE, and the names
-                 of the regions that it numbers. Default: none of these. It
-                 does not stand beside --json.
-  --positions    In a fault of FILE, tell line and column beside the byte.
+                 of the regions that it numbers. Default: none of these. Not
+                 allowed with --json.
+  --positions    Give line and column of a fault in FILE, beside the byte.
                  Default: the byte alone.
   --jobs N       How many threads share the work, 1 to 255, which changes no
                  report. Default: as many as there are processors. With 1 no
@@ -120,7 +120,7 @@ Exit status, the greatest that applies:
   2   A text or the form of FILE was refused, a put replied 'full' or
       'wrongkind', or an outcome is no report.
   3   Wrong use, a file that cannot be read, too many calls, a failed output,
-      want of memory, or a refused call or close.
+      out of memory, or a refused call or close.
 ";
 
 /// What `run --help` prints.
@@ -134,13 +134,13 @@ Usage:
 
 FILE may be '-', for standard input. A section of it begins with a line
 '@K types' (declarations follow), '@K put NAME' (a body follows),
-'@K remove NAME', '@K ask NAME' or '@K askall' (each root name that is held),
+'@K remove NAME', '@K ask NAME' or '@K askall' (each root name that has a body),
 where K is the session, from 0.
 
 Options:
   --json         Print each entry of the history as a line of JSON. Default: as
                  plain text.
-  --positions    In a fault of FILE, tell line and column beside the byte.
+  --positions    Give line and column of a fault in FILE, beside the byte.
                  Default: the byte alone.
   --sessions N   How many sessions there are, 1 to 16. Default: 1.
   --solver S     'plain' or 'components': how the regions are solved, which
@@ -153,7 +153,7 @@ Exit status, the greatest that applies:
   2   A text or the form of FILE was refused, a put replied 'full' or
       'wrongkind', or an outcome is no report.
   3   Wrong use, a file that cannot be read, too many calls, a failed output,
-      want of memory, a refused call or close, or a session that did not end.
+      out of memory, a refused call or close, or a session that did not end.
 ";
 
 /// What `serve --help` prints.
@@ -194,14 +194,14 @@ FILE may be '-', for standard input. A section of it begins with a line '@types'
 (declarations follow) or '@put NAME' (a body follows).
 
 Options:
-  --positions    In a fault of FILE, tell line and column beside the byte.
+  --positions    Give line and column of a fault in FILE, beside the byte.
                  Default: the byte alone.
   -h, --help     Print this text.
 
 Exit status, the greatest that applies:
   0   All sections were printed.
   2   A text or the form of FILE was refused.
-  3   Wrong use, a file that cannot be read, a failed output, or want of memory.
+  3   Wrong use, a file that cannot be read, a failed output, or out of memory.
 ";
 
 /// What `--help` prints about this topic: about the program, or about one of its commands.
