@@ -7,9 +7,3 @@ loop-node-preserved c = record {
   count = grind arith;
   marks = GivesLevel-front c.args.edges.now c.args.front.now c.loop-node.node-index c.args.level _ _ _ _ _ _ c.requires.level (omega arith) c.loop-node.invariant.marks c.in_ok-visit.ensures;
 }
-
-pub visit-requires-clause-edges : goal.visit-requires-clause-edges
-visit-requires-clause-edges c = rw c.loop-node.invariant.count c.requires.edges
-
-pub visit-requires-clause-chains : goal.visit-requires-clause-chains
-visit-requires-clause-chains c = rw c.loop-node.invariant.count c.requires.chains

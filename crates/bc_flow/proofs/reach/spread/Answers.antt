@@ -38,17 +38,3 @@ loop-at-preserved c =
       spreads = Spreads-same c.args.node _ _ _ _ _ _ _ _ (skipped c.args.edges.now c.args.node (c.loop-at.at + 1) c.index-at-in-loop-at.result.now is)
           (rw (take_more c.args.edges.now c.loop-at.at none c.loop-at-test.true) (Spreads-more c.args.node _ _ _ e _ _ _ _ _ _ c.loop-at.invariant.spreads (rw own at c.in_ok-enter.ensures.spreads)));
     }
-
-pub enter-requires-clause-to : goal.enter-requires-clause-to
-enter-requires-clause-to c =
-    let none : Edge = record { from = 0; to = 0 } in
-    omega (arith, (c.requires.edges c.loop-at.at none c.loop-at-test.true).1, c.loop-at.invariant.count)
-
-pub returns-clause-nodes : goal.returns-clause-nodes
-returns-clause-nodes c = c.loop-at.invariant.count
-
-pub returns-clause-rows : goal.returns-clause-rows
-returns-clause-rows c = c.loop-at.invariant.sizes
-
-pub returns-clause-pending : goal.returns-clause-pending
-returns-clause-pending c = c.loop-at.invariant.pending
