@@ -48,13 +48,16 @@ flow_is_live mir seeds kills after tables flow l p = (
   λ h. holds_from_leads (edges_of mir) seeds kills after flow l p (way_from_live mir seeds kills l p tables h),
 )
 
-pub sets_are_live : (mir : Mir) (seeds kills after rows : List (List Bool)) → HaveEntries seeds (use_entries mir) → HaveEntries kills (definition_entries mir) →
-    IsFlow (map turned (edges_of mir)) seeds kills after → ((p l : ℕ) → holds rows l p ≡ holds after p l) →
-    (l p : ℕ) → (holds rows l p ≡ true) ↔ IsLive mir l p
-sets_are_live mir seeds kills after rows uses definitions flow turned_rows l p =
+pub sets_are_live : (mir : Mir) (seeds kills after : List (List Bool)) → HaveEntries seeds (use_entries mir) → HaveEntries kills (definition_entries mir) →
+    IsFlow (map turned (edges_of mir)) seeds kills after → (l p : ℕ) → (holds after p l ≡ true) ↔ IsLive mir l p
+sets_are_live mir seeds kills after uses definitions flow =
     let tables : AreTables mir seeds kills = record {
       uses = λ q k. let a = uses q k in let b = use_is_listed mir q k in (λ h. b.0 (a.0 h), λ u. a.1 (b.1 u));
       definitions = λ q k. let a = definitions q k in let b = definition_is_listed mir q k in (λ h. b.0 (a.0 h), λ u. a.1 (b.1 u));
     } in
-    let live = flow_is_live mir seeds kills after tables flow l p in
-    (λ h. live.0 (sym (turned_rows p l) ∙ h), λ h. turned_rows p l ∙ live.1 h)
+    flow_is_live mir seeds kills after tables flow
+
+-- the same of the table turned round
+pub rows_are_live : (mir : Mir) (after rows : List (List Bool)) → ((p l : ℕ) → holds rows l p ≡ holds after p l) → ((l p : ℕ) → (holds after p l ≡ true) ↔ IsLive mir l p) →
+    (l p : ℕ) → (holds rows l p ≡ true) ↔ IsLive mir l p
+rows_are_live mir after rows turned_rows live l p = (λ h. (live l p).0 (sym (turned_rows p l) ∙ h), λ h. turned_rows p l ∙ (live l p).1 h)

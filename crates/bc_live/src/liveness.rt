@@ -1,6 +1,9 @@
 //! The locals that are live on entry to each point.
-ghost use Rattle.std.specs.Prelude.{◌≡◌, ◌↔◌, ℕ, true, length, IfOk};
-ghost use Rattle.bc_flow.specs.Flow.{holds, HaveSize};
+ghost use Rattle.std.specs.Prelude.{◌≡◌, ◌↔◌, ℕ, true, map, length, IfOk};
+ghost use Rattle.bc_flow.specs.Graph.{turned};
+ghost use Rattle.bc_flow.specs.Flow.{holds, HaveSize, HaveEntries, IsFlow};
+ghost use Rattle.bc_mir.specs.Mir.{edges_of};
+ghost use Rattle.bc_live.specs.Entries.{use_entries as uses_of_points, definition_entries as definitions_of_points};
 ghost use Rattle.bc_live.specs.Live.{IsLive};
 
 use crate::entries::{definition_entries, use_entries};
@@ -48,16 +51,63 @@ pub fn live(alloc: Global, typed: &Typed) -> Result<LiveSets, AllocError>
     ensures points { IfOk result (λ sets. HaveSize (length typed.now.steps) sets) }
     ensures live { IfOk result (λ sets. (l p : ℕ) → (holds sets l p ≡ true) ↔ IsLive typed.now l p) }
 {
-    let points = typed.steps().len();
-    let locals = typed.locals().len();
-    let uses = use_entries(alloc, typed)?;
-    let definitions = definition_entries(alloc, typed)?;
-    let seeds = table(alloc, points, locals, &uses)?;
-    let kills = table(alloc, points, locals, &definitions)?;
-    let edges = typed.edges(alloc)?;
-    let back = reversed(alloc, &edges)?;
-    let pending = every_node_back(alloc, points)?;
-    let by_point = flow(alloc, &back, seeds, &kills, pending)?;
-    let rows = transposed(alloc, &by_point, locals)?;
+    let by_point = live_by_point(alloc, typed)?;
+    let rows = transposed(alloc, &by_point, typed.locals().len())?;
     Ok(LiveSets { rows })
+}
+
+/// The locals that are live on entry to each point.
+fn live_by_point(alloc: Global, typed: &Typed) -> Result<BitTable, AllocError>
+    ensures points { IfOk result (λ rows. length rows ≡ length typed.now.steps) }
+    ensures locals { IfOk result (λ rows. HaveSize (length typed.now.locals) rows) }
+    ensures live { IfOk result (λ rows. (l p : ℕ) → (holds rows p l ≡ true) ↔ IsLive typed.now l p) }
+{
+    let seeds = use_table(alloc, typed)?;
+    let kills = definition_table(alloc, typed)?;
+    flow_back(alloc, typed, seeds, &kills)
+}
+
+/// The locals that each point uses.
+fn use_table(alloc: Global, typed: &Typed) -> Result<BitTable, AllocError>
+    ensures points { IfOk result (λ rows. length rows ≡ length typed.now.steps) }
+    ensures locals { IfOk result (λ rows. HaveSize (length typed.now.locals) rows) }
+    ensures uses { IfOk result (λ rows. HaveEntries rows (uses_of_points typed.now)) }
+{
+    let uses = use_entries(alloc, typed)?;
+    table(alloc, typed.steps().len(), typed.locals().len(), &uses)
+}
+
+/// The locals that each point defines.
+fn definition_table(alloc: Global, typed: &Typed) -> Result<BitTable, AllocError>
+    ensures points { IfOk result (λ rows. length rows ≡ length typed.now.steps) }
+    ensures locals { IfOk result (λ rows. HaveSize (length typed.now.locals) rows) }
+    ensures definitions { IfOk result (λ rows. HaveEntries rows (definitions_of_points typed.now)) }
+{
+    let definitions = definition_entries(alloc, typed)?;
+    table(
+        alloc,
+        typed.steps().len(),
+        typed.locals().len(),
+        &definitions,
+    )
+}
+
+/// The least sets of locals that have the seeds and are closed along the edges turned round: each local of a point goes back to
+/// the points before it, except into a point that kills it.
+fn flow_back(
+    alloc: Global,
+    typed: &Typed,
+    seeds: BitTable,
+    kills: &BitTable,
+) -> Result<BitTable, AllocError>
+    requires points { length seeds ≡ length typed.now.steps }
+    requires seeds { HaveSize (length typed.now.locals) seeds }
+    requires kills { HaveSize (length typed.now.locals) kills.now }
+    ensures points { IfOk result (λ rows. length rows ≡ length typed.now.steps) }
+    ensures locals { IfOk result (λ rows. HaveSize (length typed.now.locals) rows) }
+    ensures flow { IfOk result (λ rows. IsFlow (map turned (edges_of typed.now)) seeds kills.now rows) }
+{
+    let back = reversed(alloc, &typed.edges(alloc)?)?;
+    let pending = every_node_back(alloc, typed.steps().len())?;
+    flow(alloc, &back, seeds, kills, pending)
 }
