@@ -6,7 +6,8 @@ ghost use Rattle.bc_points.specs.Regions.{region_number as number_of};
 ghost use Rattle.bc_cons.specs.Constraints.{differ, pairs_at, all_pairs, numbered, constraints_of};
 ghost use Rattle.bc_cons.specs.Requirements.{AreOfChildren};
 ghost use Rattle.bc_cons.specs.Starts.{starts_with};
-ghost use Rattle.bc_cons.specs.Below.{IsRegionCount};
+ghost use Rattle.bc_cons.specs.Bounds.{types_bound as bound_of_types, pairs_bound as bound_of_pairs};
+ghost use Rattle.bc_cons.specs.Below.{TysAreBelow, IsRegionCount};
 
 use crate::bounds::{pairs_bound, types_bound};
 use crate::facts::{Facts, NumberedConstraint};
@@ -69,6 +70,30 @@ fn differing(alloc: Global, pairs: &[RegionConstraint]) -> Result<Vec<RegionCons
     Ok(kept)
 }
 
+/// The pairs of the body, those of a region with itself left out.
+fn differing_of_body(
+    alloc: Global,
+    typed: &Typed,
+    kids: &[(u8, Requirements)],
+) -> Result<Vec<RegionConstraint>, AllocError>
+    ensures { IfOk result (λ kept. kept.items ≡ filter differ (all_pairs typed.now kids.now)) }
+{
+    let pairs = pairs_of_body(alloc, typed, kids)?;
+    differing(alloc, &pairs)
+}
+
+/// How many regions a body with these pairs has.
+fn region_count(typed: &Typed, pairs: &[RegionConstraint]) -> usize
+    ensures count { result ≡ bound_of_pairs typed.now.universals (bound_of_types typed.now.universals typed.now.universals typed.now.locals) pairs.now }
+    ensures few { result ≤ typed.now.universals + 65536 }
+    ensures universals { typed.now.universals ≤ result }
+    ensures types { TysAreBelow typed.now.universals result typed.now.locals }
+{
+    let universals = typed.universals();
+    let declared = types_bound(universals, usize::from(universals), typed.locals());
+    pairs_bound(universals, declared, pairs)
+}
+
 fn constraint(universals: u8, pair: RegionConstraint) -> NumberedConstraint
     ensures { result ≡ numbered universals pair }
 {
@@ -113,11 +138,10 @@ pub fn constraints(
     ensures pairs { IfOk result (λ facts. facts.pairs ≡ constraints_of typed.now requirements.now) }
 {
     let universals = typed.universals();
-    let pairs = differing(alloc, &pairs_of_body(alloc, typed, requirements)?)?;
-    let declared = types_bound(universals, usize::from(universals), typed.locals());
-    let regions = pairs_bound(universals, declared, &pairs);
+    let pairs = differing_of_body(alloc, typed, requirements)?;
+    let regions = region_count(typed, &pairs);
     let starts = start_rows(alloc, typed, live, regions)?;
-    let elements = typed.steps().len() + usize::from(universals);
     let numbered = by_number(alloc, universals, &pairs)?;
+    let elements = typed.steps().len() + usize::from(universals);
     Ok(Facts::new(universals, starts, numbered, elements))
 }
