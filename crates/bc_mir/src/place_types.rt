@@ -1,5 +1,5 @@
 //! Types of places, through the fields of structs.
-ghost use Rattle.std.specs.Prelude.{◌≡◌, ◌++◌, ⊤, true, List, Some, IfOk, OnOk, MatchOption};
+ghost use Rattle.std.specs.Prelude.{◌≡◌, ◌++◌, ⊤, true, List, [], ◌∷◌, Some, IfOk, OnOk, MatchOption};
 ghost use Rattle.std.specs.List.{list_all};
 ghost use Rattle.bc_syntax.specs.declared.syntax.Declaration.{Declaration};
 ghost use Rattle.bc_mir.specs.Places.{are_mutable, has_no_field, is_deref};
@@ -55,7 +55,31 @@ fn whole_type(alloc: Global, references: &[Reference], base: &Base) -> Result<Ty
     })
 }
 
+/// The type behind a field of a struct and projections in turn.
+#[cycle(type_behind)]
+fn type_behind_field(
+    alloc: Global,
+    types: &GoodTypes,
+    projections: &[Projection],
+    base: &Base,
+    field: u8,
+) -> Result<Option<Ty>, AllocError>
+    ensures { IfOk result (λ ty. ty ≡ behind types.now (Projection.Field field ∷ projections.now) [] base.now) }
+{
+    match field_of(alloc, types, base, field)? {
+        Some(ty) => type_behind(
+            alloc,
+            types,
+            projections,
+            ty.references.as_slice(),
+            &ty.base,
+        ),
+        None => Ok(None),
+    }
+}
+
 /// The type behind projections in turn.
+#[cycle(type_behind)]
 fn type_behind(
     alloc: Global,
     types: &GoodTypes,
@@ -72,10 +96,7 @@ fn type_behind(
             [_, more @ ..] => type_behind(alloc, types, rest, more, base),
         },
         [Projection::Field(field), rest @ ..] => match references {
-            [] => match field_of(alloc, types, base, *field)? {
-                Some(ty) => { type_behind(alloc, types, rest, ty.references.as_slice(), &ty.base) }
-                None => Ok(None),
-            },
+            [] => type_behind_field(alloc, types, rest, base, *field),
             [_, ..] => Ok(None),
         },
     }
