@@ -10,8 +10,8 @@ use crate::place_types::{goes_only_mutable, lent_type_of_place, push_references,
 use crate::places::has_no_deref;
 use crate::rules::{are_operands_int, can_capture, can_create};
 use bc_syntax::{
-    Base, Borrow, ClosureInstance, Instance, Mutability, Operand, Place, Reference, Rvalue,
-    ShortSequence, Ty,
+    Aggregate, Base, Borrow, ClosureInstance, Creation, Instance, Mutability, Operand, Place,
+    Reference, Rvalue, ShortSequence, Ty,
 };
 use bc_types::{TyRef, is_copyable_type};
 use std::alloc::{AllocError, Global};
@@ -226,6 +226,47 @@ pub(crate) fn closure_in(
     }
 }
 
+/// The type of a struct that is made, or `None` where that breaks a rule.
+fn type_of_aggregate(
+    alloc: Global,
+    draft: &Draft,
+    aggregate: &Aggregate,
+) -> Result<Option<Ty>, AllocError>
+    ensures { IfOk result (λ ty. ty ≡ rvalue_there draft.now (Rvalue.Aggregate aggregate.now)) }
+{
+    if can_create(draft, aggregate) {
+        Ok(Some(struct_type(alloc, &aggregate.instance)?))
+    } else {
+        Ok(None)
+    }
+}
+
+/// The type of a closure that is made, or `None` where that breaks a rule.
+fn type_of_creation(
+    alloc: Global,
+    draft: &Draft,
+    creation: &Creation,
+) -> Result<Option<Ty>, AllocError>
+    ensures { IfOk result (λ ty. ty ≡ rvalue_there draft.now (Rvalue.Closure creation.now)) }
+{
+    if can_capture(draft, creation) {
+        Ok(Some(closure_type(alloc, &creation.closure)?))
+    } else {
+        Ok(None)
+    }
+}
+
+/// The type of what is computed from operands, or `None` where one of them is no `int`.
+fn type_of_calc(alloc: Global, draft: &Draft, operands: &[Operand]) -> Option<Ty>
+    ensures { result ≡ rvalue_there draft.now (Rvalue.Calc operands.now) }
+{
+    if are_operands_int(draft, operands) {
+        Some(int_type(alloc))
+    } else {
+        None
+    }
+}
+
 /// The type of an rvalue, or `None` where it breaks a rule.
 pub(crate) fn type_of_rvalue(
     alloc: Global,
@@ -237,28 +278,8 @@ pub(crate) fn type_of_rvalue(
     match rvalue {
         Rvalue::Use(operand) => type_of_operand(alloc, draft, operand),
         Rvalue::Borrow(borrow) => type_of_borrow(alloc, draft, borrow),
-        Rvalue::Aggregate(aggregate) => {
-            let aggregate = aggregate.get();
-            if can_create(draft, aggregate) {
-                Ok(Some(struct_type(alloc, &aggregate.instance)?))
-            } else {
-                Ok(None)
-            }
-        }
-        Rvalue::Closure(creation) => {
-            let creation = creation.get();
-            if can_capture(draft, creation) {
-                Ok(Some(closure_type(alloc, &creation.closure)?))
-            } else {
-                Ok(None)
-            }
-        }
-        Rvalue::Calc(operands) => {
-            if are_operands_int(draft, operands.as_slice()) {
-                Ok(Some(int_type(alloc)))
-            } else {
-                Ok(None)
-            }
-        }
+        Rvalue::Aggregate(aggregate) => type_of_aggregate(alloc, draft, aggregate.get()),
+        Rvalue::Closure(creation) => type_of_creation(alloc, draft, creation.get()),
+        Rvalue::Calc(operands) => Ok(type_of_calc(alloc, draft, operands.as_slice())),
     }
 }
