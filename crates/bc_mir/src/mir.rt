@@ -1,11 +1,12 @@
 //! The points of a unit in one list.
-ghost use Rattle.std.specs.Prelude.{◌≡◌, ◌≤◌, ◌++◌, nat_lt, length, slice_get, IfOk, OnOk};
+ghost use Rattle.std.specs.Prelude.{◌≡◌, ◌≤◌, [], ◌∷◌, ◌++◌, nat_lt, length, slice_get, IfOk, OnOk};
 ghost use Rattle.std.specs.Arc.{arc_value};
 ghost use Rattle.std.specs.Option.{option_copied};
 ghost use Rattle.bc_syntax.specs.Fits.{Fits, point_count as points_of};
 ghost use Rattle.bc_mir.specs.Children.{child_of as child_there};
 ghost use Rattle.bc_mir.specs.Externals.{external_regions};
-ghost use Rattle.bc_mir.specs.Mir.{block_steps, mir_of};
+ghost use Rattle.bc_syntax.specs.Locals.{locals_of};
+ghost use Rattle.bc_mir.specs.Mir.{step_of, block_steps, steps_from, entries_from, mir_of};
 
 use crate::children::{Child, KidHeader, child_of, copy_children};
 use crate::externals::push_externals;
@@ -98,30 +99,112 @@ fn point_count(blocks: &[Block]) -> usize
     count
 }
 
+/// Appends a point with what happens there.
+fn push_step(
+    steps: &mut Vec<Step>,
+    block: usize,
+    index: usize,
+    instruction: Instruction,
+) -> Result<(), AllocError>
+    ensures { OnOk result (steps.new.items ≡ steps.old.items ++ step_of block index instruction ∷ []) }
+{
+    steps.push(Step {
+        point: Point { block, index },
+        instruction,
+    })?;
+    Ok(())
+}
+
+/// Appends the point of a statement of a block.
+fn push_statement(
+    steps: &mut Vec<Step>,
+    block: usize,
+    index: usize,
+    statement: &Statement,
+) -> Result<(), AllocError>
+    ensures { OnOk result (steps.new.items ≡ steps.old.items ++ step_of block index (Instruction.Statement statement.now) ∷ []) }
+{
+    let copy = copy_statement(statement)?;
+    push_step(steps, block, index, Instruction::Statement(copy))
+}
+
+/// Appends the point of the terminator of a block.
+fn push_terminator(
+    steps: &mut Vec<Step>,
+    block: usize,
+    index: usize,
+    terminator: &Terminator,
+) -> Result<(), AllocError>
+    ensures { OnOk result (steps.new.items ≡ steps.old.items ++ step_of block index (Instruction.Terminator terminator.now) ∷ []) }
+{
+    let copy = copy_terminator(terminator)?;
+    push_step(steps, block, index, Instruction::Terminator(copy))
+}
+
 /// Appends the points of a block.
 fn push_block(steps: &mut Vec<Step>, number: usize, block: &Block) -> Result<(), AllocError>
     ensures { OnOk result (steps.new.items ≡ steps.old.items ++ block_steps number 0 block.now.statements block.now.terminator) }
 {
     let statements = block.statements.as_slice();
     for (index, statement) in statements.iter().enumerate() {
-        let instruction = Instruction::Statement(copy_statement(statement)?);
-        steps.push(Step {
-            point: Point {
-                block: number,
-                index,
-            },
-            instruction,
-        })?;
+        push_statement(steps, number, index, statement)?;
     }
-    let instruction = Instruction::Terminator(copy_terminator(&block.terminator)?);
-    steps.push(Step {
-        point: Point {
-            block: number,
-            index: statements.len(),
-        },
-        instruction,
-    })?;
+    push_terminator(steps, number, statements.len(), &block.terminator)
+}
+
+/// Appends the points of blocks, and the first point of each block.
+fn push_blocks(
+    steps: &mut Vec<Step>,
+    entries: &mut Vec<usize>,
+    blocks: &[Block],
+) -> Result<(), AllocError>
+    ensures steps { OnOk result (steps.new.items ≡ steps.old.items ++ steps_from 0 blocks.now) }
+    ensures entries { OnOk result (entries.new.items ≡ entries.old.items ++ entries_from (length steps.old.items) blocks.now) }
+{
+    for (number, block) in blocks.iter().enumerate() {
+        entries.push(steps.len())?;
+        push_block(steps, number, block)?;
+    }
     Ok(())
+}
+
+/// The points of blocks, and the first point of each block.
+struct Points {
+    steps: Vec<Step>,
+    entries: Vec<usize>,
+}
+
+// Written out: whoever makes a draft calls this, and proves nothing of its parts again.
+impl Drop for Points {
+    fn drop(self) {
+        let Self {
+            steps: _,
+            entries: _,
+        } = self;
+    }
+}
+
+impl Points {
+    /// Lists the points of blocks.
+    fn of(alloc: Global, blocks: &[Block]) -> Result<Points, AllocError>
+        requires { points_of blocks.now ≤ 4096 }
+        ensures steps { IfOk result (λ points. points.steps.items ≡ steps_from 0 blocks.now) }
+        ensures entries { IfOk result (λ points. points.entries.items ≡ entries_from 0 blocks.now) }
+    {
+        let mut steps = Vec::with_capacity(alloc, point_count(blocks))?;
+        let mut entries = Vec::with_capacity(alloc, blocks.len())?;
+        push_blocks(&mut steps, &mut entries, blocks)?;
+        Ok(Points { steps, entries })
+    }
+
+    /// The points, and the first point of each block.
+    fn into_parts(self) -> (Vec<Step>, Vec<usize>)
+        ensures steps { result.0 ≡ self.steps }
+        ensures entries { result.1 ≡ self.entries }
+    {
+        let Self { steps, entries } = self;
+        (steps, entries)
+    }
 }
 
 /// The numbers of the external regions of a header.
@@ -132,6 +215,53 @@ fn externals_of(alloc: Global, header: &Header) -> Result<Vec<usize>, AllocError
     let names = header.signature.regions.as_slice();
     push_externals(&mut numbers, header.captures.as_slice(), 0, names)?;
     Ok(numbers)
+}
+
+/// What a header declares, with the types of the locals of its body.
+struct Declared {
+    externals: Vec<usize>,
+    clauses: Sequence<Outlives>,
+    locals: Vec<Ty>,
+}
+
+// Written out: whoever makes a draft calls this, and proves nothing of its parts again.
+impl Drop for Declared {
+    fn drop(self) {
+        let Self {
+            externals: _,
+            clauses: _,
+            locals: _,
+        } = self;
+    }
+}
+
+impl Declared {
+    /// Lists what a body declares.
+    fn of(alloc: Global, body: &Body) -> Result<Declared, AllocError>
+        ensures externals { IfOk result (λ declared. declared.externals.items ≡ external_regions body.now.header) }
+        ensures clauses { IfOk result (λ declared. declared.clauses ≡ body.now.header.signature.clauses) }
+        ensures locals { IfOk result (λ declared. declared.locals.items ≡ locals_of body.now) }
+    {
+        Ok(Declared {
+            externals: externals_of(alloc, &body.header)?,
+            clauses: copy_clauses(&body.header.signature.clauses)?,
+            locals: body.local_types(alloc)?,
+        })
+    }
+
+    /// The external regions, the clauses and the types of the locals.
+    fn into_parts(self) -> (Vec<usize>, Sequence<Outlives>, Vec<Ty>)
+        ensures externals { result.0 ≡ self.externals }
+        ensures clauses { result.1 ≡ self.clauses }
+        ensures locals { result.2 ≡ self.locals }
+    {
+        let Self {
+            externals,
+            clauses,
+            locals,
+        } = self;
+        (externals, clauses, locals)
+    }
 }
 
 impl Draft {
@@ -145,21 +275,19 @@ impl Draft {
         requires { Fits body.now }
         ensures { IfOk result (λ draft. draft ≡ mir_of (arc_value types) kids.now body.now) }
     {
-        let signature = &body.header.signature;
-        let mut steps = Vec::with_capacity(alloc, point_count(body.blocks.as_slice()))?;
-        let mut entries = Vec::with_capacity(alloc, body.blocks.len())?;
-        for (number, block) in body.blocks.as_slice().iter().enumerate() {
-            entries.push(steps.len())?;
-            push_block(&mut steps, number, block)?;
-        }
+        let children = copy_children(alloc, kids)?;
+        let declared = Declared::of(alloc, body)?;
+        let points = Points::of(alloc, body.blocks.as_slice())?;
+        let (externals, clauses, locals) = declared.into_parts();
+        let (steps, entries) = points.into_parts();
         Ok(Draft {
             types,
-            children: copy_children(alloc, kids)?,
+            children,
             kind: body.header.kind,
-            universals: (signature.regions.len() + 1) as u8,
-            externals: externals_of(alloc, &body.header)?,
-            clauses: copy_clauses(&signature.clauses)?,
-            locals: body.local_types(alloc)?,
+            universals: (body.header.signature.regions.len() + 1) as u8,
+            externals,
+            clauses,
+            locals,
             first_let: body.header.first_let(),
             steps,
             entries,

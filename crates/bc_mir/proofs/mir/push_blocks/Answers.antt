@@ -1,0 +1,19 @@
+use Rattle.std.proofs.Common.{◌≡◌, ◌+◌, length, length-append, ap, ◌∙◌, arith}
+use Rattle.bc_mir.specs.Mir.{block_steps}
+use Rattle.bc_mir.proofs.Mirs.{length-block_steps, steps-more, entries-more}
+use Rattle.bc_mir.proofs.mir.push_blocks.Goals as goal
+
+pub loop-number-preserved : goal.loop-number-preserved
+loop-number-preserved c =
+    let blocks = c.args.blocks.now in
+    let here = c.loop-number in
+    let block = c.index-blocks-number.result in
+    let below = c.loop-number-test.true in
+    let is = c.index-blocks-number.is in
+    let added = c.in_ok-push_block.ensures in
+    let count : length c.push_block.new.steps.items ≡ length here.steps.items + length block.statements + 1 = ap length added ∙ length-append here.steps.items (block_steps here.number 0 block.statements block.terminator) ∙ omega (arith, length-block_steps here.number 0 block.statements block.terminator) in
+    let counted : c.len.result ≡ length here.steps.items = omega arith in
+    record {
+      steps = rw added (steps-more here.steps.items _ here.number blocks block below is here.invariant.steps);
+      entries = rw (count, c.in_ok-push.ensures.items) (entries-more here.entries.items _ c.len.result (length here.steps.items) here.number blocks block below is counted here.invariant.entries);
+    }
