@@ -2,10 +2,10 @@
 ghost use Rattle.std.specs.Prelude.{◌≡◌, ◌≤◌, [], ◌∷◌, ◌++◌, nat_lt, length, slice_get, IfOk, OnOk};
 ghost use Rattle.std.specs.Arc.{arc_value};
 ghost use Rattle.std.specs.Option.{option_copied};
-ghost use Rattle.bc_syntax.specs.Fits.{Fits, point_count as points_of};
+ghost use Rattle.bc_syntax.specs.Fits.{Fits, universal_count, point_count as points_of};
 ghost use Rattle.bc_mir.specs.Children.{child_of as child_there};
 ghost use Rattle.bc_mir.specs.Externals.{external_regions};
-ghost use Rattle.bc_syntax.specs.Locals.{locals_of};
+ghost use Rattle.bc_syntax.specs.Locals.{first_let, locals_of};
 ghost use Rattle.bc_mir.specs.Mir.{step_of, block_steps, steps_from, entries_from, mir_of};
 
 use crate::children::{Child, KidHeader, child_of, copy_children};
@@ -219,18 +219,24 @@ fn externals_of(alloc: Global, header: &Header) -> Result<Vec<usize>, AllocError
 
 /// What a header declares, with the types of the locals of its body.
 struct Declared {
+    kind: UnitKind,
+    universals: u8,
     externals: Vec<usize>,
     clauses: Sequence<Outlives>,
     locals: Vec<Ty>,
+    first_let: usize,
 }
 
 // Written out: whoever makes a draft calls this, and proves nothing of its parts again.
 impl Drop for Declared {
     fn drop(self) {
         let Self {
+            kind: _,
+            universals: _,
             externals: _,
             clauses: _,
             locals: _,
+            first_let: _,
         } = self;
     }
 }
@@ -238,29 +244,66 @@ impl Drop for Declared {
 impl Declared {
     /// Lists what a body declares.
     fn of(alloc: Global, body: &Body) -> Result<Declared, AllocError>
+        requires { Fits body.now }
+        ensures kind { IfOk result (λ declared. declared.kind ≡ body.now.header.kind) }
+        ensures universals { IfOk result (λ declared. declared.universals ≡ universal_count body.now.header.signature) }
         ensures externals { IfOk result (λ declared. declared.externals.items ≡ external_regions body.now.header) }
         ensures clauses { IfOk result (λ declared. declared.clauses ≡ body.now.header.signature.clauses) }
         ensures locals { IfOk result (λ declared. declared.locals.items ≡ locals_of body.now) }
+        ensures first_let { IfOk result (λ declared. declared.first_let ≡ first_let body.now.header) }
     {
+        let signature = &body.header.signature;
         Ok(Declared {
+            kind: body.header.kind,
+            universals: (signature.regions.len() + 1) as u8,
             externals: externals_of(alloc, &body.header)?,
-            clauses: copy_clauses(&body.header.signature.clauses)?,
+            clauses: copy_clauses(&signature.clauses)?,
             locals: body.local_types(alloc)?,
+            first_let: body.header.first_let(),
         })
     }
 
-    /// The external regions, the clauses and the types of the locals.
-    fn into_parts(self) -> (Vec<usize>, Sequence<Outlives>, Vec<Ty>)
-        ensures externals { result.0 ≡ self.externals }
-        ensures clauses { result.1 ≡ self.clauses }
-        ensures locals { result.2 ≡ self.locals }
+    /// The unit that declares this, over declarations, with its children and its points.
+    fn into_draft(
+        self,
+        types: Arc<GoodTypes, Global>,
+        children: Vec<Child>,
+        points: Points,
+    ) -> Draft
+        ensures { result ≡ record {
+          types = arc_value types;
+          children = children.items;
+          kind = self.kind;
+          universals = self.universals;
+          externals = self.externals.items;
+          clauses = self.clauses;
+          locals = self.locals.items;
+          first_let = self.first_let;
+          steps = points.steps.items;
+          entries = points.entries.items;
+        } }
     {
         let Self {
+            kind,
+            universals,
             externals,
             clauses,
             locals,
+            first_let,
         } = self;
-        (externals, clauses, locals)
+        let (steps, entries) = points.into_parts();
+        Draft {
+            types,
+            children,
+            kind,
+            universals,
+            externals,
+            clauses,
+            locals,
+            first_let,
+            steps,
+            entries,
+        }
     }
 }
 
@@ -276,22 +319,9 @@ impl Draft {
         ensures { IfOk result (λ draft. draft ≡ mir_of (arc_value types) kids.now body.now) }
     {
         let children = copy_children(alloc, kids)?;
-        let declared = Declared::of(alloc, body)?;
         let points = Points::of(alloc, body.blocks.as_slice())?;
-        let (externals, clauses, locals) = declared.into_parts();
-        let (steps, entries) = points.into_parts();
-        Ok(Draft {
-            types,
-            children,
-            kind: body.header.kind,
-            universals: (body.header.signature.regions.len() + 1) as u8,
-            externals,
-            clauses,
-            locals,
-            first_let: body.header.first_let(),
-            steps,
-            entries,
-        })
+        let declared = Declared::of(alloc, body)?;
+        Ok(declared.into_draft(types, children, points))
     }
 
     /// The type of a local, or `None` where it is not declared.
