@@ -41,7 +41,6 @@ pub struct Step {
 }
 
 /// A unit with its points in one list, typed or not.
-#[derive(Drop)]
 pub(crate) struct Draft {
     pub(crate) types: Arc<GoodTypes, Global>,
     pub(crate) children: Vec<Child>,
@@ -53,6 +52,24 @@ pub(crate) struct Draft {
     pub(crate) first_let: usize,
     pub(crate) steps: Vec<Step>,
     pub(crate) entries: Vec<usize>,
+}
+
+// Written out: whoever makes a draft calls this, and proves nothing of its parts again.
+impl Drop for Draft {
+    fn drop(self) {
+        let Self {
+            types: _,
+            children: _,
+            kind: _,
+            universals: _,
+            externals: _,
+            clauses: _,
+            locals: _,
+            first_let: _,
+            steps: _,
+            entries: _,
+        } = self;
+    }
 }
 
 impl Model for Draft {
