@@ -62,18 +62,37 @@ impl Drop for Instance {
 }
 
 /// A closure of the unit, by its number, with regions for its external ones, in their order.
-#[derive(Clone, Drop, PartialEq)]
+#[derive(Clone, PartialEq)]
 pub struct ClosureInstance {
     pub number: u8,
     pub regions: ShortSequence<Region, 4>,
 }
 
+impl Drop for ClosureInstance {
+    fn drop(self) {
+        let Self {
+            number: _,
+            regions: _,
+        } = self;
+    }
+}
+
 /// What a type's references lead to.
-#[derive(Clone, Drop, PartialEq)]
+#[derive(Clone, PartialEq)]
 pub enum Base {
     Int,
     Struct(Instance),
     Closure(ClosureInstance),
+}
+
+impl Drop for Base {
+    fn drop(self) {
+        match self {
+            Self::Int => {}
+            Self::Struct(_) => {}
+            Self::Closure(_) => {}
+        }
+    }
 }
 
 /// A type: its references, the outermost first, and what they lead to.
@@ -145,21 +164,39 @@ pub struct Borrow {
 }
 
 /// A struct made from its fields, in their order.
-#[derive(Clone, Drop, PartialEq)]
+#[derive(Clone, PartialEq)]
 pub struct Aggregate {
     pub instance: Instance,
     pub operands: ShortSequence<Operand, 2>,
 }
 
+impl Drop for Aggregate {
+    fn drop(self) {
+        let Self {
+            instance: _,
+            operands: _,
+        } = self;
+    }
+}
+
 /// A closure made from what it captures, in the order of its captures.
-#[derive(Clone, Drop, PartialEq)]
+#[derive(Clone, PartialEq)]
 pub struct Creation {
     pub closure: ClosureInstance,
     pub operands: ShortSequence<Operand, 2>,
 }
 
+impl Drop for Creation {
+    fn drop(self) {
+        let Self {
+            closure: _,
+            operands: _,
+        } = self;
+    }
+}
+
 /// What an assignment computes. (rustc-dev-guide, "The MIR".)
-#[derive(Clone, Drop, PartialEq)]
+#[derive(Clone, PartialEq)]
 pub enum Rvalue {
     Use(Operand),
     Borrow(Borrow),
@@ -168,20 +205,52 @@ pub enum Rvalue {
     Calc(ShortSequence<Operand, 2>),
 }
 
+impl Drop for Rvalue {
+    fn drop(self) {
+        match self {
+            Self::Use(_) => {}
+            Self::Borrow(_) => {}
+            Self::Aggregate(_) => {}
+            Self::Closure(_) => {}
+            Self::Calc(_) => {}
+        }
+    }
+}
+
 /// `P = rvalue`. (rustc-dev-guide, "The MIR".)
-#[derive(Clone, Drop, PartialEq)]
+#[derive(Clone, PartialEq)]
 pub struct Assignment {
     pub target: Place,
     pub value: Rvalue,
 }
 
+impl Drop for Assignment {
+    fn drop(self) {
+        let Self {
+            target: _,
+            value: _,
+        } = self;
+    }
+}
+
 /// A point of a block that is not its last. `Dead` ends the storage of a local. (rustc-dev-guide, "The MIR".)
-#[derive(Clone, Drop, PartialEq)]
+#[derive(Clone, PartialEq)]
 pub enum Statement {
     Assign(Assignment),
     Dead(u8),
     Drop(Place),
     Nop,
+}
+
+impl Drop for Statement {
+    fn drop(self) {
+        match self {
+            Self::Assign(_) => {}
+            Self::Dead(_) => {}
+            Self::Drop(_) => {}
+            Self::Nop => {}
+        }
+    }
 }
 
 /// `if operand then otherwise`, two labels.
@@ -236,7 +305,7 @@ impl Drop for Invocation {
 }
 
 /// The last point of a block. Labels are numbers of blocks. (rustc-dev-guide, "The MIR".)
-#[derive(Clone, Drop, PartialEq)]
+#[derive(Clone, PartialEq)]
 pub enum Terminator {
     Goto(u8),
     If(Condition),
@@ -244,6 +313,19 @@ pub enum Terminator {
     Invoke(Apart<Invocation>),
     Return,
     Stop,
+}
+
+impl Drop for Terminator {
+    fn drop(self) {
+        match self {
+            Self::Goto(_) => {}
+            Self::If(_) => {}
+            Self::Call(_) => {}
+            Self::Invoke(_) => {}
+            Self::Return => {}
+            Self::Stop => {}
+        }
+    }
 }
 
 /// A block: its statements in order, and its terminator. (rustc-dev-guide, "The MIR".)
@@ -388,8 +470,17 @@ impl Drop for ExternDeclaration {
 }
 
 /// A struct, or a function that is declared alone.
-#[derive(Drop, PartialEq)]
+#[derive(PartialEq)]
 pub enum Declaration {
     Struct(StructDeclaration),
     Extern(ExternDeclaration),
+}
+
+impl Drop for Declaration {
+    fn drop(self) {
+        match self {
+            Self::Struct(_) => {}
+            Self::Extern(_) => {}
+        }
+    }
 }
