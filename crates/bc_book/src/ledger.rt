@@ -51,7 +51,6 @@ impl From<AllocError> for Refusal {
 
 /// The append-only history, of at most so many entries, with what is held after it, the pieces that are kept of that, and the remembered
 /// outcomes. It is legal. There is memory for a piece of each body that may be held, and one to spare.
-#[derive(Drop)]
 pub(crate) struct Ledger {
     capacity: u32,
     history: Vec<Entry>,
@@ -60,6 +59,20 @@ pub(crate) struct Ledger {
     shelf: Shelf,
     pieces: PieceMemo,
     memo: Memo,
+}
+
+impl Drop for Ledger {
+    fn drop(self) {
+        let Self {
+            capacity: _,
+            history: _,
+            counts: _,
+            writes: _,
+            shelf: _,
+            pieces: _,
+            memo: _,
+        } = self;
+    }
 }
 
 impl Model for Ledger {
@@ -437,7 +450,16 @@ impl Ledger {
         ensures entries { result.items ≡ self.entries }
         ensures legal { IsLegal self.entries }
     {
-        self.history
+        let Self {
+            capacity: _,
+            history,
+            counts: _,
+            writes: _,
+            shelf: _,
+            pieces: _,
+            memo: _,
+        } = self;
+        history
     }
 }
 

@@ -76,11 +76,20 @@ pub enum Event {
 }
 
 /// An entry of a history: an event of a session, and how many events that session had before it.
-#[derive(Drop)]
 pub struct Entry {
     pub session: u8,
     pub number: u32,
     pub event: Event,
+}
+
+impl Drop for Entry {
+    fn drop(self) {
+        let Self {
+            session: _,
+            number: _,
+            event: _,
+        } = self;
+    }
 }
 
 impl Entry {

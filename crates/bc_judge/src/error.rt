@@ -16,7 +16,7 @@ use bc_syntax::{Region, Sequence};
 /// is live at the point, or begins with the longer region and ends with one that has the end of the shorter from the start. It is
 /// the first of the shortest such lists. (rustc-dev-guide, "Region inference (NLL)", on the constraints that errors are
 /// explained by.)
-#[derive(Drop, PartialEq)]
+#[derive(PartialEq)]
 pub enum BorrowError {
     Conflict {
         at: Point,
@@ -29,6 +29,24 @@ pub enum BorrowError {
         shorter: u8,
         chain: Sequence<Region>,
     },
+}
+
+impl Drop for BorrowError {
+    fn drop(self) {
+        match self {
+            Self::Conflict {
+                at: _,
+                access: _,
+                loan: _,
+                chain: _,
+            } => {}
+            Self::Lifetime {
+                longer: _,
+                shorter: _,
+                chain: _,
+            } => {}
+        }
+    }
 }
 
 impl BorrowError {

@@ -16,11 +16,20 @@ use std::alloc::{AllocError, Global};
 use std::marker::Model;
 
 /// A remembered outcome, with the revisions of the declarations and of each name that it was found from; an absent name has none.
-#[derive(Drop)]
 pub struct Remembered {
     pub types: u32,
     pub used: Vec<(Name, Option<u32>)>,
     pub outcome: Shared<Outcome>,
+}
+
+impl Drop for Remembered {
+    fn drop(self) {
+        let Self {
+            types: _,
+            used: _,
+            outcome: _,
+        } = self;
+    }
 }
 
 /// The remembered outcomes, one for each name at most. Contracts see the rows, in the order of their names, and for how many more

@@ -16,9 +16,14 @@ use std::marker::Model;
 
 /// The kept pieces of bodies, one for each name at most. Contracts see them in the order of their names, and for how many more there is
 /// memory. (rustc-dev-guide, "Incremental compilation": what is found of a part stays valid while that part is unchanged.)
-#[derive(Drop)]
 pub struct PieceMemo {
     rows: Vec<(Name, Shared<Piece>)>,
+}
+
+impl Drop for PieceMemo {
+    fn drop(self) {
+        let Self { rows: _ } = self;
+    }
 }
 
 impl Model for PieceMemo {

@@ -7,11 +7,20 @@ use std::alloc::AllocError;
 
 /// A body as it is held: the unit of a name, the revision at which it was put there, and the outcome that was found for the name,
 /// if there is one.
-#[derive(Drop)]
 pub struct Place {
     pub unit: Shared<Unit>,
     pub revision: u32,
     pub answer: Option<Shared<Outcome>>,
+}
+
+impl Drop for Place {
+    fn drop(self) {
+        let Self {
+            unit: _,
+            revision: _,
+            answer: _,
+        } = self;
+    }
 }
 
 impl Place {

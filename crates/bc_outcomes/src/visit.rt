@@ -13,13 +13,24 @@ use std::marker::Model;
 
 /// A visited body: its name, its unit, and the unit as it was typed; a piece, too, that was found from it as it was typed, if the
 /// snapshot has one, and whether the snapshot keeps that. Contracts see all but the piece.
-#[derive(Drop)]
 pub(crate) struct Visit {
     name: Name,
     unit: Shared<Unit>,
     typed: Shared<Typed>,
     piece: Option<Shared<Piece>>,
     is_kept: bool,
+}
+
+impl Drop for Visit {
+    fn drop(self) {
+        let Self {
+            name: _,
+            unit: _,
+            typed: _,
+            piece: _,
+            is_kept: _,
+        } = self;
+    }
 }
 
 impl Model for Visit {

@@ -10,10 +10,18 @@ use std::marker::Model;
 use std::sync::Arc;
 
 /// The result of checking declarations: none of them is bad, or the first bad one, counted from 0.
-#[derive(Drop)]
 pub enum Check {
     Good(Arc<GoodTypes, Global>),
     Bad(usize),
+}
+
+impl Drop for Check {
+    fn drop(self) {
+        match self {
+            Self::Good(_) => {}
+            Self::Bad(_) => {}
+        }
+    }
 }
 
 /// Declarations with the result of their check, so that they are checked once. Contracts see the declarations.

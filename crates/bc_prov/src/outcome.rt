@@ -8,22 +8,40 @@ use bc_text::Name;
 /// The errors of one body, with its name. The conflicts come first, by point, access and loan, then the lifetime errors, each with
 /// the chain that explains it. The list is shared with the piece that it was found in. (RFC 2094, "Borrow checker phase 2:
 /// reporting errors" and "Named lifetimes".)
-#[derive(Clone, Drop, PartialEq)]
+#[derive(Clone, PartialEq)]
 pub struct BodyErrors {
     pub name: Name,
     pub errors: Shared<Sequence<BorrowError>>,
 }
 
+impl Drop for BodyErrors {
+    fn drop(self) {
+        let Self { name: _, errors: _ } = self;
+    }
+}
+
 /// The result of an Ask. No body is held; a child is not held, and which is the first; a declaration is bad, and which is the
 /// first, counted from 0; a unit breaks a typing rule, and where; or the bodies with their errors, each body before its closures,
 /// and these ascending.
-#[derive(Clone, Drop, PartialEq)]
+#[derive(Clone, PartialEq)]
 pub enum Outcome {
     NoBody,
     Missing(Name),
     BadTypes(usize),
     Ill(Name, Where),
     Report(Sequence<BodyErrors>),
+}
+
+impl Drop for Outcome {
+    fn drop(self) {
+        match self {
+            Self::NoBody => {}
+            Self::Missing(_) => {}
+            Self::BadTypes(_) => {}
+            Self::Ill(_, _) => {}
+            Self::Report(_) => {}
+        }
+    }
 }
 
 /// Names with their outcomes, each outcome shared. A contract sees a list of names and outcomes.

@@ -32,9 +32,14 @@ pub trait Gate {
 }
 
 /// The calls that a session is to make, in their order. Contracts see them.
-#[derive(Drop)]
 pub struct Script {
     calls: Vec<Call>,
+}
+
+impl Drop for Script {
+    fn drop(self) {
+        let Self { calls: _ } = self;
+    }
 }
 
 impl Model for Script {

@@ -39,11 +39,16 @@ pub enum CloseFault {
 }
 
 /// A legal history of calls and replies. Contracts see it as its entries.
-#[derive(Drop)]
 #[derive_where(Debug)]
 pub struct History {
     #[derive_where(skip)]
     entries: Vec<Entry>,
+}
+
+impl Drop for History {
+    fn drop(self) {
+        let Self { entries: _ } = self;
+    }
 }
 
 impl Model for History {

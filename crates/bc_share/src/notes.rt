@@ -18,12 +18,22 @@ use std::sync::Wait;
 
 /// The own list of a session, with its reader of what is published. Contracts see the session, and for how many more calls the
 /// list has memory. The type keeps that what the session has seen is legal, and that up to some entry its calls are its own list.
-#[derive(Drop)]
 pub(crate) struct Notes {
     tag: u64,
     number: u8,
     own: Vec<Event>,
     front: Front,
+}
+
+impl Drop for Notes {
+    fn drop(self) {
+        let Self {
+            tag: _,
+            number: _,
+            own: _,
+            front: _,
+        } = self;
+    }
 }
 
 impl Model for Notes {

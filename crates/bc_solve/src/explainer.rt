@@ -19,12 +19,22 @@ use std::marker::Model;
 
 /// Explains many elements of many regions over the same facts: it keeps the way to the element that was asked for last. Contracts
 /// see the facts.
-#[derive(Drop)]
 pub struct Explainer<'a> {
     facts: &'a Facts,
     edges: Vec<Edge>,
     chains: EdgeChains,
     last: Option<Ways>,
+}
+
+impl Drop for Explainer<'_> {
+    fn drop(self) {
+        let Self {
+            facts: _,
+            edges: _,
+            chains: _,
+            last: _,
+        } = self;
+    }
 }
 
 impl<'a> Model for Explainer<'a> {

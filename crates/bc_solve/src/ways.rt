@@ -14,11 +14,20 @@ use std::alloc::{AllocError, Global};
 
 /// The first shortest chains from all regions to an element: of each the length, 0 where there is no chain, and the region
 /// that comes second in it, where there is one.
-#[derive(Drop)]
 pub struct Ways {
     pub element: usize,
     pub lengths: Vec<usize>,
     pub steps: Vec<usize>,
+}
+
+impl Drop for Ways {
+    fn drop(self) {
+        let Self {
+            element: _,
+            lengths: _,
+            steps: _,
+        } = self;
+    }
 }
 
 /// The chains to an element.

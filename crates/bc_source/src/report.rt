@@ -17,10 +17,15 @@ use std::io::Write;
 use std::marker::Model;
 
 /// The errors of a body, with the text of its unit, where there are errors and that is known. A contract sees them as such a pair.
-#[derive(Drop)]
 pub struct SourcedBody<'a> {
     body: &'a BodyErrors,
     unit: Option<SourceUnit<'a>>,
+}
+
+impl Drop for SourcedBody<'_> {
+    fn drop(self) {
+        let Self { body: _, unit: _ } = self;
+    }
 }
 
 impl<'a> Model for SourcedBody<'a> {

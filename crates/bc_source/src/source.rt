@@ -8,11 +8,20 @@ use std::alloc::{AllocError, Global};
 use std::marker::Model;
 
 /// The text of a unit in a file: its name, how many lines of the file come before it, and its bytes. It takes no memory.
-#[derive(Drop)]
 pub struct Source<'a> {
     name: Name,
     line: usize,
     text: &'a [u8],
+}
+
+impl Drop for Source<'_> {
+    fn drop(self) {
+        let Self {
+            name: _,
+            line: _,
+            text: _,
+        } = self;
+    }
 }
 
 impl<'a> Model for Source<'a> {
@@ -61,9 +70,14 @@ fn is_of(name: &Name, source: &Source<'_>) -> bool
 }
 
 /// The texts of the units of a file, in its order. A contract sees them as a list.
-#[derive(Drop)]
 pub struct Sources<'a> {
     texts: Vec<Source<'a>>,
+}
+
+impl Drop for Sources<'_> {
+    fn drop(self) {
+        let Self { texts: _ } = self;
+    }
 }
 
 impl<'a> Model for Sources<'a> {

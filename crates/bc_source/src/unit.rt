@@ -20,12 +20,22 @@ use std::marker::Model;
 
 /// A text with the unit that it spells, and the places of its points. A contract sees how many lines of the file stand before the text, its
 /// bytes and the unit.
-#[derive(Drop)]
 pub(crate) struct SourceUnit<'a> {
     line: usize,
     text: &'a [u8],
     unit: Unit,
     starts: Vec<Start>,
+}
+
+impl Drop for SourceUnit<'_> {
+    fn drop(self) {
+        let Self {
+            line: _,
+            text: _,
+            unit: _,
+            starts: _,
+        } = self;
+    }
 }
 
 impl<'a> Model for SourceUnit<'a> {

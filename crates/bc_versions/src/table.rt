@@ -55,12 +55,22 @@ impl Update {
 /// The published table: the last entry, what is held after it with its answers, and the pieces that are kept of that. Contracts see all
 /// three. The type keeps that there is memory for all places and one to spare, for a piece of each twice and one more, and for as many
 /// answers and pieces as an update brings at once.
-#[derive(Drop)]
 pub struct Table {
     last: Option<Entry>,
     shelf: Shelf,
     pieces: PieceMemo,
     ready: Pieces,
+}
+
+impl Drop for Table {
+    fn drop(self) {
+        let Self {
+            last: _,
+            shelf: _,
+            pieces: _,
+            ready: _,
+        } = self;
+    }
 }
 
 impl Model for Table {

@@ -39,10 +39,15 @@ fn worked(alloc: Global, providers: &Providers, begun: Begun) -> Stage
 
 /// An Ask of a name that is still to be settled, whether it was worked on or not. Contracts see the name. The type keeps that what has begun, and
 /// the work on it, are that name's.
-#[derive(Drop)]
 pub struct PendingAsk {
     name: Name,
     stage: Stage,
+}
+
+impl Drop for PendingAsk {
+    fn drop(self) {
+        let Self { name: _, stage: _ } = self;
+    }
 }
 
 impl Model for PendingAsk {

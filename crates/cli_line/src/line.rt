@@ -12,7 +12,6 @@ pub const MOST_SESSIONS: u8 = 16;
 pub const MOST_CAPACITY: u32 = 1_000_000;
 
 /// A line of `check`: the name of its file and its options. Contracts see these parts. It never has both `--json` and `--source`.
-#[derive(Drop)]
 #[derive_where(Debug)]
 pub struct CheckLine {
     file: String,
@@ -21,6 +20,19 @@ pub struct CheckLine {
     positions: bool,
     jobs: Option<u8>,
     solver: Solver,
+}
+
+impl Drop for CheckLine {
+    fn drop(self) {
+        let Self {
+            file: _,
+            json: _,
+            source: _,
+            positions: _,
+            jobs: _,
+            solver: _,
+        } = self;
+    }
 }
 
 impl Model for CheckLine {
@@ -110,7 +122,6 @@ impl CheckLine {
 }
 
 /// A line of `run`: the name of its file and its options. Contracts see these parts. It has 1 to 16 sessions.
-#[derive(Drop)]
 #[derive_where(Debug)]
 pub struct RunLine {
     file: String,
@@ -118,6 +129,18 @@ pub struct RunLine {
     positions: bool,
     sessions: u8,
     solver: Solver,
+}
+
+impl Drop for RunLine {
+    fn drop(self) {
+        let Self {
+            file: _,
+            json: _,
+            positions: _,
+            sessions: _,
+            solver: _,
+        } = self;
+    }
 }
 
 impl Model for RunLine {
@@ -264,11 +287,19 @@ impl ServeLine {
 }
 
 /// A line of `print`: the name of its file and its option. Contracts see these parts.
-#[derive(Drop)]
 #[derive_where(Debug)]
 pub struct PrintLine {
     file: String,
     positions: bool,
+}
+
+impl Drop for PrintLine {
+    fn drop(self) {
+        let Self {
+            file: _,
+            positions: _,
+        } = self;
+    }
 }
 
 impl Model for PrintLine {
@@ -307,7 +338,6 @@ impl PrintLine {
 }
 
 /// A line of one of the commands.
-#[derive(Drop)]
 #[derive_where(Debug)]
 pub enum Line {
     /// A line of `check`.
@@ -318,6 +348,17 @@ pub enum Line {
     Serve(ServeLine),
     /// A line of `print`.
     Print(PrintLine),
+}
+
+impl Drop for Line {
+    fn drop(self) {
+        match self {
+            Self::Check(_) => {}
+            Self::Run(_) => {}
+            Self::Serve(_) => {}
+            Self::Print(_) => {}
+        }
+    }
 }
 
 impl Line {

@@ -8,9 +8,14 @@ use serde_json::Value;
 use std::alloc::AllocError;
 
 /// The `id` of a request, which is any JSON value. Contracts see its data by `told`.
-#[derive(Drop)]
 pub struct Id {
     value: Value,
+}
+
+impl Drop for Id {
+    fn drop(self) {
+        let Self { value: _ } = self;
+    }
 }
 
 impl Id {

@@ -22,10 +22,18 @@ impl Gate for Open {
 }
 
 /// The history of a file's calls, and how each session ended, in the order of the sessions.
-#[derive(Drop)]
 pub struct Made {
     pub history: History,
     pub ends: Vec<End>,
+}
+
+impl Drop for Made {
+    fn drop(self) {
+        let Self {
+            history: _,
+            ends: _,
+        } = self;
+    }
 }
 
 /// Parts the sessions from how they ended, for each of which there is room.
