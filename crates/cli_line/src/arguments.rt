@@ -1,5 +1,6 @@
 //! The commands and their arguments, as the parser is told of them.
 ghost use Rattle.std.specs.Prelude.{◌≡◌, IfOk, false};
+ghost use Rattle.clap.specs.Simple.{App, new_app, with_rule, with_subcommand};
 ghost use Rattle.clap.specs.Words.{rule_of};
 ghost use Rattle.cli_line.specs.Commands.{IsCommand, capacity_rule, check_app, file_rule, jobs_rule, json_rule, nlldb, program};
 ghost use Rattle.cli_line.specs.Commands.{positions_rule, print_app, run_app, serve_app, sessions_rule, solver_rule, source_rule};
@@ -84,13 +85,20 @@ fn capacity_option<'a>(alloc: Global) -> Arg<'a>
         .default_value("1000000")
 }
 
+// `NAME FILE [--json]`, to which a command adds what else it takes.
+fn file_command<'a>(alloc: Global, name: &'a str) -> Result<Command<'a>, AllocError>
+    ensures { IfOk result (IsCommand (with_rule (with_rule (new_app name.now) file_rule) json_rule)) }
+{
+    Command::new(alloc, name)
+        .arg(file_argument(alloc))?
+        .arg(json_option(alloc))
+}
+
 // `check FILE [--json] [--source] [--positions] [--jobs N] [--solver S]`. That `--json` and `--source` do not both stand is looked at behind the parser.
 fn check_command<'a>(alloc: Global) -> Result<Command<'a>, AllocError>
     ensures { IfOk result (IsCommand check_app) }
 {
-    Command::new(alloc, "check")
-        .arg(file_argument(alloc))?
-        .arg(json_option(alloc))?
+    file_command(alloc, "check")?
         .arg(source_option(alloc))?
         .arg(positions_option(alloc))?
         .arg(jobs_option(alloc))?
@@ -101,9 +109,7 @@ fn check_command<'a>(alloc: Global) -> Result<Command<'a>, AllocError>
 fn run_command<'a>(alloc: Global) -> Result<Command<'a>, AllocError>
     ensures { IfOk result (IsCommand run_app) }
 {
-    Command::new(alloc, "run")
-        .arg(file_argument(alloc))?
-        .arg(json_option(alloc))?
+    file_command(alloc, "run")?
         .arg(positions_option(alloc))?
         .arg(sessions_option(alloc))?
         .arg(solver_option(alloc))
@@ -139,13 +145,25 @@ fn program<'a>(alloc: Global) -> Command<'a>
         .version(VERSION)
 }
 
+// A program with one more command, where that could be made.
+fn with_command<'a>(
+    program: Command<'a>,
+    command: Result<Command<'a>, AllocError>,
+) -> Result<Command<'a>, AllocError>
+    ensures { (app below : App) → IsCommand app program.entry → IfOk command.entry (IsCommand below) → IfOk result (IsCommand (with_subcommand app below.top)) }
+{
+    match command {
+        Ok(command) => program.subcommand(command),
+        Err(error) => Err(error),
+    }
+}
+
 /// What the parser is told of the whole program: its commands, their options and their values. `AllocError` only where memory was refused.
 pub(crate) fn nlldb_command<'a>(alloc: Global) -> Result<Command<'a>, AllocError>
     ensures { IfOk result (IsCommand nlldb) }
 {
-    program(alloc)
-        .subcommand(check_command(alloc)?)?
-        .subcommand(run_command(alloc)?)?
-        .subcommand(serve_command(alloc)?)?
-        .subcommand(print_command(alloc)?)
+    let program = with_command(program(alloc), check_command(alloc))?;
+    let program = with_command(program, run_command(alloc))?;
+    let program = with_command(program, serve_command(alloc))?;
+    with_command(program, print_command(alloc))
 }

@@ -6,8 +6,6 @@ use Rattle.cli_line.proofs.arguments.run_command.Goals as goal
 pub returns : goal.returns
 unfolding run_app
 returns c =
-    let one = argument_told _ _ _ _ _ (c.new.ensures.app, c.new.ensures.local) c.in_ok-arg.ensures c.file_argument.ensures.rule c.file_argument.ensures.local in
-    let two = argument_told _ _ _ _ _ one c.in_ok-arg-2.ensures c.json_option.ensures.rule c.json_option.ensures.local in
-    let three = argument_told _ _ _ _ _ two c.in_ok-arg-3.ensures c.positions_option.ensures.rule c.positions_option.ensures.local in
-    let four = argument_told _ _ _ _ _ three c.in_ok-arg-4.ensures c.sessions_option.ensures.rule c.sessions_option.ensures.local in
-    IfOk-weaker c.arg-5.result _ _ (λ r h. argument_told _ _ _ _ _ four h c.solver_option.ensures.rule c.solver_option.ensures.local) c.arg-5.ensures
+    let one = argument_told _ _ _ _ _ c.in_ok-file_command.ensures c.in_ok-arg.ensures c.positions_option.ensures.rule c.positions_option.ensures.local in
+    let two = argument_told _ _ _ _ _ one c.in_ok-arg-2.ensures c.sessions_option.ensures.rule c.sessions_option.ensures.local in
+    IfOk-weaker c.arg-3.result _ _ (λ r h. argument_told _ _ _ _ _ two h c.solver_option.ensures.rule c.solver_option.ensures.local) c.arg-3.ensures
