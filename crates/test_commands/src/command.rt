@@ -34,7 +34,7 @@ pub fn leave_with<R: AllocGlobal + Threads + Wait + Sync>(
     let out = Output::new(alloc, devices.write);
     let mut out = BufWriter::with_capacity(alloc, devices.room, out)?;
     let mut err = Output::new(alloc, devices.tell);
-    let status = match line {
+    let status = match &line {
         Line::Check(_) => check_over(rt, alloc, providers, &line, &mut input, &mut out, &mut err),
         Line::Run(_) => run_over(rt, alloc, providers, &line, &mut input, &mut out, &mut err),
         Line::Serve(_) | Line::Print(_) => return Err(ErrorKind::Other.into()),

@@ -1,5 +1,5 @@
 //! The command `print` over readers and writers in memory, also such as fail at one call.
-use cli_line::{Line, PrintLine, read_line};
+use cli_line::{Line, read_line};
 use cli_print::print_over;
 use std::alloc::Global;
 use std::io;
@@ -86,11 +86,11 @@ const PRINTS: [Case<'static>; 8] = [
     },
 ];
 
-/// The line of `print` of these words.
-fn print_line(alloc: Global, words: &[&str]) -> io::Result<PrintLine> {
+/// The line of these words.
+fn line_of(alloc: Global, words: &[&str]) -> io::Result<Line> {
     match read_line(alloc, words) {
-        Ok(Line::Print(line)) => Ok(line),
-        Ok(Line::Check(_) | Line::Run(_) | Line::Serve(_)) | Err(_) => Err(ErrorKind::Other.into()),
+        Ok(line) => Ok(line),
+        Err(_) => Err(ErrorKind::Other.into()),
     }
 }
 
@@ -102,12 +102,15 @@ fn leave_print(
     devices: Devices,
 ) -> io::Result<Left> {
     let alloc = rt.alloc();
-    let line = print_line(alloc, words)?;
+    let line = line_of(alloc, words)?;
+    let Line::Print(print) = &line else {
+        return Err(ErrorKind::Other.into());
+    };
     let mut input = Input::new(file, devices);
     let out = Output::new(alloc, devices.write);
     let mut out = BufWriter::with_capacity(alloc, devices.room, out)?;
     let mut err = Output::new(alloc, devices.tell);
-    let status = print_over(alloc, &line, &mut input, &mut out, &mut err);
+    let status = print_over(alloc, print, &mut input, &mut out, &mut err);
     let (out, _unwritten) = out.into_parts();
     Ok(Left::of(status, &input, out, err))
 }
