@@ -53,13 +53,30 @@ fn labels(
     ensures within { IfOk result (λ labels. All (λ n. n < nodes) labels.items) }
     ensures paired { IfOk result (λ labels. (n : ℕ) → n < nodes → AreMutual edges.now n (slice_index labels.items n)) }
 {
-    let back = reversed(alloc, edges)?;
-    let all = vec![in alloc; 0; nodes]?;
-    let back_chains = edge_chains(alloc, nodes, &back)?;
-    let behind = owners(alloc, &back, &back_chains, &all, order)?;
+    let behind = nodes_behind(alloc, nodes, edges, order)?;
     let before = owners(alloc, edges, chains, &behind, order)?;
     let labels = agreed(alloc, &before, &behind)?;
     Ok(labels)
+}
+
+// The first search after the order goes back along the edges, with all nodes in one class: it gives for each node one to which
+// edges lead from it.
+fn nodes_behind(
+    alloc: Global,
+    nodes: usize,
+    edges: &[Edge],
+    order: &[usize],
+) -> Result<Vec<usize>, AllocError>
+    requires edges { AreWithin edges.now nodes }
+    requires order { All (λ n. n < nodes) order.now }
+    ensures count { IfOk result (λ behind. length behind.items ≡ nodes) }
+    ensures led { IfOk result (λ behind. (n : ℕ) → n < nodes → Leads edges.now n (slice_index behind.items n)) }
+{
+    let back = reversed(alloc, edges)?;
+    let chains = edge_chains(alloc, nodes, &back)?;
+    let all = vec![in alloc; 0; nodes]?;
+    let behind = owners(alloc, &back, &chains, &all, order)?;
+    Ok(behind)
 }
 
 /// For each node one from which edges lead to it: the root from which a search came to it first, or itself. A search begins at
@@ -88,19 +105,40 @@ fn owners(
         left -= 1;
         spread.begin(roots[left], edges, chains, classes)?;
     }
-    Ok(spread.owners)
+    Ok(spread.into_owners())
 }
 
 /// A search: the nodes that were reached, for each node the root from which it was, and the nodes whose edges are still to be
 /// followed.
-#[derive(Drop)]
 pub struct Spread {
     pub reached: Vec<bool>,
     pub owners: Vec<usize>,
     pub opened: Vec<usize>,
 }
 
+impl Drop for Spread {
+    fn drop(self) {
+        let Self {
+            reached: _,
+            owners: _,
+            opened: _,
+        } = self;
+    }
+}
+
 impl Spread {
+    // The roots that were found, once the search is over.
+    fn into_owners(self) -> Vec<usize>
+        ensures { result ≡ self.owners }
+    {
+        let Self {
+            reached: _,
+            owners,
+            opened: _,
+        } = self;
+        owners
+    }
+
     /// Reaches all that edges lead to from the root, unless it was reached before.
     fn begin(
         &mut self,
