@@ -1,3 +1,4 @@
 pub mod Bounding
 pub mod Growing
+pub mod Keeping
 pub mod Mentioning
