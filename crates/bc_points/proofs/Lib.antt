@@ -1,3 +1,4 @@
+pub mod Clauses
 pub mod Prefixes
 pub mod Returning
 pub mod Supporting
