@@ -1,10 +1,12 @@
 -- Loans by their places in the list of loans.
-use Rattle.std.proofs.Common.{◌≡◌, ℕ, ◌+◌, ◌<◌, ◌↔◌, Bool, true, false, ◌==◌, inl, inr, List, [], Option, Some, None, length, get_or, refl, sym, ap, ◌∙◌, subst, arith}
+use Rattle.std.proofs.Common.{◌≡◌, ℕ, ◌+◌, ◌<◌, ◌≤◌, ◌↔◌, Bool, true, false, ◌==◌, inl, inr, List, [], ◌∷◌, ◌++◌, Option, Some, None, length, get_or, drop, refl, sym, ap, ◌∙◌, append_assoc, append-nil, subst, arith}
 use Rattle.std.specs.Prelude.{slice_get}
-use Rattle.std.specs.List.{All, Contains, enumerate_from}
+use Rattle.std.specs.List.{All, Contains, flat_map, enumerate_from}
 use Rattle.std.specs.Option.{option_map_or}
 use Rattle.std.proofs.lemmas.Bool.{cases_eq, eq-eqb, eqb-true, ne_eqb, false_from_ne_true, false≢true}
 use Rattle.std.proofs.lemmas.Option.{slice_get_within, get_or_from_slice_get}
+use Rattle.std.proofs.Math.Seq.{get_or-append_seam}
+use Rattle.std.proofs.lemmas.List.{at_drop_more, at_drop_all, get_or_append_left}
 use Rattle.std.proofs.lemmas.List.Elements.{Contains-get_or, All-contains}
 use Rattle.bc_flow.specs.declared.tables.Entry.{Entry}
 use Rattle.bc_flow.specs.Flow.{holds, Lists, HaveEntries, AreEntriesWithin}
@@ -150,3 +152,32 @@ listed_projects depth loans p l (Some made) is b listed = listed_at depth loans 
 
 pub rows_project : (depth : ℕ) (loans : List Made) (rows : List (List Bool)) → HaveEntries rows (projection_entries depth loans) → AreProjecting loans depth rows
 rows_project depth loans rows entries p l = listed_projects depth loans p l (slice_get loans l) refl (holds rows (projection_number p) l) (entries (projection_number p) l)
+
+-- one more depth has its table
+pub projecting_more : (loans : List Made) (tables : List (List (List Bool))) (rows : List (List Bool)) (depth : ℕ) → length tables ≡ depth → ((d : ℕ) → d < depth → AreProjecting loans d (get_or tables d [])) →
+    AreProjecting loans depth rows → (d : ℕ) → d < depth + 1 → AreProjecting loans d (get_or (tables ++ rows ∷ []) d [])
+projecting_more loans tables rows depth count before here d low = elim (cases_eq d depth) [
+  | inl last ↦
+      let is : get_or (tables ++ rows ∷ []) d [] ≡ rows = rw (last ∙ sym count) (get_or-append_seam tables rows [] []) in
+      subst (λ (r : List (List Bool)). AreProjecting loans d r) (sym is) (rw last here)
+  | inr other ↦
+      let under : d < depth = omega (arith, low, other) in
+      subst (λ (r : List (List Bool)). AreProjecting loans d r) (sym (get_or_append_left tables (rows ∷ []) [] d (omega (arith, under, count)))) (before d under)
+]
+
+-- ---- loops that append what each element and its place give
+
+module _ {X Y : Type 0} (f : ℕ × X → List Y) (whole items : List Y) (xs : List X) (i : ℕ) where
+  -- a turn appends what its element gives
+  pub listed-turn : (d : X) (new : List Y) → i < length xs → new ≡ items ++ f (i, get_or xs i d) → items ++ flat_map f (enumerate_from i (drop i xs)) ≡ whole → new ++ flat_map f (enumerate_from (i + 1) (drop (i + 1) xs)) ≡ whole
+  listed-turn d new low grown before =
+      let rest = flat_map f (enumerate_from (i + 1) (drop (i + 1) xs)) in
+      ap (λ l. l ++ rest) grown
+      ∙ append_assoc items (f (i, get_or xs i d)) rest
+      ∙ ap (λ l. items ++ l) (sym (at_drop_more (λ l. flat_map f (enumerate_from i l)) xs i d low))
+      ∙ before
+
+  -- after the last turn all is listed
+  pub listed-all : length xs ≤ i → items ++ flat_map f (enumerate_from i (drop i xs)) ≡ whole → items ≡ whole
+  listed-all past before =
+      sym (append-nil items) ∙ ap (λ l. items ++ l) (sym (at_drop_all (λ l. flat_map f (enumerate_from i l)) xs i past)) ∙ before

@@ -1,13 +1,34 @@
-use Rattle.std.proofs.Common.{sym, ◌∙◌}
+use Rattle.std.proofs.Common.{refl, sym, ◌∙◌}
 use Rattle.bc_flow.specs.BitSet.{has}
 use Rattle.bc_loans.proofs.Seeding.{seeded_by, seeded_not}
 use Rattle.bc_loans.proofs.seeds.add_seed.Goals as goal
 
-pub returns-in_ok-spread-clause-others : goal.returns-in_ok-spread-clause-others
-returns-in_ok-spread-clause-others c = c.in_ok-spread.ensures.spreads.others
+pub spread-requires : goal.spread-requires
+spread-requires c = record {
+  node = c.requires.maker;
+  fact = c.requires.number;
+  edges = c.requires.edges;
+  chains = c.requires.chains;
+  rows = c.requires.rows;
+  pending = c.requires.reached;
+}
 
-pub returns-in_ok-spread-clause-seeded : goal.returns-in_ok-spread-clause-seeded
-returns-in_ok-spread-clause-seeded c = seeded_by c.args.edges.now c.args.maker c.args.number (has c.args.value.now) c.args.coming.now _ _ _ _ (sym c.keeps.ensures ∙ c.if-keeps.true) c.in_ok-spread.ensures.spreads
+pub returns-in_ok-spread : goal.returns-in_ok-spread
+returns-in_ok-spread c =
+    let spread = c.in_ok-spread.ensures in
+    record {
+      points = spread.nodes;
+      rows = spread.rows;
+      reached = spread.pending;
+      others = spread.spreads.others;
+      seeded = seeded_by c.args.edges.now c.args.maker c.args.number (has c.args.value.now) c.args.coming.now _ _ _ _ (sym c.keeps.ensures ∙ c.if-keeps.true) spread.spreads;
+    }
 
-pub returns-else-keeps-clause-seeded : goal.returns-else-keeps-clause-seeded
-returns-else-keeps-clause-seeded c = seeded_not c.args.edges.now c.args.maker c.args.number (has c.args.value.now) c.args.coming.now _ (sym c.keeps.ensures ∙ c.if-keeps.false)
+pub returns-else-keeps : goal.returns-else-keeps
+returns-else-keeps c = record {
+  points = refl;
+  rows = c.requires.rows;
+  reached = c.requires.reached;
+  others = λ n l _. refl;
+  seeded = seeded_not c.args.edges.now c.args.maker c.args.number (has c.args.value.now) c.args.coming.now _ (sym c.keeps.ensures ∙ c.if-keeps.false);
+}

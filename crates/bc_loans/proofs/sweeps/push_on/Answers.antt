@@ -1,5 +1,5 @@
 use Rattle.std.proofs.Common.{◌≡◌, ◌+◌, take, arith, get_or, refl, ◌∙◌}
-use Rattle.std.proofs.lemmas.List.{take_more}
+use Rattle.std.proofs.lemmas.List.{take_more, take_all}
 use Rattle.bc_flow.specs.declared.graph.Edge.{Edge}
 use Rattle.bc_flow.specs.Packed.{word_has}
 use Rattle.bc_flow.specs.Flow.{holds}
@@ -23,17 +23,21 @@ loop-at-init c =
       pushed = ArePushed-same c.args.point _ _ _ _ _ _ _ (skipped c.args.edges.now c.args.point 0 c.index-at.result.now is) (ArePushed-none c.args.point (word_has c.args.word c.args.here) (inside_at c.args.universals c.args.loans.now (holds c.args.values.now)) c.args.rows.now);
     }
 
-pub enter-again-requires-clause-to : goal.enter-again-requires-clause-to
-enter-again-requires-clause-to c =
+pub enter-again-requires : goal.enter-again-requires
+enter-again-requires c =
     let none : Edge = record { from = 0; to = 0 } in
+    let invariant = c.loop-at.invariant in
     let small = (c.requires.edges c.loop-at.at none c.loop-at-test.true).1 in
-    omega (arith, small, c.loop-at.invariant.points)
-
-pub enter-again-requires-clause-room : goal.enter-again-requires-clause-room
-enter-again-requires-clause-room c = omega (arith, c.requires.room, c.loop-at.invariant.points, c.loop-at.invariant.room)
-
-pub enter-again-requires-clause-set : goal.enter-again-requires-clause-set
-enter-again-requires-clause-set c = rw c.loop-at.invariant.points c.loop-at.invariant.set
+    record {
+      word = c.requires.word;
+      to = omega (arith, small, invariant.points);
+      rows = invariant.sizes;
+      clean = c.requires.clean;
+      told = invariant.told;
+      room = omega (arith, c.requires.room, invariant.points, invariant.room);
+      set = rw invariant.points invariant.set;
+      reached = invariant.reached;
+    }
 
 pub loop-at-smaller : goal.loop-at-smaller
 loop-at-smaller c =
@@ -58,4 +62,17 @@ loop-at-preserved c =
       pushed = ArePushed-same c.args.point _ _ _ _ _ _ _ (skipped c.args.edges.now c.args.point (c.loop-at.at + 1) c.index-at-in-loop-at.result.now is)
           (rw (take_more c.args.edges.now c.loop-at.at none c.loop-at-test.true)
           (ArePushed-more c.args.point (take c.loop-at.at c.args.edges.now) e (word_has c.args.word c.args.here) (inside_at c.args.universals c.args.loans.now (holds c.args.values.now)) c.loop-at.again c.enter-again.result c.args.rows.now c.loop-at.rows c.enter-again.new.rows c.loop-at.invariant.pushed (rw own at c.enter-again.ensures.pushed)));
+    }
+
+pub returns : goal.returns
+returns c =
+    let invariant = c.loop-at.invariant in
+    record {
+      points = invariant.points;
+      rows = invariant.sizes;
+      pushed = rw (take_all c.loop-at.at c.args.edges.now (omega (arith, c.loop-at-test.false))) at invariant.pushed;
+      room = invariant.room;
+      told = invariant.told;
+      set = invariant.set;
+      reached = invariant.reached;
     }

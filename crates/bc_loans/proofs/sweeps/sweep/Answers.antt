@@ -26,24 +26,24 @@ pub offset_bounds-steps-point : goal.offset_bounds-steps-point
 offset_bounds-steps-point c =
     omega (arith, member_within c.row.result c.in-Some.point c.in-Some.ensures.is_member, ap length c.row.ensures, c.loop-point.invariant.set.size)
 
-pub visit-again-requires-clause-point : goal.visit-again-requires-clause-point
-visit-again-requires-clause-point c =
-    omega (arith, member_within c.row.result c.in-Some.point c.in-Some.ensures.is_member, ap length c.row.ensures, c.loop-point.invariant.set.size, c.loop-point.invariant.points, c.requires.points)
-
-pub visit-again-requires-clause-room : goal.visit-again-requires-clause-room
-visit-again-requires-clause-room c = omega (arith, c.requires.room, c.loop-point.invariant.points, c.loop-point.invariant.room)
-
-pub visit-again-requires-clause-set : goal.visit-again-requires-clause-set
-visit-again-requires-clause-set c =
-    let count : length c.loop-point.rows ≡ length c.args.steps.now = c.loop-point.invariant.points ∙ c.requires.points in rw count c.loop-point.invariant.set
-
-pub visit-again-requires-clause-edges : goal.visit-again-requires-clause-edges
-visit-again-requires-clause-edges c =
-    let count : length c.loop-point.rows ≡ length c.args.steps.now = c.loop-point.invariant.points ∙ c.requires.points in rw count c.requires.edges
-
-pub visit-again-requires-clause-chains : goal.visit-again-requires-clause-chains
-visit-again-requires-clause-chains c =
-    let count : length c.loop-point.rows ≡ length c.args.steps.now = c.loop-point.invariant.points ∙ c.requires.points in rw count c.requires.chains
+pub visit-again-requires : goal.visit-again-requires
+visit-again-requires c =
+    let invariant = c.loop-point.invariant in
+    let count : length c.loop-point.rows ≡ length c.args.steps.now = invariant.points ∙ c.requires.points in
+    record {
+      word = c.requires.word;
+      point = omega (arith, member_within c.row.result c.in-Some.point c.in-Some.ensures.is_member, ap length c.row.ensures, invariant.set.size, count);
+      rows = invariant.sizes;
+      sizes = c.requires.sizes;
+      locals = c.requires.locals;
+      depths = c.requires.depths;
+      edges = rw count c.requires.edges;
+      chains = rw count c.requires.chains;
+      told = invariant.told;
+      room = omega (arith, c.requires.room, invariant.points, invariant.room);
+      set = rw count invariant.set;
+      reached = invariant.reached;
+    }
 
 pub loop-point-smaller : goal.loop-point-smaller
 loop-point-smaller c =

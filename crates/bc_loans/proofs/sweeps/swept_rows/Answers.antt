@@ -26,14 +26,40 @@ loop-word-preserved c =
       walked = AreWalked-more c.args.edges.now c.args.steps.now c.args.loans.now (inside_at c.args.universals c.args.loans.now (holds c.args.values.now)) c.loop-word.word c.loop-word.rows c.walk_word.new.rows invariant.walked walked.others walked.walks;
     }
 
-pub walk_word-requires-clause-seeds : goal.walk_word-requires-clause-seeds
-walk_word-requires-clause-seeds c = λ n l at. c.loop-word.invariant.walked.rest n l (omega (arith, at))
+pub seed_rows-requires : goal.seed_rows-requires
+seed_rows-requires c = record {
+  makers = c.requires.makers;
+  edges = c.requires.edges;
+  chains = c.in_ok-chains.ensures;
+}
 
-pub walk_word-requires-clause-sound : goal.walk_word-requires-clause-sound
-walk_word-requires-clause-sound c = AreWalked-sound c.args.edges.now c.args.steps.now c.args.loans.now (inside_at c.args.universals c.args.loans.now (holds c.args.values.now)) c.loop-word.word c.loop-word.rows c.loop-word.invariant.walked
+pub walk_word-requires : goal.walk_word-requires
+walk_word-requires c =
+    let invariant = c.loop-word.invariant in
+    let inside = inside_at c.args.universals c.args.loans.now (holds c.args.values.now) in
+    record {
+      word = omega (arith, c.loop-word-test.true, c.div_ceil-word-end.ensures);
+      makers = c.requires.makers;
+      points = invariant.points;
+      rows = invariant.sizes;
+      room = ap length c.deref_mut.ensures.value ∙ invariant.room;
+      seeds = λ n l at. invariant.walked.rest n l (omega (arith, at));
+      sound = AreWalked-sound c.args.edges.now c.args.steps.now c.args.loans.now inside c.loop-word.word c.loop-word.rows invariant.walked;
+      sizes = c.in_ok-by_local.ensures.sizes;
+      locals = c.in_ok-by_local.ensures.loans;
+      depths = rw c.deref.ensures.value c.in_ok-by_depth.ensures.loans;
+      edges = c.requires.edges;
+      chains = c.in_ok-chains.ensures;
+    }
 
-pub returns-clause-walked : goal.returns-clause-walked
-returns-clause-walked c = λ l p.
-    let walks = AreWalked-all c.args.edges.now c.args.steps.now c.args.loans.now (inside_at c.args.universals c.args.loans.now (holds c.args.values.now)) c.loop-word.word c.loop-word.rows (omega (arith, c.loop-word-test.false, c.div_ceil-word-end.ensures)) c.loop-word.invariant.walked p l in
-    let walked = walks_is_walked c.args.edges.now c.args.steps.now c.args.universals (holds c.args.values.now) c.args.loans.now c.requires.edges l p in
-    (λ h. walked.0 (walks.0 h), λ h. walks.1 (walked.1 h))
+pub returns : goal.returns
+returns c =
+    let invariant = c.loop-word.invariant in
+    record {
+      points = invariant.points;
+      loans = invariant.sizes;
+      walked = λ l p.
+          let walks = AreWalked-all c.args.edges.now c.args.steps.now c.args.loans.now (inside_at c.args.universals c.args.loans.now (holds c.args.values.now)) c.loop-word.word c.loop-word.rows (omega (arith, c.loop-word-test.false, c.div_ceil-word-end.ensures)) invariant.walked p l in
+          let walked = walks_is_walked c.args.edges.now c.args.steps.now c.args.universals (holds c.args.values.now) c.args.loans.now c.requires.edges l p in
+          (λ h. walked.0 (walks.0 h), λ h. walks.1 (walked.1 h));
+    }
