@@ -375,6 +375,15 @@ folds_none state root visits sound are =
         e ∙ ap (λ us. us ++ flat_map (units_at state) rs) (units-step state r s.body s.short s.held) in
         absurd (cc)
 
+-- with no visit left all bodies are judged
+pub folds_all : (state : State) (root : NameParts) (required : List Requirements) (found : List Entry) → Folds state root [] required found → AllZip (IsPieceAt state) (units_at state root) found
+folds_all state root required found folds = all folds.before folds.is_left folds.whole folds.reported
+  where
+    all : (before : List (NameParts × Body)) → [] ≡ map (visit_of state) before → before ++ flat_map (units_at state) (open_after root before) ≡ units_at state root
+        → AllZip (IsPieceAt state) (flat_map (units_at state) (open_after root before)) found → AllZip (IsPieceAt state) (units_at state root) found
+    all [] none whole reported = subst (λ (us : List (NameParts × Body)). AllZip (IsPieceAt state) us found) whole reported
+    all (u ∷ us) none whole reported = absurd (cc)
+
 -- the errors in pieces are those of their bodies
 pub reported_by : (state : State) (units : List (NameParts × Body)) (pieces : List Entry) → AllZip (IsPieceAt state) units pieces → AllZip (IsReported state) units (map errors_in pieces)
 reported_by state [] [] h = tt

@@ -6,5 +6,6 @@ pub mod Looking
 pub mod Gathering
 pub mod Walking
 pub mod Folding
+pub mod Taking
 pub mod Faults
 pub mod Fits

@@ -6,7 +6,7 @@ ghost use Rattle.bc_cons.specs.Requirements.{AreOfChildren};
 ghost use Rattle.bc_mir.specs.Mir.{mir_of};
 ghost use Rattle.bc_mir.specs.Typing.{misfit};
 ghost use Rattle.bc_mir.specs.declared.typed.Where.{Where};
-ghost use Rattle.bc_prov.specs.Pieces.{IsFoundFrom};
+ghost use Rattle.bc_prov.specs.Pieces.{IsFitted, IsFoundFrom};
 ghost use Rattle.bc_outcomes.specs.Reported.{kid_header, kid_requirements};
 ghost use Rattle.bc_prov.specs.State.{number_of_child};
 
@@ -25,6 +25,34 @@ fn lent_again<'a>(header: &KidHeader<'a>) -> Result<KidHeader<'a>, AllocError>
     header.clone()
 }
 
+/// The headers of children, lent once more.
+fn headers_of<'a>(
+    alloc: Global,
+    kids: &[(KidHeader<'a>, Requirements)],
+) -> Result<Vec<KidHeader<'a>>, AllocError>
+    ensures { IfOk result (λ headers. headers.items ≡ map kid_header kids.now) }
+{
+    let mut headers = Vec::with_capacity(alloc, kids.len())?;
+    for kid in kids {
+        headers.push(lent_again(&kid.0)?)?;
+    }
+    Ok(headers)
+}
+
+/// Copies of what children require.
+fn requirements_of(
+    alloc: Global,
+    kids: &[(KidHeader<'_>, Requirements)],
+) -> Result<Vec<Requirements>, AllocError>
+    ensures { IfOk result (λ requirements. requirements.items ≡ map (λ kid. kid.1) kids.now) }
+{
+    let mut requirements = Vec::with_capacity(alloc, kids.len())?;
+    for kid in kids {
+        requirements.push(copy_requirements(&kid.1)?)?;
+    }
+    Ok(requirements)
+}
+
 /// The headers of children, lent once more, and copies of what the children require, apart.
 fn apart<'a>(
     alloc: Global,
@@ -33,12 +61,8 @@ fn apart<'a>(
     ensures headers { IfOk result (λ r. r.0.items ≡ map kid_header kids.now) }
     ensures requirements { IfOk result (λ r. r.1.items ≡ map (λ kid. kid.1) kids.now) }
 {
-    let mut headers = Vec::with_capacity(alloc, kids.len())?;
-    let mut requirements = Vec::with_capacity(alloc, kids.len())?;
-    for kid in kids {
-        headers.push(lent_again(&kid.0)?)?;
-        requirements.push(copy_requirements(&kid.1)?)?;
-    }
+    let headers = headers_of(alloc, kids)?;
+    let requirements = requirements_of(alloc, kids)?;
     Ok((headers, requirements))
 }
 
@@ -77,6 +101,22 @@ fn numbered(
     take_kids(alloc, children, &mut required)
 }
 
+/// The piece of a unit as it was typed, whose children require so much: one more owner of the declarations and of the unit.
+fn piece_over(
+    alloc: Global,
+    providers: &Providers,
+    types: &Shared<Declared>,
+    unit: &Shared<Unit>,
+    typed: Shared<Typed>,
+    kids: Vec<(u8, Requirements)>,
+) -> Result<Piece, AllocError>
+    requires fitted { IsFitted types.now unit.now typed }
+    requires kids { AreOfChildren typed.children kids.items }
+    ensures { IfOk result (IsFoundFrom types.now unit.now typed kids.items) }
+{
+    piece_of(alloc, providers, types.clone()?, unit.clone()?, typed, kids)
+}
+
 /// Types and judges a unit over declarations of which none is bad, with the header of each child, ascending, and what the child
 /// requires, and returns its piece. It asks that a child requires nothing of its local regions. Returns `Ill` with the place of the
 /// first misfit where a typing rule fails: the header if a header rule fails, else the least point at which a rule fails; and
@@ -98,6 +138,6 @@ pub fn piece(
     let (headers, requirements) = apart(alloc, kids)?;
     let typed = typed_over(alloc, types, unit, &headers)?;
     let kids = numbered(alloc, typed.get().children(), requirements)?;
-    let piece = piece_of(alloc, providers, types.clone()?, unit.clone()?, typed, kids)?;
+    let piece = piece_over(alloc, providers, types, unit, typed, kids)?;
     Ok(piece)
 }

@@ -77,10 +77,58 @@ fn push_unkept(
     unkept.push((piece.0, again))
 }
 
+/// Puts the piece of a judged body at the front, under its name, and so what it requires. Unless the snapshot keeps the piece, it comes to
+/// the front of the unkept ones, too.
+fn push_judged(
+    required: &mut Stack<Requirements>,
+    found: &mut Stack<(Name, Shared<Piece>)>,
+    unkept: &mut Stack<(Name, Shared<Piece>)>,
+    piece: (Name, Shared<Piece>),
+    is_kept: bool,
+) -> Result<(), AllocError>
+    ensures required { OnOk result (required.new ≡ piece.1.verdict.requirements ∷ required.old) }
+    ensures found { OnOk result (found.new ≡ piece ∷ found.old) }
+    ensures unkept { OnOk result (unkept.new ≡ (if is_kept then unkept.old else piece ∷ unkept.old)) }
+{
+    let requirements = copy_requirements(piece.1.get().requirements())?;
+    required.push(requirements)?;
+    push_unkept(unkept, &piece, is_kept)?;
+    found.push(piece)?;
+    Ok(())
+}
+
 impl Held<'_> {
-    /// The pieces of the bodies that were visited from the root on, in that order. A body comes after its creator, so they are
-    /// judged from the last on: what they require, and no creator took yet, lies in a list with that of the next one in front.
-    /// Returns `AllocError` only where memory was refused, as a provider may answer too.
+    /// Judges the bodies that were visited from the root on, and puts their pieces in two empty lists: all, and those that the snapshot
+    /// does not keep. A body comes after its creator, so they are judged from the last on: what they require, and no creator took
+    /// yet, lies in a list with that of the next one in front. Returns `AllocError` only where memory was refused, as a provider
+    /// may answer too.
+    fn judge_visits(
+        &self,
+        alloc: Global,
+        providers: &Providers,
+        visits: Vec<Visit>,
+        found: &mut Stack<(Name, Shared<Piece>)>,
+        unkept: &mut Stack<(Name, Shared<Piece>)>,
+    ) -> Result<(), AllocError>
+        requires sound { IsSound (state_in self.now) self.now.snapshot.now.root }
+        requires visits { visits.items ≡ map (visit_of (state_in self.now)) (units_at (state_in self.now) self.now.snapshot.now.root) }
+        requires found { found.old ≡ [] }
+        requires unkept { unkept.old ≡ [] }
+        ensures pieces { OnOk result (AllZip (IsPieceAt (state_in self.now)) (units_at (state_in self.now) self.now.snapshot.now.root) found.new) }
+        ensures unkept { OnOk result (AreSomeOf found.new unkept.new) }
+    {
+        let mut visits = visits;
+        let mut required = Stack::new(alloc);
+        while let Some(visit) = visits.pop() {
+            let kids = take_kids(alloc, visit.children(), &mut required)?;
+            let (piece, is_kept) = visit.judged(alloc, providers, self.snapshot.types(), kids)?;
+            push_judged(&mut required, found, unkept, piece, is_kept)?;
+        }
+        Ok(())
+    }
+
+    /// The pieces of the bodies that were visited from the root on, in that order. Returns `AllocError` only where memory was refused, as
+    /// a provider may answer too.
     pub(crate) fn pieces_of(
         &self,
         alloc: Global,
@@ -92,18 +140,9 @@ impl Held<'_> {
         ensures pieces { IfOk result (λ judged. AllZip (IsPieceAt (state_in self.now)) (units_at (state_in self.now) self.now.snapshot.now.root) judged.all.items) }
         ensures unkept { IfOk result (λ judged. AreSomeOf judged.all.items judged.unkept.items) }
     {
-        let mut visits = visits;
-        let mut required = Stack::new(alloc);
         let mut found = Stack::new(alloc);
         let mut unkept = Stack::new(alloc);
-        while let Some(visit) = visits.pop() {
-            let kids = take_kids(alloc, visit.children(), &mut required)?;
-            let (piece, is_kept) = visit.judged(alloc, providers, self.snapshot.types(), kids)?;
-            let requirements = copy_requirements(piece.1.get().requirements())?;
-            required.push(requirements)?;
-            push_unkept(&mut unkept, &piece, is_kept)?;
-            found.push(piece)?;
-        }
+        self.judge_visits(alloc, providers, visits, &mut found, &mut unkept)?;
         Ok(Judged {
             all: found.into_vec(),
             unkept: unkept.into_vec(),

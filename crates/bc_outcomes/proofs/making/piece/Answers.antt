@@ -40,14 +40,13 @@ fitted_of types unit children numbers fits = record { over = refl; numbered = nu
 pub typed_over-requires-clause-children : goal.typed_over-requires-clause-children
 typed_over-requires-clause-children g c = ap (map number_of_child) (c.deref.ensures.value ∙ c.in_ok-headers.ensures.headers) ∙ numbers_mapped c.args.kids.now ∙ c.requires.children
 
-pub piece_of-requires-clause-fitted : goal.piece_of-requires-clause-fitted
-piece_of-requires-clause-fitted g c =
+pub piece_over-requires-clause-fitted : goal.piece_over-requires-clause-fitted
+piece_over-requires-clause-fitted g c =
     let numbers : map number_of_child c.deref.result.now ≡ children_of c.args.unit.now = ap (map number_of_child) (c.deref.ensures.value ∙ c.in_ok-headers.ensures.headers) ∙ numbers_mapped c.args.kids.now ∙ c.requires.children in
-    subst (λ (p : List Declaration × Body × Mir). IsFitted p.0 p.1 p.2) (λ i. (sym c.in_ok-clone.ensures.cases i, sym c.in_ok-clone-2.ensures.cases i, sym c.in_ok-typed.ensures.ok i))
-    (fitted_of c.args.types.now c.args.unit.now c.deref.result.now numbers c.in_ok-typed.ensures.fits)
+    subst (IsFitted c.args.types.now c.args.unit.now) (sym c.in_ok-typed.ensures.ok) (fitted_of c.args.types.now c.args.unit.now c.deref.result.now numbers c.in_ok-typed.ensures.fits)
 
-pub piece_of-requires-clause-kids : goal.piece_of-requires-clause-kids
-piece_of-requires-clause-kids g c =
+pub piece_over-requires-clause-kids : goal.piece_over-requires-clause-kids
+piece_over-requires-clause-kids g c =
     let children : c.in_ok-typed.typed.children ≡ map kid_header c.args.kids.now = ap (λ (m : Mir). m.children) c.in_ok-typed.ensures.ok ∙ c.deref.ensures.value ∙ c.in_ok-headers.ensures.headers in
     let taken = all_numbered c.in_ok-kids.kids.items c.args.kids.now (c.in_ok-kids.ensures.numbers ∙ ap (map number_of_child) (c.children.ensures ∙ ap (λ (m : Mir). m.children) c.get.ensures ∙ children)) (c.in_ok-kids.ensures.requirements ∙ c.in_ok-headers.ensures.requirements) in
     subst (λ (p : List Child × List (ℕ × Requirements)). AreOfChildren p.0 p.1) (λ i. (sym children i, sym taken i)) c.requires.external
@@ -58,5 +57,4 @@ returns-clause-from g c =
     let children : c.in_ok-typed.typed.children ≡ map kid_header c.args.kids.now = ap (λ (m : Mir). m.children) c.in_ok-typed.ensures.ok ∙ heads in
     let taken = all_numbered c.in_ok-kids.kids.items c.args.kids.now (c.in_ok-kids.ensures.numbers ∙ ap (map number_of_child) (c.children.ensures ∙ ap (λ (m : Mir). m.children) c.get.ensures ∙ children)) (c.in_ok-kids.ensures.requirements ∙ c.in_ok-headers.ensures.requirements) in
     let typed : c.in_ok-typed.typed ≡ mir_of c.args.types.now (map kid_header c.args.kids.now) c.args.unit.now = c.in_ok-typed.ensures.ok ∙ (λ i. mir_of c.args.types.now (heads i) c.args.unit.now) in
-    subst (λ (p : List Declaration × Body × Mir × List (ℕ × Requirements)). IsFoundFrom p.0 p.1 p.2 p.3 c.in_ok-piece.piece)
-    (λ i. (c.in_ok-clone.ensures.cases i, c.in_ok-clone-2.ensures.cases i, typed i, taken i)) c.in_ok-piece.ensures
+    subst (λ (p : Mir × List (ℕ × Requirements)). IsFoundFrom c.args.types.now c.args.unit.now p.0 p.1 c.in_ok-piece.piece) (λ i. (typed i, taken i)) c.in_ok-piece.ensures

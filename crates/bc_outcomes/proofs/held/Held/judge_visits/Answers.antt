@@ -1,13 +1,13 @@
-use Rattle.std.proofs.Common.{List, [], ◌≡◌, ◌∙◌, ap, map, refl, sym, subst}
+use Rattle.std.proofs.Common.{List, [], ◌≡◌, ◌∙◌, ap, map, refl, rules, sym, subst}
 use Rattle.bc_outcomes.specs.Visited.{VisitView}
 use Rattle.bc_prov.specs.State.{number_of_child}
 use Rattle.bc_outcomes.specs.Visits.{state_in}
-use Rattle.bc_outcomes.proofs.Folding.{Folds, turn, turn-children, turn-enough, folded, folds_none, some_more}
-use Rattle.bc_outcomes.proofs.held.Held.pieces_of.Goals as goal
+use Rattle.bc_outcomes.proofs.Folding.{Folds, turn, turn-children, turn-enough, folded, folds_all, folds_none, some_more}
+use Rattle.bc_outcomes.proofs.held.Held.judge_visits.Goals as goal
 
 pub loop-visit-init : goal.loop-visit-init
 loop-visit-init g c =
-    rw (c.new-required.ensures, c.new-found.ensures, c.new-unkept.ensures)
+    rw (c.new-required.ensures, c.requires.found, c.requires.unkept)
     (folds_none (state_in c.args.self.now) c.args.self.now.snapshot.now.root c.args.visits.items c.requires.sound c.requires.visits, ([], refl))
 
 pub take_kids-requires : goal.take_kids-requires
@@ -42,9 +42,16 @@ loop-visit-preserved g c =
     let folds = subst (λ (vs : List VisitView). Folds state root vs c.loop-visit.required c.loop-visit.found) c.in-Some.ensures.items c.loop-visit.invariant.0 in
     let here = turn state root c.pop.new.self.items c.in-Some.visit c.loop-visit.required c.loop-visit.found c.requires.sound folds in
     let types : c.types.result.now ≡ state.types = c.types.ensures ∙ sym c.args.self.now.same in
-    rw (c.in_ok-push.ensures.ok, c.in_ok-push-2.ensures.ok, c.in_ok-push_unkept.ensures, c.in_ok-requirements.ensures, c.requirements.ensures.value, c.get.ensures) (
+    rw (c.in_ok-push_judged.ensures.required, c.in_ok-push_judged.ensures.found, c.in_ok-push_judged.ensures.unkept) (
       folded state root c.pop.new.self.items c.in-Some.visit c.loop-visit.required c.take_kids.new.required c.loop-visit.found c.in_ok-kids.kids.items c.in_ok-piece.piece c.types.result.now types here
           (c.in_ok-kids.ensures.numbers ∙ ap (map number_of_child) c.children.ensures) c.in_ok-kids.ensures.rest
           c.in_ok-piece.ensures.named c.in_ok-piece.ensures.found,
       some_more c.loop-visit.found c.loop-visit.unkept c.in_ok-piece.piece c.in_ok-piece.is_kept c.loop-visit.invariant.1,
     )
+
+pub returns-clause-pieces : goal.returns-clause-pieces
+returns-clause-pieces g c =
+    let state = state_in c.args.self.now in
+    let root = c.args.self.now.snapshot.now.root in
+    let none : c.loop-visit.visits.items ≡ [] = search rules in
+    folds_all state root c.loop-visit.required c.loop-visit.found (subst (λ (vs : List VisitView). Folds state root vs c.loop-visit.required c.loop-visit.found) none c.loop-visit.invariant.0)
