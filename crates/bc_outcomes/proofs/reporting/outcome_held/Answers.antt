@@ -34,3 +34,6 @@ returns-in-Some-clause-pieces g c =
     pieces_of_fault state c.args.held.now.snapshot.now.root c.in-Some.fault _
     (ap (fault_at state) (sym c.root-root.ensures) ∙ sym c.in_ok-fault.ensures.fault ∙ c.in-Some.is)
     c.none.ensures.all
+
+pub returns-in_ok-found-in-None-clause-pieces : goal.returns-in_ok-found-in-None-clause-pieces
+returns-in_ok-found-in-None-clause-pieces g c = (c.in_ok-pieces-in-None.ensures.pieces, c.from.ensures ∙ c.in_ok-found-in-None.ensures ∙ ap (map errors_in) c.deref.ensures.value)

@@ -1,5 +1,6 @@
 use Rattle.std.proofs.Common.{◌≡◌, refl, sym, ap, ◌∙◌, subst}
 use Rattle.std.specs.Prelude.{Option, IfSome}
+use Rattle.bc_cons.specs.Requirements.{AreOfChildren}
 use Rattle.bc_mir.specs.Mir.{Mir}
 use Rattle.bc_prov.specs.Pieces.{IsPiece, PieceView}
 use Rattle.bc_outcomes.specs.Visited.{VisitView}
@@ -19,3 +20,10 @@ returns-then-is_from-clause-found g c =
       kids = sym (ap (λ (p : PieceView). p.kids) c.get.ensures) ∙ c.if-is_from.ensures.same.0 refl ∙ c.deref.ensures.value;
       right = right;
     }
+
+pub piece_of-requires-clause-fitted : goal.piece_of-requires-clause-fitted
+piece_of-requires-clause-fitted g c =
+    rw (c.in_ok-types.ensures.cases ∙ c.requires.types ∙ sym (ap (λ (v : VisitView). v.typed.types) c.self.view_is)) c.self.invariant.fitted
+
+pub piece_of-requires-clause-kids : goal.piece_of-requires-clause-kids
+piece_of-requires-clause-kids g c = subst (λ (v : VisitView). AreOfChildren v.typed.children c.args.kids.items) (sym c.self.view_is) c.requires.kids
