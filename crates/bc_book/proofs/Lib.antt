@@ -5,3 +5,4 @@ pub mod Recalling
 pub mod Listing
 pub mod Settling
 pub mod Fitting
+pub mod Entering

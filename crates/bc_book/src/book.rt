@@ -1,12 +1,13 @@
 //! What lies under the lock: the history, what it leaves, what is remembered, and what publishes it.
-ghost use Rattle.std.specs.Prelude.{◌≡◌, ◌<◌, ◌^◌, None, IsSome, [], List, length, IfOk, IfSome, IfErr, OnErr, OnOk};
+ghost use Rattle.std.specs.Prelude.{◌≡◌, ◌<◌, ◌^◌, None, IsSome, [], List, length, IfOk, IfSome, IfErr, MatchResult, OnErr, OnOk};
 ghost use Rattle.bc_prov.specs.Outcome.{IsOutcomeIn};
 ghost use Rattle.bc_prov.specs.Pieces.{rows_of};
 ghost use Rattle.bc_prov.specs.Snapshots.{IsPartOf};
 ghost use Rattle.bc_memo.specs.Memos.{IsRemembered};
 ghost use Rattle.bc_memo.specs.Places.{AreFitting, changed};
-ghost use Rattle.bc_calls.specs.Calls.{IsLegal, IsReply, after};
+ghost use Rattle.bc_calls.specs.Calls.{IsLegal, IsReply, MayComeNext, after};
 ghost use Rattle.bc_calls.specs.Changes.{change_of, writes_after, writes_of};
+ghost use Rattle.bc_versions.specs.Tables.{pressed};
 ghost use Rattle.bc_text.specs.Names.{NameParts};
 ghost use Rattle.bc_prov.specs.State.{at_name};
 ghost use Rattle.bc_calls.specs.declared.call.Event.TheVariants as events;
@@ -80,6 +81,23 @@ fn copy_of(alloc: Global, pieces: &Option<PieceSet>) -> Result<Option<PieceSet>,
         }
         None => Ok(None),
     }
+}
+
+// Publishes one more owner of the entry that comes next, as `Press::add` says. Returns `AllocError` only where memory was refused, and then
+// nothing is published.
+fn publish<E: Ending, R: Wait>(
+    rt: &R,
+    press: &mut Press<E>,
+    entry: &Entry,
+    revision: u32,
+    pieces: Option<PieceSet>,
+) -> Result<(), AllocError>
+    requires next { MayComeNext press.old.entries entry.now }
+    requires pieces { AreFitting (changed press.old.shelf (change_of entry.now.event) revision) (rows_of pieces) }
+    ensures { MatchResult result (λ _. press.new ≡ pressed press.old (record { entry = entry.now; revision = revision })) (λ _. press.new ≡ press.old) }
+{
+    let copy = entry.copy()?;
+    press.add(rt, copy, revision, pieces)
 }
 
 /// The state under the lock: the append-only history of all calls, what is held after it, the remembered outcomes, and the writer of
@@ -337,16 +355,13 @@ impl<E: Ending> Book<E> {
         ensures full { IfErr result (IsFull self.old) }
         ensures below { OnOk result (length self.old.entries < self.old.capacity) }
     {
-        self.ledger.reserve(findings.rows.len())?;
-        let told = Told::of(&event)?;
-        let change = event.change()?;
-        self.ledger.prepare(&change)?;
         let Findings {
             rows,
             kept,
             published,
         } = findings;
-        self.ledger.keep(kept)?;
+        let change = self.ledger.make_ready(&event, rows.len(), kept)?;
+        let told = Told::of(&event)?;
         let number = self.ledger.number(session);
         let revision = self.ledger.revision(&event);
         let entry = Entry {
@@ -354,8 +369,7 @@ impl<E: Ending> Book<E> {
             number,
             event,
         };
-        let copy = entry.copy()?;
-        self.press.add(rt, copy, revision, published)?;
+        publish(rt, &mut self.press, &entry, revision, published)?;
         self.ledger.remember(rows);
         self.ledger.record(entry, change, revision);
         Ok(told)

@@ -420,6 +420,31 @@ impl Ledger {
         self.shelf.prepare(change)
     }
 
+    /// Makes ready for an event: makes room for its entry, for one body and for so many answers, makes the owners that its change brings, and
+    /// keeps these pieces as `keep` does. Returns the change. The capacity is tested first: `HistoryFull` exactly where the history is as long
+    /// as it may be, and `NoMemory` only where memory was refused. What contracts see of the ledger is as it was in each case, but for the
+    /// memory that is ready.
+    pub(crate) fn make_ready(
+        &mut self,
+        event: &Event,
+        answers: usize,
+        pieces: Option<PieceSet>,
+    ) -> Result<Change, Refusal>
+        requires { AreFitting self.old.shelf (rows_of pieces) }
+        ensures same { SameLedger self.old self.new }
+        ensures room { OnOk result ((0 < self.new.room) × (0 < self.new.places) × (answers ≤ self.new.rows)) }
+        ensures change { IfOk result (λ change. change ≡ change_of event.now) }
+        ensures ready { IfOk result (λ change. IsReady change self.new.ready) }
+        ensures below { OnOk result (length self.old.entries < self.old.capacity) }
+        ensures full { IfErr result (λ r. r ≡ Refusal.HistoryFull ↔ length self.old.entries ≡ self.old.capacity) }
+    {
+        self.reserve(answers)?;
+        let change = event.change()?;
+        self.prepare(&change)?;
+        self.keep(pieces)?;
+        Ok(change)
+    }
+
     /// Takes in the entry that comes next, given what it changes, and the revision that it gives to what it writes. Pieces that the change
     /// makes wrong are dropped. It takes no memory.
     pub(crate) fn record(&mut self, entry: Entry, change: Change, revision: u32)

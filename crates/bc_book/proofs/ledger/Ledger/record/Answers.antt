@@ -1,9 +1,11 @@
-use Rattle.std.proofs.Common.{◌≡◌, ℕ, ◌+◌, ◌<◌, List, [], ◌∷◌, ◌++◌, length, set, sym, ap, ◌∙◌, subst}
+use Rattle.std.proofs.Common.{◌≡◌, ℕ, ◌+◌, ◌<◌, ◌≤◌, List, [], ◌∷◌, ◌++◌, length, set, sym, ap, ◌∙◌, subst, arith}
+use Rattle.std.specs.Prelude.{◌==◌}
+use Rattle.std.proofs.lemmas.List.Sums.{count_by-le-length}
 use Rattle.bc_memo.specs.declared.change.Change.{Change}
-use Rattle.bc_memo.specs.Places.{AreKeptPieces, MayChange, PieceRows, ShelfView, changed, most_rows}
+use Rattle.bc_memo.specs.Places.{AreKeptPieces, IsReady, MayChange, PieceRows, ShelfView, changed, most_rows}
 use Rattle.bc_memo.proofs.Found.{kept_after}
 use Rattle.bc_calls.specs.declared.call.Entry.{Entry}
-use Rattle.bc_calls.specs.Calls.{IsLegal, MayComeNext, after, most_bodies}
+use Rattle.bc_calls.specs.Calls.{IsLegal, MayComeNext, after, count_of, most_bodies}
 use Rattle.bc_calls.specs.Changes.{writes_after, writes_of}
 use Rattle.bc_book.specs.Ledgers.{LedgerView, HasPlace, IsLedger, kept_rows}
 use Rattle.bc_calls.proofs.Changing.{may_change}
@@ -45,3 +47,28 @@ returns-clause-legal c =
     let e = c.args.entry in
     let fits = subst (λ (v : LedgerView). MayComeNext v.entries e) (sym c.self.view_is) c.requires.next in
     subst IsLegal (sym c.push_reserved.ensures.items) (legal_snoc i.history.items e c.self.invariant.0.legal fits)
+
+pub returns-clause-same : goal.returns-clause-same
+returns-clause-same c = ap (λ (v : LedgerView). v.capacity) c.self.view_is
+
+pub returns-clause-entries : goal.returns-clause-entries
+returns-clause-entries c = c.push_reserved.ensures.items ∙ ap (λ (v : LedgerView). v.entries ++ c.args.entry ∷ []) c.self.view_is
+
+pub returns-clause-shelf : goal.returns-clause-shelf
+returns-clause-shelf c = c.change.ensures.held ∙ ap (λ (v : LedgerView). changed v.shelf c.args.change c.args.revision) c.self.view_is
+
+pub returns-clause-answers : goal.returns-clause-answers
+returns-clause-answers c = c.forget_removed.ensures ∙ ap (λ (v : LedgerView). kept_rows c.args.change v.answers) c.self.view_is
+
+pub change-requires-clause-ready : goal.change-requires-clause-ready
+change-requires-clause-ready c = subst (λ (v : LedgerView). IsReady c.args.change v.ready) (sym c.self.view_is) c.requires.ready
+
+pub overflow_add-self : goal.overflow_add-self
+overflow_add-self c =
+    let i = c.self.inside in
+    let e = c.args.entry in
+    let is = sym c.self.view_is in
+    let fits : MayComeNext i.history.items e = subst (λ (v : LedgerView). MayComeNext v.entries e) is c.requires.next in
+    let below : length i.history.items < i.capacity = subst (λ (v : LedgerView). length v.entries < v.capacity) is c.requires.below in
+    let few : count_of e.session i.history.items ≤ length i.history.items = count_by-le-length (λ (x : Entry). x.session == e.session) i.history.items in
+    omega (arith, below, few, fits.1, c.self.invariant.0.bounded)
