@@ -1,5 +1,6 @@
 -- What an entry leaves of a book, by what each step leaves of its ledger and of what is published.
-use Rattle.std.proofs.Common.{◌≡◌, ℕ, List, [], ◌∷◌, ◌++◌, ap, sym, ◌∙◌}
+use Rattle.std.proofs.Common.{◌≡◌, ℕ, List, [], ◌∷◌, ◌++◌, ap, sym, ◌∙◌, Result, Ok, Err}
+use Rattle.std.specs.Prelude.{OnErr}
 use Rattle.bc_text.specs.Names.{NameParts}
 use Rattle.bc_memo.specs.declared.change.Change.{Change}
 use Rattle.bc_memo.specs.declared.memo.Remembered.{Remembered}
@@ -27,6 +28,11 @@ same_twice one mid other first second = record {
 -- the same ledger gives the same book
 pub same_book : (one other : LedgerView) → SameLedger one other → book_of other ≡ book_of one
 same_book one other same = λ i. record { capacity = same.capacity i; entries = same.entries i; shelf = same.shelf i; answers = same.answers i }
+
+-- what holds, holds where a call fails too
+pub on_err : {A E : Type 0} (r : Result A E) (P : Type 0) → P → OnErr r P
+on_err (Ok a) P is = tt
+on_err (Err e) P is = is
 
 -- what is published is what the same ledger holds
 pub still_published : (one other : LedgerView) (press : PressView) → SameLedger one other → press ≡ record { entries = one.entries; shelf = one.shelf } → press ≡ record { entries = other.entries; shelf = other.shelf }

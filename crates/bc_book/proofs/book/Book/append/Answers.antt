@@ -8,7 +8,7 @@ use Rattle.bc_calls.specs.Calls.{IsReply, MayComeNext, after, count_of}
 use Rattle.bc_calls.specs.Changes.{change_of, writes_after, writes_of}
 use Rattle.bc_versions.specs.Tables.{PressView}
 use Rattle.bc_book.specs.Ledgers.{Appends, AreRows, BookView, HasPlace, kept_rows, remembering}
-use Rattle.bc_book.proofs.Entering.{book_of, entered_book, kept_book, published_book, still_published}
+use Rattle.bc_book.proofs.Entering.{book_of, entered_book, kept_book, on_err, published_book, same_book, still_published}
 use Rattle.bc_book.proofs.book.Book.append.Goals as goal
 
 pub make_ready-requires : goal.make_ready-requires
@@ -84,3 +84,12 @@ returns-clause-answers g c =
     kept_book c.self.inside.ledger c.make_ready.new.self c.remember.new.self c.record.new.self c.args.session c.number-number.result c.revision-revision.result c.args.event c.in_ok-change.change
     c.make_ready.ensures.same c.remember.ensures.same c.in_ok-change.ensures.change c.record.ensures.entries c.record.ensures.shelf rows c.record.ensures.answers c.remember.ensures.answers
     ∙ ap (λ (v : BookView). kept_rows (change_of c.args.event) (remembering rows v.answers)) c.self.view_is
+
+pub returns-in_err-change-clause-refused : goal.returns-in_err-change-clause-refused
+returns-in_err-change-clause-refused g c = on_err _ _ (same_book c.self.inside.ledger c.make_ready.new.self c.make_ready.ensures.same ∙ c.self.view_is)
+
+pub returns-in_err-told-clause-refused : goal.returns-in_err-told-clause-refused
+returns-in_err-told-clause-refused g c = on_err _ _ (same_book c.self.inside.ledger c.make_ready.new.self c.make_ready.ensures.same ∙ c.self.view_is)
+
+pub returns-in_err-publish-clause-refused : goal.returns-in_err-publish-clause-refused
+returns-in_err-publish-clause-refused g c = on_err _ _ (same_book c.self.inside.ledger c.make_ready.new.self c.make_ready.ensures.same ∙ c.self.view_is)
