@@ -37,7 +37,7 @@ returns-clause-error c =
 
 pub returns-clause-requirement : goal.returns-clause-requirement
 returns-clause-requirement c =
-    rw (c.in_ok-requirements.ensures, c.deref-4.ensures.value, c.in_ok-failures.ensures)
+    rw (c.in_ok-requirements.ensures, c.deref-2.ensures.value, c.in_ok-failures.ensures)
     (listed_is_required c.args.typed.now (holds c.args.values.now) (holds c.in_ok-known.known) c.in_ok-known.ensures.tells)
 
 pub returns-clause-external : goal.returns-clause-external
