@@ -1,4 +1,5 @@
-use Rattle.std.proofs.Common.{◌≡◌, ◌+◌, ◌∙◌, ap, sym, subst, take, arith}
+use Rattle.std.proofs.Common.{◌≡◌, ◌+◌, ◌∙◌, ap, sym, subst, take, arith, length}
+use Rattle.std.proofs.lemmas.List.{length-take, length-take-le, length-drop}
 use Rattle.bc_syntax.specs.Words.{is_number}
 use Rattle.bc_tokens.specs.Token.{Counts, value}
 use Rattle.bc_tokens.proofs.Runs.{digits_split, all_digits, number_ends}
@@ -23,3 +24,12 @@ returns-clause-counts c = λ h.
     in
     let same : digits ≡ digits + c.run_len-others.result = omega (arith, none) in
     subst (λ k. Counts c.counted-digits.result.1 (value (take k bytes))) same c.counted-digits.ensures.number
+
+pub returns-clause-within : goal.returns-clause-within
+returns-clause-within c = omega (arith, length-take (c.counted-digits.result.0 + c.run_len-others.result) c.args.bytes.now)
+
+pub slice_bounds-run-end : goal.slice_bounds-run-end
+slice_bounds-run-end c =
+    let bytes = c.args.bytes.now in
+    let rest = ap length c.behind.ensures ∙ length-drop c.counted-digits.result.0 bytes in
+    sym (length-take-le _ bytes (omega (arith, rest, c.counted-digits.ensures.within, c.run_len-others.ensures.within)))

@@ -3,6 +3,7 @@ use Rattle.std.specs.Prelude.{◌==◌}
 use Rattle.std.specs.Char.{is_ascii_digit}
 use Rattle.std.proofs.lemmas.Grind.{common_steps}
 use Rattle.std.proofs.lemmas.Bool.Decides.{nat_tests}
+use Rattle.std.proofs.lemmas.List.{length-take}
 use Rattle.bc_syntax.specs.Bytes.{is_run_byte}
 use Rattle.bc_tokens.proofs.Runs.{three_digits}
 use Rattle.bc_tokens.proofs.token.three_digit_run.Goals as goal
@@ -26,3 +27,6 @@ returns-then-not-is_run_byte-clause-number c =
     let third : is_ascii_digit (slice_index bytes 2) ≡ true = grind (arith, common_steps) in
     let end : is_run_byte (slice_index bytes 3) ≡ false = grind (arith, common_steps) in
     (three_digits bytes digit other second third end).1
+
+pub returns-then-not-is_run_byte-clause-within : goal.returns-then-not-is_run_byte-clause-within
+returns-then-not-is_run_byte-clause-within c = omega (arith, length-take 3 c.args.bytes.now)
