@@ -1,0 +1,5 @@
+use Rattle.std.proofs.Common.{refl}
+use Rattle.bc_text.proofs.places.closure_value.Goals as goal
+
+pub returns : goal.returns
+returns c = rw (c.in_ok-creation.ensures {u = tt}, c.in_ok-new.ensures {u = tt}) refl
