@@ -21,6 +21,11 @@ pub counts_more : (digits : List ℕ) (i number : ℕ) → i < length digits →
 counts_more digits i number lt (inl e) small = inl (omega (arith, e, one_more digits i lt))
 counts_more digits i number lt (inr p) small = absurd (omega (arith, p.0, small))
 
+-- a number that is large stays as it is
+pub counts_still : (digits : List ℕ) (i number : ℕ) → i < length digits → Counts number (value (take i digits)) → 2 ^ 32 ≤ number → Counts number (value (take (i + 1) digits))
+counts_still digits i number low (inl same) large = inr (large, omega (arith, one_more digits i low, same, large))
+counts_still digits i number low (inr both) large = inr (large, omega (arith, one_more digits i low, both.1))
+
 -- what `value_within` tells of a number
 abbrev Told : ℕ → ℕ → Option ℕ → Type 0
 Told limit n found = found ≡ cond (nat_le n limit) (Some n) None
