@@ -1,6 +1,6 @@
 use Rattle.std.proofs.Common.{◌≡◌, ◌+◌, ◌<◌, ℕ, List, ◌++◌, [], ◌∷◌, length, get_or, take, refl, sym, ap, ◌∙◌, append_assoc, append-nil}
 use Rattle.std.specs.List.{flat_map}
-use Rattle.std.proofs.lemmas.List.{take_more}
+use Rattle.std.proofs.lemmas.List.{take_all, take_more}
 use Rattle.std.proofs.lemmas.Grind.{put_two, flat_map-append}
 use Rattle.bc_text.specs.Names.{segment_text}
 use Rattle.bc_text.proofs.name.NameDisplay.fmt.Goals as goal
@@ -17,3 +17,6 @@ loop-segment-preserved g c = λ plain.
     let before = c.loop-segment.invariant plain in
     let here = (c.in_ok-write.ensures {u = tt}).writes before.plain refl in
     put_two _ _ _ _ _ _ _ before here (one_more c.args.self.now.root c.segments-segment-items.result.now c.loop-segment.segment-index _ c.loop-segment-test.true)
+
+pub returns-clause-writes : goal.returns-clause-writes
+returns-clause-writes g c = λ plain done. rw (take_all _ _ c.loop-segment-test.false, c.segments-segment-items.ensures) at (c.loop-segment.invariant plain)
