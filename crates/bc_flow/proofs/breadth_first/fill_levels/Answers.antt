@@ -1,11 +1,21 @@
-use Rattle.std.proofs.Common.{◌+◌, [], arith, length}
+use Rattle.std.proofs.Common.{◌+◌, [], arith, rules, tests}
 use Rattle.bc_flow.specs.Levels.{is_unreached, GivesLevel, IsSuccessor}
 use Rattle.std.proofs.lemmas.List.Sums.{count_by-le-length}
-use Rattle.bc_flow.proofs.BreadthFirst.{AreLevelsUpTo-first, AreLevelsUpTo-more, front_within}
+use Rattle.bc_flow.proofs.BreadthFirst.{AreLevelsUpTo-first, AreLevelsUpTo-more, AreLevels-end, front_within}
 use Rattle.bc_flow.proofs.breadth_first.fill_levels.Goals as goal
 
-pub next_level-requires-clause-front : goal.next_level-requires-clause-front
-next_level-requires-clause-front c = rw c.deref.ensures.value (front_within _ _ _ _ _ c.levels.invariant.spread)
+pub next_level-requires : goal.next_level-requires
+next_level-requires c =
+    let invariant = c.levels.invariant in
+    record {
+      front = rw c.deref.ensures.value (front_within _ _ _ _ _ invariant.spread);
+      level = omega arith;
+      edges = rw invariant.count c.requires.edges;
+      chains = rw invariant.count c.requires.chains;
+    }
+
+pub returns : goal.returns
+returns c = AreLevels-end c.args.edges.now c.args.sources.now c.levels.level c.levels.levels c.levels.front.items (search (rules, tests)) c.levels.invariant.spread
 
 pub levels-preserved : goal.levels-preserved
 levels-preserved c =

@@ -1,5 +1,5 @@
 use Rattle.std.proofs.Common.{◌≡◌, take, arith, get_or}
-use Rattle.std.proofs.lemmas.List.{get_or_default}
+use Rattle.std.proofs.lemmas.List.{get_or_default, take_all}
 use Rattle.bc_flow.specs.declared.graph.Edge.{Edge}
 use Rattle.bc_flow.specs.Graph.{HasEdge}
 use Rattle.bc_flow.proofs.Chains.{skipped, first_is, next_is}
@@ -36,3 +36,6 @@ loop-at-preserved c =
       marks = GivesLevel-edge c.args.edges.now c.args.node c.loop-at.at c.index-at-in-loop-at.result.now c.args.level e _ _ _ _ _ _ c.requires.level c.loop-at-test.true
           (get_or_default c.args.edges.now c.loop-at.at e none c.loop-at-test.true) own is c.loop-at.invariant.marks c.in_ok-reach.ensures;
     }
+
+pub returns : goal.returns
+returns c = rw (take_all c.loop-at.at c.args.edges.now c.loop-at-test.false) at c.loop-at.invariant.marks

@@ -1,5 +1,5 @@
-use Rattle.std.proofs.Common.{◌≡◌, ◌+◌, ◌<◌, [], length, arith, get_or, ◌∙◌}
-use Rattle.std.proofs.lemmas.List.{take_more}
+use Rattle.std.proofs.Common.{◌≡◌, ◌+◌, ◌<◌, [], length, arith, get_or, sym, ◌∙◌}
+use Rattle.std.proofs.lemmas.List.{take_more, take_all}
 use Rattle.bc_flow.specs.declared.graph.Edge.{Edge}
 use Rattle.bc_flow.proofs.Chains.{skipped, first_is, next_is}
 use Rattle.bc_flow.proofs.Spreads.{Spreads-none, Spreads-same, Spreads-more}
@@ -37,4 +37,29 @@ loop-at-preserved c =
       leaves = is.leaves;
       spreads = Spreads-same c.args.node _ _ _ _ _ _ _ _ (skipped c.args.edges.now c.args.node (c.loop-at.at + 1) c.index-at-in-loop-at.result.now is)
           (rw (take_more c.args.edges.now c.loop-at.at none c.loop-at-test.true) (Spreads-more c.args.node _ _ _ e _ _ _ _ _ _ c.loop-at.invariant.spreads (rw own at c.in_ok-enter.ensures.spreads)));
+    }
+
+pub enter-requires : goal.enter-requires
+enter-requires c =
+    let none : Edge = record { from = 0; to = 0 } in
+    let e : Edge = get_or c.args.edges.now c.loop-at.at none in
+    let invariant = c.loop-at.invariant in
+    let within = c.requires.edges c.loop-at.at none c.loop-at-test.true in
+    let to : e.to < length c.loop-at.rows = omega (arith, within.1, invariant.count) in
+    let size = invariant.sizes e.to [] to in
+    record {
+      to = to;
+      fact = omega (arith, c.requires.fact, size);
+      rows = λ k d h. invariant.sizes k d h ∙ sym size;
+      pending = rw invariant.count invariant.pending;
+    }
+
+pub returns : goal.returns
+returns c =
+    let invariant = c.loop-at.invariant in
+    record {
+      nodes = invariant.count;
+      rows = invariant.sizes;
+      pending = invariant.pending;
+      spreads = rw (take_all c.loop-at.at c.args.edges.now c.loop-at-test.false) at invariant.spreads;
     }
