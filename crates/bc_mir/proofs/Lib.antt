@@ -6,3 +6,4 @@ pub mod Entries
 pub mod Replacing
 pub mod Blanking
 pub mod Declared
+pub mod Numbering

@@ -1,5 +1,6 @@
-use Rattle.std.proofs.Common.{◌≡◌, ◌+◌, length, length-append, ap, ◌∙◌, arith}
-use Rattle.bc_mir.specs.Mir.{block_steps}
+use Rattle.std.proofs.Common.{◌≡◌, ◌+◌, length, length-append, refl, ap, ◌∙◌, arith}
+use Rattle.bc_types.proofs.Appending.{appended-all}
+use Rattle.bc_mir.specs.Mir.{block_steps, steps_from, entries_from}
 use Rattle.bc_mir.proofs.Mirs.{length-block_steps, steps-more, entries-more}
 use Rattle.bc_mir.proofs.mir.push_blocks.Goals as goal
 
@@ -16,4 +17,14 @@ loop-number-preserved c =
     record {
       steps = rw added (steps-more here.steps.items _ here.number blocks block below is here.invariant.steps);
       entries = rw (count, c.in_ok-push.ensures.items) (entries-more here.entries.items _ c.len.result (length here.steps.items) here.number blocks block below is counted here.invariant.entries);
+    }
+
+pub returns : goal.returns
+returns c =
+    let blocks = c.args.blocks.now in
+    let here = c.loop-number in
+    let past = c.loop-number-test.false in
+    record {
+      steps = appended-all (steps_from here.number) _ _ blocks here.number past refl here.invariant.steps;
+      entries = appended-all (entries_from (length here.steps.items)) _ _ blocks here.number past refl here.invariant.entries;
     }
