@@ -1,3 +1,4 @@
 pub mod Listing
 pub mod Within
 pub mod Paths
+pub mod Appending
