@@ -1,4 +1,4 @@
-use Rattle.std.proofs.Common.{get_or, ◌∙◌}
+use Rattle.std.proofs.Common.{length, get_or, ap, ◌∙◌}
 use Rattle.std.proofs.lemmas.List.Elements.{Contains-get_or}
 use Rattle.bc_flow.specs.Flow.{holds}
 use Rattle.bc_solve.specs.Ways.{AreLengths}
@@ -25,3 +25,8 @@ returns-clause-ways c =
       are_lengths = are;
       are_steps = AreSteps-end facts.pairs c.args.edges.now lengths c.in_ok-steps.steps.items c.requires.edges (rw count c.requires.within) are.goes_on so_far;
     }
+
+pub steps-requires : goal.steps-requires
+steps-requires c =
+    let count = ap length c.deref-2.ensures.value ∙ c.in_ok-lengths.ensures.count ∙ c.regions.ensures in
+    record { edges = rw count c.requires.within; chains = rw count c.requires.chains }
