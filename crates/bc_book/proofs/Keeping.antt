@@ -8,8 +8,8 @@ use Rattle.std.specs.BTreeMap.{is_at, insert_entry}
 use Rattle.std.proofs.lemmas.List.{length-map, length-set}
 use Rattle.std.proofs.lemmas.Map.Keys.{IsDistinct-from_sorted}
 use Rattle.std.proofs.lemmas.Map.Made.{AllPairs-from_IsDistinct}
-use Rattle.bc_text.specs.Names.{NameParts, name_order, is_same_name}
-use Rattle.bc_text.proofs.Equality.{name}
+use Rattle.bc_names.specs.Names.{NameParts, name_order, is_same_name}
+use Rattle.bc_names.proofs.Equality.{name}
 use Rattle.bc_prov.specs.declared.outcome.Outcome.{Outcome}
 use Rattle.bc_prov.specs.State.{at_name}
 use Rattle.bc_prov.specs.Outcome.{IsOutcomeIn}

@@ -6,8 +6,8 @@ use Rattle.std.specs.List.{AllByRecursion, Contains}
 use Rattle.std.proofs.lemmas.List.{append-nil}
 use Rattle.std.specs.Map.{keys_of}
 use Rattle.std.specs.BTreeMap.{is_at, insert_entry}
-use Rattle.bc_text.specs.Names.{NameParts, name_order, is_same_name}
-use Rattle.bc_text.proofs.Equality.{name}
+use Rattle.bc_names.specs.Names.{NameParts, name_order, is_same_name}
+use Rattle.bc_names.proofs.Equality.{name}
 use Rattle.bc_prov.specs.declared.outcome.Outcome.{Outcome}
 use Rattle.bc_prov.specs.State.{at_name}
 use Rattle.bc_prov.specs.Outcome.{IsOutcomeIn}

@@ -4,7 +4,7 @@ use Rattle.std.specs.Prelude.{IsSome, is_some}
 use Rattle.std.specs.Option.{option_map}
 use Rattle.std.specs.List.{AllByRecursion, Contains}
 use Rattle.std.specs.BTreeMap.{is_at}
-use Rattle.bc_text.specs.Names.{NameParts, name_order}
+use Rattle.bc_names.specs.Names.{NameParts, name_order}
 use Rattle.bc_prov.specs.State.{at_name}
 use Rattle.bc_prov.specs.Outcome.{IsOutcomeIn}
 use Rattle.bc_prov.specs.declared.outcome.Outcome.{Outcome}

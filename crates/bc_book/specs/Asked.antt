@@ -1,6 +1,6 @@
 -- What a session asks its book for, and the call that this is.
 use Rattle.std.specs.Prelude.{◌≡◌, List}
-use Rattle.bc_text.specs.Names.{NameParts}
+use Rattle.bc_names.specs.Names.{NameParts}
 use Rattle.bc_prov.specs.declared.outcome.Outcome.{Outcome}
 use Rattle.bc_calls.specs.declared.call.PutReply.{PutReply}
 use Rattle.bc_calls.specs.declared.call.RemoveReply.{RemoveReply}

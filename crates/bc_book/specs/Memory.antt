@@ -1,6 +1,6 @@
 -- When what is remembered is right.
 use Rattle.std.specs.Prelude.{◌≡◌, ℕ, ◌≤◌, Option, Some, None, IsSome, List}
-use Rattle.bc_text.specs.Names.{NameParts}
+use Rattle.bc_names.specs.Names.{NameParts}
 use Rattle.bc_prov.specs.State.{State, at_name}
 use Rattle.bc_prov.specs.Outcome.{IsOutcomeIn}
 use Rattle.bc_outcomes.specs.Laws.{IsUsed}

@@ -6,8 +6,8 @@ ghost use Rattle.bc_book.specs.Ledgers.{bodies_of};
 
 use bc_calls::{MOST_BODIES, PutReply, RemoveReply};
 use bc_memo::{Shelf, suits};
+use bc_names::Name;
 use bc_syntax::Unit;
-use bc_text::Name;
 use std::alloc::{AllocError, Global};
 
 // The reply to a put of a unit that may be held at the name.

@@ -5,8 +5,8 @@ ghost use Rattle.bc_book.specs.Ledgers.{row_list};
 
 use bc_calls::Work;
 use bc_memo::Remembered;
+use bc_names::Name;
 use bc_prov::{Declared, Outcome, PieceSet, Shared};
-use bc_text::Name;
 use std::alloc::{AllocError, Global};
 use std::cmp::Ordering;
 

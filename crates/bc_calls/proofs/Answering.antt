@@ -4,9 +4,9 @@ use Rattle.std.specs.Prelude.{IsSome, MatchOption, is_some}
 use Rattle.std.specs.List.{list_any}
 use Rattle.std.specs.Option.{option_or}
 use Rattle.std.proofs.lemmas.List.Folds.{list_any-append}
-use Rattle.bc_text.specs.Names.{NameParts, is_within, is_same_name}
-use Rattle.bc_text.proofs.Equality.{name}
-use Rattle.bc_text.proofs.Within.{within_self}
+use Rattle.bc_names.specs.Names.{NameParts, is_within, is_same_name}
+use Rattle.bc_names.proofs.Equality.{name}
+use Rattle.bc_names.proofs.Within.{within_self}
 use Rattle.bc_syntax.specs.declared.syntax.Body.{Body}
 use Rattle.bc_prov.specs.declared.outcome.Outcome.{Outcome}
 use Rattle.bc_prov.specs.State.{State, Bodies, at_name}

@@ -2,7 +2,7 @@
 use Rattle.std.proofs.Common.{◌≡◌, refl}
 use Rattle.std.specs.Bool.{Decides}
 use Rattle.std.proofs.lemmas.Bool.Decides.{Decides-and, Decides-like}
-use Rattle.bc_text.proofs.Equality.{name}
+use Rattle.bc_names.proofs.Equality.{name}
 use Rattle.bc_syntax.proofs.Equality.{apart, body}
 use Rattle.bc_prov.proofs.Equality.{outcome, declared, listing}
 use Rattle.bc_calls.specs.declared.call.PutReply.{PutReply}

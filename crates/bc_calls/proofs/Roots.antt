@@ -8,8 +8,8 @@ use Rattle.std.proofs.lemmas.Bool.{eqb-true}
 use Rattle.std.proofs.lemmas.List.Elements.{All-contains, All-contains_itself, All-filter, filter_passes}
 use Rattle.std.proofs.lemmas.List.Kept.{IsStrictlySortedBy-filter}
 use Rattle.std.proofs.lemmas.Map.Views.{Contains-keys_from_lookup, IsSome-lookup_from_Contains}
-use Rattle.bc_text.specs.Names.{NameParts, name_order}
-use Rattle.bc_text.proofs.Equality.{names_total}
+use Rattle.bc_names.specs.Names.{NameParts, name_order}
+use Rattle.bc_names.proofs.Equality.{names_total}
 use Rattle.bc_syntax.specs.declared.syntax.Body.{Body}
 use Rattle.bc_prov.specs.State.{at_name, is_root}
 use Rattle.bc_memo.specs.declared.place.Place.{Place}

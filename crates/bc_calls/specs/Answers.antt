@@ -1,7 +1,7 @@
 -- Which names are answered after a history.
 use Rattle.std.specs.Prelude.{◌≡◌, ◌&&◌, Bool, true, false, Option, Some, None, IsSome, is_some, List, ◌∷◌, ◌++◌, if◌then◌else◌, MatchOption}
 use Rattle.std.specs.List.{list_any}
-use Rattle.bc_text.specs.Names.{NameParts, is_same_name, is_within}
+use Rattle.bc_names.specs.Names.{NameParts, is_same_name, is_within}
 use Rattle.bc_prov.specs.declared.outcome.Outcome.{Outcome}
 use Rattle.bc_prov.specs.Outcome.{IsOutcomeIn}
 use Rattle.bc_memo.specs.Places.{ShelfView, AreOrdered, unit_of, answer_of}

@@ -2,7 +2,7 @@
 use Rattle.std.specs.Prelude.{◌≡◌, ◌↔◌, List, [], IsSome}
 use Rattle.std.specs.List.{AllZip, Contains}
 use Rattle.std.specs.List.Sorted.{IsStrictlySortedBy}
-use Rattle.bc_text.specs.Names.{NameParts, name_order}
+use Rattle.bc_names.specs.Names.{NameParts, name_order}
 use Rattle.bc_prov.specs.State.{State}
 use Rattle.bc_prov.specs.Snapshots.{SnapshotView, IsPartOf}
 use Rattle.bc_calls.specs.declared.call.Entry.{Entry}

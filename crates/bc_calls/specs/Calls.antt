@@ -1,7 +1,7 @@
 -- Declarations and a map from names to bodies, which know of no memo, and the histories of one thread over them.
 use Rattle.std.specs.Prelude.{◌≡◌, ◌≢◌, ◌==◌, ◌↔◌, ◌<◌, ℕ, Bool, true, false, Option, Some, None, IsSome, List, [], ◌∷◌, ◌++◌, length, map, filter, fold, count_by, if◌then◌else◌}
 use Rattle.std.specs.List.{AllPairs, Contains}
-use Rattle.bc_text.specs.Names.{NameParts, is_same_name}
+use Rattle.bc_names.specs.Names.{NameParts, is_same_name}
 use Rattle.bc_syntax.specs.declared.syntax.Declaration.{Declaration}
 use Rattle.bc_syntax.specs.declared.syntax.Body.{Body}
 use Rattle.bc_prov.specs.State.{State, Bodies, Suits, at_name}

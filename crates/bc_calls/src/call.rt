@@ -4,9 +4,9 @@ ghost use Rattle.bc_calls.specs.Calls.{stores, takes};
 ghost use Rattle.bc_calls.specs.Changes.{change_of, writes};
 
 use bc_memo::Change;
+use bc_names::Name;
 use bc_prov::{Declared, Listing, Outcome, Shared};
 use bc_syntax::{Types, Unit};
-use bc_text::Name;
 use std::alloc::AllocError;
 
 /// The most bodies that a database may hold.

@@ -1,7 +1,7 @@
 //! Snapshots that were begun, and the work on them, which needs no part of what they were taken from.
 ghost use Rattle.std.specs.Prelude.{◌≡◌, ◌↔◌, None, IfOk, IfSome, IsOk};
 ghost use Rattle.std.specs.Option.{option_or};
-ghost use Rattle.bc_text.specs.Names.{NameParts};
+ghost use Rattle.bc_names.specs.Names.{NameParts};
 ghost use Rattle.bc_prov.specs.Outcome.{IsOutcomeIn};
 ghost use Rattle.bc_prov.specs.Pieces.{ArePieces, rows_of};
 ghost use Rattle.bc_prov.specs.Snapshots.{IsPartOf};
@@ -11,9 +11,9 @@ ghost use Rattle.bc_memo.specs.Places.{AreFitting};
 ghost use Rattle.bc_calls.specs.Works.{StandsIn, Stood};
 
 use bc_memo::{Part, Shelf};
+use bc_names::Name;
 use bc_outcomes::{Found, find_outcome};
 use bc_prov::{Outcome, PieceSet, Pieces, Providers, Shared, Snapshot};
-use bc_text::Name;
 use std::alloc::{AllocError, Global};
 use std::marker::Model;
 

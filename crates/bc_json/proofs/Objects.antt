@@ -6,7 +6,7 @@ use Rattle.serde_json.specs.declared.value.Value.{Value}
 use Rattle.serde_json.proofs.OnLiterals.{serde_json_on_literals}
 use Rattle.json.specs.Print.{quoted}
 use Rattle.bc_syntax.specs.declared.syntax.Region.{Region}
-use Rattle.bc_text.specs.Names.{NameParts, name_text}
+use Rattle.bc_names.specs.Names.{NameParts, name_text}
 use Rattle.bc_mir.specs.declared.mir.Point.{Point}
 use Rattle.bc_mir.specs.declared.typed.Where.{Where}
 use Rattle.bc_mir.specs.Lines.{point_text, place_text}

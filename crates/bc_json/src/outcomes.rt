@@ -6,8 +6,8 @@ ghost use Rattle.bc_json.specs.Texts.{HasText, array_text};
 
 use crate::errors::errors_value;
 use bc_mir::Where;
+use bc_names::Name;
 use bc_prov::{BodyErrors, Outcome};
-use bc_text::Name;
 use serde_json::{Value, json};
 use std::alloc::{AllocError, Global};
 

@@ -4,8 +4,8 @@ ghost use Rattle.bc_json.specs.Json.{json_line};
 ghost use Rattle.bc_json.specs.Texts.{HasText};
 
 use crate::outcomes::outcome_value;
+use bc_names::Name;
 use bc_prov::Outcome;
-use bc_text::Name;
 use serde_json::{Value, json};
 use std::alloc::{AllocError, Global};
 

@@ -10,8 +10,8 @@ use Rattle.std.specs.declared.cmp.Ordering.TheVariants.{Less}
 use Rattle.std.proofs.lemmas.Map.Entries.{lookup-filter-keys}
 use Rattle.bc_syntax.specs.declared.syntax.Declaration.{Declaration}
 use Rattle.bc_syntax.specs.declared.syntax.Body.{Body}
-use Rattle.bc_text.specs.Names.{NameParts, name_order, is_same_name, is_within}
-use Rattle.bc_text.proofs.Equality.{name}
+use Rattle.bc_names.specs.Names.{NameParts, name_order, is_same_name, is_within}
+use Rattle.bc_names.proofs.Equality.{name}
 use Rattle.bc_prov.specs.State.{at_name}
 use Rattle.bc_prov.specs.Pieces.{PieceView, ArePieces, IsPieceFor}
 use Rattle.bc_prov.specs.Outcome.{OutcomeRows}

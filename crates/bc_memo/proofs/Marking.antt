@@ -11,9 +11,9 @@ use Rattle.std.specs.declared.cmp.Ordering.TheVariants.{Less, Equal, Greater}
 use Rattle.std.proofs.lemmas.Bool.{le-ltb, lt-ltb, ltb-false, ltb-true}
 use Rattle.std.proofs.lemmas.List.{length-take-le, length-take}
 use Rattle.bc_syntax.specs.declared.syntax.Body.{Body}
-use Rattle.bc_text.specs.Names.{NameParts, name_order, is_same_name, is_within}
-use Rattle.bc_text.proofs.Equality.{name, exact_names}
-use Rattle.bc_text.proofs.Within.{beginning, beginning_within, both, first_of, second_of, within_beginning, within_self}
+use Rattle.bc_names.specs.Names.{NameParts, name_order, is_same_name, is_within}
+use Rattle.bc_names.proofs.Equality.{name, exact_names}
+use Rattle.bc_names.proofs.Within.{beginning, beginning_within, both, first_of, second_of, within_beginning, within_self}
 use Rattle.bc_prov.specs.State.{Suits, at_name}
 use Rattle.bc_prov.specs.Outcome.{OutcomeRows}
 use Rattle.bc_prov.specs.declared.outcome.Outcome.{Outcome}

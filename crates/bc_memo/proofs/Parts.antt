@@ -10,9 +10,9 @@ use Rattle.std.proofs.lemmas.Bool.{cases_eq}
 use Rattle.std.proofs.lemmas.Cmp.{tied_itself}
 use Rattle.std.proofs.lemmas.List.{get_or-drop, length-drop, take_rest}
 use Rattle.bc_syntax.specs.declared.syntax.Body.{Body}
-use Rattle.bc_text.specs.Names.{NameParts, name_order, is_within}
-use Rattle.bc_text.proofs.Equality.{names_total}
-use Rattle.bc_text.proofs.Within.{within_least, within_between}
+use Rattle.bc_names.specs.Names.{NameParts, name_order, is_within}
+use Rattle.bc_names.proofs.Equality.{names_total}
+use Rattle.bc_names.proofs.Within.{within_least, within_between}
 use Rattle.bc_prov.specs.State.{Suits}
 use Rattle.bc_prov.specs.Snapshots.{IsSnapshot, SnapshotView}
 use Rattle.bc_memo.specs.declared.place.Place.{Place}

@@ -17,9 +17,9 @@ use Rattle.std.proofs.lemmas.List.{get_or_default}
 use Rattle.std.proofs.lemmas.Map.{lookup-remove_entry}
 use Rattle.std.proofs.lemmas.Map.Entries.{lookup-filter-keys}
 use Rattle.std.proofs.lemmas.Map.Keys.{IsDistinct-from_sorted}
-use Rattle.bc_text.specs.Names.{NameParts, name_order, is_same_name, is_within}
-use Rattle.bc_text.proofs.Equality.{name, exact_names, names_total}
-use Rattle.bc_text.proofs.Within.{within_self}
+use Rattle.bc_names.specs.Names.{NameParts, name_order, is_same_name, is_within}
+use Rattle.bc_names.proofs.Equality.{name, exact_names, names_total}
+use Rattle.bc_names.proofs.Within.{within_self}
 use Rattle.bc_prov.specs.State.{at_name}
 use Rattle.bc_prov.proofs.Lookup.{equal_only, index_le}
 use Rattle.bc_memo.specs.declared.place.Place.{Place}

@@ -1,7 +1,7 @@
 -- What is remembered for a name, and when it stands.
 use Rattle.std.specs.Prelude.{◌≡◌, ℕ, Option, Some, List, map, MatchOption}
 use Rattle.std.specs.List.{AllByRecursion}
-use Rattle.bc_text.specs.Names.{NameParts}
+use Rattle.bc_names.specs.Names.{NameParts}
 use Rattle.bc_prov.specs.State.{at_name}
 use Rattle.bc_prov.specs.declared.outcome.Outcome.{Outcome}
 use Rattle.bc_memo.specs.declared.memo.Remembered.{Remembered}

@@ -9,7 +9,7 @@ use Rattle.std.specs.List.{AllByRecursion}
 use Rattle.std.specs.List.Sorted.{IsStrictlySortedBy}
 use Rattle.bc_syntax.specs.declared.syntax.Declaration.{Declaration}
 use Rattle.bc_syntax.specs.declared.syntax.Body.{Body}
-use Rattle.bc_text.specs.Names.{NameParts, name_order, is_same_name, is_within}
+use Rattle.bc_names.specs.Names.{NameParts, name_order, is_same_name, is_within}
 use Rattle.bc_prov.specs.State.{Suits, at_name, is_root}
 use Rattle.bc_prov.specs.Pieces.{PieceView, IsPieceFor}
 use Rattle.bc_prov.specs.Snapshots.{SnapshotView}

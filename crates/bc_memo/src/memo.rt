@@ -3,15 +3,15 @@ ghost use Rattle.std.specs.Prelude.{◌≡◌, ◌↔◌, ◌+◌, ◌<◌, ◌�
 ghost use Rattle.std.specs.BTreeMap.{insert_entry, is_at};
 ghost use Rattle.std.specs.Map.{remove_entry};
 ghost use Rattle.std.specs.List.{AllByRecursion};
-ghost use Rattle.bc_text.specs.Names.{name_order};
+ghost use Rattle.bc_names.specs.Names.{name_order};
 ghost use Rattle.bc_prov.specs.State.{at_name};
 ghost use Rattle.bc_memo.specs.Memos.{IsRowOf, Stands, recorded};
 ghost use Rattle.bc_memo.specs.Places.{revision_at};
 
 use crate::rows::{find, put, take};
 use crate::shelf::Shelf;
+use bc_names::Name;
 use bc_prov::{Outcome, Shared};
-use bc_text::Name;
 use std::alloc::{AllocError, Global};
 use std::marker::Model;
 

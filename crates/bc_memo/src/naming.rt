@@ -2,8 +2,8 @@
 ghost use Rattle.std.specs.Prelude.{◌↔◌, IfOk, IsTrue};
 ghost use Rattle.bc_prov.specs.State.{HasRoom, Suits, SuitsKind};
 
+use bc_names::Name;
 use bc_syntax::{Unit, UnitKind};
-use bc_text::Name;
 use std::alloc::{AllocError, Global};
 
 // Whether a unit of this kind may have the name.

@@ -3,14 +3,14 @@ ghost use Rattle.std.specs.Prelude.{◌≡◌, ◌+◌, ◌<◌, ◌≤◌, [], 
 ghost use Rattle.std.specs.BTreeMap.{insert_entry, is_at};
 ghost use Rattle.std.specs.Map.{remove_entry};
 ghost use Rattle.std.specs.Option.{option_copied};
-ghost use Rattle.bc_text.specs.Names.{name_order};
+ghost use Rattle.bc_names.specs.Names.{name_order};
 ghost use Rattle.bc_prov.specs.State.{at_name};
 ghost use Rattle.bc_memo.specs.Places.{AreOrdered, most_rows, part_in, pieces_after, pieces_with};
 
 use crate::change::Change;
 use crate::rows::{find, put, take, within};
+use bc_names::Name;
 use bc_prov::{Piece, Pieces, Shared, share_pieces};
-use bc_text::Name;
 use std::alloc::{AllocError, Global};
 use std::marker::Model;
 

@@ -2,10 +2,10 @@
 ghost use Rattle.std.specs.Prelude.{◌≡◌, ◌<◌, IfErr, IfOk, vec_capacity, vec_len};
 ghost use Rattle.std.specs.BTreeMap.{insert_entry, is_at};
 ghost use Rattle.std.specs.Map.{remove_entry};
-ghost use Rattle.bc_text.specs.Names.{name_order};
+ghost use Rattle.bc_names.specs.Names.{name_order};
 ghost use Rattle.bc_memo.specs.Places.{AreOrdered, IsFoundAt, IsGapAt, IsStartAt, part_in};
 
-use bc_text::Name;
+use bc_names::Name;
 
 /// The row of a name, or the row before which it would stand.
 pub(crate) fn find<T>(rows: &[(Name, T)], name: &Name) -> Result<usize, usize>

@@ -1,7 +1,7 @@
 //! What is held: declarations, and units with their answers in the order of their names.
 ghost use Rattle.std.specs.Prelude.{◌≡◌, ◌↔◌, ◌++◌, ◌<◌, ◌≤◌, [], IfOk, IsOk, IsTrue, None, OnOk, is_some, length, map, vec_capacity};
 ghost use Rattle.std.specs.Option.{option_copied};
-ghost use Rattle.bc_text.specs.Names.{NameParts};
+ghost use Rattle.bc_names.specs.Names.{NameParts};
 ghost use Rattle.bc_prov.specs.State.{at_name};
 ghost use Rattle.bc_memo.specs.declared.change.Change.TheVariants.{Answers};
 ghost use Rattle.bc_memo.specs.declared.place.Place.{Place};
@@ -10,9 +10,9 @@ ghost use Rattle.bc_memo.specs.Places.{AreOrdered, IsHeld, IsReady, MayChange, a
 use crate::change::Change;
 use crate::place::Place;
 use crate::rows::{find, put, take, within};
+use bc_names::Name;
 use bc_prov::{Declared, Outcome, Shared, Snapshot};
 use bc_syntax::Unit;
-use bc_text::Name;
 use std::alloc::{AllocError, Global};
 use std::marker::Model;
 

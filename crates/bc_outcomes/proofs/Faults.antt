@@ -1,7 +1,7 @@
 -- What a fault is.
 use Rattle.std.proofs.Common.{◌≡◌, ℕ, zero, suc, List, [], ◌∷◌, subst, Option, Some, None}
 use Rattle.std.specs.Option.{option_map, option_or}
-use Rattle.bc_text.specs.Names.{NameParts}
+use Rattle.bc_names.specs.Names.{NameParts}
 use Rattle.bc_syntax.specs.Children.{children_of}
 use Rattle.bc_mir.specs.Typing.{misfit}
 use Rattle.bc_syntax.specs.declared.syntax.Body.{Body}

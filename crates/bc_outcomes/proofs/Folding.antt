@@ -4,7 +4,7 @@ use Rattle.std.specs.Prelude.{map, fold, is_none, if◌then◌else◌}
 use Rattle.std.specs.List.{AllZip, AllByRecursion, flat_map, zip}
 use Rattle.std.specs.Option.{option_or, option_map}
 use Rattle.std.proofs.lemmas.List.Sums.{fold-append}
-use Rattle.bc_text.specs.Names.{NameParts}
+use Rattle.bc_names.specs.Names.{NameParts}
 use Rattle.bc_syntax.specs.Children.{children_of}
 use Rattle.bc_syntax.specs.declared.syntax.Declaration.{Declaration}
 use Rattle.bc_syntax.specs.declared.syntax.Body.{Body}

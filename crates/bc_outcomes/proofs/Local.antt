@@ -1,11 +1,11 @@
 -- The outcome of a name is that of its part of what is held: all names on which it rests are in that part.
 use Rattle.std.proofs.Common.{◌≡◌, sym, subst, true, inl, inr}
-use Rattle.bc_text.specs.Names.{NameParts, is_within}
+use Rattle.bc_names.specs.Names.{NameParts, is_within}
 use Rattle.bc_prov.specs.declared.outcome.Outcome.{Outcome}
 use Rattle.bc_prov.specs.Outcome.{IsOutcomeIn}
 use Rattle.bc_prov.specs.State.{State}
 use Rattle.bc_outcomes.specs.Laws.{HaveSamePart, IsUsed}
-use Rattle.bc_text.proofs.Within.{within_self, within_child}
+use Rattle.bc_names.proofs.Within.{within_self, within_child}
 use Rattle.bc_outcomes.proofs.Used.{outcome_used}
 
 used_within : (root : NameParts) (state : State) (name : NameParts) → IsUsed root state name → is_within root name ≡ true

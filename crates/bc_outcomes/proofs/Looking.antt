@@ -3,7 +3,7 @@ use Rattle.std.proofs.Common.{◌≡◌, ℕ, ◌<◌, ⊎_elim, subst, List, []
 use Rattle.std.specs.Prelude.{map, Option, Some, None}
 use Rattle.std.specs.List.{AllZip, AllByRecursion}
 use Rattle.std.specs.Option.{option_map, option_or}
-use Rattle.bc_text.specs.Names.{NameParts}
+use Rattle.bc_names.specs.Names.{NameParts}
 use Rattle.bc_syntax.specs.Children.{children_of}
 use Rattle.bc_syntax.specs.declared.syntax.Declaration.{Declaration}
 use Rattle.bc_syntax.specs.declared.syntax.Body.{Body}

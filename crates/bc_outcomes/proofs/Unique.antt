@@ -4,7 +4,7 @@ use Rattle.std.specs.List.{AllZip}
 use Rattle.bc_syntax.specs.declared.syntax.Body.{Body}
 use Rattle.bc_syntax.specs.declared.syntax.Region.{Region}
 use Rattle.bc_syntax.specs.Children.{children_of}
-use Rattle.bc_text.specs.Names.{NameParts}
+use Rattle.bc_names.specs.Names.{NameParts}
 use Rattle.bc_types.specs.Declarations.{first_bad}
 use Rattle.bc_mir.specs.Mir.{Mir}
 use Rattle.bc_live.specs.Live.{IsLive}

@@ -5,7 +5,7 @@ use Rattle.std.specs.List.{AllZip, AllByRecursion, Contains, cons_option, filter
 use Rattle.std.specs.Option.{option_map, option_or}
 use Rattle.std.specs.BTreeMap.{is_at}
 use Rattle.std.proofs.lemmas.List.Elements.{Contains-append_left, Contains-append_right}
-use Rattle.bc_text.specs.Names.{NameParts, is_within, name_order}
+use Rattle.bc_names.specs.Names.{NameParts, is_within, name_order}
 use Rattle.bc_syntax.specs.Children.{children_of}
 use Rattle.bc_syntax.specs.declared.syntax.Declaration.{Declaration}
 use Rattle.bc_syntax.specs.declared.syntax.Body.{Body}
@@ -22,7 +22,7 @@ use Rattle.bc_prov.specs.Outcome.{IsReported, IsOutcomeAfter, IsOutcomeOf, IsOut
 use Rattle.bc_prov.specs.Snapshots.{SnapshotView, IsPartOf, children_named, names_used}
 use Rattle.bc_outcomes.specs.Laws.{HaveSameUsed, IsUsed}
 use Rattle.bc_prov.proofs.Lookup.{at_itself}
-use Rattle.bc_text.proofs.Within.{within_self, within_child}
+use Rattle.bc_names.proofs.Within.{within_self, within_child}
 
 -- ---- members of lists
 

@@ -3,7 +3,7 @@ use Rattle.std.specs.Prelude.{◌≡◌, ◌⊎◌, ℕ, true, Some}
 use Rattle.std.specs.List.{Contains}
 use Rattle.bc_syntax.specs.declared.syntax.Body.{Body}
 use Rattle.bc_syntax.specs.Children.{children_of}
-use Rattle.bc_text.specs.Names.{NameParts, is_within}
+use Rattle.bc_names.specs.Names.{NameParts, is_within}
 use Rattle.bc_prov.specs.declared.outcome.Outcome.{Outcome}
 use Rattle.bc_prov.specs.State.{State, child}
 use Rattle.bc_prov.specs.Outcome.{IsOutcomeIn}

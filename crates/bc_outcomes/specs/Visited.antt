@@ -1,7 +1,7 @@
 -- A body that is visited.
 use Rattle.std.specs.Prelude.{◌≡◌, Option, IfSome}
 use Rattle.bc_syntax.specs.declared.syntax.Body.{Body}
-use Rattle.bc_text.specs.Names.{NameParts}
+use Rattle.bc_names.specs.Names.{NameParts}
 use Rattle.bc_mir.specs.Mir.{Mir}
 use Rattle.bc_prov.specs.Pieces.{PieceView, IsFitted}
 

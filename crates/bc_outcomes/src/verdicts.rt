@@ -12,8 +12,8 @@ use crate::stack::Stack;
 use crate::visit::Visit;
 use bc_cons::Requirements;
 use bc_mir::Child;
+use bc_names::Name;
 use bc_prov::{BodyErrors, Piece, Pieces, Providers, Shared};
-use bc_text::Name;
 use std::alloc::{AllocError, Global};
 
 /// The pieces of bodies, one for each, in the order of a visit, and those of them that the snapshot does not keep, in that order.

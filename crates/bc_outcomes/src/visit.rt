@@ -5,9 +5,9 @@ ghost use Rattle.bc_prov.specs.Pieces.{IsFitted, IsFoundFrom};
 
 use bc_cons::Requirements;
 use bc_mir::{Child, Typed};
+use bc_names::Name;
 use bc_prov::{Declared, Piece, Providers, Shared, piece_of, share};
 use bc_syntax::Unit;
-use bc_text::Name;
 use std::alloc::{AllocError, Global};
 use std::marker::Model;
 

@@ -12,9 +12,9 @@ ghost use Rattle.bc_outcomes.specs.Visits.{AreKids, ChildKid, IsLooked, child_of
 use crate::held::Held;
 use crate::visit::Visit;
 use bc_mir::{Child, IllFault, KidHeader, type_unit};
+use bc_names::Name;
 use bc_prov::{Had, Outcome, Shared, share};
 use bc_syntax::Unit;
-use bc_text::Name;
 use std::alloc::{AllocError, Global};
 
 /// A closure of a body: its number and its unit.

@@ -5,8 +5,8 @@ use Rattle.std.specs.Cmp.Lexicographic.{pointwise}
 use Rattle.std.proofs.lemmas.Bool.Decides.{Decides-and, Decides-like, Decides-eqb}
 use Rattle.std.proofs.lemmas.Slice.Eq.{slice_eq-Decides}
 use Rattle.bc_syntax.proofs.Equality.{apart, declaration, region}
-use Rattle.bc_text.proofs.Equality.{name}
-use Rattle.bc_text.specs.Names.{NameParts, is_same_name}
+use Rattle.bc_names.proofs.Equality.{name}
+use Rattle.bc_names.specs.Names.{NameParts, is_same_name}
 use Rattle.bc_syntax.specs.declared.syntax.Declaration.{Declaration}
 use Rattle.bc_mir.specs.declared.mir.Point.{Point}
 use Rattle.bc_mir.specs.declared.typed.Where.{Where}

@@ -14,8 +14,8 @@ use Rattle.std.proofs.lemmas.Option.{slice_get-get_or}
 use Rattle.std.proofs.lemmas.Map.Entries.{lookup_tail, lookup_from_place}
 use Rattle.std.proofs.lemmas.Map.Keys.{sorted_head, sorted_tail, IsDistinct-from_sorted}
 use Rattle.bc_syntax.specs.declared.syntax.Body.{Body}
-use Rattle.bc_text.specs.Names.{NameParts, name_order}
-use Rattle.bc_text.proofs.Equality.{exact_names, names_total}
+use Rattle.bc_names.specs.Names.{NameParts, name_order}
+use Rattle.bc_names.proofs.Equality.{exact_names, names_total}
 use Rattle.bc_prov.specs.State.{AreSuited, Suits, at_name}
 
 -- an order to a third name, of two names that ascend

@@ -2,7 +2,7 @@
 use Rattle.std.specs.Prelude.{◌≡◌, ℕ, zero, suc, List, [], ◌∷◌, map, find, Option, Some, None, is_none}
 use Rattle.std.specs.List.{AllZip, flat_map}
 use Rattle.std.specs.Option.{option_map, option_or}
-use Rattle.bc_text.specs.Names.{NameParts}
+use Rattle.bc_names.specs.Names.{NameParts}
 use Rattle.bc_syntax.specs.Children.{children_of}
 use Rattle.bc_types.specs.Declarations.{first_bad}
 use Rattle.bc_mir.specs.Typing.{misfit}

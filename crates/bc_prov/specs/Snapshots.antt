@@ -6,7 +6,7 @@ use Rattle.std.specs.Map.{keys_of}
 use Rattle.bc_syntax.specs.declared.syntax.Declaration.{Declaration}
 use Rattle.bc_syntax.specs.declared.syntax.Body.{Body}
 use Rattle.bc_syntax.specs.Children.{children_of}
-use Rattle.bc_text.specs.Names.{NameParts, is_within, name_order}
+use Rattle.bc_names.specs.Names.{NameParts, is_within, name_order}
 use Rattle.bc_prov.specs.declared.outcome.Outcome.{Outcome}
 use Rattle.bc_prov.specs.State.{State, Suits, at_name, child, state_of}
 use Rattle.bc_prov.specs.Outcome.{IsOutcomeIn}

@@ -2,8 +2,8 @@
 use crate::shared::Shared;
 use bc_judge::BorrowError;
 use bc_mir::Where;
+use bc_names::Name;
 use bc_syntax::Sequence;
-use bc_text::Name;
 
 /// The errors of one body, with its name. The conflicts come first, by point, access and loan, then the lifetime errors, each with
 /// the chain that explains it. The list is shared with the piece that it was found in. (RFC 2094, "Borrow checker phase 2:

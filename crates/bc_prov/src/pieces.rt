@@ -12,8 +12,8 @@ use crate::shared::{Shared, share};
 use bc_cons::Requirements;
 use bc_judge::{BorrowError, Verdict};
 use bc_mir::Typed;
+use bc_names::Name;
 use bc_syntax::{Sequence, Unit};
-use bc_text::Name;
 use std::alloc::{AllocError, Global};
 use std::marker::Model;
 

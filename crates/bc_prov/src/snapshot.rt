@@ -13,8 +13,8 @@ use crate::declared::Declared;
 use crate::outcome::Outcome;
 use crate::pieces::{Piece, PieceSet, Pieces};
 use crate::shared::Shared;
+use bc_names::Name;
 use bc_syntax::Unit;
-use bc_text::Name;
 use std::alloc::{AllocError, Global};
 use std::marker::Model;
 

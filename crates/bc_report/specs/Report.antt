@@ -1,7 +1,7 @@
 -- The text form of an outcome.
 use Rattle.std.specs.Prelude.{ℕ, List, ◌++◌, length, decimal, codes, flat_map}
 use Rattle.bc_syntax.specs.declared.syntax.Region.{Region}
-use Rattle.bc_text.specs.Names.{name_text}
+use Rattle.bc_names.specs.Names.{name_text}
 use Rattle.bc_prov.specs.declared.outcome.BodyErrors.{BodyErrors}
 use Rattle.bc_judge.specs.declared.error.BorrowError.{BorrowError}
 use Rattle.bc_prov.specs.declared.outcome.Outcome.{Outcome}

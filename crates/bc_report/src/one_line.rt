@@ -1,15 +1,15 @@
 //! The line of a body, and those of outcomes that are no report.
 ghost use Rattle.std.specs.Prelude.{◌++◌, OnOk, codes, decimal};
 ghost use Rattle.std.specs.Io.KnownBytes.{Appends};
-ghost use Rattle.bc_text.specs.Names.{name_text};
+ghost use Rattle.bc_names.specs.Names.{name_text};
 ghost use Rattle.bc_mir.specs.Lines.{place_text};
 ghost use Rattle.bc_report.specs.Text.{line};
 ghost use Rattle.bc_report.specs.Report.{body_line};
 
 use crate::parts::{write_name, write_number, write_place};
 use bc_mir::Where;
+use bc_names::Name;
 use bc_prov::BodyErrors;
-use bc_text::Name;
 use bc_writer::{WriterFault, write_bytes};
 use std::io::Write;
 

@@ -1,12 +1,12 @@
 //! How numbers, names and places are written.
 ghost use Rattle.std.specs.Prelude.{OnOk, decimal};
 ghost use Rattle.std.specs.Io.KnownBytes.{Appends};
-ghost use Rattle.bc_text.specs.Names.{name_text, segment_text};
+ghost use Rattle.bc_names.specs.Names.{name_text, segment_text};
 ghost use Rattle.bc_mir.specs.Lines.{place_text, point_text};
 
 use crate::texts::put_point;
 use bc_mir::{Point, Where};
-use bc_text::Name;
+use bc_names::Name;
 use bc_writer::{WriterFault, write_bytes};
 use itoa::Buffer;
 use std::io::Write;

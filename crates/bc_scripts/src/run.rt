@@ -7,9 +7,9 @@ ghost use Rattle.bc_share.specs.Sessions.{IsSame, Makes};
 
 use bc_book::Refusal;
 use bc_calls::Call;
+use bc_names::Name;
 use bc_prov::Providers;
 use bc_share::{Db, Session, work_all};
-use bc_text::Name;
 use bc_versions::Ending;
 use std::alloc::Global;
 use std::marker::Model;

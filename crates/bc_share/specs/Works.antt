@@ -1,6 +1,6 @@
 -- Work on what was begun.
 use Rattle.std.specs.Prelude.{◌≡◌}
-use Rattle.bc_text.specs.Names.{NameParts}
+use Rattle.bc_names.specs.Names.{NameParts}
 use Rattle.bc_prov.specs.Outcome.{IsOutcomeIn}
 use Rattle.bc_prov.specs.Snapshots.{SnapshotView, IsPartOf}
 use Rattle.bc_prov.specs.State.{State}

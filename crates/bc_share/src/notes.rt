@@ -9,8 +9,8 @@ ghost use Rattle.bc_share.specs.Sessions.{IsAnswered, Stays, new_session};
 
 use crate::audit::is_own;
 use bc_calls::{Begun, Entry, Event};
+use bc_names::Name;
 use bc_prov::{Outcome, Shared};
-use bc_text::Name;
 use bc_versions::Front;
 use std::alloc::{AllocError, Global};
 use std::marker::Model;

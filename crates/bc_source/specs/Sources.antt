@@ -4,7 +4,7 @@ use Rattle.std.specs.List.{find}
 use Rattle.std.specs.Option.{option_and_then}
 use Rattle.bc_syntax.specs.declared.syntax.Body.{Body}
 use Rattle.bc_text.specs.declared.fault.ReadFault.{ReadFault}
-use Rattle.bc_text.specs.Names.{NameParts, is_same_name}
+use Rattle.bc_names.specs.Names.{NameParts, is_same_name}
 use Rattle.bc_text.specs.Reading.{read}
 
 -- the text of a unit in a file: its name, how many lines of the file stand before it, and its bytes

@@ -3,7 +3,7 @@ ghost use Rattle.std.specs.Prelude.{◌≡◌, ◌++◌, ◌∷◌, [], OnOk};
 ghost use Rattle.std.specs.Option.{option_copied};
 ghost use Rattle.bc_source.specs.Sources.{is_of, last_of};
 
-use bc_text::Name;
+use bc_names::Name;
 use std::alloc::{AllocError, Global};
 use std::marker::Model;
 

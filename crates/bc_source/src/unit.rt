@@ -12,9 +12,10 @@ ghost use Rattle.bc_source.specs.Sources.{unit_of, unit_under};
 use crate::source::{Source, Sources};
 use crate::starts::{Start, starts_in};
 use bc_mir::Point;
+use bc_names::Name;
 use bc_places::point_places;
 use bc_syntax::{Block, RegionName, Unit};
-use bc_text::{Name, ReadFault, read_unit};
+use bc_text::{ReadFault, read_unit};
 use std::alloc::{AllocError, Global};
 use std::marker::Model;
 

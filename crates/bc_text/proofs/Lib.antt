@@ -1,8 +1,3 @@
-pub mod Equality
-pub mod Within
-pub mod Cells
-pub mod Segments
-pub mod Ascii
 pub mod Turns
 pub mod Begins
 pub mod NumberLaws

@@ -8,7 +8,7 @@ ghost use Rattle.bc_calls.specs.Beginnings.{AreAllBegun, IsBegun};
 use crate::table::answer_in;
 use bc_calls::Begun;
 use bc_memo::{PieceMemo, Shelf};
-use bc_text::Name;
+use bc_names::Name;
 use std::alloc::{AllocError, Global};
 
 /// The part of each held name without segments, in the order of the names, each with the name's answer and with the pieces that are kept

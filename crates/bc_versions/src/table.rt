@@ -9,8 +9,8 @@ ghost use Rattle.bc_versions.specs.Tables.{empty_table, updated};
 
 use bc_calls::Entry;
 use bc_memo::{Change, Part, PieceMemo, Shelf};
+use bc_names::Name;
 use bc_prov::{Outcome, Piece, PieceSet, Pieces, Shared};
-use bc_text::Name;
 use left_right::Absorb;
 use std::alloc::{AllocError, Global};
 use std::marker::Model;

@@ -4,9 +4,9 @@
 
 use anyhow::{Result, bail};
 use bc_analyses::providers;
+use bc_names::Name;
 use bc_prov::Providers;
 use bc_share::{Db, Session};
-use bc_text::Name;
 use bc_versions::{Ending, Waiting};
 use std::alloc::Global;
 use std::io;

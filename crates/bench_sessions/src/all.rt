@@ -1,9 +1,9 @@
 //! What an Ask for all costs, outside the lock and under it.
 use anyhow::{Result, bail};
+use bc_names::Name;
 use bc_prov::Providers;
 use bc_share::{Db, Session, work_all};
 use bc_syntax::Unit;
-use bc_text::Name;
 use bc_versions::{Ending, Waiting};
 use std::alloc::Global;
 use std::io::{Eprint, Print};

@@ -2,10 +2,10 @@
 use anyhow::{Result, bail};
 use bc_book::Book;
 use bc_calls::{Event, PutReply};
+use bc_names::Name;
 use bc_prov::{Outcome, Shared};
 use bc_share::Session;
 use bc_syntax::Unit;
-use bc_text::Name;
 use bc_versions::Ending;
 use std::alloc::Global;
 use std::io::{Eprint, Print};

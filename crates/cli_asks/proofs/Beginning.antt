@@ -1,6 +1,6 @@
 -- Asks that are begun one after another.
 use Rattle.std.proofs.Common.{◌≡◌, List, [], ◌∷◌, ◌++◌, sym, ap, ◌∙◌, append_assoc}
-use Rattle.bc_text.specs.Names.{NameParts}
+use Rattle.bc_names.specs.Names.{NameParts}
 use Rattle.bc_calls.proofs.Beginnings.{starts_again}
 use Rattle.bc_share.specs.Sessions.{SessionView, IsSame, Stays}
 use Rattle.bc_share.proofs.Noting.{same_session}

@@ -1,6 +1,6 @@
 -- How far an Ask is.
 use Rattle.std.specs.Prelude.{◌≡◌}
-use Rattle.bc_text.specs.Names.{NameParts}
+use Rattle.bc_names.specs.Names.{NameParts}
 use Rattle.cli_asks.specs.declared.ask.Stage.{Stage}
 use Rattle.cli_asks.specs.declared.ask.Stage.TheVariants.{Begun, Worked, Refused}
 

@@ -3,9 +3,9 @@ ghost use Rattle.std.specs.Prelude.{◌≡◌, IfOk};
 ghost use Rattle.bc_share.specs.Sessions.{IsSame};
 
 use crate::ask::PendingAsk;
+use bc_names::Name;
 use bc_prov::Providers;
 use bc_share::Session;
-use bc_text::Name;
 use bc_versions::Ending;
 use std::alloc::{AllocError, Global};
 use std::collections::BTreeSet;

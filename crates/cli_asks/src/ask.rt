@@ -7,9 +7,9 @@ ghost use Rattle.cli_asks.specs.Stages.{IsStageOf};
 
 use bc_book::Refusal;
 use bc_calls::{Begun, Work};
+use bc_names::Name;
 use bc_prov::{Outcome, Providers};
 use bc_share::Session;
-use bc_text::Name;
 use bc_versions::Ending;
 use std::alloc::{AllocError, Global};
 use std::marker::Model;
@@ -51,7 +51,7 @@ impl Drop for PendingAsk {
 }
 
 impl Model for PendingAsk {
-    ghost use Rattle.bc_text.specs.Names.{NameParts};
+    ghost use Rattle.bc_names.specs.Names.{NameParts};
     ghost use Rattle.cli_asks.specs.Stages.{IsStageOf};
 
     ghost Value = { NameParts };

@@ -8,8 +8,8 @@ use Rattle.std.proofs.lemmas.List.{map-append, take_more, take_all}
 use Rattle.std.proofs.lemmas.List.Elements.{All-contains, All-contains_itself, Contains-append_left, Contains-append_right, Contains-append_cases}
 use Rattle.std.proofs.lemmas.Map.Lookups.{CmpEqualImpliesEq}
 use Rattle.std.proofs.lemmas.Map.Views.{All-insert_key}
-use Rattle.bc_text.specs.Names.{NameParts, name_order}
-use Rattle.bc_text.specs.Laws.{NamesAreToldApart}
+use Rattle.bc_names.specs.Names.{NameParts, name_order}
+use Rattle.bc_names.specs.Laws.{NamesAreToldApart}
 use Rattle.bc_calls.specs.declared.call.Call.{Call}
 use Rattle.cli_check.specs.Asked.{root_put, AreAsked}
 use Rattle.cli_check.proofs.Members.{Contains-one, Contains-head, Contains-later}

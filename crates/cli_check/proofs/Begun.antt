@@ -1,7 +1,7 @@
 -- Names that are asked by a session that has read before.
 use Rattle.std.proofs.Common.{◌≡◌, ℕ, List, [], Option, map, refl, subst, inl}
 use Rattle.std.specs.Prelude.{true, Result, Ok, Err, IfOk, IfErr}
-use Rattle.bc_text.specs.Names.{NameParts}
+use Rattle.bc_names.specs.Names.{NameParts}
 use Rattle.bc_calls.specs.declared.call.Call.{Call}
 use Rattle.bc_calls.specs.declared.call.Call.TheVariants.{Ask}
 use Rattle.bc_calls.specs.declared.call.Event.{Event}

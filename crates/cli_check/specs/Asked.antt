@@ -2,7 +2,7 @@
 use Rattle.std.specs.Prelude.{◌↔◌, ◌==◌, Option, Some, None, List, length, map, if◌then◌else◌}
 use Rattle.std.specs.List.{Contains}
 use Rattle.std.specs.List.Sorted.{IsStrictlySortedBy}
-use Rattle.bc_text.specs.Names.{NameParts, name_order}
+use Rattle.bc_names.specs.Names.{NameParts, name_order}
 use Rattle.bc_calls.specs.declared.call.Call.{Call}
 use Rattle.bc_calls.specs.declared.call.Call.TheVariants.{Types, Put, Remove, Ask, All as EveryRoot}
 

@@ -1,7 +1,7 @@
 -- What the calls that a file makes are, and what is printed of them.
 use Rattle.std.specs.Prelude.{◌≡◌, ℕ, List, [], ◌++◌, map, codes}
 use Rattle.std.specs.List.{All}
-use Rattle.bc_text.specs.Names.{NameParts, name_text}
+use Rattle.bc_names.specs.Names.{NameParts, name_text}
 use Rattle.bc_prov.specs.declared.outcome.Outcome.{Outcome}
 use Rattle.bc_calls.specs.declared.call.Call.{Call}
 use Rattle.bc_calls.specs.declared.call.Call.TheVariants as calls_made

@@ -1,7 +1,7 @@
 -- Calls that a session answered, and what was printed of them.
 use Rattle.std.specs.Prelude.{◌≡◌, ◌≢◌, ◌⊎◌, ℕ, ◌+◌, ◌≤◌, Option, List, [], ◌∷◌, ◌++◌, map, flat_map, length}
 use Rattle.std.specs.Io.KnownBytes.{Appends}
-use Rattle.bc_text.specs.Names.{NameParts}
+use Rattle.bc_names.specs.Names.{NameParts}
 use Rattle.bc_calls.specs.declared.call.Call.{Call}
 use Rattle.bc_calls.specs.declared.call.Event.{Event}
 use Rattle.bc_calls.specs.declared.call.Entry.{Entry}

@@ -3,7 +3,7 @@ ghost use Rattle.std.specs.Prelude.{◌≡◌, IfOk, IfErr, map};
 ghost use Rattle.cli_file.specs.Changes.{seen};
 ghost use Rattle.cli_check.specs.Asked.{AreAsked, root_put as root};
 
-use bc_text::{Name, names_are_told_apart};
+use bc_names::{Name, names_are_told_apart};
 use cli_file::{Change, Stop};
 use std::alloc::Global;
 use std::collections::BTreeSet;

@@ -2,7 +2,7 @@
 ghost use Rattle.std.specs.Prelude.{◌≡◌, ◌≢◌, ◌↔◌, ◌≤◌, ◌<◌, ◌+◌, ◌⊎◌, ◌++◌, [], true, Err, OnOk, OnErr, IfOk, IfErr, IsErrOf, IsTrue, codes, length, map};
 ghost use Rattle.std.specs.Io.Buffered.{writer_buffer, writer_contents};
 ghost use Rattle.std.specs.Io.KnownBytes.{Appends, Keeps};
-ghost use Rattle.bc_text.specs.Names.{name_text};
+ghost use Rattle.bc_names.specs.Names.{name_text};
 ghost use Rattle.bc_calls.specs.declared.call.Call.TheVariants as calls;
 ghost use Rattle.bc_report.specs.Text.{line as ended};
 ghost use Rattle.bc_source.specs.Report.{report_with};
@@ -22,11 +22,11 @@ use crate::asked::find_asked;
 use crate::form::{Form, find_form};
 use bc_calls::PutReply;
 use bc_json::json_report;
+use bc_names::Name;
 use bc_prov::{Outcome, Providers};
 use bc_report::write_report;
 use bc_share::{Db, Session};
 use bc_source::{SourcedBody, Sources, find_bodies, write_sourced_report};
-use bc_text::Name;
 use bc_versions::{Ending, Waiting};
 use cli_file::{
     Change, Stop, find_capacity, outcome_status, put_status, read_changes_by, read_whole, stop_with,

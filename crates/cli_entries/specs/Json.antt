@@ -1,7 +1,7 @@
 -- The line of an entry: an object of JSON, compact, its keys in byte order.
 use Rattle.std.specs.Prelude.{ℕ, List, ◌++◌, map, decimal, codes}
 use Rattle.json.specs.Print.{quoted}
-use Rattle.bc_text.specs.Names.{NameParts, name_text}
+use Rattle.bc_names.specs.Names.{NameParts, name_text}
 use Rattle.bc_prov.specs.declared.outcome.Outcome.{Outcome}
 use Rattle.bc_calls.specs.declared.call.Entry.{Entry}
 use Rattle.bc_calls.specs.declared.call.Event.{Event}

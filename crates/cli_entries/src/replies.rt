@@ -8,8 +8,8 @@ ghost use Rattle.cli_entries.specs.Replies.{reply_key, IsReplyData, IsRoot};
 use crate::words::{put_word, remove_word};
 use bc_calls::Event;
 use bc_json::outcome_value;
+use bc_names::Name;
 use bc_prov::{Outcome, Shared};
-use bc_text::Name;
 use serde_json::{ToValue, Value, json};
 use std::alloc::{AllocError, Global};
 

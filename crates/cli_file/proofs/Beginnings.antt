@@ -5,7 +5,7 @@ use Rattle.std.specs.Cmp.Lexicographic.{pointwise}
 use Rattle.std.proofs.Math.Seq.{take-append_seam}
 use Rattle.std.proofs.lemmas.Bool.Decides.{Decides-eqb}
 use Rattle.std.proofs.lemmas.List.{take-append-drop, append_cancel_left}
-use Rattle.bc_text.specs.Names.{NameParts, IsName, name_text}
+use Rattle.bc_names.specs.Names.{NameParts, IsName, name_text}
 use Rattle.std.proofs.lemmas.Slice.Eq.{slice_eq-Decides}
 
 begins_so : (text beginning rest : List ℕ) → pointwise ◌==◌ (take (length beginning) text) beginning ≡ true → rest ≡ drop (length beginning) text → text ≡ beginning ++ rest

@@ -4,7 +4,7 @@ use Rattle.std.specs.Prelude.{◌≢◌, Result, Err}
 use Rattle.std.specs.List.{AllZip}
 use Rattle.bc_text.specs.declared.fault.ReadFault.{ReadFault}
 use Rattle.bc_text.specs.declared.fault.ReadFault.TheVariants as read_faults
-use Rattle.bc_text.specs.Names.{NameParts}
+use Rattle.bc_names.specs.Names.{NameParts}
 use Rattle.bc_text.specs.Reading.{read}
 use Rattle.cli_file.specs.declared.fault.FaultKind.{FaultKind}
 use Rattle.cli_file.specs.declared.fault.FileFault.{FileFault}

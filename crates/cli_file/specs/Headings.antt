@@ -1,6 +1,6 @@
 -- Header lines, for every command.
 use Rattle.std.specs.Prelude.{◌≡◌, ℕ, List, [], ◌++◌, Option, Some, None, codes, decimal}
-use Rattle.bc_text.specs.Names.{IsName, name_text}
+use Rattle.bc_names.specs.Names.{IsName, name_text}
 use Rattle.bc_calls.specs.declared.call.Call.{Call}
 use Rattle.bc_calls.specs.declared.call.Call.TheVariants as calls
 use Rattle.cli_file.specs.declared.heading.Heading.{Heading}

@@ -13,9 +13,10 @@ use crate::heading::{Heading, behind, read_heading};
 use crate::location::locate;
 use crate::section::{Section, Sections};
 use crate::stop::Stop;
+use bc_names::Name;
 use bc_prov::Shared;
 use bc_syntax::{Types, Unit};
-use bc_text::{Name, ReadFault, read_types, read_unit};
+use bc_text::{ReadFault, read_types, read_unit};
 use std::alloc::Global;
 use std::sync::Arc;
 

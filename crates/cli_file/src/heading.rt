@@ -1,10 +1,10 @@
 //! What a header line asks for.
 ghost use Rattle.std.specs.Prelude.{◌≡◌, ◌++◌, ℕ, List, IfSome, IfNone};
-ghost use Rattle.bc_text.specs.Names.{NameParts, IsName, name_text};
+ghost use Rattle.bc_names.specs.Names.{NameParts, IsName, name_text};
 ghost use Rattle.cli_file.specs.declared.heading.Heading.{Heading};
 ghost use Rattle.cli_file.specs.Headings.{IsHeading};
 
-use bc_text::Name;
+use bc_names::Name;
 
 /// What a header line of a file asks for: to store the declarations of its text, to put the body of its text under a name, to take the body of a
 /// name away, to ask a name, or to ask for all.

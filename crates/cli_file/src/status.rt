@@ -3,8 +3,8 @@ ghost use Rattle.std.specs.Prelude.{◌≡◌, ◌≤◌};
 ghost use Rattle.cli_file.specs.Statuses.{put_status, are_clean, outcome_status, rows_status, event_status};
 
 use bc_calls::{Event, PutReply};
+use bc_names::Name;
 use bc_prov::{BodyErrors, Outcome, Shared};
-use bc_text::Name;
 
 /// The status of a put with this reply.
 pub fn put_status(reply: PutReply) -> u8

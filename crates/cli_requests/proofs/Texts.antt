@@ -1,7 +1,7 @@
 -- Texts that cannot be read.
 use Rattle.std.proofs.Common.{◌≡◌, ◌⊎◌, inl, inr, ℕ, List, sym, subst}
 use Rattle.serde_json.specs.Data.{Data}
-use Rattle.bc_text.specs.Names.{NameParts}
+use Rattle.bc_names.specs.Names.{NameParts}
 use Rattle.bc_text.specs.declared.fault.ReadFault.{ReadFault}
 use Rattle.bc_text.specs.declared.fault.ReadFault.TheVariants as causes
 use Rattle.cli_requests.specs.declared.fault.RequestFault.{RequestFault}

@@ -2,7 +2,7 @@
 use Rattle.std.specs.Prelude.{◌≡◌, List, ℕ, codes, Option, Some, Ok, option_and_then}
 use Rattle.serde_json.specs.Data.{Data}
 use Rattle.serde_json.specs.Find.{get, as_str}
-use Rattle.bc_text.specs.Names.{NameParts, IsName, name_text}
+use Rattle.bc_names.specs.Names.{NameParts, IsName, name_text}
 use Rattle.bc_text.specs.Reading.{read, read_types}
 use Rattle.bc_calls.specs.declared.call.Call.TheVariants as calls
 use Rattle.cli_requests.specs.declared.request.Wanted.{Wanted}

@@ -2,7 +2,7 @@
 use Rattle.std.specs.Prelude.{◌≡◌, List, ℕ, Bool, true, false, codes, None, Err, ⊤}
 use Rattle.serde_json.specs.Data.{Data}
 use Rattle.bc_position.specs.Positions.{position_in}
-use Rattle.bc_text.specs.Names.{NameParts}
+use Rattle.bc_names.specs.Names.{NameParts}
 use Rattle.bc_text.specs.Reading.{read, read_types}
 use Rattle.bc_text.specs.declared.fault.ReadFault.{ReadFault}
 use Rattle.bc_text.specs.declared.fault.ReadFault.TheVariants as causes

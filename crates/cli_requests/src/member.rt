@@ -1,10 +1,10 @@
 //! The members of a request.
 ghost use Rattle.std.specs.Prelude.{◌≡◌, codes, true, IfOk, IfErr, IfSome, IfNone, option_map};
 ghost use Rattle.serde_json.specs.View.{view as data_of};
-ghost use Rattle.bc_text.specs.Names.{NameParts};
+ghost use Rattle.bc_names.specs.Names.{NameParts};
 ghost use Rattle.cli_requests.specs.Asking.{HasName, word};
 
-use bc_text::Name;
+use bc_names::Name;
 use serde_json::Value;
 
 /// The member of this name, where it is a string.

@@ -18,7 +18,7 @@ use crate::session::session_of;
 use crate::text::{read_body, read_declarations};
 use crate::verb::{Verb, find_verb};
 use bc_calls::Call;
-use bc_text::Name;
+use bc_names::Name;
 use cli_input::InputLine;
 use serde_json::Value;
 use std::alloc::{AllocError, Global};

@@ -2,7 +2,7 @@
 use crate::fault::RequestFault;
 use crate::id::Id;
 use bc_calls::Call;
-use bc_text::Name;
+use bc_names::Name;
 
 /// The most bytes that the line of a request may have, without its line feed: 4 MiB.
 pub const MOST_REQUEST_BYTES: usize = 4_194_304;

@@ -7,7 +7,7 @@ ghost use Rattle.cli_run.specs.Calls.{GivesText, GivesOne, GivesAll, GivesTold};
 
 use crate::header::read_header;
 use bc_calls::Call;
-use bc_text::Name;
+use bc_names::Name;
 use cli_file::{
     FaultKind, Heading, Section, Sections, Stop, locate, read_body, read_declarations, stop_at,
     text_stop,

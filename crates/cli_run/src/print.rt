@@ -8,10 +8,10 @@ ghost use Rattle.cli_run.specs.Print.{event_text, entry_line, root_lines, outcom
 
 use bc_book::Refusal;
 use bc_calls::{Entry, Event};
+use bc_names::Name;
 use bc_prov::{Outcome, Shared};
 use bc_report::write_report;
 use bc_scripts::End;
-use bc_text::Name;
 use cli_entries::{entry_line, put_word, remove_word};
 use std::alloc::{AllocError, Global};
 use std::io;

@@ -2,8 +2,9 @@
 //! text is, `points` where the points begin of the unit that is read of it. Lines that begin with `#`, and empty ones, are no rows.
 use crate::spelled::text_of;
 use anyhow::bail;
+use bc_names::Name;
 use bc_places::point_places;
-use bc_text::{Name, ReadFault};
+use bc_text::ReadFault;
 use std::alloc::Global;
 use std::io::{self, Write};
 

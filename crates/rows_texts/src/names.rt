@@ -1,5 +1,5 @@
 //! The order of names, and their children.
-use bc_text::Name;
+use bc_names::Name;
 use std::cmp::Ordering;
 
 #[test]

@@ -1,6 +1,6 @@
 //! What is seen of an outcome.
+use bc_names::Name;
 use bc_prov::Outcome;
-use bc_text::Name;
 
 /// A summary of an outcome of any size: no body, a missing closure, so many bodies with so many errors in all, or something else.
 #[derive(Clone, Copy, PartialEq)]

@@ -1,7 +1,8 @@
 //! What texts spell.
 use anyhow::bail;
+use bc_names::Name;
 use bc_syntax::{Types, Unit};
-use bc_text::{Name, read_types, read_unit};
+use bc_text::{read_types, read_unit};
 use std::alloc::{AllocError, Global};
 use std::sync::Arc;
 

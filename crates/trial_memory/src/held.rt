@@ -4,9 +4,9 @@ ghost use Rattle.std.specs.Prelude.{◌≤◌, OnOk};
 use anyhow::{Result, bail};
 use bc_calls::no_declarations;
 use bc_memo::{Change, Memo, PieceMemo, Shelf, suits};
+use bc_names::Name;
 use bc_outcomes::{Found, find_outcome};
 use bc_prov::{Outcome, Piece, PieceSet, Providers, Shared, share, share_pieces};
-use bc_text::Name;
 use std::alloc::{AllocError, Global};
 use test_fixtures::{WRITES_LAST, name, shared_unit};
 

@@ -2,9 +2,9 @@
 use anyhow::{Result, bail};
 use bc_book::Refusal;
 use bc_calls::Work;
+use bc_names::Name;
 use bc_prov::{Outcome, Providers};
 use bc_share::{Db, Session};
-use bc_text::Name;
 use bc_versions::{Ending, Waiting};
 use std::alloc::AllocError;
 use std::sync::Wait;

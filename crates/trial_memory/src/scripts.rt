@@ -1,10 +1,10 @@
 //! Scripts on threads: a session that was stopped makes the rest in a second run.
 use anyhow::{Result, bail};
 use bc_calls::Call;
+use bc_names::Name;
 use bc_prov::{Providers, Shared};
 use bc_scripts::{End, Gate, Script, Stage, run_sessions};
 use bc_share::{Db, Session};
-use bc_text::Name;
 use bc_versions::{Ending, Waiting};
 use std::alloc::{AllocError, Global};
 use std::sync::Wait;

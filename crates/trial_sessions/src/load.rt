@@ -2,10 +2,10 @@
 use crate::model::{CLOSURES, Deed, Kind, Log, Reading, Seen, agree};
 use anyhow::{Result, bail};
 use bc_book::Refusal;
+use bc_names::Name;
 use bc_prov::{Providers, Shared};
 use bc_share::{Db, MOST_ENTRIES, Session};
 use bc_syntax::{Types, Unit};
-use bc_text::Name;
 use bc_versions::{Ending, Waiting};
 use rand_core::Rng;
 use rand_pcg::Pcg32;

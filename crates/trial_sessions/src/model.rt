@@ -1,8 +1,8 @@
 //! What a map of names says of the calls and the readings of sessions, and nothing else: it knows of no revision, of no piece and of no
 //! memo. It is compared with the history of a database, entry by entry, and each session's readings with the beginnings of that history.
 use bc_calls::{Entry, Event, MOST_BODIES, PutReply, RemoveReply};
+use bc_names::Name;
 use bc_prov::{Outcome, Shared};
-use bc_text::Name;
 use std::alloc::{AllocError, Global};
 use test_fixtures::Sight;
 

@@ -1,6 +1,6 @@
 use Rattle.std.proofs.Common.{◌++◌, ◌∙◌, Option, ap, sym}
 use Rattle.std.proofs.lemmas.List.{append-nil}
-use Rattle.bc_text.specs.Names.{NameParts}
+use Rattle.bc_names.specs.Names.{NameParts}
 use Rattle.bc_memo.specs.declared.memo.Remembered.{Remembered}
 use Rattle.bc_book.specs.Ledgers.{row_list}
 use Rattle.bc_book.proofs.roots.push_row.Goals as goal

@@ -1,5 +1,5 @@
 use Rattle.std.proofs.Common.{sym, ◌∙◌}
-use Rattle.bc_text.proofs.Equality.{exact_names}
+use Rattle.bc_names.proofs.Equality.{exact_names}
 use Rattle.bc_book.proofs.roots.take_work.Goals as goal
 
 pub returns-in-Equal : goal.returns-in-Equal

@@ -1,6 +1,6 @@
 use Rattle.std.proofs.Common.{rules}
 use Rattle.std.proofs.lemmas.Fn.{always_returns_same}
-use Rattle.bc_text.specs.Names.{name_order}
+use Rattle.bc_names.specs.Names.{name_order}
 use Rattle.bc_memo.proofs.Places.{found_if, gap_if}
 use Rattle.bc_memo.proofs.rows.find.Goals as goal
 

@@ -1,6 +1,6 @@
 use Rattle.std.proofs.Common.{rules}
 use Rattle.std.proofs.lemmas.Fn.{always_returns_same}
-use Rattle.bc_text.specs.Names.{is_within}
+use Rattle.bc_names.specs.Names.{is_within}
 use Rattle.bc_memo.proofs.Parts.{part_slice}
 use Rattle.bc_memo.proofs.rows.within.Goals as goal
 

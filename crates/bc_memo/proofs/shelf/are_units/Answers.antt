@@ -1,5 +1,5 @@
 use Rattle.std.proofs.Common.{arith, refl}
-use Rattle.bc_text.specs.Names.{NameParts}
+use Rattle.bc_names.specs.Names.{NameParts}
 use Rattle.bc_memo.specs.declared.place.Place.{Place}
 use Rattle.bc_memo.proofs.Parts.{map_same}
 use Rattle.bc_memo.proofs.shelf.are_units.Goals as goal

@@ -1,6 +1,6 @@
 use Rattle.std.proofs.Common.{◌≡◌, ℕ, length, None, refl, ap, sym, subst, ◌∙◌, arith}
-use Rattle.bc_text.specs.Names.{NameParts}
-use Rattle.bc_text.proofs.Within.{beginning}
+use Rattle.bc_names.specs.Names.{NameParts}
+use Rattle.bc_names.proofs.Within.{beginning}
 use Rattle.bc_memo.specs.Places.{Places, AreOrdered, with_answer_at}
 use Rattle.bc_memo.proofs.Marking.{cleared_bare, cleared_below, cleared_more, cleared_none, ordered-cleared}
 use Rattle.bc_memo.proofs.shelf.clear.Goals as goal

@@ -1,7 +1,7 @@
 use Rattle.std.proofs.Common.{◌<◌, length, None, get_or, arith}
 use Rattle.std.proofs.lemmas.List.{get_or_default}
 use Rattle.std.proofs.lemmas.List.Edits.{map_over_more}
-use Rattle.bc_text.specs.Names.{NameParts}
+use Rattle.bc_names.specs.Names.{NameParts}
 use Rattle.bc_memo.specs.declared.place.Place.{Place}
 use Rattle.bc_memo.specs.Places.{with_answer}
 use Rattle.bc_memo.proofs.shelf.clear_rows.Goals as goal

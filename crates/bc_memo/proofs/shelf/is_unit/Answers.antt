@@ -1,8 +1,8 @@
 use Rattle.std.proofs.Common.{true≢false, sym, ◌∙◌, ap}
 use Rattle.bc_syntax.specs.declared.syntax.Body.{Body}
 use Rattle.bc_syntax.proofs.Equality.{body}
-use Rattle.bc_text.specs.Names.{NameParts}
-use Rattle.bc_text.proofs.Equality.{name}
+use Rattle.bc_names.specs.Names.{NameParts}
+use Rattle.bc_names.proofs.Equality.{name}
 use Rattle.bc_memo.proofs.shelf.is_unit.Goals as goal
 
 pub returns-then-eq : goal.returns-then-eq

@@ -1,6 +1,6 @@
 use Rattle.std.proofs.Common.{◌≤◌, length, sym, ap, ◌∙◌, subst}
 use Rattle.std.specs.Prelude.{map}
-use Rattle.bc_text.specs.Names.{NameParts}
+use Rattle.bc_names.specs.Names.{NameParts}
 use Rattle.bc_prov.specs.Outcome.{fault_at}
 use Rattle.bc_outcomes.specs.Reported.{errors_in}
 use Rattle.bc_outcomes.specs.Visits.{state_in}

@@ -1,7 +1,7 @@
 use Rattle.std.proofs.Common.{◌≡◌, ◌≤◌, length, sym, ap, ◌∙◌, subst, refl, arith, length-append, []}
 use Rattle.std.specs.Prelude.{◌∷◌, ◌++◌, ◌&&◌, nat_le, nat_lt, map, Ok, Option, Some, None, is_some, false}
 use Rattle.std.specs.List.{AllZip}
-use Rattle.bc_text.specs.Names.{NameParts}
+use Rattle.bc_names.specs.Names.{NameParts}
 use Rattle.bc_prov.specs.State.{child}
 use Rattle.bc_syntax.specs.Children.{children_of}
 use Rattle.bc_prov.specs.declared.outcome.Outcome.{Outcome}

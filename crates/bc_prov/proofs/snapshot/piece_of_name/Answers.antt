@@ -2,8 +2,8 @@ use Rattle.std.proofs.Common.{◌≡◌, ◌<◌, List, length, get_or, sym, ap,
 use Rattle.std.specs.Option.{option_copied}
 use Rattle.std.proofs.lemmas.Fn.{always_returns_same}
 use Rattle.std.proofs.lemmas.List.{get_or_default}
-use Rattle.bc_text.specs.Names.{NameParts, name_order}
-use Rattle.bc_text.proofs.Equality.{exact_names}
+use Rattle.bc_names.specs.Names.{NameParts, name_order}
+use Rattle.bc_names.proofs.Equality.{exact_names}
 use Rattle.bc_prov.specs.Pieces.{PieceView}
 use Rattle.bc_prov.specs.Snapshots.{PieceList, IsAmongPieces}
 use Rattle.bc_prov.proofs.snapshot.piece_of_name.Goals as goal

@@ -1,7 +1,7 @@
 use Rattle.std.proofs.Common.{◌≡◌, ◌∙◌, ◌∷◌, ◌++◌, [], length, reverse, ap, sym, arith, rules}
 use Rattle.std.specs.BTreeMap.{insert_entry}
 use Rattle.std.proofs.lemmas.List.{length-append, reverse-append}
-use Rattle.bc_text.specs.Names.{name_order}
+use Rattle.bc_names.specs.Names.{name_order}
 use Rattle.bc_memo.specs.Places.{PieceRows, pieces_with}
 use Rattle.bc_memo.proofs.Places.{length-put_le}
 use Rattle.bc_versions.proofs.table.keep_ready.Goals as goal

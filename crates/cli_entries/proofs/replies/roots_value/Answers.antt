@@ -4,7 +4,7 @@ use Rattle.std.proofs.lemmas.List.{take_all}
 use Rattle.serde_json.specs.View.{view as data_of}
 use Rattle.serde_json.specs.declared.value.Value.{Value}
 use Rattle.serde_json.proofs.Views.{view-Array}
-use Rattle.bc_text.specs.Names.{NameParts}
+use Rattle.bc_names.specs.Names.{NameParts}
 use Rattle.bc_prov.specs.declared.outcome.Outcome.{Outcome}
 use Rattle.cli_entries.specs.Replies.{IsRoot}
 use Rattle.cli_entries.proofs.Roots.{one_more_root}

@@ -1,6 +1,6 @@
 use Rattle.std.proofs.Common.{◌≡◌, ◌++◌, List, ap, sym, ◌∙◌, subst}
 use Rattle.std.specs.Prelude.{IfOk, OnOk, None}
-use Rattle.bc_text.specs.Names.{NameParts}
+use Rattle.bc_names.specs.Names.{NameParts}
 use Rattle.bc_prov.specs.State.{at_name}
 use Rattle.bc_prov.specs.Pieces.{rows_of}
 use Rattle.bc_prov.specs.declared.outcome.Outcome.{Outcome}

@@ -1,6 +1,6 @@
 use Rattle.std.proofs.Common.{◌≡◌, List, Option, rules, sym, subst}
 use Rattle.std.specs.Prelude.{IfOk, OnOk}
-use Rattle.bc_text.specs.Names.{NameParts}
+use Rattle.bc_names.specs.Names.{NameParts}
 use Rattle.bc_prov.specs.Pieces.{PieceSetView, rows_of}
 use Rattle.bc_prov.specs.declared.outcome.Outcome.{Outcome}
 use Rattle.bc_memo.specs.declared.memo.Remembered.{Remembered}

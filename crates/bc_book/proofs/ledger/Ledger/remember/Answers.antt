@@ -1,6 +1,6 @@
 use Rattle.std.proofs.Common.{◌≡◌, ◌∙◌, ◌∷◌, [], List, length, ap, sym, subst, arith, rules}
 use Rattle.std.proofs.lemmas.List.{nil_from_length}
-use Rattle.bc_text.specs.Names.{NameParts}
+use Rattle.bc_names.specs.Names.{NameParts}
 use Rattle.bc_memo.specs.declared.memo.Remembered.{Remembered}
 use Rattle.bc_memo.specs.Places.{ShelfView}
 use Rattle.bc_calls.specs.declared.call.Entry.{Entry}

@@ -1,6 +1,6 @@
 use Rattle.std.proofs.Common.{List, ap, sym, subst}
 use Rattle.bc_prov.specs.Outcome.{IsOutcomeIn}
-use Rattle.bc_text.specs.Names.{NameParts}
+use Rattle.bc_names.specs.Names.{NameParts}
 use Rattle.bc_memo.specs.Memos.{IsRowOf}
 use Rattle.bc_memo.specs.Places.{ShelfView}
 use Rattle.bc_calls.specs.Answers.{IsShelfOf}

@@ -1,6 +1,6 @@
 use Rattle.std.proofs.Common.{List, ◌∙◌, ap, subst}
 use Rattle.std.specs.BTreeMap.{insert_entry}
-use Rattle.bc_text.specs.Names.{NameParts, name_order}
+use Rattle.bc_names.specs.Names.{NameParts, name_order}
 use Rattle.bc_memo.specs.declared.memo.Remembered.{Remembered}
 use Rattle.bc_memo.specs.Memos.{IsRowOf}
 use Rattle.bc_memo.proofs.memo.Memo.install.Goals as goal

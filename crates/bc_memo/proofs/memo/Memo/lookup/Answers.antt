@@ -1,5 +1,5 @@
 use Rattle.std.proofs.Common.{◌≡◌, List, true≢false, refl, ◌∙◌, ap, sym, subst, Some, None}
-use Rattle.bc_text.specs.Names.{NameParts}
+use Rattle.bc_names.specs.Names.{NameParts}
 use Rattle.bc_prov.specs.State.{at_name}
 use Rattle.bc_memo.specs.declared.memo.Remembered.{Remembered}
 use Rattle.bc_memo.specs.Memos.{MemoView, Stands}

@@ -1,6 +1,6 @@
 use Rattle.std.proofs.Common.{length, ap, arith}
 use Rattle.std.specs.BTreeMap.{is_at}
-use Rattle.bc_text.specs.Names.{name_order}
+use Rattle.bc_names.specs.Names.{name_order}
 use Rattle.bc_memo.proofs.Places.{length-take_le}
 use Rattle.bc_memo.proofs.pieces.PieceMemo.follow.Goals as goal
 

@@ -1,6 +1,6 @@
 use Rattle.std.proofs.Common.{sym, subst}
 use Rattle.std.specs.BTreeMap.{is_at}
-use Rattle.bc_text.specs.Names.{name_order}
+use Rattle.bc_names.specs.Names.{name_order}
 use Rattle.bc_memo.specs.Places.{PieceRows, AreOrdered}
 use Rattle.bc_memo.proofs.Places.{ordered-take}
 use Rattle.bc_memo.proofs.pieces.PieceMemo.forget.Goals as goal

@@ -1,5 +1,5 @@
 use Rattle.std.proofs.Common.{◌∙◌, ap, sym, subst, Some}
-use Rattle.bc_text.specs.Names.{NameParts}
+use Rattle.bc_names.specs.Names.{NameParts}
 use Rattle.bc_prov.specs.Pieces.{PieceView}
 use Rattle.bc_memo.specs.Places.{PieceRows, IsFoundAt, IsGapAt}
 use Rattle.bc_memo.proofs.Places.{at_found, at_missed}

@@ -1,6 +1,6 @@
 use Rattle.std.proofs.Common.{◌≡◌, arith, ap, sym, subst, ◌∙◌, None, Some}
 use Rattle.std.specs.BTreeMap.{is_at}
-use Rattle.bc_text.specs.Names.{name_order}
+use Rattle.bc_names.specs.Names.{name_order}
 use Rattle.bc_prov.specs.State.{Suits, at_name}
 use Rattle.bc_memo.specs.declared.change.Change.{Change}
 use Rattle.bc_memo.specs.declared.change.Change.TheVariants.{Types, Put, Remove, Answer, Answers}

@@ -1,7 +1,7 @@
 use Rattle.std.proofs.Common.{◌≡◌, true≢false, sym, ◌∙◌, ap}
 use Rattle.std.specs.Prelude.{map}
 use Rattle.std.proofs.lemmas.Bool.Decides.{Decides-eqb}
-use Rattle.bc_text.specs.Names.{NameParts}
+use Rattle.bc_names.specs.Names.{NameParts}
 use Rattle.bc_prov.proofs.Equality.{declared}
 use Rattle.bc_memo.specs.declared.place.Place.{Place}
 use Rattle.bc_memo.specs.Places.{Places, ShelfRoom, part_in}

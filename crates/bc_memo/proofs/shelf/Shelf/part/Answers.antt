@@ -1,7 +1,7 @@
 use Rattle.std.proofs.Common.{List, ◌∙◌, ap, sym, subst}
 use Rattle.std.specs.Prelude.{map}
 use Rattle.bc_syntax.specs.declared.syntax.Body.{Body}
-use Rattle.bc_text.specs.Names.{NameParts}
+use Rattle.bc_names.specs.Names.{NameParts}
 use Rattle.bc_prov.specs.Snapshots.{SnapshotView, IsSnapshot}
 use Rattle.bc_memo.specs.declared.place.Place.{Place}
 use Rattle.bc_memo.specs.Places.{Places, ShelfRoom, revisions_in, units_in}

@@ -1,7 +1,7 @@
 use Rattle.std.proofs.Common.{◌≡◌, List, ◌∙◌, ap, subst, sym, rules}
 use Rattle.std.proofs.lemmas.Fn.{All-from_retain}
 use Rattle.std.specs.Prelude.{Some}
-use Rattle.bc_text.specs.Names.{NameParts}
+use Rattle.bc_names.specs.Names.{NameParts}
 use Rattle.bc_prov.specs.Pieces.{PieceView, AreOver}
 use Rattle.bc_prov.specs.State.{at_name}
 use Rattle.bc_prov.proofs.Lookup.{all_by_index}

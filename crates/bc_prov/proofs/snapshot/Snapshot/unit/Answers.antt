@@ -1,7 +1,7 @@
 use Rattle.std.proofs.Common.{◌≡◌, ◌<◌, List, length, get_or, sym, ap, ◌∙◌, subst, rules, Equal}
 use Rattle.std.specs.Prelude.{Some}
 use Rattle.std.proofs.lemmas.Fn.{always_returns_same}
-use Rattle.bc_text.specs.Names.{name_order}
+use Rattle.bc_names.specs.Names.{name_order}
 use Rattle.bc_prov.proofs.Lookup.{all_suited, found, none_at}
 use Rattle.bc_prov.proofs.snapshot.Snapshot.unit.Goals as goal
 

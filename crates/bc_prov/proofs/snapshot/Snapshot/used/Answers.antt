@@ -1,8 +1,8 @@
 use Rattle.std.proofs.Common.{◌≡◌, ◌<◌, List, length, get_or, sym, ap, ◌∙◌, subst, Some, Equal}
 use Rattle.std.proofs.lemmas.Cmp.{tied_itself}
 use Rattle.bc_syntax.specs.declared.syntax.Body.{Body}
-use Rattle.bc_text.specs.Names.{NameParts, name_order}
-use Rattle.bc_text.proofs.Equality.{names_total}
+use Rattle.bc_names.specs.Names.{NameParts, name_order}
+use Rattle.bc_names.proofs.Equality.{names_total}
 use Rattle.bc_prov.specs.Snapshots.{SnapshotView}
 use Rattle.bc_prov.specs.State.{at_name}
 use Rattle.bc_prov.proofs.Lookup.{found}

@@ -1,7 +1,7 @@
 use Rattle.std.proofs.Common.{ap}
 use Rattle.std.specs.Arc.{arc_value}
 use Rattle.bc_calls.specs.declared.call.Event.TheVariants.{Ask}
-use Rattle.bc_text.specs.Names.{NameParts}
+use Rattle.bc_names.specs.Names.{NameParts}
 use Rattle.cli_asks.proofs.Settling.{told_as, refused_same}
 use Rattle.cli_asks.proofs.ask.PendingAsk.settle.Goals as goal
 

@@ -1,0 +1,3 @@
+pub mod Names
+pub mod Stored
+pub mod Laws

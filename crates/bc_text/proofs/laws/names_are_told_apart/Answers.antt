@@ -1,5 +1,0 @@
-use Rattle.bc_text.proofs.Equality.{exact_names}
-use Rattle.bc_text.proofs.laws.names_are_told_apart.Goals as goal
-
-pub returns : goal.returns
-returns c = exact_names

@@ -1,8 +1,0 @@
--- What the order of names tells.
-use Rattle.std.specs.Prelude.{◌≡◌}
-use Rattle.std.specs.declared.cmp.Ordering.TheVariants.{Equal}
-use Rattle.bc_text.specs.Names.{NameParts, name_order}
-
--- two names that their order holds equal are one name
-abbrev pub NamesAreToldApart : Type 0
-NamesAreToldApart = (a b : NameParts) → name_order a b ≡ Equal → a ≡ b
