@@ -1,13 +1,18 @@
 //! Errors with the chains that explain them.
-ghost use Rattle.std.specs.Prelude.{◌≡◌, ◌++◌, ◌∷◌, [], ℕ, List, map, IfOk, OnOk};
+ghost use Rattle.std.specs.Prelude.{◌≡◌, ◌++◌, ◌∷◌, [], ℕ, List, map, filter, IfOk, OnOk};
 ghost use Rattle.bc_syntax.specs.declared.syntax.Region.{Region as ARegion};
+ghost use Rattle.bc_flow.specs.Flow.{holds};
 ghost use Rattle.bc_solve.specs.Chains.{TellsChains};
+ghost use Rattle.bc_judge.specs.Conflicts.{conflicts_of};
+ghost use Rattle.bc_judge.specs.Lifetimes.{is_lifetime_error};
 ghost use Rattle.bc_judge.specs.Errors.{point_of, conflict_error, lifetime_error};
 ghost use Rattle.bc_judge.specs.Explained.{IsInside, HasEnd, AreInside, HaveEnds};
 
-use crate::conflicts::Conflict;
+use crate::conflicts::{Conflict, conflicts};
 use crate::error::BorrowError;
+use crate::lifetimes::lifetimes;
 use bc_cons::Facts;
+use bc_flow::BitTable;
 use bc_mir::{Point, Step, Typed};
 use bc_points::region_number;
 use bc_solve::Explainer;
@@ -112,7 +117,7 @@ fn push_lifetime_errors(
 }
 
 /// The errors of conflicts, and then those of failures, in order. Where there are none, nothing is done.
-pub(crate) fn explained(
+fn explained(
     alloc: Global,
     typed: &Typed,
     facts: &Facts,
@@ -132,4 +137,24 @@ pub(crate) fn explained(
     push_conflict_errors(alloc, &mut errors, &mut explainer, typed, conflicts)?;
     push_lifetime_errors(alloc, &mut errors, &mut explainer, typed, failures)?;
     Ok(errors)
+}
+
+/// The errors of a body, each with the chain that explains it: those of its conflicts with the loans that `scopes` has in scope, and then
+/// those of the failures that its creator is not to meet.
+pub(crate) fn errors_over(
+    alloc: Global,
+    typed: &Typed,
+    facts: &Facts,
+    scopes: &BitTable,
+    failures: &[Outlives],
+) -> Result<Vec<BorrowError>, AllocError>
+    requires conflicts { AreInside typed.now facts.now (conflicts_of typed.now (holds scopes.now)) }
+    requires failures { HaveEnds typed.now facts.now (filter (is_lifetime_error typed.now) failures.now) }
+    ensures { IfOk result (λ errors. (chain : ℕ → ℕ → List ARegion) → TellsChains facts.now chain →
+        errors.items ≡ map (conflict_error typed.now chain) (conflicts_of typed.now (holds scopes.now))
+        ++ map (lifetime_error typed.now chain) (filter (is_lifetime_error typed.now) failures.now)) }
+{
+    let conflicts = conflicts(alloc, typed, scopes)?;
+    let lifetimes = lifetimes(alloc, typed, failures)?;
+    explained(alloc, typed, facts, &conflicts, &lifetimes)
 }

@@ -1,7 +1,7 @@
 //! The relations between universal regions that a body may count on.
-ghost use Rattle.std.specs.Prelude.{◌≡◌, ◌≤◌, ◌++◌, length, map, IfOk, OnOk};
+ghost use Rattle.std.specs.Prelude.{◌≡◌, ◌≤◌, ◌++◌, [], length, map, IfOk, OnOk};
 ghost use Rattle.std.specs.List.{flat_map, range_with_len};
-ghost use Rattle.bc_flow.specs.Flow.{holds, HaveSize};
+ghost use Rattle.bc_flow.specs.Flow.{row, holds, HaveSize, IsFlow};
 ghost use Rattle.bc_flow.specs.Graph.{AreWithin};
 ghost use Rattle.bc_judge.specs.Lifetimes.{TellsKnown};
 ghost use Rattle.bc_judge.specs.Known.{edge_of, edges_between, pair_edges, known_edges as edges_known, entries_of};
@@ -121,6 +121,19 @@ fn first_entries(alloc: Global, universals: usize) -> Result<Vec<Entry>, AllocEr
     Ok(entries)
 }
 
+/// The least relations that have the seeds and are handed on along the edges: no region holds any of them up.
+fn handed_on(alloc: Global, edges: &[Edge], seeds: BitTable) -> Result<BitTable, AllocError>
+    requires edges { AreWithin edges.now (length seeds) }
+    requires rows { HaveSize (length (row seeds 0)) seeds }
+    ensures regions { IfOk result (λ rows. length rows ≡ length seeds) }
+    ensures sizes { IfOk result (λ rows. HaveSize (length (row seeds 0)) rows) }
+    ensures flow { IfOk result (λ rows. IsFlow edges.now seeds [] rows) }
+{
+    let pending = every_node(alloc, seeds.len())?;
+    let no_kills = BitTable::new(alloc, 0, 0)?;
+    flow(alloc, edges, seeds, &no_kills, pending)
+}
+
 /// The relations between universal regions that a body may count on. They are the reflexive and transitive closure of its
 /// `where` clauses, of what the types of its captures and parameters demand to be well-formed, and of `'static` outliving
 /// all. Answers `AllocError` only where memory was refused. (RFC 2094, "Named lifetimes": the universal regions and their
@@ -134,8 +147,6 @@ pub fn known_relations(alloc: Global, typed: &Typed) -> Result<KnownRelations, A
     let edges = known_edges(alloc, typed)?;
     let entries = first_entries(alloc, universals)?;
     let seeds = table(alloc, universals, universals, &entries)?;
-    let pending = every_node(alloc, universals)?;
-    let no_kills = BitTable::new(alloc, 0, 0)?;
-    let rows = flow(alloc, &edges, seeds, &no_kills, pending)?;
+    let rows = handed_on(alloc, &edges, seeds)?;
     Ok(KnownRelations { rows })
 }

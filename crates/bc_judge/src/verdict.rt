@@ -10,12 +10,11 @@ ghost use Rattle.bc_loans.specs.Scope.{AreScopes};
 ghost use Rattle.bc_judge.specs.Errors.{AreErrors, AreRequirements, IsError, IsRequirement};
 ghost use Rattle.bc_judge.specs.declared.error.BorrowError.{BorrowError as AnError};
 
-use crate::conflicts::conflicts;
 use crate::error::BorrowError;
-use crate::explained::explained;
+use crate::explained::errors_over;
 use crate::failures::failures;
 use crate::known::known_relations;
-use crate::lifetimes::{lifetimes, requirements};
+use crate::lifetimes::requirements;
 use bc_cons::{Facts, Requirements};
 use bc_flow::BitTable;
 use bc_mir::Typed;
@@ -51,9 +50,7 @@ pub(crate) fn verdict_over(
 {
     let known = known_relations(alloc, typed)?;
     let failures = failures(alloc, typed, values, &known)?;
-    let conflicts = conflicts(alloc, typed, scopes)?;
-    let lifetimes = lifetimes(alloc, typed, &failures)?;
-    let errors = explained(alloc, typed, facts, &conflicts, &lifetimes)?;
+    let errors = errors_over(alloc, typed, facts, scopes, &failures)?;
     let requirements = requirements(alloc, typed, &failures)?;
     Ok(Verdict {
         errors: Sequence::from(errors),
