@@ -285,6 +285,32 @@ fn roots(alloc: Global, places: &[(Name, Place)]) -> Result<Vec<Name>, AllocErro
     Ok(names)
 }
 
+// The units of places, under their names.
+fn units_of(
+    alloc: Global,
+    places: &[(Name, Place)],
+) -> Result<Vec<(Name, Shared<Unit>)>, AllocError>
+    ensures { IfOk result (λ units. units.items ≡ map (λ (p : NameParts × Place). (p.0, p.1.unit)) places.now) }
+{
+    let mut units = Vec::with_capacity(alloc, places.len())?;
+    for row in places {
+        let unit = row.1.unit.clone()?;
+        units.push((row.0, unit))?;
+    }
+    Ok(units)
+}
+
+// The revisions of places.
+fn revisions_of(alloc: Global, places: &[(Name, Place)]) -> Result<Vec<u32>, AllocError>
+    ensures { IfOk result (λ revisions. revisions.items ≡ map (λ (p : NameParts × Place). p.1.revision) places.now) }
+{
+    let mut revisions = Vec::with_capacity(alloc, places.len())?;
+    for row in places {
+        revisions.push(row.1.revision)?;
+    }
+    Ok(revisions)
+}
+
 // The units of places, under their names, and their revisions.
 fn units(
     alloc: Global,
@@ -293,13 +319,8 @@ fn units(
     ensures units { IfOk result (λ r. r.0.items ≡ map (λ (p : NameParts × Place). (p.0, p.1.unit)) places.now) }
     ensures revisions { IfOk result (λ r. r.1.items ≡ map (λ (p : NameParts × Place). p.1.revision) places.now) }
 {
-    let mut units = Vec::with_capacity(alloc, places.len())?;
-    let mut revisions = Vec::with_capacity(alloc, places.len())?;
-    for row in places {
-        let unit = row.1.unit.clone()?;
-        units.push((row.0, unit))?;
-        revisions.push(row.1.revision)?;
-    }
+    let units = units_of(alloc, places)?;
+    let revisions = revisions_of(alloc, places)?;
     Ok((units, revisions))
 }
 
