@@ -158,9 +158,13 @@ impl Table {
     {
         let last = update.entry.copy()?;
         let change = update.entry.event.change()?;
-        own_again(&mut self.ready, &update.pieces)?;
-        self.pieces.reserve(self.ready.len())?;
-        self.shelf.prepare(&change)?;
+        make_ready(
+            &mut self.shelf,
+            &mut self.pieces,
+            &mut self.ready,
+            &change,
+            &update.pieces,
+        )?;
         take_in(
             &mut self.shelf,
             &mut self.pieces,
@@ -206,6 +210,26 @@ pub(crate) fn answer_in(held: &Shelf, name: &Name) -> Result<Option<Shared<Outco
         Some(outcome) => Ok(Some(outcome.clone()?)),
         None => Ok(None),
     }
+}
+
+// Makes ready what an update may be refused: one more owner of each of its pieces, room for them, and what its change moves into the shelf.
+// It changes nothing that is held, and gives no memory back.
+fn make_ready(
+    shelf: &mut Shelf,
+    pieces: &mut PieceMemo,
+    ready: &mut Pieces,
+    change: &Change,
+    set: &Option<PieceSet>,
+) -> Result<(), AllocError>
+    ensures same { (shelf.new.held ≡ shelf.old.held) × (pieces.new.rows ≡ pieces.old.rows) }
+    ensures owners { OnOk result (ready.new.items ≡ rows_of set.now) }
+    ensures room { OnOk result (length ready.new.items ≤ pieces.new.room) }
+    ensures prepared { OnOk result (IsReady change.now shelf.new.ready) }
+    ensures memory { (most_places shelf.new ≡ most_places shelf.old) × (most_rows pieces.old ≤ most_rows pieces.new) × (most_ready shelf.old ≤ most_ready shelf.new) × (vec_capacity ready.old ≤ vec_capacity ready.new) }
+{
+    own_again(ready, set)?;
+    pieces.reserve(ready.len())?;
+    shelf.prepare(change)
 }
 
 // Changes what is held, where the shelf is ready for it, drops the pieces that the change drops, and keeps those that are ready; or nothing
