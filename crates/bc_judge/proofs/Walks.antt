@@ -1,10 +1,10 @@
 -- A walk over a list that passes over elements which give nothing.
-use Rattle.std.proofs.Common.{◌≡◌, ℕ, zero, suc, ◌+◌, ◌-◌, ◌<◌, ◌≤◌, inl, inr, List, [], ◌∷◌, ◌++◌, length, drop, refl, sym, ap, ◌∙◌, append_assoc, append-nil, arith, Some}
+use Rattle.std.proofs.Common.{◌≡◌, ℕ, zero, suc, ◌+◌, ◌-◌, ◌<◌, ◌≤◌, inl, inr, List, [], ◌∷◌, ◌++◌, length, get_or, drop, refl, sym, ap, ◌∙◌, append_assoc, append-nil, arith, Some}
 use Rattle.std.specs.Prelude.{slice_get}
 use Rattle.std.specs.List.{flat_map, enumerate_from}
 use Rattle.std.proofs.Math.Seq.{drop-cons}
 use Rattle.std.proofs.lemmas.List.{drop_all}
-use Rattle.std.proofs.lemmas.Option.{slice_get_within, slice_get_cases, get_or_from_slice_get}
+use Rattle.std.proofs.lemmas.Option.{slice_get_within, slice_get_cases, slice_get_read, get_or_from_slice_get}
 
 -- what the elements from number n on give
 abbrev pub from_on : {X Y : Type 0} → (ℕ × X → List Y) → List X → ℕ → List Y
@@ -71,3 +71,14 @@ pub walk-past : {X Y : Type 0} (f : ℕ × X → List Y) (xs : List X) (items wh
     length xs ≤ m → items ++ from_on f xs n ≡ whole → items ≡ whole
 walk-past f xs items whole n m onward none past before =
     sym (append-nil items) ∙ ap (λ ys. items ++ ys) (sym (pass f xs n m onward none ∙ past_end f xs m past)) ∙ before
+
+-- a turn of a loop over every element, by its number
+pub each-turn : {X Y : Type 0} (f : ℕ × X → List Y) (xs : List X) (items new whole : List Y) (n : ℕ) (x : X) → n < length xs → x ≡ get_or xs n x → new ≡ items ++ f (n, x) →
+    items ++ from_on f xs n ≡ whole → new ++ from_on f xs (n + 1) ≡ whole
+each-turn f xs items new whole n x within is added before =
+    ap (λ ys. ys ++ from_on f xs (n + 1)) added ∙ append_assoc items (f (n, x)) (from_on f xs (n + 1))
+    ∙ ap (λ ys. items ++ ys) (sym (at_element f xs n x (slice_get_read xs (length xs) n x refl within is))) ∙ before
+
+-- and its end
+pub each-end : {X Y : Type 0} (f : ℕ × X → List Y) (xs : List X) (items whole : List Y) (n : ℕ) → length xs ≤ n → items ++ from_on f xs n ≡ whole → items ≡ whole
+each-end f xs items whole n past before = sym (append-nil items) ∙ ap (λ ys. items ++ ys) (sym (past_end f xs n past)) ∙ before

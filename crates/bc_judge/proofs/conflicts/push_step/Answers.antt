@@ -7,3 +7,6 @@ pub returns-then-is_none : goal.returns-then-is_none
 returns-then-is_none c =
     nothing-added c.args.conflicts.now.items (conflicts_at c.args.typed.now (has c.args.scope.now) (c.args.point, c.args.step.now))
     (no_loan_in_scope c.args.typed.now (has c.args.scope.now) (c.args.point, c.args.step.now) (empty_set c.args.scope.now c.next_member.result c.if-is_none.ensures c.next_member.ensures))
+
+pub returns : goal.returns
+returns c = rw (c.deref.ensures.value, c.in_ok-push_accesses.ensures, c.clear.ensures.items) at c.push_conflicts.ensures

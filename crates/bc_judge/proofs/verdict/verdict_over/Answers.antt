@@ -39,3 +39,10 @@ returns-clause-requirement c =
 
 pub returns-clause-external : goal.returns-clause-external
 returns-clause-external c = rw (c.in_ok-requirements.ensures) (required_may_go_up c.args.typed.now _)
+
+pub returns-clause-requirements : goal.returns-clause-requirements
+returns-clause-requirements c = record {
+  known = holds c.in_ok-known.known;
+  decides = c.in_ok-known.ensures.tells;
+  listed = rw (c.in_ok-requirements.ensures, c.deref-2.ensures.value, c.in_ok-failures.ensures) refl;
+}
