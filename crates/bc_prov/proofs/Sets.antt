@@ -1,10 +1,13 @@
 -- Pieces that were found from the same declarations.
-use Rattle.std.proofs.Common.{◌≡◌, Bool, true, false, List, [], ◌∷◌, Some}
+use Rattle.std.proofs.Common.{◌≡◌, ℕ, zero, suc, ◌<◌, Bool, true, false, List, [], ◌∷◌, ◌++◌, length, get_or, subst, arith, Some, None}
 use Rattle.std.specs.List.{AllByRecursion, items_where_true}
 use Rattle.bc_syntax.specs.declared.syntax.Declaration.{Declaration}
 use Rattle.bc_syntax.specs.declared.syntax.Body.{Body}
 use Rattle.bc_names.specs.Names.{NameParts}
-use Rattle.bc_prov.specs.Pieces.{PieceView, AreOver, ArePieces}
+use Rattle.std.specs.Prelude.{IfSome}
+use Rattle.std.proofs.Common.{Vec, Global}
+use Rattle.bc_prov.specs.Pieces.{PieceView, AreOver, ArePieces, IsPieceFor}
+use Rattle.bc_prov.specs.Snapshots.{PieceList, IsAmongPieces}
 use Rattle.bc_prov.specs.State.{at_name}
 
 -- what is true of all is true of some of them
@@ -19,3 +22,22 @@ pub pieces_for : (types : List Declaration) (units : List (NameParts × Body)) (
     → AllByRecursion (λ (p : NameParts × PieceView). at_name units p.0 ≡ Some p.1.unit) pieces → ArePieces types units pieces
 pieces_for types units [] over has = tt
 pieces_for types units (p ∷ pieces) over has = (record { types = over.0; unit = has.0 }, pieces_for types units pieces over.1 has.1)
+
+-- what is true of all of two lists is true of both in one
+pub all_append : {X : Type 0} (P : X → Type 0) (xs ys : List X) → AllByRecursion P xs → AllByRecursion P ys → AllByRecursion P (xs ++ ys)
+all_append P [] ys one two = two
+all_append P (x ∷ xs) ys one two = (one.0, all_append P xs ys one.1 two)
+
+-- what is true of all is true at each index
+pub by_index : {X : Type 0} (P : X → Type 0) (xs : List X) (i : ℕ) (d : X) → AllByRecursion P xs → i < length xs → P (get_or xs i d)
+by_index P [] i d all within = absurd (omega (arith, within))
+by_index P (x ∷ xs) zero d all within = all.0
+by_index P (x ∷ xs) (suc i) d all within = by_index P xs i d all.1 (omega (arith, within))
+
+-- and so of a piece that stands among them
+pub among_for : (types : List Declaration) (units : List (NameParts × Body)) (pieces : PieceList) (name : NameParts) (piece : PieceView)
+    → IfSome pieces (λ (ps : Vec (NameParts × PieceView) Global). ArePieces types units ps.items) → IsAmongPieces pieces name piece → IsPieceFor types (at_name units name) piece
+among_for types units None name piece are among = absurd among
+among_for types units (Some pieces) name piece are among =
+    subst (λ (p : NameParts × PieceView). IsPieceFor types (at_name units p.0) p.1) among.2
+    (by_index (λ (p : NameParts × PieceView). IsPieceFor types (at_name units p.0) p.1) pieces.items among.0 (name, piece) are among.1)
