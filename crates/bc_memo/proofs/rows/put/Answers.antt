@@ -1,6 +1,7 @@
-use Rattle.std.proofs.Common.{◌∙◌, Bool, ap, cond}
+use Rattle.std.proofs.Common.{◌∙◌, Bool, ap, cond, arith}
 use Rattle.std.specs.List.{insert}
 use Rattle.bc_memo.proofs.Places.{set_put, insert_put}
+use Rattle.std.proofs.lemmas.Grind.{common_steps}
 use Rattle.bc_memo.proofs.rows.put.Goals as goal
 
 pub returns-in-Ok-clause-rows : goal.returns-in-Ok-clause-rows
@@ -14,3 +15,9 @@ returns-else-is_err-clause-rows g c =
     let rows = c.args.rows.now.items in
     c.insert.ensures.items ∙ ap (λ (b : Bool). cond b (insert rows c.in-Err.place (c.args.name, c.args.value)) rows) c.if-is_err.ensures.negation
     ∙ rw (← c.deref.ensures.value) (insert_put _ c.args.name c.args.value c.in-Err.place f.within f.above f.below)
+
+pub returns-else-is_err-clause-memory : goal.returns-else-is_err-clause-memory
+returns-else-is_err-clause-memory g c = grind (arith, common_steps)
+
+pub unreachable-requires : goal.unreachable-requires
+unreachable-requires g c = grind (arith, common_steps)
