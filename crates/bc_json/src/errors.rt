@@ -1,16 +1,14 @@
 //! The JSON values of errors.
-ghost use Rattle.std.specs.Prelude.{◌≡◌, map, IfOk, OnOk};
+ghost use Rattle.std.specs.Prelude.{map, IfOk};
 ghost use Rattle.bc_judge.specs.declared.error.BorrowError.TheVariants.{Conflict, Lifetime};
-ghost use Rattle.serde_json.specs.Data.{number, unsigned, string, put as with_member};
-ghost use Rattle.serde_json.specs.View.{members_view};
-ghost use Rattle.bc_mir.specs.Lines.{point_text};
 ghost use Rattle.bc_json.specs.Json.{region_json, chain_json, error_json};
 ghost use Rattle.bc_json.specs.Texts.{HasText, array_text};
 
+use crate::members::{put_number, put_point, put_word};
 use bc_judge::{BorrowError, PrintedRegion};
 use bc_mir::Point;
 use bc_syntax::Region;
-use serde_json::{Map, ToValue, Value, json, put};
+use serde_json::{Map, Value, put};
 use std::alloc::{AllocError, Global};
 
 /// The value of a region.
@@ -33,34 +31,6 @@ fn chain_value(alloc: Global, chain: &[Region]) -> Result<Value, AllocError>
     Ok(Value::Array(words))
 }
 
-/// Puts a point, as it is printed, into an object.
-fn put_point(
-    members: &mut Map<String, Value>,
-    alloc: Global,
-    key: &str,
-    point: Point,
-) -> Result<(), AllocError>
-    ensures { OnOk result (members_view members.new.entries
-        ≡ with_member key.now (string (point_text point)) (members_view members.old.entries)) }
-{
-    let text = format!(in alloc; "{point}")?;
-    put(members, alloc, key, Value::String(text))
-}
-
-/// Puts a number into an object.
-fn put_number(
-    members: &mut Map<String, Value>,
-    alloc: Global,
-    key: &str,
-    value: usize,
-) -> Result<(), AllocError>
-    ensures { OnOk result (members_view members.new.entries
-        ≡ with_member key.now (number (unsigned value)) (members_view members.old.entries)) }
-{
-    let value = value.to_value(alloc)?;
-    put(members, alloc, key, value)
-}
-
 /// The value of a conflict.
 fn conflict_value(
     alloc: Global,
@@ -77,8 +47,7 @@ fn conflict_value(
     put_number(&mut members, alloc, "access", access)?;
     put_point(&mut members, alloc, "at", at)?;
     put_point(&mut members, alloc, "loan", loan)?;
-    let kind = "conflict".to_value(alloc)?;
-    put(&mut members, alloc, "kind", kind)?;
+    put_word(&mut members, alloc, "kind", "conflict")?;
     Ok(Value::Object(members))
 }
 
@@ -92,9 +61,12 @@ fn lifetime_value(
     ensures { IfOk result (λ value. HasText value (error_json (Lifetime longer shorter chain.now))) }
 {
     let chain = chain_value(alloc, chain)?;
-    let value =
-        json!(in alloc; {"chain": chain, "kind": "lifetime", "longer": longer, "shorter": shorter})?;
-    Ok(value)
+    let mut members = Map::new(alloc);
+    put(&mut members, alloc, "chain", chain)?;
+    put_word(&mut members, alloc, "kind", "lifetime")?;
+    put_number(&mut members, alloc, "longer", usize::from(longer))?;
+    put_number(&mut members, alloc, "shorter", usize::from(shorter))?;
+    Ok(Value::Object(members))
 }
 
 /// The value of an error.

@@ -2,6 +2,7 @@
 #![tactic(auto)]
 
 mod errors;
+mod members;
 mod outcomes;
 mod report;
 

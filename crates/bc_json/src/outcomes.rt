@@ -5,21 +5,22 @@ ghost use Rattle.bc_json.specs.Json.{body_json, outcome_json};
 ghost use Rattle.bc_json.specs.Texts.{HasText, array_text};
 
 use crate::errors::errors_value;
+use crate::members::{put_name, put_number, put_place, put_word};
 use bc_mir::Where;
 use bc_names::Name;
 use bc_prov::{BodyErrors, Outcome};
-use serde_json::{Value, json};
+use serde_json::{Map, Value, put};
 use std::alloc::{AllocError, Global};
 
 /// The value of a body.
 fn body_value(alloc: Global, body: &BodyErrors) -> Result<Value, AllocError>
     ensures { IfOk result (λ value. HasText value (body_json body.now)) }
 {
-    let name = body.name;
-    let name = format!(in alloc; "{name}")?;
     let errors = errors_value(alloc, body.errors.get().as_slice())?;
-    let value = json!(in alloc; {"errors": errors, "name": name})?;
-    Ok(value)
+    let mut members = Map::new(alloc);
+    put(&mut members, alloc, "errors", errors)?;
+    put_name(&mut members, alloc, "name", &body.name)?;
+    Ok(Value::Object(members))
 }
 
 /// The array of bodies, in order.
@@ -37,35 +38,40 @@ fn bodies_value(alloc: Global, bodies: &[BodyErrors]) -> Result<Value, AllocErro
 fn no_body_value(alloc: Global) -> Result<Value, AllocError>
     ensures { IfOk result (λ value. HasText value (outcome_json NoBody)) }
 {
-    let value = json!(in alloc; {"kind": "nobody"})?;
-    Ok(value)
+    let mut members = Map::new(alloc);
+    put_word(&mut members, alloc, "kind", "nobody")?;
+    Ok(Value::Object(members))
 }
 
 /// The value of a child that is not held.
 fn missing_value(alloc: Global, name: &Name) -> Result<Value, AllocError>
     ensures { IfOk result (λ value. HasText value (outcome_json (Missing name.now))) }
 {
-    let name = format!(in alloc; "{name}")?;
-    let value = json!(in alloc; {"kind": "missing", "name": name})?;
-    Ok(value)
+    let mut members = Map::new(alloc);
+    put_word(&mut members, alloc, "kind", "missing")?;
+    put_name(&mut members, alloc, "name", name)?;
+    Ok(Value::Object(members))
 }
 
 /// The value of a bad declaration.
 fn bad_types_value(alloc: Global, index: usize) -> Result<Value, AllocError>
     ensures { IfOk result (λ value. HasText value (outcome_json (BadTypes index))) }
 {
-    let value = json!(in alloc; {"index": index, "kind": "badtypes"})?;
-    Ok(value)
+    let mut members = Map::new(alloc);
+    put_number(&mut members, alloc, "index", index)?;
+    put_word(&mut members, alloc, "kind", "badtypes")?;
+    Ok(Value::Object(members))
 }
 
 /// The value of a unit that breaks a typing rule.
 fn ill_value(alloc: Global, name: &Name, place: &Where) -> Result<Value, AllocError>
     ensures { IfOk result (λ value. HasText value (outcome_json (Ill name.now place.now))) }
 {
-    let name = format!(in alloc; "{name}")?;
-    let at = format!(in alloc; "{place}")?;
-    let value = json!(in alloc; {"at": at, "kind": "ill", "name": name})?;
-    Ok(value)
+    let mut members = Map::new(alloc);
+    put_place(&mut members, alloc, "at", place)?;
+    put_word(&mut members, alloc, "kind", "ill")?;
+    put_name(&mut members, alloc, "name", name)?;
+    Ok(Value::Object(members))
 }
 
 /// The value of a report.
@@ -73,8 +79,10 @@ fn report_value(alloc: Global, bodies: &[BodyErrors]) -> Result<Value, AllocErro
     ensures { IfOk result (λ value. HasText value (outcome_json (Report bodies.now))) }
 {
     let bodies = bodies_value(alloc, bodies)?;
-    let value = json!(in alloc; {"bodies": bodies, "kind": "report"})?;
-    Ok(value)
+    let mut members = Map::new(alloc);
+    put(&mut members, alloc, "bodies", bodies)?;
+    put_word(&mut members, alloc, "kind", "report")?;
+    Ok(Value::Object(members))
 }
 
 /// Returns the JSON value of an outcome, the object that `json_report` writes behind `"outcome":`. It has no float, and its compact

@@ -3,20 +3,22 @@ ghost use Rattle.std.specs.Prelude.{◌≡◌, IfOk, string_bytes};
 ghost use Rattle.bc_json.specs.Json.{json_line};
 ghost use Rattle.bc_json.specs.Texts.{HasText};
 
+use crate::members::put_name;
 use crate::outcomes::outcome_value;
 use bc_names::Name;
 use bc_prov::Outcome;
-use serde_json::{Value, json};
+use serde_json::{Map, Value, put};
 use std::alloc::{AllocError, Global};
 
 /// The value of a root's name and its outcome.
 fn line_value(alloc: Global, name: &Name, outcome: &Outcome) -> Result<Value, AllocError>
     ensures { IfOk result (λ value. HasText value (json_line name.now outcome.now)) }
 {
-    let name = format!(in alloc; "{name}")?;
     let outcome = outcome_value(alloc, outcome)?;
-    let value = json!(in alloc; {"ask": name, "outcome": outcome})?;
-    Ok(value)
+    let mut members = Map::new(alloc);
+    put_name(&mut members, alloc, "ask", name)?;
+    put(&mut members, alloc, "outcome", outcome)?;
+    Ok(Value::Object(members))
 }
 
 /// Returns the JSON of what was found of the root of this name, as one line without its line feed: compact, the keys of each

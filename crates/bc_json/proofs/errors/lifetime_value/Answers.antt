@@ -6,4 +6,4 @@ use Rattle.bc_json.proofs.errors.lifetime_value.Goals as goal
 
 pub returns : goal.returns
 unfolding serde_json_on_literals
-returns c = lifetime_text c.in_ok-value.value c.in_ok-chain.chain c.args.longer c.args.shorter c.args.chain.now c.in_ok-chain.ensures (search (rules, the_lemmas))
+returns c = lifetime_text _ c.in_ok-chain.chain c.args.longer c.args.shorter c.args.chain.now c.in_ok-chain.ensures (search (rules, the_lemmas))

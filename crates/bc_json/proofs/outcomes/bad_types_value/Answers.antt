@@ -6,4 +6,4 @@ use Rattle.bc_json.proofs.outcomes.bad_types_value.Goals as goal
 
 pub returns : goal.returns
 unfolding serde_json_on_literals
-returns c = bad_types_text c.in_ok-value.value c.args.index (search (rules, the_lemmas))
+returns c = bad_types_text _ c.args.index (search (rules, the_lemmas))

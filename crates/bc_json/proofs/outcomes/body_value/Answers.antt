@@ -8,4 +8,4 @@ use Rattle.bc_json.proofs.outcomes.body_value.Goals as goal
 
 pub returns : goal.returns
 unfolding serde_json_on_literals
-returns c = body_text c.in_ok-value.value c.in_ok-errors.errors c.args.body.now (subst (λ xs. HasText c.in_ok-errors.errors (array_text (map error_json xs))) (c.as_slice.ensures ∙ c.get.ensures) c.in_ok-errors.ensures) (search (rules, the_lemmas))
+returns c = body_text _ c.in_ok-errors.errors c.args.body.now (subst (λ xs. HasText c.in_ok-errors.errors (array_text (map error_json xs))) (c.as_slice.ensures ∙ c.get.ensures) c.in_ok-errors.ensures) (search (rules, the_lemmas))

@@ -6,4 +6,4 @@ use Rattle.bc_json.proofs.outcomes.ill_value.Goals as goal
 
 pub returns : goal.returns
 unfolding serde_json_on_literals
-returns c = ill_text c.in_ok-value.value c.args.name.now c.args.place.now (search (rules, the_lemmas))
+returns c = ill_text _ c.args.name.now c.args.place.now (search (rules, the_lemmas))

@@ -6,4 +6,4 @@ use Rattle.bc_json.proofs.outcomes.missing_value.Goals as goal
 
 pub returns : goal.returns
 unfolding serde_json_on_literals
-returns c = missing_text c.in_ok-value.value c.args.name.now (search (rules, the_lemmas))
+returns c = missing_text _ c.args.name.now (search (rules, the_lemmas))

@@ -6,4 +6,4 @@ use Rattle.bc_json.proofs.outcomes.no_body_value.Goals as goal
 
 pub returns : goal.returns
 unfolding serde_json_on_literals
-returns c = no_body_text c.in_ok-value.value (search (rules, the_lemmas))
+returns c = no_body_text _ (search (rules, the_lemmas))

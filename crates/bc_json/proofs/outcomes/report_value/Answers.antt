@@ -6,4 +6,4 @@ use Rattle.bc_json.proofs.outcomes.report_value.Goals as goal
 
 pub returns : goal.returns
 unfolding serde_json_on_literals
-returns c = report_text c.in_ok-value.value c.in_ok-bodies.bodies c.args.bodies.now c.in_ok-bodies.ensures (search (rules, the_lemmas))
+returns c = report_text _ c.in_ok-bodies.bodies c.args.bodies.now c.in_ok-bodies.ensures (search (rules, the_lemmas))

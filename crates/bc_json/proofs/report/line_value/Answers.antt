@@ -6,4 +6,4 @@ use Rattle.bc_json.proofs.report.line_value.Goals as goal
 
 pub returns : goal.returns
 unfolding serde_json_on_literals
-returns c = line_text c.in_ok-value.value c.in_ok-outcome.outcome c.args.name.now c.args.outcome.now c.in_ok-outcome.ensures (search (rules, the_lemmas))
+returns c = line_text _ c.in_ok-outcome.outcome c.args.name.now c.args.outcome.now c.in_ok-outcome.ensures (search (rules, the_lemmas))
