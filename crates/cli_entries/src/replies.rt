@@ -10,7 +10,7 @@ use bc_calls::Event;
 use bc_json::outcome_value;
 use bc_names::Name;
 use bc_prov::{Outcome, Shared};
-use serde_json::{ToValue, Value, json};
+use serde_json::{Map, ToValue, Value, put};
 use std::alloc::{AllocError, Global};
 
 /// The value of a root's name and its outcome.
@@ -19,8 +19,10 @@ fn root_value(alloc: Global, name: &Name, outcome: &Outcome) -> Result<Value, Al
 {
     let name = format!(in alloc; "{name}")?;
     let outcome = outcome_value(alloc, outcome)?;
-    let value = json!(in alloc; {"name": name, "outcome": outcome})?;
-    Ok(value)
+    let mut members = Map::new(alloc);
+    put(&mut members, alloc, "name", Value::String(name))?;
+    put(&mut members, alloc, "outcome", outcome)?;
+    Ok(Value::Object(members))
 }
 
 /// The array of roots with their outcomes, in order.
