@@ -1,4 +1,4 @@
-use Rattle.std.proofs.Common.{◌≡◌, ℕ, List, length, sym, ap, ◌∙◌, subst}
+use Rattle.std.proofs.Common.{◌≡◌, ℕ, List, length, sym, ap, ◌∙◌, subst, ◌<◌, arith}
 use Rattle.bc_names.specs.Names.{NameParts}
 use Rattle.bc_prov.specs.Pieces.{rows_of}
 use Rattle.bc_prov.specs.declared.outcome.Outcome.{Outcome}
@@ -93,3 +93,20 @@ returns-in_err-told-clause-refused g c = on_err _ _ (same_book c.self.inside.led
 
 pub returns-in_err-publish-clause-refused : goal.returns-in_err-publish-clause-refused
 returns-in_err-publish-clause-refused g c = on_err _ _ (same_book c.self.inside.ledger c.make_ready.new.self c.make_ready.ensures.same ∙ c.self.view_is)
+
+pub remember-requires-clause-room : goal.remember-requires-clause-room
+remember-requires-clause-room g c = omega (arith, c.len.ensures, c.args.findings.rows.ok.0, c.in_ok-change.ensures.room.2)
+
+pub revision-revision-requires : goal.revision-revision-requires
+revision-revision-requires g c =
+    let same = c.make_ready.ensures.same in
+    subst (λ (x : List Entry × ℕ). length x.0 < x.1) (λ k. (sym same.entries k, sym same.capacity k)) c.in_ok-change.ensures.below
+
+pub record-requires-clause-below : goal.record-requires-clause-below
+record-requires-clause-below g c =
+    let same = c.make_ready.ensures.same in
+    let rest = c.remember.ensures.same in
+    subst (λ (x : List Entry × ℕ). length x.0 < x.1) (λ k. (sym (rest.entries ∙ same.entries) k, sym (rest.capacity ∙ same.capacity) k)) c.in_ok-change.ensures.below
+
+pub returns-clause-below : goal.returns-clause-below
+returns-clause-below g c = subst (λ (v : BookView). length v.entries < v.capacity) c.self.view_is c.in_ok-change.ensures.below

@@ -1,6 +1,7 @@
-use Rattle.std.proofs.Common.{subst}
+use Rattle.bc_calls.specs.declared.call.PutReply.TheVariants.{Added}
+use Rattle.std.proofs.Common.{subst, ◌≡◌, ◌<◌, length}
 use Rattle.bc_syntax.specs.declared.syntax.Body.{Body}
-use Rattle.bc_calls.specs.Calls.{IsPutReply, after}
+use Rattle.bc_calls.specs.Calls.{IsPutReply, after, most_bodies}
 use Rattle.bc_book.specs.Ledgers.{BookView}
 use Rattle.bc_book.proofs.Fitting.{none_fit}
 use Rattle.bc_book.proofs.book.Book.put.Goals as goal
@@ -14,3 +15,6 @@ append-requires-clause-fit g c = none_fit _ c.none.result.kept c.none.ensures.ke
 
 pub append-requires-clause-published : goal.append-requires-clause-published
 append-requires-clause-published g c = none_fit _ c.none.result.published c.none.ensures.published
+
+pub append-requires-clause-place : goal.append-requires-clause-place
+append-requires-clause-place g c = subst (λ (v : BookView). c.in_ok-reply.reply ≡ Added → length v.shelf.places < most_bodies) c.self.view_is c.in_ok-reply.ensures.place

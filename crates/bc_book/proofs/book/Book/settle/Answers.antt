@@ -1,3 +1,5 @@
+use Rattle.bc_calls.specs.Calls.{after}
+use Rattle.bc_prov.specs.Outcome.{IsOutcomeIn}
 use Rattle.std.proofs.Common.{◌≡◌, ◌++◌, List, ap, sym, ◌∙◌, subst}
 use Rattle.std.specs.Prelude.{IfOk, OnOk, None}
 use Rattle.bc_names.specs.Names.{NameParts}
@@ -83,3 +85,18 @@ returns-clause-absent g c =
     subst (λ (y : List (NameParts × Remembered) × BookView). OnOk c.append.result (new.answers ≡ kept_rows (change_of (events.Ask k x)) (remembering y.0 y.1.answers))) (λ i. (rows i, sym c.self.view_is i)) c.append.ensures.answers in
     subst (λ (v : BookView). OnOk c.append.result (at_name v.shelf.places n ≡ None → new.answers ≡ v.answers)) c.self.view_is
     (settled_absent c.append.result k n x old new row answers c.name.ensures c.in_ok-row.ensures.row)
+
+pub row-requires : goal.row-requires
+row-requires g c = c.in_ok-outcome.ensures.outcome
+
+pub append-requires-clause-reply : goal.append-requires-clause-reply
+append-requires-clause-reply g c = subst (λ (v : BookView). IsOutcomeIn (after v.entries) c.name.result.now c.in_ok-outcome.field-0.outcome) c.self.view_is c.in_ok-outcome.ensures.outcome
+
+pub returns-clause-refused : goal.returns-clause-refused
+returns-clause-refused g c = c.append.ensures.refused
+
+pub returns-clause-full : goal.returns-clause-full
+returns-clause-full g c = c.append.ensures.full
+
+pub returns-clause-below : goal.returns-clause-below
+returns-clause-below g c = c.append.ensures.below

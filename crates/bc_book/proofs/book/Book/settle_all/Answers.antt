@@ -1,3 +1,4 @@
+use Rattle.bc_calls.specs.Calls.{IsListing, after}
 use Rattle.std.proofs.Common.{◌≡◌, List, Option, rules, sym, subst}
 use Rattle.std.specs.Prelude.{IfOk, OnOk}
 use Rattle.bc_names.specs.Names.{NameParts}
@@ -8,7 +9,7 @@ use Rattle.bc_memo.specs.Places.{AreFitting, changed}
 use Rattle.bc_memo.proofs.Found.{fitting_answers}
 use Rattle.bc_calls.specs.declared.call.Event.TheVariants as events
 use Rattle.bc_calls.specs.Changes.{change_of, writes_after, writes_of}
-use Rattle.bc_book.specs.Ledgers.{Appends, BookView, IsFoundAll, KeepsUnasked, RemembersEach, kept_rows, remembering}
+use Rattle.bc_book.specs.Ledgers.{Appends, BookView, IsFoundAll, KeepsUnasked, RemembersEach, kept_rows, remembering, AreRows}
 use Rattle.bc_book.proofs.Settling.{settled_all, settled_unasked}
 use Rattle.bc_book.proofs.book.Book.settle_all.Goals as goal
 
@@ -59,3 +60,24 @@ returns-clause-others g c =
     subst (λ (v : BookView). OnOk c.append.result (new.answers ≡ kept_rows (change_of (events.All listing)) (remembering rows v.answers))) (sym c.self.view_is) c.append.ensures.answers in
     subst (λ (v : BookView). IfOk c.append.result (λ told. KeepsUnasked told v new)) c.self.view_is
     (settled_unasked c.append.result listing old new rows c.append.ensures.told answers found)
+
+pub append-requires-clause-reply : goal.append-requires-clause-reply
+append-requires-clause-reply g c =
+    let listing : List (NameParts × Outcome) = c.in_ok-listing-2.listing in
+    let same : listing ≡ c.in_ok-listing.field-0.listing.items = search rules in
+    subst (λ (v : BookView). IsListing (after v.entries) listing) c.self.view_is (subst (IsListing (after c.self.inside.ledger.entries)) (sym same) c.in_ok-listing.ensures.listing)
+
+pub append-requires-clause-rows : goal.append-requires-clause-rows
+append-requires-clause-rows g c =
+    let l = c.self.inside.ledger in
+    let rows : List (NameParts × Remembered) = c.in_ok-findings.findings.rows.items in
+    subst (λ (v : BookView). AreRows v.shelf v.entries rows) c.self.view_is (subst (AreRows l.shelf l.entries) (sym c.in_ok-findings.ensures.rows) c.in_ok-listing.ensures.found.rows)
+
+pub returns-clause-refused : goal.returns-clause-refused
+returns-clause-refused g c = c.append.ensures.refused
+
+pub returns-clause-full : goal.returns-clause-full
+returns-clause-full g c = c.append.ensures.full
+
+pub returns-clause-below : goal.returns-clause-below
+returns-clause-below g c = c.append.ensures.below

@@ -1,4 +1,6 @@
-use Rattle.std.proofs.Common.{◌≡◌, ◌++◌, ◌∷◌, [], List, refl, rules, sym, subst}
+use Rattle.std.proofs.lemmas.List.{map-append}
+use Rattle.std.specs.Map.{keys_of}
+use Rattle.std.proofs.Common.{◌≡◌, ◌++◌, ◌∷◌, [], List, refl, rules, sym, subst, ◌∙◌, ap}
 use Rattle.bc_names.specs.Names.{NameParts}
 use Rattle.bc_prov.specs.declared.outcome.Outcome.{Outcome}
 use Rattle.bc_prov.specs.Outcome.{IsOutcomeIn}
@@ -29,3 +31,14 @@ returns-clause-fit g c =
     let before : PieceRows = c.args.found.now.pieces.rows in
     let more : AreFitting l.shelf (rows_of c.reusable-pieces.result) = left_fit _ c.in_ok-outcome.field-0.pieces c.reusable-pieces.result c.reusable-pieces.result c.reusable-pieces.ensures refl c.in_ok-outcome.ensures.fit in
     subst (λ (rows : PieceRows). AreFitting l.shelf rows) (sym c.in_ok-push_pieces.ensures.rows) (all_append _ before (rows_of c.reusable-pieces.result) c.requires.fit more)
+
+pub returns-clause-listed : goal.returns-clause-listed
+returns-clause-listed g c =
+    let listing = c.args.found.now.listing.items in
+    let n : NameParts = c.args.name.now in
+    let o : Outcome = c.in_ok-outcome.field-0.outcome in
+    let longer : c.push.new.self.items ≡ listing ++ (n, o) ∷ [] = search rules in
+    ap keys_of longer ∙ map-append (λ (x : NameParts × Outcome). x.0) listing ((n, o) ∷ [])
+
+pub returns-clause-over : goal.returns-clause-over
+returns-clause-over g c = c.push_pieces.ensures.types ∙ c.requires.over

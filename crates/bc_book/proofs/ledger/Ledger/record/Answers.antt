@@ -72,3 +72,8 @@ overflow_add-self c =
     let below : length i.history.items < i.capacity = subst (λ (v : LedgerView). length v.entries < v.capacity) is c.requires.below in
     let few : count_of e.session i.history.items ≤ length i.history.items = count_by-le-length (λ (x : Entry). x.session == e.session) i.history.items in
     omega (arith, below, few, fits.1, c.self.invariant.0.bounded)
+
+pub push_reserved-requires : goal.push_reserved-requires
+push_reserved-requires c =
+    let room = subst (λ (v : LedgerView). 0 < v.room) (sym c.self.view_is) c.requires.room.0 in
+    omega (arith, room)

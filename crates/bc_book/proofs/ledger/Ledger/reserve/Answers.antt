@@ -1,0 +1,13 @@
+use Rattle.bc_book.proofs.ledger.Ledger.reserve.Goals as goal
+
+pub invariant_of-self : goal.invariant_of-self
+invariant_of-self c = rw c.reserve.ensures.items c.self.invariant
+
+pub invariant_of-self-in_err-reserve-2 : goal.invariant_of-self-in_err-reserve-2
+invariant_of-self-in_err-reserve-2 c = rw (c.reserve-2.ensures.same, c.reserve.ensures.items) c.self.invariant
+
+pub invariant_of-self-in_err-reserve-3 : goal.invariant_of-self-in_err-reserve-3
+invariant_of-self-in_err-reserve-3 c = rw (c.reserve-3.ensures.same, c.reserve-2.ensures.same, c.reserve.ensures.items) c.self.invariant
+
+pub invariant_of-self-2 : goal.invariant_of-self-2
+invariant_of-self-2 c = rw (c.reserve-3.ensures.same, c.reserve-2.ensures.same, c.reserve.ensures.items) c.self.invariant
