@@ -19,7 +19,7 @@ use Rattle.bc_mir.specs.declared.mir.Point.{Point}
 use Rattle.bc_mir.specs.declared.mir.Step.{Step}
 use Rattle.bc_points.specs.declared.loan.Loan.{Loan}
 use Rattle.bc_mir.specs.Mir.{Mir}
-use Rattle.bc_types.specs.Mutabilities.{is_mutable}
+use Rattle.bc_shapes.specs.Mutabilities.{is_mutable}
 use Rattle.bc_points.specs.Points.{loan_of}
 use Rattle.bc_points.specs.Accesses.{accesses_of}
 use Rattle.bc_flow.proofs.Membership.{Contains-nil, Contains-one, Contains-head, from_flat_map, in_flat_map, from_map, in_map, from_filter, in_filter, from_enumerate, in_enumerate, from_range, in_range}

@@ -13,10 +13,11 @@ use Rattle.bc_syntax.specs.declared.syntax.Reference.{Reference}
 use Rattle.bc_syntax.specs.declared.syntax.Projection.{Projection}
 use Rattle.bc_syntax.specs.declared.syntax.Projection.TheVariants.{Deref, Field}
 use Rattle.bc_syntax.specs.declared.syntax.Declaration.{Declaration}
-use Rattle.bc_types.specs.Mutabilities.{same_mutability}
-use Rattle.bc_types.specs.Declarations.{same_name}
-use Rattle.bc_types.specs.Replaced.{replaced_region, replaced_reference, replaced_base, replaced_ty, declared_field}
-use Rattle.bc_types.specs.Shapes.{blanked, alike_bases, alike_types, one_shape, is_copyable_type}
+use Rattle.bc_shapes.specs.Mutabilities.{same_mutability}
+use Rattle.bc_shapes.specs.Shapes.{same_name}
+use Rattle.bc_shapes.specs.Replaced.{replaced_region, replaced_reference, replaced_base, replaced_ty}
+use Rattle.bc_types.specs.Fields.{declared_field}
+use Rattle.bc_shapes.specs.Shapes.{blanked, alike_bases, alike_types, one_shape, is_copyable_type}
 use Rattle.bc_mir.specs.PlaceTypes.{type_behind}
 use Rattle.bc_mir.specs.Children.{closure_behind, closure_of}
 use Rattle.bc_mir.specs.Rules.{allowed, has_shape, of_one_shape, type_referenced, unless_closure}

@@ -18,7 +18,7 @@ use Rattle.bc_syntax.specs.declared.syntax.Ty.{Ty}
 use Rattle.bc_syntax.specs.Fits.{item_fits, region_fits, regions_fit, reference_fits, base_fits, ty_fits, whole_closure_fits, let_fits}
 use Rattle.bc_types.specs.declared.subtype.Constraint.{Constraint}
 use Rattle.bc_types.specs.Mentions.{regions_of_references, regions_of_base, regions_of}
-use Rattle.bc_types.specs.Replaced.{replaced_region}
+use Rattle.bc_shapes.specs.Replaced.{replaced_region}
 use Rattle.bc_types.specs.Subtype.{outlives}
 use Rattle.bc_types.specs.WellFormed.{each_outlives, reference_pairs, replaced_pair, base_pairs, struct_pairs, well_formed_pairs}
 use Rattle.bc_mir.specs.Mir.{Mir}

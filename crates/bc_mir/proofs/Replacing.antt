@@ -10,10 +10,11 @@ use Rattle.bc_syntax.specs.declared.syntax.Reference.{Reference}
 use Rattle.bc_syntax.specs.declared.syntax.Projection.{Projection}
 use Rattle.bc_syntax.specs.declared.syntax.Projection.TheVariants.{Deref, Field}
 use Rattle.bc_syntax.specs.declared.syntax.Declaration.{Declaration}
-use Rattle.bc_types.specs.Mutabilities.{is_mutable}
+use Rattle.bc_shapes.specs.Mutabilities.{is_mutable}
 use Rattle.bc_mir.specs.Places.{are_mutable}
 use Rattle.bc_mir.specs.Mir.{Mir}
-use Rattle.bc_types.specs.Replaced.{replaced_region, replaced_reference, replaced_base, replaced_ty, declared_field}
+use Rattle.bc_shapes.specs.Replaced.{replaced_region, replaced_reference, replaced_base, replaced_ty}
+use Rattle.bc_types.specs.Fields.{declared_field}
 use Rattle.bc_mir.specs.PlaceTypes.{references_behind, references_of_place, leads_mutable, mutable_behind, mutable_on_way}
 
 pub mutable_replaced : (types : List Declaration) (arguments : List Region) (projections : List Projection) (references : List Reference) (base : Base) → are_mutable (references_behind types projections (map (replaced_reference arguments) references) (replaced_base arguments base)) ≡ are_mutable (references_behind types projections references base)

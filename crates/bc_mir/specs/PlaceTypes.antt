@@ -10,8 +10,8 @@ use Rattle.bc_syntax.specs.declared.syntax.Reference.{Reference}
 use Rattle.bc_syntax.specs.declared.syntax.Projection.{Projection}
 use Rattle.bc_syntax.specs.declared.syntax.Projection.TheVariants.{Deref, Field}
 use Rattle.bc_syntax.specs.declared.syntax.Declaration.{Declaration}
-use Rattle.bc_types.specs.Mutabilities.{is_mutable}
-use Rattle.bc_types.specs.Replaced.{declared_field, field_type}
+use Rattle.bc_shapes.specs.Mutabilities.{is_mutable}
+use Rattle.bc_types.specs.Fields.{declared_field, field_type}
 use Rattle.bc_mir.specs.Places.{are_mutable}
 use Rattle.bc_mir.specs.Mir.{Mir}
 

@@ -7,7 +7,7 @@ use Rattle.bc_syntax.specs.declared.syntax.Operand.TheVariants.{Copy, Move, Numb
 use Rattle.bc_syntax.specs.declared.syntax.Reference.{Reference}
 use Rattle.bc_syntax.specs.declared.syntax.Projection.{Projection}
 use Rattle.bc_syntax.specs.declared.syntax.Projection.TheVariants.{Deref, Field}
-use Rattle.bc_types.specs.Mutabilities.{is_mutable}
+use Rattle.bc_shapes.specs.Mutabilities.{is_mutable}
 
 -- references that are all mutable
 abbrev pub are_mutable : List Reference → Bool

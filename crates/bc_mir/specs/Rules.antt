@@ -30,7 +30,7 @@ use Rattle.bc_mir.specs.Places.{are_mutable, has_no_deref}
 use Rattle.bc_mir.specs.Mir.{Mir}
 use Rattle.bc_mir.specs.Children.{child_of, closure_of, closure_type, takes_externals, takes_locals, is_known}
 use Rattle.bc_mir.specs.PlaceTypes.{type_of_place, references_of_place}
-use Rattle.bc_types.specs.Shapes.{one_shape, is_int_type, is_copyable_type}
+use Rattle.bc_shapes.specs.Shapes.{one_shape, is_int_type, is_copyable_type}
 
 -- the value, where a rule allows it
 abbrev pub allowed : {A : Type 0} → Bool → Option A → Option A

@@ -20,7 +20,8 @@ mod typing;
 mod value_types;
 mod well_formed;
 
-pub use bc_types::{CheckTypes, Constraint, DeclFault, GoodTypes, is_mutable};
+pub use bc_shapes::is_mutable;
+pub use bc_types::{CheckTypes, Constraint, DeclFault, GoodTypes};
 pub use children::{Child, KidHeader, arguments, is_outer_clause};
 pub use laws::{edges_join_points, entries_begin_blocks};
 pub use mentions::base_regions;

@@ -14,8 +14,9 @@ use crate::value_types::{
     closure_in, lent_type_of_operand, lent_type_to_borrow, type_of_borrow, type_of_operand,
     type_of_rvalue,
 };
+use bc_shapes::TyRef;
 use bc_syntax::{Borrow, ClosureInstance, Operand, Place, Reference, Rvalue, Ty};
-use bc_types::{GoodTypes, TyRef};
+use bc_types::GoodTypes;
 use std::alloc::{AllocError, Global};
 
 fn any_holds_drop(types: &GoodTypes, captures: &[Ty]) -> bool

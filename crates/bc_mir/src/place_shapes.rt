@@ -1,7 +1,7 @@
 //! Shapes of places. No rule looks at a region, so a field is taken as it is declared.
 ghost use Rattle.std.specs.Prelude.{◌≡◌};
 ghost use Rattle.std.specs.Option.{option_map};
-ghost use Rattle.bc_types.specs.Shapes.{blanked};
+ghost use Rattle.bc_shapes.specs.Shapes.{blanked};
 ghost use Rattle.bc_mir.specs.PlaceTypes.{type_behind, type_of_place};
 ghost use Rattle.bc_mir.specs.Rules.{type_to_write, type_reached, type_to_borrow, unless_closure as closure_refused};
 

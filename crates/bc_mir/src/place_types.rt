@@ -6,8 +6,9 @@ ghost use Rattle.bc_mir.specs.Places.{are_mutable, has_no_field, is_deref};
 ghost use Rattle.bc_mir.specs.PlaceTypes.{field_of as field_there, type_behind as behind, type_of_place as place_there, references_behind as dereferenced_behind, references_of_place as dereferenced_there, mutable_behind, mutable_on_way};
 
 use crate::mir::Draft;
+use bc_shapes::{TyRef, is_mutable};
 use bc_syntax::{Base, Place, Projection, Reference, ShortSequence, Ty};
-use bc_types::{GoodTypes, TyRef, is_mutable};
+use bc_types::GoodTypes;
 use std::alloc::{AllocError, Global};
 
 /// Field `k` of a struct.

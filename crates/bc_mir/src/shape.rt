@@ -1,16 +1,16 @@
 //! Types that are lent, told by all but their regions.
 ghost use Rattle.std.specs.Prelude.{◌≡◌};
 ghost use Rattle.std.specs.Option.{option_map};
-ghost use Rattle.bc_types.specs.Shapes.{blanked, one_shape, is_int_type, is_copyable_type};
+ghost use Rattle.bc_shapes.specs.Shapes.{blanked, one_shape, is_int_type, is_copyable_type};
 ghost use Rattle.bc_mir.specs.Children.{closure_of, closure_type};
 ghost use Rattle.bc_mir.specs.Rules.{struct_type, type_referenced};
 
 use crate::children::closure_behind;
-use bc_syntax::{Base, ClosureInstance, Instance, Reference, Ty};
-use bc_types::{
+use bc_shapes::{
     are_alike, are_alike_closures, are_alike_types, is_copyable_behind, is_int_behind,
     is_same_mutability,
 };
+use bc_syntax::{Base, ClosureInstance, Instance, Reference, Ty};
 use std::marker::Model;
 
 /// A type that is lent: its references, the outermost first, and what they lead to. Contracts see it with its regions blanked,
@@ -23,7 +23,7 @@ pub(crate) struct Shape<'a> {
 
 impl<'a> Model for Shape<'a> {
     ghost use Rattle.bc_syntax.specs.declared.syntax.Ty.{Ty};
-    ghost use Rattle.bc_types.specs.Shapes.{blanked};
+    ghost use Rattle.bc_shapes.specs.Shapes.{blanked};
 
     ghost Value = { Ty };
 

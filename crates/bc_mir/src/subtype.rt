@@ -3,8 +3,9 @@ ghost use Rattle.std.specs.Prelude.{◌≡◌, ◌++◌, OnOk};
 ghost use Rattle.bc_types.specs.Subtyping.{sub};
 
 use crate::typed::Typed;
+use bc_shapes::TyRef;
 use bc_syntax::Ty;
-use bc_types::{Constraint, TyRef, push_sub};
+use bc_types::{Constraint, push_sub};
 use std::alloc::AllocError;
 
 impl Typed {

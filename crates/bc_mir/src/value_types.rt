@@ -9,11 +9,11 @@ use crate::mir::Draft;
 use crate::place_types::{goes_only_mutable, lent_type_of_place, push_references, type_of_place};
 use crate::places::has_no_deref;
 use crate::rules::{are_operands_int, can_capture, can_create};
+use bc_shapes::{TyRef, is_copyable_type};
 use bc_syntax::{
     Aggregate, Base, Borrow, ClosureInstance, Creation, Instance, Mutability, Operand, Place,
     Reference, Rvalue, ShortSequence, Ty,
 };
-use bc_types::{TyRef, is_copyable_type};
 use std::alloc::{AllocError, Global};
 
 fn int_type(alloc: Global) -> Ty

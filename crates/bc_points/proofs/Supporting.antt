@@ -10,7 +10,8 @@ use Rattle.bc_syntax.specs.declared.syntax.Reference.{Reference}
 use Rattle.bc_syntax.specs.declared.syntax.Projection.{Projection}
 use Rattle.bc_syntax.specs.declared.syntax.Projection.TheVariants.{Deref, Field}
 use Rattle.bc_syntax.specs.declared.syntax.Declaration.{Declaration}
-use Rattle.bc_types.specs.Replaced.{replaced_region, replaced_reference, replaced_base, replaced_ty, declared_field}
+use Rattle.bc_shapes.specs.Replaced.{replaced_region, replaced_reference, replaced_base, replaced_ty}
+use Rattle.bc_types.specs.Fields.{declared_field}
 use Rattle.bc_mir.specs.Mir.{Mir}
 use Rattle.bc_mir.specs.PlaceTypes.{type_behind, leads_mutable}
 use Rattle.bc_points.specs.Supports.{goes_on_mutable, supports_behind, supports_from}

@@ -23,7 +23,7 @@ use Rattle.bc_types.specs.Declarations.{struct_of, extern_of}
 use Rattle.bc_mir.specs.Mir.{Mir}
 use Rattle.bc_mir.specs.PlaceTypes.{type_of_place}
 use Rattle.bc_mir.specs.Children.{child_of, arguments_of, is_outer_clause}
-use Rattle.bc_types.specs.Replaced.{replaced_region, replaced_ty}
+use Rattle.bc_shapes.specs.Replaced.{replaced_region, replaced_ty}
 use Rattle.bc_mir.specs.Rules.{type_of_operand, type_of_rvalue, closure_in}
 use Rattle.bc_types.specs.Subtype.{outlives}
 use Rattle.bc_types.specs.Subtyping.{sub}

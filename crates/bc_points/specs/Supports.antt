@@ -10,7 +10,7 @@ use Rattle.bc_syntax.specs.declared.syntax.Projection.{Projection}
 use Rattle.bc_syntax.specs.declared.syntax.Projection.TheVariants.{Deref, Field}
 use Rattle.bc_syntax.specs.declared.syntax.Declaration.{Declaration}
 use Rattle.bc_points.specs.Prefixes.{rest_of}
-use Rattle.bc_types.specs.Replaced.{declared_field}
+use Rattle.bc_types.specs.Fields.{declared_field}
 use Rattle.bc_mir.specs.Mir.{Mir}
 use Rattle.bc_mir.specs.PlaceTypes.{type_of_place, leads_mutable, mutable_behind}
 

@@ -1,18 +1,17 @@
 //! What points demand of regions, beside reborrows.
 ghost use Rattle.std.specs.Prelude.{◌≡◌, ◌++◌, ◌∷◌, [], Some, map, OnOk};
 ghost use Rattle.bc_mir.specs.Rules.{type_referenced, type_of_operand as operand_type, type_of_rvalue as rvalue_type};
-ghost use Rattle.bc_types.specs.Replaced.{replaced_ty};
+ghost use Rattle.bc_shapes.specs.Replaced.{replaced_ty};
 ghost use Rattle.bc_mir.specs.Children.{is_outer_clause as outer_clause};
 ghost use Rattle.bc_points.specs.Pairs.{sub_found, sub_place, operand_pair, operand_pairs, parameter_pairs, replaced_clause, clauses_where, captured_pairs, field_pairs, assignment_pairs, called_pairs, call_pairs, is_inner_clause, passed_pairs, invoked_pairs, invocation_pairs};
 
 use bc_mir::{Typed, arguments, is_outer_clause};
+use bc_shapes::{TyRef, replace_region, replace_ty};
 use bc_syntax::{
     Assignment, Borrow, Call, ClosureInstance, Creation, ExternDeclaration, Header, Invocation,
     Operand, Outlives, Place, Reference, Region, Rvalue, Ty,
 };
-use bc_types::{
-    Constraint, TyRef, push_outlives, push_sub, push_sub_reference, replace_region, replace_ty,
-};
+use bc_types::{Constraint, push_outlives, push_sub, push_sub_reference};
 use std::alloc::{AllocError, Global};
 
 /// Appends what makes a value a subtype of the type of a place.

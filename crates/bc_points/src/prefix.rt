@@ -6,8 +6,8 @@ ghost use Rattle.bc_points.specs.Prefixes.{from_last_shared as since_last_shared
 
 use crate::place_ref::PlaceRef;
 use bc_mir::are_fields;
+use bc_shapes::is_mutable;
 use bc_syntax::{Projection, Reference};
-use bc_types::is_mutable;
 
 fn are_mutable(references: &[Reference]) -> bool
     ensures { result ≡ all_mutable references.now }

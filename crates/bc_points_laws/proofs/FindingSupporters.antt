@@ -13,10 +13,10 @@ use Rattle.bc_syntax.specs.declared.syntax.Reference.{Reference}
 use Rattle.bc_syntax.specs.declared.syntax.Projection.{Projection}
 use Rattle.bc_syntax.specs.declared.syntax.Projection.TheVariants.{Deref, Field}
 use Rattle.bc_syntax.specs.declared.syntax.Declaration.{Declaration}
-use Rattle.bc_types.specs.Mutabilities.{is_mutable}
+use Rattle.bc_shapes.specs.Mutabilities.{is_mutable}
 use Rattle.bc_mir.specs.Places.{are_mutable}
 use Rattle.bc_points.specs.Prefixes.{rest_after, rest_of}
-use Rattle.bc_types.specs.Replaced.{field_type}
+use Rattle.bc_types.specs.Fields.{field_type}
 use Rattle.bc_mir.specs.Mir.{Mir}
 use Rattle.bc_mir.specs.PlaceTypes.{type_behind, type_of_place}
 use Rattle.bc_points.specs.Supports.{goes_on_mutable, supports}

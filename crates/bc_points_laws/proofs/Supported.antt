@@ -2,7 +2,7 @@
 use Rattle.std.proofs.Common.{◌≡◌, Bool, true, false, ◌&&◌, cond, List, [], ◌∷◌, ◌++◌, refl, ap, ◌∙◌}
 use Rattle.std.proofs.lemmas.List.Folds.{list_all-append}
 use Rattle.bc_syntax.specs.declared.syntax.Reference.{Reference}
-use Rattle.bc_types.specs.Mutabilities.{is_mutable}
+use Rattle.bc_shapes.specs.Mutabilities.{is_mutable}
 use Rattle.bc_mir.specs.Places.{are_mutable}
 use Rattle.bc_points.specs.Prefixes.{from_last_shared}
 

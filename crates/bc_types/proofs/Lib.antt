@@ -4,5 +4,4 @@ pub mod Adding
 pub mod Growing
 pub mod Demanding
 pub mod Marking
-pub mod Arguments
 pub mod Appending

@@ -3,7 +3,6 @@
 use Rattle.std.specs.Prelude.{ℕ, ◌+◌, ◌-◌, Bool, true, false, ◌&&◌, ◌||◌, ◌==◌, not, nat_lt, if◌then◌else◌, Option, Some, None, is_some, List, [], ◌∷◌, length, reverse, slice_get}
 use Rattle.std.specs.List.{list_all}
 use Rattle.std.specs.Option.{option_map_or}
-use Rattle.std.specs.Str.{bytes_eq}
 use Rattle.bc_syntax.specs.declared.syntax.Region.{Region}
 use Rattle.bc_syntax.specs.declared.syntax.Region.TheVariants.{Universal, Variable}
 use Rattle.bc_syntax.specs.declared.syntax.Reference.{Reference}
@@ -18,10 +17,8 @@ use Rattle.bc_syntax.specs.declared.syntax.StructDeclaration.{StructDeclaration}
 use Rattle.bc_syntax.specs.declared.syntax.ExternDeclaration.{ExternDeclaration}
 use Rattle.bc_syntax.specs.declared.syntax.Declaration.{Declaration}
 use Rattle.bc_syntax.specs.declared.syntax.Declaration.TheVariants.{Struct, Extern}
-use Rattle.bc_types.specs.Mutabilities.{is_mutable}
-
-abbrev pub same_name : ItemName → ItemName → Bool
-same_name first second = bytes_eq first.bytes second.bytes
+use Rattle.bc_shapes.specs.Mutabilities.{is_mutable}
+use Rattle.bc_shapes.specs.Shapes.{same_name}
 
 -- the struct of a name, the last one where several have it
 abbrev pub struct_among : List Declaration → ItemName → Option StructDeclaration

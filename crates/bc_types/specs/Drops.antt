@@ -8,7 +8,8 @@ use Rattle.bc_syntax.specs.declared.syntax.Base.TheVariants as bases
 use Rattle.bc_syntax.specs.declared.syntax.Ty.{Ty}
 use Rattle.bc_syntax.specs.declared.syntax.Declaration.{Declaration}
 use Rattle.bc_syntax.specs.declared.syntax.Declaration.TheVariants.{Struct, Extern}
-use Rattle.bc_types.specs.Declarations.{same_name, takes_regions}
+use Rattle.bc_shapes.specs.Shapes.{same_name}
+use Rattle.bc_types.specs.Declarations.{takes_regions}
 
 -- a base is a struct of which this holds
 abbrev pub is_struct_that : (Instance → Bool) → Base → Bool

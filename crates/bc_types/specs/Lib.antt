@@ -1,10 +1,8 @@
-pub mod Mutabilities
 pub mod Mentions
 pub mod Declarations
 pub mod Drops
-pub mod Replaced
+pub mod Fields
 pub mod Known
-pub mod Shapes
 pub mod Subtype
 pub mod Subtyping
 pub mod WellFormed

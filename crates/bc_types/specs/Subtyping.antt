@@ -12,7 +12,7 @@ use Rattle.bc_syntax.specs.declared.syntax.StructDeclaration.{StructDeclaration}
 use Rattle.bc_syntax.specs.declared.syntax.Declaration.{Declaration}
 use Rattle.bc_types.specs.declared.subtype.Constraint.{Constraint}
 use Rattle.bc_types.specs.Declarations.{is_invariant, struct_of}
-use Rattle.bc_types.specs.Mutabilities.{is_mutable}
+use Rattle.bc_shapes.specs.Mutabilities.{is_mutable}
 use Rattle.bc_types.specs.Subtype.{outlives}
 
 -- a region outlives another, and in an invariant position also the other way round

@@ -13,9 +13,10 @@ use Rattle.bc_syntax.specs.declared.syntax.StructDeclaration.{StructDeclaration}
 use Rattle.bc_syntax.specs.declared.syntax.Declaration.{Declaration}
 use Rattle.bc_syntax.specs.declared.syntax.Declaration.TheVariants as kinds
 use Rattle.bc_types.specs.declared.subtype.Constraint.{Constraint}
-use Rattle.bc_types.specs.Declarations.{same_name, takes_regions}
+use Rattle.bc_shapes.specs.Shapes.{same_name}
+use Rattle.bc_types.specs.Declarations.{takes_regions}
 use Rattle.bc_types.specs.Mentions.{regions_of_references, regions_of_base}
-use Rattle.bc_types.specs.Replaced.{replaced_region}
+use Rattle.bc_shapes.specs.Replaced.{replaced_region}
 use Rattle.bc_types.specs.Subtype.{outlives, same_region}
 
 -- each of these regions outlives another

@@ -3,8 +3,8 @@ ghost use Rattle.std.specs.Prelude.{◌≡◌, reverse};
 ghost use Rattle.std.specs.List.{list_all};
 ghost use Rattle.bc_types.specs.Declarations.{is_declared as declared, is_invariant as invariance, is_covariant as covariance, stands_well as standing, argument_positions, base_positions, positions_in, is_good_field as good_field, has_declared_base as declared_base, is_good as goodness};
 
-use crate::mutabilities::is_mutable;
 use crate::table::Table;
+use bc_shapes::is_mutable;
 use bc_syntax::{
     Base, Declaration, ExternDeclaration, Reference, Region, StructDeclaration, Ty, Variance,
 };

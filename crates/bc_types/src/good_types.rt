@@ -4,14 +4,14 @@ ghost use Rattle.std.specs.List.{list_all};
 ghost use Rattle.std.specs.Option.{option_copied};
 ghost use Rattle.bc_types.specs.Declarations.{has_declared_base as declared_base, first_bad, struct_of, extern_of};
 ghost use Rattle.bc_types.specs.Drops.{holds_drop as holding};
-ghost use Rattle.bc_types.specs.Replaced.{declared_field as field_there, field_type};
+ghost use Rattle.bc_types.specs.Fields.{declared_field as field_there, field_type};
 ghost use Rattle.bc_types.specs.WellFormed.{replaced_well_formed, well_formed_pairs};
 
 use crate::good::{have_declared_bases, is_good};
-use crate::replaced::replace_ty;
 use crate::subtype::Constraint;
 use crate::table::Table;
 use crate::well_formed::push_replaced_pairs;
+use bc_shapes::replace_ty;
 use bc_syntax::{
     Declaration, ExternDeclaration, Instance, ItemName, Region, StructDeclaration, Ty, Types,
 };

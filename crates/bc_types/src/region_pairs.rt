@@ -5,9 +5,9 @@ ghost use Rattle.bc_types.specs.RegionPairs.{AreMarked, IsMarked};
 ghost use Rattle.bc_types.specs.Subtype.{same_region};
 ghost use Rattle.bc_types.specs.WellFormed.{is_demanded, pair_where, pairs_where, replaced_pair, row_where};
 
-use crate::replaced::argument_of;
 use crate::subtype::{Constraint, push_outlives};
 use bc_flow::BitTable;
+use bc_shapes::argument_of;
 use bc_syntax::Region;
 use std::alloc::{AllocError, Global};
 use std::marker::Model;

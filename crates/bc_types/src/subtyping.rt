@@ -4,9 +4,8 @@ ghost use Rattle.bc_types.specs.Subtyping.{related, related_arguments, related_r
 
 use crate::good::is_invariant;
 use crate::good_types::GoodTypes;
-use crate::mutabilities::is_mutable;
 use crate::subtype::{Constraint, push_outlives};
-use crate::ty_ref::TyRef;
+use bc_shapes::{TyRef, is_mutable};
 use bc_syntax::{Base, ClosureInstance, Reference, Region, Variance};
 use std::alloc::AllocError;
 

@@ -10,9 +10,9 @@ ghost use Rattle.bc_types.specs.Drops.{holds_drop as holding, struct_holds_drop 
 ghost use Rattle.bc_types.specs.WellFormed.{base_pairs, field_pairs as pairs_of_fields, replaced_pair, struct_pairs as pairs_of_struct, well_formed_pairs};
 
 use crate::region_pairs::RegionPairs;
-use crate::replaced::copy_name;
 use crate::subtype::Constraint;
 use crate::well_formed::push_reference_pairs;
+use bc_shapes::copy_name;
 use bc_syntax::{
     Base, Declaration, ExternDeclaration, Instance, ItemName, Outlives, RegionName, Sequence,
     Signature, StructDeclaration, Ty,

@@ -4,8 +4,8 @@ ghost use Rattle.bc_types.specs.Mentions.{regions_of_references, regions_of_base
 ghost use Rattle.bc_types.specs.Subtype.{outlives};
 ghost use Rattle.bc_types.specs.WellFormed.{each_outlives, reference_pairs, replaced_pair as pair_replaced};
 
-use crate::replaced::replace_region;
 use crate::subtype::{Constraint, push_outlives};
+use bc_shapes::replace_region;
 use bc_syntax::{Base, Reference, Region};
 use std::alloc::AllocError;
 

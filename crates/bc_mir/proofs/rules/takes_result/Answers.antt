@@ -1,5 +1,5 @@
 use Rattle.std.proofs.Common.{Some, ap, ◌∙◌}
-use Rattle.bc_types.specs.Shapes.{one_shape}
+use Rattle.bc_shapes.specs.Shapes.{one_shape}
 use Rattle.bc_mir.specs.Rules.{type_to_write, of_one_shape}
 use Rattle.bc_mir.proofs.Blanking.{one_shape-left, of_one_shape-blanked}
 use Rattle.bc_mir.proofs.rules.takes_result.Goals as goal

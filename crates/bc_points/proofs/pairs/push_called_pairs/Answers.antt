@@ -1,6 +1,6 @@
 use Rattle.std.proofs.Common.{Some, ◌++◌, map}
 use Rattle.std.proofs.lemmas.Result.{on_ok_weaker}
-use Rattle.bc_types.specs.Replaced.{replaced_ty}
+use Rattle.bc_shapes.specs.Replaced.{replaced_ty}
 use Rattle.bc_points.specs.Pairs.{parameter_pairs, replaced_clause, sub_place}
 use Rattle.bc_points.proofs.Clauses.{appended-both}
 use Rattle.bc_points.proofs.pairs.push_called_pairs.Goals as goal

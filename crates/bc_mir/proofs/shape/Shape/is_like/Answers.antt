@@ -1,6 +1,6 @@
 use Rattle.std.proofs.Common.{sym, ap, ◌∙◌}
 use Rattle.bc_syntax.specs.declared.syntax.Ty.{Ty}
-use Rattle.bc_types.specs.Shapes.{blanked, one_shape}
+use Rattle.bc_shapes.specs.Shapes.{blanked, one_shape}
 use Rattle.bc_mir.proofs.Blanking.{one_shape-both}
 use Rattle.bc_mir.proofs.shape.Shape.is_like.Goals as goal
 

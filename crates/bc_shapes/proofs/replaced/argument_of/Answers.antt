@@ -1,6 +1,6 @@
 use Rattle.bc_syntax.specs.declared.syntax.Region.TheVariants.{Universal}
-use Rattle.bc_types.proofs.Arguments.{is-given, one-given, none-given}
-use Rattle.bc_types.proofs.replaced.argument_of.Goals as goal
+use Rattle.bc_shapes.proofs.Arguments.{is-given, one-given, none-given}
+use Rattle.bc_shapes.proofs.replaced.argument_of.Goals as goal
 
 pub returns-in-Some-clause-given : goal.returns-in-Some-clause-given
 returns-in-Some-clause-given c =

@@ -2,9 +2,9 @@ use Rattle.std.proofs.Common.{◌≡◌, suc, ◌-◌, ◌≤◌, Bool, true, fa
 use Rattle.std.proofs.lemmas.List.{take_all}
 use Rattle.bc_syntax.specs.declared.syntax.Reference.{Reference}
 use Rattle.bc_syntax.specs.declared.syntax.Base.{Base}
-use Rattle.bc_types.specs.Mutabilities.{same_mutability}
-use Rattle.bc_types.specs.Shapes.{alike_types}
-use Rattle.bc_types.proofs.shapes.+are_alike_types.Goals as goal
+use Rattle.bc_shapes.specs.Mutabilities.{same_mutability}
+use Rattle.bc_shapes.specs.Shapes.{alike_types}
+use Rattle.bc_shapes.proofs.shapes.+are_alike_types.Goals as goal
 
 module _ (first second : Base) where
   alike-same : (rs os : List Reference) (d e : Reference) (alike : Bool) → 1 ≤ length rs → 1 ≤ length os → true ≡ same_mutability (get_or rs 0 d).mutability (get_or os 0 e).mutability

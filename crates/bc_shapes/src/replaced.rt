@@ -1,13 +1,13 @@
 //! A declaration's regions replaced by arguments.
 ghost use Rattle.std.specs.Prelude.{◌≡◌, ◌++◌, ◌∷◌, map, IfOk, OnOk};
 ghost use Rattle.std.specs.List.{Contains};
-ghost use Rattle.bc_types.specs.Replaced.{replaced_region, replaced_reference, replaced_instance, replaced_closure, replaced_base, replaced_ty};
+ghost use Rattle.bc_shapes.specs.Replaced.{replaced_region, replaced_reference, replaced_instance, replaced_closure, replaced_base, replaced_ty};
 
 use bc_syntax::{Base, ClosureInstance, Instance, ItemName, Reference, Region, ShortSequence, Ty};
 use std::alloc::{AllocError, Global};
 
-/// The argument for a region of a declaration by number, `'static` having 0.
-pub(crate) fn argument_of(arguments: &[Region], number: usize) -> Region
+/// Returns the argument for a region of a declaration by number: `'static` has 0, and so has a region behind the last argument.
+pub fn argument_of(arguments: &[Region], number: usize) -> Region
     ensures value { result ≡ replaced_region arguments.now (Region.Universal number) }
     ensures given { Contains (Region.Universal 0 ∷ arguments.now) result }
 {
@@ -62,7 +62,8 @@ fn push_replaced_regions(
     Ok(())
 }
 
-pub(crate) fn copy_name(name: &ItemName) -> Result<ItemName, AllocError>
+/// Returns a copy of a name. Returns `AllocError` only where memory was refused.
+pub fn copy_name(name: &ItemName) -> Result<ItemName, AllocError>
     ensures { IfOk result (λ copy. copy ≡ name.now) }
 {
     name.clone()

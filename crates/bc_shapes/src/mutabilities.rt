@@ -1,6 +1,6 @@
 //! Shared and mutable.
 ghost use Rattle.std.specs.Prelude.{◌≡◌};
-ghost use Rattle.bc_types.specs.Mutabilities.{is_mutable as mutable};
+ghost use Rattle.bc_shapes.specs.Mutabilities.{is_mutable as mutable};
 
 use bc_syntax::Mutability;
 

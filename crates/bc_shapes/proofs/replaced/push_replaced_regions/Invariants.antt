@@ -1,6 +1,6 @@
 use Rattle.std.proofs.Common.{◌≡◌, ◌++◌, drop, map}
-use Rattle.bc_types.specs.Replaced.{replaced_region}
-use Rattle.bc_types.proofs.replaced.push_replaced_regions.Given as goal
+use Rattle.bc_shapes.specs.Replaced.{replaced_region}
+use Rattle.bc_shapes.proofs.replaced.push_replaced_regions.Given as goal
 
 abbrev pub invariant-loop-region : goal.invariant-loop-region
 invariant-loop-region l =

@@ -1,6 +1,5 @@
 -- A declaration's regions replaced by arguments.
-use Rattle.std.specs.Prelude.{ℕ, Option, option_and_then, unwrap_or, List, ◌∷◌, map, slice_get}
-use Rattle.std.specs.Option.{option_map}
+use Rattle.std.specs.Prelude.{unwrap_or, List, ◌∷◌, map, slice_get}
 use Rattle.bc_syntax.specs.declared.syntax.Region.{Region}
 use Rattle.bc_syntax.specs.declared.syntax.Region.TheVariants.{Universal, Variable}
 use Rattle.bc_syntax.specs.declared.syntax.Reference.{Reference}
@@ -9,10 +8,6 @@ use Rattle.bc_syntax.specs.declared.syntax.ClosureInstance.{ClosureInstance}
 use Rattle.bc_syntax.specs.declared.syntax.Base.{Base}
 use Rattle.bc_syntax.specs.declared.syntax.Base.TheVariants.{Int, Struct, Closure}
 use Rattle.bc_syntax.specs.declared.syntax.Ty.{Ty}
-use Rattle.bc_syntax.specs.declared.syntax.ItemName.{ItemName}
-use Rattle.bc_syntax.specs.declared.syntax.StructDeclaration.{StructDeclaration}
-use Rattle.bc_syntax.specs.declared.syntax.Declaration.{Declaration}
-use Rattle.bc_types.specs.Declarations.{struct_of}
 
 -- `'static`, number 0, stays, and the declared region k becomes the k-th argument, the first being 1. Whatever else
 -- a declaration might name becomes `'static` too, so that no region comes in but `'static` and the arguments: a region past
@@ -42,13 +37,3 @@ replaced_ty arguments ty = record {
   references = map (replaced_reference arguments) ty.references;
   base = replaced_base arguments ty.base;
 }
-
--- the type of a field as its struct declares it
-abbrev pub declared_field : List Declaration → ItemName → ℕ → Option Ty
-declared_field declarations name field =
-    option_and_then (λ (d : StructDeclaration). slice_get d.fields field) (struct_of declarations name)
-
--- the type of a field of a struct, with the struct's regions replaced by those of the instance
-abbrev pub field_type : List Declaration → Instance → ℕ → Option Ty
-field_type declarations instance field =
-    option_map (replaced_ty instance.regions) (declared_field declarations instance.name field)

@@ -1,18 +1,22 @@
 -- Types without their regions.
 use Rattle.std.specs.Prelude.{Bool, true, false, ◌&&◌, ◌==◌, not, List, [], ◌∷◌, length}
+use Rattle.std.specs.Str.{bytes_eq}
 use Rattle.bc_syntax.specs.declared.syntax.ClosureInstance.{ClosureInstance}
 use Rattle.bc_syntax.specs.declared.syntax.Base.{Base}
 use Rattle.bc_syntax.specs.declared.syntax.Base.TheVariants.{Int, Struct, Closure}
 use Rattle.bc_syntax.specs.declared.syntax.Instance.{Instance}
 use Rattle.bc_syntax.specs.declared.syntax.Ty.{Ty}
+use Rattle.bc_syntax.specs.declared.syntax.ItemName.{ItemName}
 use Rattle.bc_syntax.specs.declared.syntax.Reference.{Reference}
-use Rattle.bc_types.specs.Declarations.{same_name}
-use Rattle.bc_types.specs.Mutabilities.{is_mutable, same_mutability}
-use Rattle.bc_types.specs.Replaced.{replaced_ty}
+use Rattle.bc_shapes.specs.Mutabilities.{is_mutable, same_mutability}
+use Rattle.bc_shapes.specs.Replaced.{replaced_ty}
 
 -- a type with its regions blanked: where there is no argument, each becomes `'static`
 abbrev pub blanked : Ty → Ty
 blanked ty = replaced_ty [] ty
+
+abbrev pub same_name : ItemName → ItemName → Bool
+same_name first second = bytes_eq first.bytes second.bytes
 
 -- instances of one name with one number of regions
 abbrev pub alike : Instance → Instance → Bool

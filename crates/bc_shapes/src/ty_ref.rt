@@ -1,6 +1,6 @@
 //! Types that are lent.
 ghost use Rattle.std.specs.Prelude.{◌≡◌};
-ghost use Rattle.bc_types.specs.Shapes.{is_copyable_type};
+ghost use Rattle.bc_shapes.specs.Shapes.{is_copyable_type};
 
 use crate::shapes::is_copyable_behind;
 use bc_syntax::{Base, Reference, Ty};

@@ -1,6 +1,6 @@
 use Rattle.std.proofs.Common.{◌≡◌, ◌++◌, drop, map}
-use Rattle.bc_types.specs.Replaced.{replaced_reference}
-use Rattle.bc_types.proofs.replaced.push_replaced_references.Given as goal
+use Rattle.bc_shapes.specs.Replaced.{replaced_reference}
+use Rattle.bc_shapes.proofs.replaced.push_replaced_references.Given as goal
 
 abbrev pub invariant-loop-reference : goal.invariant-loop-reference
 invariant-loop-reference l =

@@ -1,0 +1,3 @@
+pub mod Mutabilities
+pub mod Replaced
+pub mod Shapes
