@@ -5,12 +5,12 @@ use Rattle.std.proofs.lemmas.List.Elements.{All-nil, All-cons, All-head, All-tai
 use Rattle.bc_syntax.specs.declared.syntax.Ty.{Ty}
 use Rattle.bc_syntax.specs.declared.syntax.Region.{Region}
 use Rattle.bc_types.specs.declared.subtype.Constraint.{Constraint as RegionConstraint}
-use Rattle.bc_mir.specs.Mir.{Mir}
+use Rattle.bc_bodies.specs.Mir.{Mir}
 use Rattle.bc_points.specs.Regions.{region_number}
 use Rattle.bc_cons.specs.declared.facts.NumberedConstraint.{NumberedConstraint}
 use Rattle.bc_cons.specs.declared.requirements.Requirements.{Requirements}
 use Rattle.bc_cons.specs.Constraints.{numbered, differ, all_pairs}
-use Rattle.bc_mir.specs.Mentions.{regions_of}
+use Rattle.bc_types.specs.Mentions.{regions_of}
 use Rattle.bc_cons.specs.Bounds.{regions_bound, types_bound, pairs_bound}
 use Rattle.bc_cons.specs.Below.{TyIsBelow, TysAreBelow, PairsAreBelow, IsRegionCount}
 use Rattle.bc_cons.specs.Facts.{ArePairsWithin}

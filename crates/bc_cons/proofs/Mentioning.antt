@@ -7,7 +7,7 @@ use Rattle.bc_syntax.specs.declared.syntax.Region.{Region}
 use Rattle.bc_syntax.specs.declared.syntax.Reference.{Reference}
 use Rattle.bc_syntax.specs.declared.syntax.Ty.{Ty}
 use Rattle.bc_points.specs.Regions.{region_number}
-use Rattle.bc_mir.specs.Mentions.{regions_of_references, regions_of_base}
+use Rattle.bc_types.specs.Mentions.{regions_of_references, regions_of_base}
 use Rattle.bc_cons.specs.Starts.{mentions}
 
 any_of_map : {A B : Type 0} (f : A → B) (p : B → Bool) (xs : List A) → list_any p (map f xs) ≡ list_any (λ x. p (f x)) xs

@@ -4,12 +4,12 @@ use Rattle.std.specs.List.{All}
 use Rattle.bc_syntax.specs.declared.syntax.Ty.{Ty}
 use Rattle.bc_syntax.specs.declared.syntax.Region.{Region}
 use Rattle.bc_types.specs.declared.subtype.Constraint.{Constraint as RegionConstraint}
-use Rattle.bc_mir.specs.Mir.{Mir}
+use Rattle.bc_bodies.specs.Mir.{Mir}
 use Rattle.bc_points.specs.Regions.{region_number}
 use Rattle.bc_cons.specs.declared.requirements.Requirements.{Requirements}
 use Rattle.bc_cons.specs.Constraints.{constraints_of}
 use Rattle.bc_cons.specs.Facts.{ArePairsWithin}
-use Rattle.bc_mir.specs.Mentions.{regions_of}
+use Rattle.bc_types.specs.Mentions.{regions_of}
 
 -- the regions of a type, of each type, and of each pair have numbers below the bound
 abbrev pub TyIsBelow : ℕ → ℕ → Ty → Type 0

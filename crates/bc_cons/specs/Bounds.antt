@@ -4,7 +4,7 @@ use Rattle.bc_syntax.specs.declared.syntax.Ty.{Ty}
 use Rattle.bc_syntax.specs.declared.syntax.Region.{Region}
 use Rattle.bc_types.specs.declared.subtype.Constraint.{Constraint as RegionConstraint}
 use Rattle.bc_points.specs.Regions.{region_number}
-use Rattle.bc_mir.specs.Mentions.{regions_of}
+use Rattle.bc_types.specs.Mentions.{regions_of}
 
 abbrev pub regions_bound : ℕ → ℕ → List Region → ℕ
 regions_bound universals least regions = fold (λ bound (region : Region). max bound (region_number universals region + 1)) least regions

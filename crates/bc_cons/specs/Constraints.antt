@@ -10,15 +10,15 @@ use Rattle.bc_syntax.specs.declared.syntax.Rvalue.{Rvalue}
 use Rattle.bc_syntax.specs.declared.syntax.Rvalue.TheVariants.{Use, Borrow, Aggregate, Closure, Calc}
 use Rattle.bc_syntax.specs.declared.syntax.Statement.TheVariants.{Assign, Dead, Drop, Nop}
 use Rattle.bc_syntax.specs.declared.syntax.Terminator.TheVariants.{Goto, If, Call, Invoke, Return, Stop}
-use Rattle.bc_mir.specs.declared.mir.Step.{Step}
-use Rattle.bc_mir.specs.declared.mir.Instruction.{Instruction}
-use Rattle.bc_mir.specs.declared.mir.Instruction.TheVariants.{Statement, Terminator}
+use Rattle.bc_bodies.specs.declared.mir.Step.{Step}
+use Rattle.bc_bodies.specs.declared.mir.Instruction.{Instruction}
+use Rattle.bc_bodies.specs.declared.mir.Instruction.TheVariants.{Statement, Terminator}
 use Rattle.bc_types.specs.declared.subtype.Constraint.{Constraint as RegionConstraint}
-use Rattle.bc_mir.specs.Mir.{Mir}
-use Rattle.bc_mir.specs.Children.{child_of, arguments_of}
+use Rattle.bc_bodies.specs.Mir.{Mir}
+use Rattle.bc_bodies.specs.Children.{child_of, arguments_of}
 use Rattle.bc_points.specs.Pairs.{assignment_pairs, call_pairs, invocation_pairs, replaced_clause}
 use Rattle.bc_points.specs.Prefixes.{from_last_shared}
-use Rattle.bc_mir.specs.PlaceTypes.{references_of_place}
+use Rattle.bc_bodies.specs.PlaceTypes.{references_of_place}
 use Rattle.bc_mir.specs.WellFormed.{let_pairs}
 use Rattle.bc_points.specs.Regions.{region_number}
 use Rattle.bc_types.specs.Subtype.{outlives, same_region}

@@ -3,8 +3,8 @@ use Rattle.std.specs.Prelude.{◌≡◌, ℕ, Bool, true, ◌||◌, ◌&&◌, �
 use Rattle.std.specs.List.{AllZip, list_all, list_any}
 use Rattle.bc_syntax.specs.declared.syntax.Outlives.{Outlives}
 use Rattle.bc_cons.specs.declared.requirements.Requirements.{Requirements}
-use Rattle.bc_mir.specs.declared.children.Child.{Child}
-use Rattle.bc_mir.specs.Externals.{external_regions}
+use Rattle.bc_bodies.specs.declared.children.Child.{Child}
+use Rattle.bc_bodies.specs.Externals.{external_regions}
 
 -- `'static`, or one of these regions
 abbrev pub is_static_or : List ℕ → ℕ → Bool

@@ -6,9 +6,9 @@ use Rattle.bc_syntax.specs.declared.syntax.Ty.{Ty}
 use Rattle.bc_syntax.specs.declared.syntax.Region.{Region}
 use Rattle.bc_flow.specs.BitSet.{has}
 use Rattle.bc_flow.specs.Flow.{row, holds}
-use Rattle.bc_mir.specs.Mir.{Mir}
+use Rattle.bc_bodies.specs.Mir.{Mir}
 use Rattle.bc_points.specs.Regions.{region_number}
-use Rattle.bc_mir.specs.Mentions.{regions_of}
+use Rattle.bc_types.specs.Mentions.{regions_of}
 
 -- a universal region starts with all points and its own end, and `'static` with all ends
 abbrev pub universal_start : ℕ → ℕ → ℕ → ℕ → Bool

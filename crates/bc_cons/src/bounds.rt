@@ -1,6 +1,6 @@
 //! How many regions a body has, by the numbers that it uses.
 ghost use Rattle.std.specs.Prelude.{◌≡◌, ◌+◌, ◌≤◌, max};
-ghost use Rattle.bc_mir.specs.Mentions.{regions_of_references, regions_of};
+ghost use Rattle.bc_types.specs.Mentions.{regions_of_references, regions_of};
 ghost use Rattle.bc_cons.specs.Bounds.{regions_bound as bound_of_regions, types_bound as bound_of_types, pairs_bound as bound_of_pairs};
 
 use bc_mir::{Constraint as RegionConstraint, base_regions};

@@ -7,9 +7,10 @@ use Rattle.serde_json.proofs.OnLiterals.{serde_json_on_literals}
 use Rattle.json.specs.Print.{quoted}
 use Rattle.bc_syntax.specs.declared.syntax.Region.{Region}
 use Rattle.bc_names.specs.Names.{NameParts, name_text}
-use Rattle.bc_mir.specs.declared.mir.Point.{Point}
+use Rattle.bc_bodies.specs.declared.mir.Point.{Point}
 use Rattle.bc_mir.specs.declared.typed.Where.{Where}
-use Rattle.bc_mir.specs.Lines.{point_text, place_text}
+use Rattle.bc_bodies.specs.Lines.{point_text}
+use Rattle.bc_mir.specs.Lines.{place_text}
 use Rattle.bc_judge.specs.declared.error.BorrowError.TheVariants.{Conflict, Lifetime}
 use Rattle.bc_judge.specs.Lines.{region_text}
 use Rattle.bc_prov.specs.declared.outcome.BodyErrors.{BodyErrors}

@@ -3,7 +3,8 @@ use Rattle.std.specs.Prelude.{ℕ, List, ◌++◌, map, decimal, codes}
 use Rattle.json.specs.Print.{quoted}
 use Rattle.bc_syntax.specs.declared.syntax.Region.{Region}
 use Rattle.bc_names.specs.Names.{NameParts, name_text}
-use Rattle.bc_mir.specs.Lines.{point_text, place_text}
+use Rattle.bc_bodies.specs.Lines.{point_text}
+use Rattle.bc_mir.specs.Lines.{place_text}
 use Rattle.bc_judge.specs.declared.error.BorrowError.{BorrowError}
 use Rattle.bc_judge.specs.declared.error.BorrowError.TheVariants.{Conflict, Lifetime}
 use Rattle.bc_judge.specs.Lines.{region_text}

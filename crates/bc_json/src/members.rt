@@ -3,7 +3,8 @@ ghost use Rattle.std.specs.Prelude.{◌≡◌, OnOk};
 ghost use Rattle.serde_json.specs.Data.{number, unsigned, string, put as with_member};
 ghost use Rattle.serde_json.specs.View.{members_view};
 ghost use Rattle.bc_names.specs.Names.{name_text};
-ghost use Rattle.bc_mir.specs.Lines.{place_text, point_text};
+ghost use Rattle.bc_bodies.specs.Lines.{point_text};
+ghost use Rattle.bc_mir.specs.Lines.{place_text};
 
 use bc_mir::{Point, Where};
 use bc_names::Name;

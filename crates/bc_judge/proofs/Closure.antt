@@ -16,7 +16,7 @@ use Rattle.bc_flow.specs.Flow.{holds, AreEntriesWithin, HaveEntries, Flows, begi
 use Rattle.bc_flow.proofs.Membership.{Contains-nil, Contains-one, Contains-cons, Contains-head, Contains-later, from_flat_map, in_flat_map, from_map, in_map, from_range, in_range}
 use Rattle.bc_types.specs.declared.subtype.Constraint.{Constraint}
 use Rattle.bc_types.specs.Subtype.{outlives}
-use Rattle.bc_mir.specs.Mir.{Mir}
+use Rattle.bc_bodies.specs.Mir.{Mir}
 use Rattle.bc_mir.specs.WellFormed.{implied_pairs, is_declared_pair}
 use Rattle.bc_judge.specs.Known.{edge_of, edges_between, pair_edges, known_edges, entry, entries_of}
 use Rattle.bc_judge.specs.Lifetimes.{IsKnown, same, static, clause, implied, join, TellsKnown}

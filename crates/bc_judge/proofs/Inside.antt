@@ -11,7 +11,7 @@ use Rattle.bc_flow.specs.Flow.{holds}
 use Rattle.bc_flow.proofs.Membership.{Contains-head}
 use Rattle.bc_points.specs.declared.loan.Loan.{Loan}
 use Rattle.bc_points.specs.Regions.{region_number}
-use Rattle.bc_mir.specs.Mir.{Mir}
+use Rattle.bc_bodies.specs.Mir.{Mir}
 use Rattle.bc_cons.specs.Facts.{RegionFacts}
 use Rattle.bc_solve.specs.Values.{AreValues, IsInValue, Tells}
 use Rattle.bc_solve.specs.Chains.{Explains, TellsChains}

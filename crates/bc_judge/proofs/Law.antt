@@ -15,10 +15,10 @@ use Rattle.bc_syntax.specs.declared.syntax.Mutability.TheVariants.{Shared, Mutab
 use Rattle.bc_points.specs.declared.access.Access.{Access}
 use Rattle.bc_points.specs.declared.access.AccessKind.{AccessKind}
 use Rattle.bc_points.specs.declared.access.AccessKind.TheVariants.{Read, Write}
-use Rattle.bc_mir.specs.declared.mir.Point.{Point}
-use Rattle.bc_mir.specs.declared.mir.Step.{Step}
+use Rattle.bc_bodies.specs.declared.mir.Point.{Point}
+use Rattle.bc_bodies.specs.declared.mir.Step.{Step}
 use Rattle.bc_points.specs.declared.loan.Loan.{Loan}
-use Rattle.bc_mir.specs.Mir.{Mir}
+use Rattle.bc_bodies.specs.Mir.{Mir}
 use Rattle.bc_shapes.specs.Mutabilities.{is_mutable}
 use Rattle.bc_points.specs.Points.{loan_of}
 use Rattle.bc_points.specs.Accesses.{accesses_of}

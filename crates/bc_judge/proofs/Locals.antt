@@ -13,7 +13,7 @@ use Rattle.bc_points.specs.declared.access.AccessKind.TheVariants.{Read, Write}
 use Rattle.bc_points.specs.declared.access.Depth.{Depth}
 use Rattle.bc_points.specs.declared.access.Depth.TheVariants.{Shallow, Deep}
 use Rattle.bc_points.specs.declared.loan.Loan.{Loan}
-use Rattle.bc_mir.specs.Mir.{Mir}
+use Rattle.bc_bodies.specs.Mir.{Mir}
 use Rattle.bc_flow.specs.BitSet.{has, IsNextMember}
 use Rattle.bc_flow.specs.Flow.{row, holds}
 use Rattle.bc_flow.specs.declared.tables.Entry.{Entry}

@@ -6,7 +6,7 @@ use Rattle.bc_syntax.specs.declared.syntax.Outlives.{Outlives}
 use Rattle.bc_syntax.specs.declared.syntax.Region.{Region}
 use Rattle.bc_flow.proofs.Membership.{Contains-head, Contains-later}
 use Rattle.bc_points.specs.Regions.{region_number}
-use Rattle.bc_mir.specs.Mir.{Mir}
+use Rattle.bc_bodies.specs.Mir.{Mir}
 use Rattle.bc_cons.specs.declared.requirements.Requirements.{Requirements}
 use Rattle.bc_judge.specs.declared.error.BorrowError.{BorrowError}
 use Rattle.bc_judge.specs.declared.error.BorrowError.TheVariants as variants

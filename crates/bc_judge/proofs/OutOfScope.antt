@@ -4,9 +4,9 @@ use Rattle.std.specs.Prelude.{slice_get, MatchOption, is_some, if◌then◌else�
 use Rattle.bc_flow.specs.BitSet.{has, IsNextMember}
 use Rattle.bc_judge.specs.declared.conflicts.Conflict.{Conflict}
 use Rattle.bc_points.specs.declared.access.Access.{Access}
-use Rattle.bc_mir.specs.declared.mir.Step.{Step}
+use Rattle.bc_bodies.specs.declared.mir.Step.{Step}
 use Rattle.bc_points.specs.declared.loan.Loan.{Loan}
-use Rattle.bc_mir.specs.Mir.{Mir}
+use Rattle.bc_bodies.specs.Mir.{Mir}
 use Rattle.bc_points.specs.Accesses.{accesses_of}
 use Rattle.bc_loans.specs.Loans.{loans_of}
 use Rattle.bc_flow.specs.Flow.{row, holds}

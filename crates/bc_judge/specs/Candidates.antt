@@ -7,7 +7,7 @@ use Rattle.bc_points.specs.declared.access.AccessKind.TheVariants.{Read, Write}
 use Rattle.bc_points.specs.declared.loan.Loan.{Loan}
 use Rattle.bc_flow.specs.BitSet.{has}
 use Rattle.bc_flow.specs.Flow.{holds}
-use Rattle.bc_mir.specs.Mir.{Mir}
+use Rattle.bc_bodies.specs.Mir.{Mir}
 use Rattle.bc_shapes.specs.Mutabilities.{is_mutable}
 use Rattle.bc_judge.specs.Conflicts.{is_write, is_conflict}
 

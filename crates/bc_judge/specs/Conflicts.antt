@@ -7,9 +7,9 @@ use Rattle.bc_points.specs.declared.access.Depth.{Depth}
 use Rattle.bc_points.specs.declared.access.Depth.TheVariants.{Shallow, Deep}
 use Rattle.bc_points.specs.declared.access.AccessKind.{AccessKind}
 use Rattle.bc_points.specs.declared.access.AccessKind.TheVariants.{Read, Write}
-use Rattle.bc_mir.specs.declared.mir.Step.{Step}
+use Rattle.bc_bodies.specs.declared.mir.Step.{Step}
 use Rattle.bc_points.specs.declared.loan.Loan.{Loan}
-use Rattle.bc_mir.specs.Mir.{Mir}
+use Rattle.bc_bodies.specs.Mir.{Mir}
 use Rattle.bc_shapes.specs.Mutabilities.{is_mutable}
 use Rattle.bc_points.specs.Prefixes.{is_prefix, is_shallow_prefix}
 use Rattle.bc_points.specs.Supports.{supports}

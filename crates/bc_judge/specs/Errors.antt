@@ -7,10 +7,10 @@ use Rattle.bc_syntax.specs.declared.syntax.Region.{Region}
 use Rattle.bc_cons.specs.declared.requirements.Requirements.{Requirements}
 use Rattle.bc_points.specs.declared.access.Access.{Access}
 use Rattle.bc_points.specs.declared.access.AccessKind.TheVariants.{Write}
-use Rattle.bc_mir.specs.declared.mir.Point.{Point}
-use Rattle.bc_mir.specs.declared.mir.Step.{Step}
+use Rattle.bc_bodies.specs.declared.mir.Point.{Point}
+use Rattle.bc_bodies.specs.declared.mir.Step.{Step}
 use Rattle.bc_points.specs.declared.loan.Loan.{Loan}
-use Rattle.bc_mir.specs.Mir.{Mir}
+use Rattle.bc_bodies.specs.Mir.{Mir}
 use Rattle.bc_points.specs.Accesses.{accesses_of}
 use Rattle.bc_points.specs.Regions.{region_number}
 use Rattle.bc_loans.specs.Loans.{loans_of}

@@ -8,7 +8,7 @@ use Rattle.bc_syntax.specs.declared.syntax.Region.TheVariants.{Universal, Variab
 use Rattle.bc_flow.specs.declared.graph.Edge.{Edge}
 use Rattle.bc_flow.specs.declared.tables.Entry.{Entry}
 use Rattle.bc_types.specs.declared.subtype.Constraint.{Constraint}
-use Rattle.bc_mir.specs.Mir.{Mir}
+use Rattle.bc_bodies.specs.Mir.{Mir}
 use Rattle.bc_mir.specs.WellFormed.{implied_pairs}
 
 -- from the shorter region of a clause to the longer

@@ -6,7 +6,7 @@ use Rattle.bc_syntax.specs.declared.syntax.Region.TheVariants.{Universal}
 use Rattle.bc_syntax.specs.declared.syntax.UnitKind.{UnitKind}
 use Rattle.bc_syntax.specs.declared.syntax.UnitKind.TheVariants.{Function, Closure}
 use Rattle.bc_cons.specs.Requirements.{may_go_up}
-use Rattle.bc_mir.specs.Mir.{Mir}
+use Rattle.bc_bodies.specs.Mir.{Mir}
 use Rattle.bc_mir.specs.WellFormed.{implied_pairs}
 use Rattle.bc_types.specs.Subtype.{outlives}
 

@@ -5,7 +5,7 @@ use Rattle.std.proofs.lemmas.List.Elements.{All-weaker}
 use Rattle.bc_flow.specs.Graph.{turned}
 use Rattle.bc_flow.specs.Flow.{holds, HaveEntries, IsFlow}
 use Rattle.bc_flow.proofs.Ways.{LeadsTo, leads_from_flows, holds_from_leads}
-use Rattle.bc_mir.specs.Mir.{Mir, edges_of}
+use Rattle.bc_bodies.specs.Mir.{Mir, edges_of}
 use Rattle.bc_points.specs.Points.{Uses, Defines}
 use Rattle.bc_live.specs.Live.{IsLive}
 use Rattle.bc_live.specs.Entries.{use_entries, definition_entries}

@@ -12,10 +12,10 @@ use Rattle.bc_syntax.specs.declared.syntax.Rvalue.{Rvalue}
 use Rattle.bc_syntax.specs.declared.syntax.Rvalue.TheVariants.{Use, Borrow, Aggregate, Closure, Calc}
 use Rattle.bc_syntax.specs.declared.syntax.Statement.TheVariants.{Assign, Dead, Drop, Nop}
 use Rattle.bc_syntax.specs.declared.syntax.Terminator.TheVariants.{Goto, If, Call, Invoke, Return, Stop}
-use Rattle.bc_mir.specs.declared.mir.Step.{Step}
-use Rattle.bc_mir.specs.declared.mir.Instruction.{Instruction}
-use Rattle.bc_mir.specs.declared.mir.Instruction.TheVariants.{Statement, Terminator}
-use Rattle.bc_mir.specs.Mir.{Mir}
+use Rattle.bc_bodies.specs.declared.mir.Step.{Step}
+use Rattle.bc_bodies.specs.declared.mir.Instruction.{Instruction}
+use Rattle.bc_bodies.specs.declared.mir.Instruction.TheVariants.{Statement, Terminator}
+use Rattle.bc_bodies.specs.Mir.{Mir}
 use Rattle.bc_mir.specs.Typed.{instruction_fits, steps_fit}
 use Rattle.bc_syntax.specs.Fits.{place_fits, operand_fits, operands_fit, rvalue_fits}
 use Rattle.bc_points.specs.Accesses.{runs_drop, operand_uses, rvalue_uses, is_whole_local, target_uses, target_defines, uses_of, defines_of}

@@ -2,8 +2,8 @@
 use Rattle.std.specs.Prelude.{ℕ, List, [], ◌∷◌, map, Option, Some, None}
 use Rattle.std.specs.List.{flat_map, enumerate_from}
 use Rattle.bc_flow.specs.declared.tables.Entry.{Entry}
-use Rattle.bc_mir.specs.declared.mir.Step.{Step}
-use Rattle.bc_mir.specs.Mir.{Mir}
+use Rattle.bc_bodies.specs.declared.mir.Step.{Step}
+use Rattle.bc_bodies.specs.Mir.{Mir}
 use Rattle.bc_points.specs.Accesses.{uses_of, defines_of}
 
 -- these locals, at a point

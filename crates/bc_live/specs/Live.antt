@@ -2,7 +2,7 @@
 use Rattle.std.specs.Prelude.{◌≡◌, ℕ, List, [], ◌∷◌, ◌++◌, Some, slice_get}
 use Rattle.std.specs.List.{All}
 use Rattle.bc_flow.specs.Graph.{IsPath}
-use Rattle.bc_mir.specs.Mir.{Mir, edges_of}
+use Rattle.bc_bodies.specs.Mir.{Mir, edges_of}
 use Rattle.bc_points.specs.Points.{Uses, Defines}
 
 -- a path from the point ends in a point that uses the local, and no earlier point of that path defines it

@@ -2,7 +2,7 @@
 ghost use Rattle.std.specs.Prelude.{◌≡◌, ◌↔◌, ℕ, true, map, length, IfOk};
 ghost use Rattle.bc_flow.specs.Graph.{turned};
 ghost use Rattle.bc_flow.specs.Flow.{holds, HaveSize, HaveEntries, IsFlow};
-ghost use Rattle.bc_mir.specs.Mir.{edges_of};
+ghost use Rattle.bc_bodies.specs.Mir.{edges_of};
 ghost use Rattle.bc_live.specs.Entries.{use_entries as uses_of_points, definition_entries as definitions_of_points};
 ghost use Rattle.bc_live.specs.Live.{IsLive};
 

@@ -8,7 +8,7 @@ use Rattle.bc_flow.specs.declared.graph.Edge.{Edge}
 use Rattle.bc_flow.specs.Graph.{HasEdge, AreWithin}
 use Rattle.bc_flow.specs.Flow.{holds}
 use Rattle.bc_flow.specs.Reach.{Reaches, begins, goes_on}
-use Rattle.bc_mir.specs.declared.mir.Step.{Step}
+use Rattle.bc_bodies.specs.declared.mir.Step.{Step}
 use Rattle.bc_points.specs.declared.loan.Loan.{Loan}
 use Rattle.bc_points.specs.Points.{kills}
 use Rattle.bc_points.specs.Regions.{region_number}

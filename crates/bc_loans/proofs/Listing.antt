@@ -12,7 +12,7 @@ use Rattle.bc_flow.specs.declared.tables.Entry.{Entry}
 use Rattle.bc_flow.specs.Flow.{holds, Lists, HaveEntries, AreEntriesWithin}
 use Rattle.bc_flow.proofs.Membership.{Contains-nil, Contains-one, Contains-head, from_flat_map, in_flat_map, from_enumerate, in_enumerate}
 use Rattle.bc_points.specs.declared.loan.Loan.{Loan}
-use Rattle.bc_mir.specs.Mir.{Mir}
+use Rattle.bc_bodies.specs.Mir.{Mir}
 use Rattle.bc_points.specs.Points.{loan_of}
 use Rattle.bc_points.specs.Prefixes.{same_projection}
 use Rattle.bc_syntax.specs.declared.syntax.Projection.{Projection}

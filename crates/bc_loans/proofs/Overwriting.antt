@@ -9,8 +9,8 @@ use Rattle.bc_flow.specs.Flow.{holds}
 use Rattle.bc_syntax.specs.declared.syntax.Place.{Place}
 use Rattle.bc_syntax.specs.declared.syntax.Projection.{Projection}
 use Rattle.bc_points.specs.declared.loan.Loan.{Loan}
-use Rattle.bc_mir.specs.declared.mir.Step.{Step}
-use Rattle.bc_mir.specs.declared.mir.Instruction.{Instruction}
+use Rattle.bc_bodies.specs.declared.mir.Step.{Step}
+use Rattle.bc_bodies.specs.declared.mir.Instruction.{Instruction}
 use Rattle.bc_points.specs.Accesses.{overwritten}
 use Rattle.bc_points.specs.Prefixes.{is_prefix, rest_after, same_projection}
 use Rattle.bc_loans.specs.Overwrites.{begins_with, projects, has_prefix, is_overwritten, is_overwritten_at}

@@ -7,7 +7,7 @@ use Rattle.bc_flow.specs.declared.graph.Edge.{Edge}
 use Rattle.bc_flow.specs.Graph.{HasEdge}
 use Rattle.bc_flow.specs.Reach.{Spreads}
 use Rattle.bc_flow.specs.Flow.{holds, HaveSize}
-use Rattle.bc_mir.specs.declared.mir.Step.{Step}
+use Rattle.bc_bodies.specs.declared.mir.Step.{Step}
 use Rattle.bc_points.specs.declared.loan.Loan.{Loan}
 use Rattle.bc_loans.specs.Overwrites.{keeps}
 use Rattle.bc_loans.specs.Sweeps.{IsSeed}

@@ -15,7 +15,7 @@ use Rattle.bc_flow.specs.Flow.{row, holds, AreAdded}
 use Rattle.bc_flow.specs.Reach.{Reaches, begins, goes_on}
 use Rattle.bc_flow.proofs.Membership.{Contains-nil, Contains-one}
 use Rattle.bc_flow.proofs.Visits.{itself, only}
-use Rattle.bc_mir.specs.declared.mir.Step.{Step}
+use Rattle.bc_bodies.specs.declared.mir.Step.{Step}
 use Rattle.bc_points.specs.declared.loan.Loan.{Loan}
 use Rattle.bc_loans.specs.Overwrites.{keeps, is_overwritten_at}
 use Rattle.bc_loans.specs.Sweeps.{WalksTo, IsSeed, passes, goes_on_from, ArePushed, IsSwept, AreReached, AreTargets}

@@ -9,8 +9,8 @@ use Rattle.bc_flow.specs.Graph.{HasEdge, IsPath}
 use Rattle.bc_flow.specs.Reach.{Reaches, begins, goes_on}
 use Rattle.bc_flow.proofs.Ways.{end_of-after, path_after}
 use Rattle.bc_syntax.specs.declared.syntax.Place.{Place}
-use Rattle.bc_mir.specs.declared.mir.Step.{Step}
-use Rattle.bc_mir.specs.Mir.{Mir, edges_of}
+use Rattle.bc_bodies.specs.declared.mir.Step.{Step}
+use Rattle.bc_bodies.specs.Mir.{Mir, edges_of}
 use Rattle.bc_points.specs.declared.loan.Loan.{Loan}
 use Rattle.bc_points.specs.Points.{kills, Kills}
 use Rattle.bc_points.specs.Regions.{region_number}

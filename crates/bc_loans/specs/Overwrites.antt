@@ -5,8 +5,8 @@ use Rattle.std.specs.List.{All}
 use Rattle.std.specs.Option.{option_map_or}
 use Rattle.bc_syntax.specs.declared.syntax.Place.{Place}
 use Rattle.bc_syntax.specs.declared.syntax.Projection.{Projection}
-use Rattle.bc_mir.specs.declared.mir.Step.{Step}
-use Rattle.bc_mir.specs.declared.mir.Instruction.{Instruction}
+use Rattle.bc_bodies.specs.declared.mir.Step.{Step}
+use Rattle.bc_bodies.specs.declared.mir.Instruction.{Instruction}
 use Rattle.bc_points.specs.declared.loan.Loan.{Loan}
 use Rattle.bc_flow.specs.Flow.{holds, HaveSize}
 use Rattle.bc_points.specs.Points.{kills}

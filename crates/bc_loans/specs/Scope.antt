@@ -3,7 +3,7 @@ use Rattle.std.specs.Prelude.{◌≡◌, ℕ, Bool, true, Some, List, [], ◌∷
 use Rattle.std.specs.List.{All}
 use Rattle.bc_flow.specs.Graph.{IsPath}
 use Rattle.bc_points.specs.declared.loan.Loan.{Loan}
-use Rattle.bc_mir.specs.Mir.{Mir, edges_of}
+use Rattle.bc_bodies.specs.Mir.{Mir, edges_of}
 use Rattle.bc_points.specs.Points.{Kills}
 use Rattle.bc_points.specs.Regions.{region_number}
 use Rattle.bc_flow.specs.Flow.{holds}

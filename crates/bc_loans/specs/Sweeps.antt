@@ -6,8 +6,8 @@ use Rattle.bc_flow.specs.Graph.{HasEdge}
 use Rattle.bc_flow.specs.BitSet.{absent_count}
 use Rattle.bc_flow.specs.Flow.{row, holds}
 use Rattle.bc_flow.specs.Reach.{Reaches}
-use Rattle.bc_mir.specs.declared.mir.Step.{Step}
-use Rattle.bc_mir.specs.declared.mir.Instruction.{Instruction}
+use Rattle.bc_bodies.specs.declared.mir.Step.{Step}
+use Rattle.bc_bodies.specs.declared.mir.Instruction.{Instruction}
 use Rattle.bc_points.specs.declared.loan.Loan.{Loan}
 use Rattle.bc_loans.specs.Overwrites.{keeps, is_overwritten, is_overwritten_at}
 

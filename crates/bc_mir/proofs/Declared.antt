@@ -21,9 +21,10 @@ use Rattle.bc_types.specs.Mentions.{regions_of_references, regions_of_base, regi
 use Rattle.bc_shapes.specs.Replaced.{replaced_region}
 use Rattle.bc_types.specs.Subtype.{outlives}
 use Rattle.bc_types.specs.WellFormed.{each_outlives, reference_pairs, replaced_pair, base_pairs, struct_pairs, well_formed_pairs}
-use Rattle.bc_mir.specs.Mir.{Mir}
-use Rattle.bc_mir.specs.Externals.{is_external}
-use Rattle.bc_mir.specs.Children.{child_of, closure_behind, closure_of, arguments_of, arguments_from, first_of, behind_first}
+use Rattle.bc_bodies.specs.Mir.{Mir}
+use Rattle.bc_bodies.specs.Externals.{is_external}
+use Rattle.bc_shapes.specs.Forms.{closure_behind, closure_of}
+use Rattle.bc_bodies.specs.Children.{child_of, arguments_of, arguments_from, first_of, behind_first}
 use Rattle.bc_mir.specs.WellFormed.{capture_pairs, closure_pairs, type_pairs, is_declared_pair}
 
 -- so many regions are universal, and `'static` is one

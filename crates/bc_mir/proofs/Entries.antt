@@ -3,10 +3,10 @@ use Rattle.std.specs.Option.{option_map}
 use Rattle.bc_syntax.specs.declared.syntax.Block.{Block}
 use Rattle.bc_syntax.specs.declared.syntax.Statement.{Statement as Simple}
 use Rattle.bc_syntax.specs.declared.syntax.Terminator.{Terminator as Ending}
-use Rattle.bc_mir.specs.declared.mir.Point.{Point}
-use Rattle.bc_mir.specs.declared.mir.Step.{Step}
-use Rattle.bc_mir.specs.Mir.{block_steps, steps_from, entries_from}
-use Rattle.bc_mir.proofs.Mirs.{length-block_steps}
+use Rattle.bc_bodies.specs.declared.mir.Point.{Point}
+use Rattle.bc_bodies.specs.declared.mir.Step.{Step}
+use Rattle.bc_bodies.specs.Mir.{block_steps, steps_from, entries_from}
+use Rattle.bc_bodies.proofs.Mirs.{length-block_steps}
 
 abbrev point_at : List Step → ℕ → Option Point
 point_at steps p = option_map (λ (step : Step). step.point) (slice_get steps p)

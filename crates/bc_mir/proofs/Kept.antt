@@ -17,16 +17,16 @@ use Rattle.bc_syntax.specs.declared.syntax.Ty.{Ty}
 use Rattle.bc_syntax.specs.Locals.{declared_locals, locals_of}
 use Rattle.bc_syntax.specs.Fits.{Fits, universal_count, point_count, clause_fits, kind_fits, signature_fits, ty_fits, let_fits, statement_fits, terminator_fits, block_fits}
 use Rattle.bc_flow.specs.declared.graph.Edge.{Edge}
-use Rattle.bc_mir.specs.declared.children.Child.{Child}
-use Rattle.bc_mir.specs.declared.mir.Step.{Step}
+use Rattle.bc_bodies.specs.declared.children.Child.{Child}
+use Rattle.bc_bodies.specs.declared.mir.Step.{Step}
 use Rattle.bc_flow.specs.Graph.{AreWithin}
-use Rattle.bc_mir.specs.declared.mir.Instruction.{Instruction}
-use Rattle.bc_mir.specs.declared.mir.Instruction.TheVariants.{Statement, Terminator}
-use Rattle.bc_mir.specs.Mir.{Mir, mir_of, block_steps, steps_from, entries_from, successors_of, edges_of_step, edges_of}
+use Rattle.bc_bodies.specs.declared.mir.Instruction.{Instruction}
+use Rattle.bc_bodies.specs.declared.mir.Instruction.TheVariants.{Statement, Terminator}
+use Rattle.bc_bodies.specs.Mir.{Mir, mir_of, block_steps, steps_from, entries_from, successors_of, edges_of_step, edges_of}
 use Rattle.bc_mir.specs.Rules.{is_operand_int}
 use Rattle.bc_mir.specs.Typing.{fits_at, first_unfit, HasNoMisfit}
 use Rattle.bc_mir.specs.Typed.{instruction_fits, steps_fit, IsTyped}
-use Rattle.bc_mir.proofs.Mirs.{length-block_steps}
+use Rattle.bc_bodies.proofs.Mirs.{length-block_steps}
 use Rattle.bc_mir.proofs.Fitting.{test_passed, no_unfit}
 use Rattle.bc_mir.proofs.Wider.{let-wider, types-wider}
 

@@ -1,9 +1,7 @@
-pub mod Mirs
 pub mod Fitting
 pub mod Wider
 pub mod Kept
 pub mod Entries
-pub mod Replacing
 pub mod Blanking
 pub mod Declared
 pub mod Numbering

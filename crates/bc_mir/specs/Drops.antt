@@ -6,8 +6,9 @@ use Rattle.bc_syntax.specs.declared.syntax.ClosureInstance.{ClosureInstance}
 use Rattle.bc_syntax.specs.declared.syntax.Ty.{Ty}
 use Rattle.bc_syntax.specs.declared.syntax.Header.{Header}
 use Rattle.bc_types.specs.Drops.{holds_drop}
-use Rattle.bc_mir.specs.Mir.{Mir}
-use Rattle.bc_mir.specs.Children.{child_of, closure_of}
+use Rattle.bc_bodies.specs.Mir.{Mir}
+use Rattle.bc_shapes.specs.Forms.{closure_of}
+use Rattle.bc_bodies.specs.Children.{child_of}
 
 -- a closure holds a drop where the type of a capture does
 abbrev pub closure_holds_drop : Mir → ClosureInstance → Bool

@@ -3,9 +3,9 @@ use Rattle.std.specs.Prelude.{◌≡◌, ℕ, ◌<◌, Some, List, length, slice
 use Rattle.std.specs.Option.{option_map}
 use Rattle.bc_syntax.specs.declared.syntax.Body.{Body}
 use Rattle.bc_flow.specs.Graph.{AreWithin}
-use Rattle.bc_mir.specs.declared.children.Child.{Child}
-use Rattle.bc_mir.specs.declared.mir.Step.{Step}
-use Rattle.bc_mir.specs.Mir.{mir_of, edges_of}
+use Rattle.bc_bodies.specs.declared.children.Child.{Child}
+use Rattle.bc_bodies.specs.declared.mir.Step.{Step}
+use Rattle.bc_bodies.specs.Mir.{mir_of, edges_of}
 use Rattle.bc_mir.specs.Typing.{HasNoMisfit}
 use Rattle.bc_syntax.specs.declared.syntax.Declaration.{Declaration}
 

@@ -1,13 +1,7 @@
-pub use Rattle.bc_types.specs.Mentions
-pub mod Externals
-pub mod Children
-pub mod Mir
-pub mod Places
 pub mod Typing
 pub mod Typed
 pub mod Laws
 pub mod Lines
-pub mod PlaceTypes
 pub mod Rules
 pub mod Drops
 pub mod WellFormed

@@ -2,10 +2,7 @@
 use Rattle.std.specs.Prelude.{ℕ, Bool, true, false, not, ◌&&◌, ◌==◌, nat_lt, if◌then◌else◌, Option, Some, None, option_and_then, is_some, List, [], ◌∷◌, length, reverse}
 use Rattle.std.specs.List.{list_all}
 use Rattle.std.specs.Option.{option_map, option_map_or}
-use Rattle.bc_syntax.specs.declared.syntax.Base.TheVariants as bases
 use Rattle.bc_syntax.specs.declared.syntax.Ty.{Ty}
-use Rattle.bc_syntax.specs.declared.syntax.Instance.{Instance}
-use Rattle.bc_syntax.specs.declared.syntax.Reference.{Reference}
 use Rattle.bc_syntax.specs.declared.syntax.Mutability.{Mutability}
 use Rattle.bc_syntax.specs.declared.syntax.Mutability.TheVariants.{Shared, Mutable}
 use Rattle.bc_syntax.specs.declared.syntax.Place.{Place}
@@ -26,18 +23,16 @@ use Rattle.bc_syntax.specs.declared.syntax.Terminator.TheVariants.{Goto, If, Cal
 use Rattle.bc_syntax.specs.declared.syntax.StructDeclaration.{StructDeclaration}
 use Rattle.bc_syntax.specs.declared.syntax.ExternDeclaration.{ExternDeclaration}
 use Rattle.bc_types.specs.Declarations.{takes_regions, has_declared_base, struct_of, extern_of}
-use Rattle.bc_mir.specs.Places.{are_mutable, has_no_deref}
-use Rattle.bc_mir.specs.Mir.{Mir}
-use Rattle.bc_mir.specs.Children.{child_of, closure_of, closure_type, takes_externals, takes_locals, is_known}
-use Rattle.bc_mir.specs.PlaceTypes.{type_of_place, references_of_place}
+use Rattle.bc_bodies.specs.Places.{are_mutable, has_no_deref}
+use Rattle.bc_bodies.specs.Mir.{Mir}
+use Rattle.bc_bodies.specs.Children.{child_of, takes_externals, takes_locals, is_known}
+use Rattle.bc_shapes.specs.Forms.{int_type, struct_type, type_referenced, closure_type, closure_of}
+use Rattle.bc_bodies.specs.PlaceTypes.{type_of_place, references_of_place}
 use Rattle.bc_shapes.specs.Shapes.{one_shape, is_int_type, is_copyable_type}
 
 -- the value, where a rule allows it
 abbrev pub allowed : {A : Type 0} → Bool → Option A → Option A
 allowed holds value = if holds then value else None
-
-abbrev pub int_type : Ty
-int_type = record { references = []; base = bases.Int }
 
 -- the type of an operand: `copy` takes what may be copied, `move` takes a place without `.*`, and a number is `int`
 abbrev pub type_of_operand : Mir → Operand → Option Ty
@@ -81,12 +76,6 @@ type_reached mir Mutable place = type_to_write mir place
 -- the type of a place that may be borrowed: it is no closure
 abbrev pub type_to_borrow : Mir → Mutability → Place → Option Ty
 type_to_borrow mir mutability place = unless_closure (type_reached mir mutability place)
-
-abbrev pub type_referenced : Reference → Ty → Ty
-type_referenced reference ty = record { references = reference ∷ ty.references; base = ty.base }
-
-abbrev pub struct_type : Instance → Ty
-struct_type instance = record { references = []; base = bases.Struct instance }
 
 -- a struct is declared, the numbers of its regions and operands are its own, and each operand has the shape of its field
 abbrev pub can_create : Mir → Making → Bool

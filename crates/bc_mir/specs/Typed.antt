@@ -3,10 +3,10 @@ use Rattle.std.specs.Prelude.{◌≡◌, ℕ, ◌≤◌, Bool, true, List, lengt
 use Rattle.std.specs.List.{list_all}
 use Rattle.bc_syntax.specs.Fits.{clause_fits, let_fits, statement_fits, terminator_fits}
 use Rattle.bc_flow.specs.Graph.{AreWithin}
-use Rattle.bc_mir.specs.declared.mir.Step.{Step}
-use Rattle.bc_mir.specs.declared.mir.Instruction.{Instruction}
-use Rattle.bc_mir.specs.declared.mir.Instruction.TheVariants.{Statement, Terminator}
-use Rattle.bc_mir.specs.Mir.{Mir, edges_of}
+use Rattle.bc_bodies.specs.declared.mir.Step.{Step}
+use Rattle.bc_bodies.specs.declared.mir.Instruction.{Instruction}
+use Rattle.bc_bodies.specs.declared.mir.Instruction.TheVariants.{Statement, Terminator}
+use Rattle.bc_bodies.specs.Mir.{Mir, edges_of}
 use Rattle.bc_mir.specs.Typing.{HasNoMisfit}
 
 -- what happens at a point is within its limits where so many regions are universal and so many locals declared

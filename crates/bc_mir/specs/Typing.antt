@@ -1,13 +1,13 @@
 -- Where a unit breaks a typing rule first.
 use Rattle.std.specs.Prelude.{◌≡◌, Bool, if◌then◌else◌, Option, Some, None, List, [], ◌∷◌, length}
 use Rattle.std.specs.Option.{option_map}
-use Rattle.bc_mir.specs.declared.mir.Point.{Point}
-use Rattle.bc_mir.specs.declared.mir.Step.{Step}
-use Rattle.bc_mir.specs.declared.mir.Instruction.{Instruction}
-use Rattle.bc_mir.specs.declared.mir.Instruction.TheVariants.{Statement, Terminator}
+use Rattle.bc_bodies.specs.declared.mir.Point.{Point}
+use Rattle.bc_bodies.specs.declared.mir.Step.{Step}
+use Rattle.bc_bodies.specs.declared.mir.Instruction.{Instruction}
+use Rattle.bc_bodies.specs.declared.mir.Instruction.TheVariants.{Statement, Terminator}
 use Rattle.bc_mir.specs.declared.typed.Where.{Where}
 use Rattle.bc_mir.specs.declared.typed.Where.TheVariants.{Header, At}
-use Rattle.bc_mir.specs.Mir.{Mir}
+use Rattle.bc_bodies.specs.Mir.{Mir}
 use Rattle.bc_mir.specs.Rules.{statement_keeps_rules, terminator_keeps_rules, header_keeps_rules}
 
 -- no rule fails at a point where this happens

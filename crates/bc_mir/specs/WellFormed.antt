@@ -9,8 +9,9 @@ use Rattle.bc_syntax.specs.declared.syntax.Header.{Header}
 use Rattle.bc_syntax.specs.Fits.{region_fits}
 use Rattle.bc_types.specs.declared.subtype.Constraint.{Constraint}
 use Rattle.bc_types.specs.WellFormed.{well_formed_pairs, replaced_well_formed}
-use Rattle.bc_mir.specs.Mir.{Mir}
-use Rattle.bc_mir.specs.Children.{child_of, closure_of, arguments_of}
+use Rattle.bc_bodies.specs.Mir.{Mir}
+use Rattle.bc_shapes.specs.Forms.{closure_of}
+use Rattle.bc_bodies.specs.Children.{child_of, arguments_of}
 
 -- what the captures of a closure demand, with its external regions replaced by those of the closure
 abbrev pub capture_pairs : List Declaration → ClosureInstance → Header → List Constraint

@@ -2,12 +2,12 @@
 ghost use Rattle.std.specs.Prelude.{◌≡◌, ◌<◌, ◌+◌, ◌^◌, ◌++◌, ◌∷◌, [], true, length, map, slice_index, IfOk, OnOk};
 ghost use Rattle.bc_flow.specs.Graph.{AreWithin};
 ghost use Rattle.bc_flow.specs.declared.graph.Edge.{Edge};
-ghost use Rattle.bc_mir.specs.Mir.{labels_of, successors_of, edges_of};
+ghost use Rattle.bc_bodies.specs.Mir.{labels_of, successors_of, edges_of};
 ghost use Rattle.bc_mir.specs.Rules.{terminator_keeps_rules};
 ghost use Rattle.bc_mir.specs.Typing.{fits_at};
 
-use crate::mir::{Draft, Instruction};
 use crate::typed::Typed;
+use bc_bodies::{Draft, Instruction};
 use bc_flow::Edge;
 use bc_syntax::Terminator;
 use std::alloc::{AllocError, Global};
@@ -39,7 +39,7 @@ fn push_terminator_edges(
     ensures { OnOk result (edges.new.items
         ≡ edges.old.items ++ map (λ q. record { from = point; to = q }) (map (slice_index draft.now.entries) (labels_of terminator.now))) }
 {
-    let entries = draft.entries.as_slice();
+    let entries = draft.entries();
     match terminator {
         Terminator::Goto(label) => push_edge(edges, entries, point, *label),
         Terminator::If(condition) => {
@@ -54,30 +54,28 @@ fn push_terminator_edges(
     }
 }
 
-impl Draft {
-    /// Appends the edges from a point.
-    fn push_edges(
-        &self,
-        edges: &mut Vec<Edge>,
-        point: usize,
-        instruction: &Instruction,
-    ) -> Result<(), AllocError>
-        requires fits { fits_at self.now instruction.now ≡ true }
-        requires room { point + 1 < 2 ^ 64 }
-        ensures { OnOk result (edges.new.items
-            ≡ edges.old.items ++ map (λ q. record { from = point; to = q }) (successors_of self.now point instruction.now)) }
-    {
-        match instruction {
-            Instruction::Statement(_) => {
-                edges.push(Edge {
-                    from: point,
-                    to: point + 1,
-                })?;
-                Ok(())
-            }
-            Instruction::Terminator(terminator) => {
-                push_terminator_edges(edges, self, point, terminator)
-            }
+/// Appends the edges from a point.
+fn push_edges(
+    edges: &mut Vec<Edge>,
+    draft: &Draft,
+    point: usize,
+    instruction: &Instruction,
+) -> Result<(), AllocError>
+    requires fits { fits_at draft.now instruction.now ≡ true }
+    requires room { point + 1 < 2 ^ 64 }
+    ensures { OnOk result (edges.new.items
+        ≡ edges.old.items ++ map (λ q. record { from = point; to = q }) (successors_of draft.now point instruction.now)) }
+{
+    match instruction {
+        Instruction::Statement(_) => {
+            edges.push(Edge {
+                from: point,
+                to: point + 1,
+            })?;
+            Ok(())
+        }
+        Instruction::Terminator(terminator) => {
+            push_terminator_edges(edges, draft, point, terminator)
         }
     }
 }
@@ -90,10 +88,13 @@ impl Typed {
         ensures value { IfOk result (λ edges. edges.items ≡ edges_of self.now) }
         ensures within { AreWithin (edges_of self.now) (length self.now.steps) }
     {
-        let most = self.steps().len().saturating_add(self.draft.entries.len());
+        let most = self
+            .steps()
+            .len()
+            .saturating_add(self.draft.entries().len());
         let mut edges = Vec::with_capacity(alloc, most)?;
         for (point, step) in self.steps().iter().enumerate() {
-            self.draft.push_edges(&mut edges, point, &step.instruction)?;
+            push_edges(&mut edges, &self.draft, point, &step.instruction)?;
         }
         Ok(edges)
     }

@@ -1,20 +1,19 @@
 //! What is found in a typed unit: types of places, of operands and of rvalues, and closures.
 ghost use Rattle.std.specs.Prelude.{◌≡◌, ◌++◌, ⊤, true, Some, IfOk, OnOk, MatchOption};
-ghost use Rattle.bc_mir.specs.Places.{has_no_field, takes_no_field};
+ghost use Rattle.bc_bodies.specs.Places.{has_no_field, takes_no_field};
 ghost use Rattle.std.specs.List.{list_any};
 ghost use Rattle.bc_types.specs.Drops.{holds_drop};
 ghost use Rattle.bc_mir.specs.Drops.{closure_holds_drop, type_holds_drop};
-ghost use Rattle.bc_mir.specs.PlaceTypes.{type_of_place as place_there, references_of_place as dereferenced_there};
+ghost use Rattle.bc_bodies.specs.PlaceTypes.{type_of_place as place_there, references_of_place as dereferenced_there};
 ghost use Rattle.bc_mir.specs.Rules.{type_of_operand as operand_there, type_to_borrow as borrowed_there, type_of_rvalue as rvalue_there, closure_in as closure_there};
 
-use crate::children::closure_behind;
-use crate::place_types::{lent_type_of_place, push_references_of_place, type_of_place};
 use crate::typed::Typed;
 use crate::value_types::{
     closure_in, lent_type_of_operand, lent_type_to_borrow, type_of_borrow, type_of_operand,
     type_of_rvalue,
 };
-use bc_shapes::TyRef;
+use bc_bodies::{lent_type_of_place, push_references_of_place, type_of_place};
+use bc_shapes::{TyRef, closure_behind};
 use bc_syntax::{Borrow, ClosureInstance, Operand, Place, Reference, Rvalue, Ty};
 use bc_types::GoodTypes;
 use std::alloc::{AllocError, Global};

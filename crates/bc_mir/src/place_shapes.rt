@@ -2,12 +2,11 @@
 ghost use Rattle.std.specs.Prelude.{◌≡◌};
 ghost use Rattle.std.specs.Option.{option_map};
 ghost use Rattle.bc_shapes.specs.Shapes.{blanked};
-ghost use Rattle.bc_mir.specs.PlaceTypes.{type_behind, type_of_place};
+ghost use Rattle.bc_bodies.specs.PlaceTypes.{type_behind, type_of_place};
 ghost use Rattle.bc_mir.specs.Rules.{type_to_write, type_reached, type_to_borrow, unless_closure as closure_refused};
 
-use crate::mir::Draft;
-use crate::place_types::goes_only_mutable;
-use crate::shape::Shape;
+use bc_bodies::{Draft, goes_only_mutable};
+use bc_shapes::Shape;
 use bc_syntax::{Base, Mutability, Place, Projection, Reference};
 use bc_types::GoodTypes;
 
@@ -21,7 +20,7 @@ fn shape_behind<'a>(
     ensures { result ≡ option_map blanked (type_behind types.now projections.now references.now base.now) }
 {
     match projections {
-        [] => Some(Shape { references, base }),
+        [] => Some(Shape::behind(references, base)),
         [Projection::Deref, rest @ ..] => match references {
             [] => None,
             [_, more @ ..] => shape_behind(types, rest, more, base),

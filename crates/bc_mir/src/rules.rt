@@ -2,14 +2,12 @@
 ghost use Rattle.std.specs.Prelude.{◌≡◌, Some};
 ghost use Rattle.std.specs.List.{list_all};
 ghost use Rattle.std.specs.Option.{option_copied};
-ghost use Rattle.bc_mir.specs.PlaceTypes.{type_of_place as place_there};
+ghost use Rattle.bc_bodies.specs.PlaceTypes.{type_of_place as place_there};
 ghost use Rattle.bc_mir.specs.Rules.{has_shape as shape_found, is_int_found as int_found, type_of_operand as operand_there, is_operand_int as int_operand, have_shapes as shapes_found, type_to_write as written_there, can_create as creatable, can_capture as capturable, type_of_rvalue as rvalue_there, of_one_shape, can_drop as droppable, statement_keeps_rules as statement_kept, can_call as callable, number_in as number_there, child_in as child_there, can_invoke as invocable, terminator_keeps_rules as terminator_kept, header_keeps_rules as header_kept};
 
-use crate::children::{are_known, takes_externals, takes_locals};
-use crate::mir::Draft;
 use crate::place_shapes::{shape_of_place, shape_to_borrow, shape_to_write};
-use crate::places::has_no_deref;
-use crate::shape::Shape;
+use bc_bodies::{Draft, are_known, has_no_deref, takes_externals, takes_locals};
+use bc_shapes::Shape;
 use bc_syntax::{
     Aggregate, Assignment, Borrow, Call, Condition, Creation, ExternDeclaration, Header,
     Invocation, Operand, Place, Rvalue, Statement, Terminator, Ty,
@@ -180,7 +178,7 @@ pub(crate) fn statement_keeps_rules(draft: &Draft, statement: &Statement) -> boo
 {
     match statement {
         Statement::Assign(assignment) => assignment_keeps_rules(draft, assignment),
-        Statement::Dead(local) => usize::from(*local) < draft.locals.len(),
+        Statement::Dead(local) => usize::from(*local) < draft.locals().len(),
         Statement::Drop(place) => can_drop(draft, place),
         Statement::Nop => true,
     }
@@ -290,6 +288,6 @@ pub(crate) fn terminator_keeps_rules(draft: &Draft, terminator: &Terminator) -> 
 pub(crate) fn header_keeps_rules(draft: &Draft) -> bool
     ensures { result ≡ header_kept draft.now }
 {
-    let locals = draft.locals.as_slice();
-    draft.types().declares(locals) && are_known(draft.children.as_slice(), locals)
+    let locals = draft.locals();
+    draft.types().declares(locals) && are_known(draft.children(), locals)
 }

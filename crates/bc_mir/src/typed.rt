@@ -5,16 +5,15 @@ ghost use Rattle.std.specs.Arc.{arc_value};
 ghost use Rattle.std.specs.Option.{option_copied};
 ghost use Rattle.bc_syntax.specs.Children.{children_of};
 ghost use Rattle.bc_syntax.specs.Fits.{clause_fits, let_fits};
-ghost use Rattle.bc_mir.specs.Children.{child_of};
-ghost use Rattle.bc_mir.specs.Mir.{mir_of};
+ghost use Rattle.bc_bodies.specs.Children.{child_of};
+ghost use Rattle.bc_bodies.specs.Mir.{mir_of};
 ghost use Rattle.bc_mir.specs.Typing.{first_unfit as first_misfit, misfit as misfit_of, HasNoMisfit};
 ghost use Rattle.bc_mir.specs.Typed.{IsTyped, steps_fit};
 ghost use Rattle.bc_mir.specs.WellFormed.{input_types, let_types};
 ghost use Rattle.bc_mir.specs.declared.typed.Where.{Where};
 
-use crate::children::{Child, KidHeader};
-use crate::mir::{Draft, Point, Step};
 use crate::typing::{fits_at, fits_header};
+use bc_bodies::{Child, Draft, KidHeader, Point, Step};
 use bc_syntax::{Header, Outlives, Ty, Unit, UnitKind};
 use bc_types::GoodTypes;
 use std::alloc::{AllocError, Global};
@@ -51,7 +50,7 @@ impl From<AllocError> for IllFault {
 fn first_unfit(draft: &Draft) -> Option<Point>
     ensures { result ≡ first_misfit draft.now draft.now.steps }
 {
-    for step in draft.steps.as_slice() {
+    for step in draft.steps() {
         if !fits_at(draft, &step.instruction) {
             return Some(step.point);
         }
@@ -82,7 +81,7 @@ impl Drop for Typed {
 }
 
 impl Model for Typed {
-    ghost use Rattle.bc_mir.specs.Mir.{Mir};
+    ghost use Rattle.bc_bodies.specs.Mir.{Mir};
     ghost use Rattle.bc_mir.specs.Typed.{IsTyped};
 
     ghost Value = { Mir };
@@ -98,21 +97,21 @@ impl Typed {
         ensures value { result ≡ self.now.universals }
         ensures typed { IsTyped self.now }
     {
-        self.draft.universals
+        self.draft.universals()
     }
 
     /// Returns the declarations over which the unit is typed.
     pub fn types(&self) -> &GoodTypes
         ensures { result.now ≡ self.now.types }
     {
-        &self.draft.types
+        self.draft.types()
     }
 
     /// Returns the headers of the children, ascending by their numbers.
     pub fn children(&self) -> &[Child]
         ensures { result.now ≡ self.now.children }
     {
-        self.draft.children.as_slice()
+        self.draft.children()
     }
 
     /// Returns the header of the child of a number, or `None` where it is no child.
@@ -126,14 +125,14 @@ impl Typed {
     pub fn kind(&self) -> UnitKind
         ensures { result ≡ self.now.kind }
     {
-        self.draft.kind
+        self.draft.kind()
     }
 
     /// Returns the external regions of a closure, by number, ascending: the declared ones in the types of its captures.
     pub fn externals(&self) -> &[usize]
         ensures { result.now ≡ self.now.externals }
     {
-        self.draft.externals.as_slice()
+        self.draft.externals()
     }
 
     /// Returns the `where` clauses, between universal regions.
@@ -141,7 +140,7 @@ impl Typed {
         ensures value { result.now ≡ self.now.clauses }
         ensures declared { list_all (clause_fits self.now.universals) result.now ≡ true }
     {
-        self.draft.clauses.as_slice()
+        self.draft.clauses()
     }
 
     /// Returns the types of the locals, 1 to 256, in which each region is declared.
@@ -151,7 +150,7 @@ impl Typed {
         ensures few { length result.now ≤ 256 }
         ensures declared { list_all (let_fits self.now.universals) result.now ≡ true }
     {
-        self.draft.locals.as_slice()
+        self.draft.locals()
     }
 
     /// Returns the types of the captures and the parameters, in order.
@@ -160,14 +159,14 @@ impl Typed {
         ensures declared { list_all (let_fits self.now.universals) result.now ≡ true }
         ensures typed { IsTyped self.now }
     {
-        &self.locals()[1..self.draft.first_let]
+        &self.locals()[1..self.draft.first_let()]
     }
 
     /// Returns the types of the `let` locals, in order.
     pub fn lets(&self) -> &[Ty]
         ensures { result.now ≡ let_types self.now }
     {
-        &self.draft.locals.as_slice()[self.draft.first_let..]
+        &self.draft.locals()[self.draft.first_let()..]
     }
 
     /// Returns the points in order, 1 to 4,096, each with what happens there. No rule fails at any of them.
@@ -178,7 +177,7 @@ impl Typed {
         ensures fit { first_misfit self.now result.now ≡ None }
         ensures declared { steps_fit self.now.universals (length self.now.locals) result.now ≡ true }
     {
-        self.draft.steps.as_slice()
+        self.draft.steps()
     }
 }
 

@@ -2,8 +2,8 @@
 ghost use Rattle.std.specs.Prelude.{◌≡◌};
 ghost use Rattle.bc_mir.specs.Typing.{fits_at as step_fits, header_fits};
 
-use crate::mir::{Draft, Instruction};
 use crate::rules::{header_keeps_rules, statement_keeps_rules, terminator_keeps_rules};
+use bc_bodies::{Draft, Instruction};
 
 /// Whether no header rule fails: each struct in the type of a local is declared with its number of regions, and each closure is
 /// a child with its number of regions.

@@ -1,15 +1,14 @@
 //! Types of operands and rvalues, over the language of the rustc-dev-guide, "The MIR".
 ghost use Rattle.std.specs.Prelude.{◌≡◌, ⊤, true, Some, IfOk, MatchOption};
-ghost use Rattle.bc_mir.specs.Places.{has_no_field, takes_no_field};
-ghost use Rattle.bc_mir.specs.Children.{closure_type as type_closure};
-ghost use Rattle.bc_mir.specs.Rules.{int_type as type_int, type_of_operand as operand_there, type_to_write as written_there, type_reached as reached_there, type_to_borrow as borrowed_there, unless_closure as closure_refused, closure_in as closure_there, type_referenced as referenced, struct_type as type_struct, type_of_rvalue as rvalue_there};
+ghost use Rattle.bc_bodies.specs.Places.{has_no_field, takes_no_field};
+ghost use Rattle.bc_shapes.specs.Forms.{closure_type as type_closure, int_type as type_int, type_referenced as referenced, struct_type as type_struct};
+ghost use Rattle.bc_mir.specs.Rules.{type_of_operand as operand_there, type_to_write as written_there, type_reached as reached_there, type_to_borrow as borrowed_there, unless_closure as closure_refused, closure_in as closure_there, type_of_rvalue as rvalue_there};
 
-use crate::children::closure_behind;
-use crate::mir::Draft;
-use crate::place_types::{goes_only_mutable, lent_type_of_place, push_references, type_of_place};
-use crate::places::has_no_deref;
 use crate::rules::{are_operands_int, can_capture, can_create};
-use bc_shapes::{TyRef, is_copyable_type};
+use bc_bodies::{
+    Draft, goes_only_mutable, has_no_deref, lent_type_of_place, push_references, type_of_place,
+};
+use bc_shapes::{TyRef, closure_behind, is_copyable_type};
 use bc_syntax::{
     Aggregate, Base, Borrow, ClosureInstance, Creation, Instance, Mutability, Operand, Place,
     Reference, Rvalue, ShortSequence, Ty,

@@ -3,8 +3,9 @@ ghost use Rattle.std.specs.Prelude.{◌≡◌, ◌++◌, true, IfOk, OnOk};
 ghost use Rattle.std.specs.List.{flat_map, list_all};
 ghost use Rattle.bc_mir.specs.WellFormed.{closure_pairs, type_pairs, let_pairs, implied_pairs, is_declared_pair};
 
-use crate::children::{arguments, closure_behind};
 use crate::typed::Typed;
+use bc_bodies::arguments;
+use bc_shapes::closure_behind;
 use bc_syntax::{ClosureInstance, Ty};
 use bc_types::Constraint;
 use std::alloc::{AllocError, Global};

@@ -8,8 +8,8 @@ use Rattle.bc_names.specs.Names.{NameParts}
 use Rattle.bc_syntax.specs.Children.{children_of}
 use Rattle.bc_syntax.specs.declared.syntax.Declaration.{Declaration}
 use Rattle.bc_syntax.specs.declared.syntax.Body.{Body}
-use Rattle.bc_mir.specs.Externals.{external_regions}
-use Rattle.bc_mir.specs.Mir.{Mir}
+use Rattle.bc_bodies.specs.Externals.{external_regions}
+use Rattle.bc_bodies.specs.Mir.{Mir}
 use Rattle.bc_mir.specs.Typing.{misfit}
 use Rattle.bc_cons.specs.declared.requirements.Requirements.{Requirements}
 use Rattle.bc_cons.specs.Requirements.{MayGoUp, AreOfChildren}

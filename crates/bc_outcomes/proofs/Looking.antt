@@ -7,9 +7,9 @@ use Rattle.bc_names.specs.Names.{NameParts}
 use Rattle.bc_syntax.specs.Children.{children_of}
 use Rattle.bc_syntax.specs.declared.syntax.Declaration.{Declaration}
 use Rattle.bc_syntax.specs.declared.syntax.Body.{Body}
-use Rattle.bc_mir.specs.Mir.{mir_of}
+use Rattle.bc_bodies.specs.Mir.{mir_of}
 use Rattle.bc_mir.specs.Typing.{misfit}
-use Rattle.bc_mir.specs.declared.children.Child.{Child}
+use Rattle.bc_bodies.specs.declared.children.Child.{Child}
 use Rattle.bc_mir.specs.declared.typed.Where.{Where}
 use Rattle.bc_prov.specs.declared.outcome.Outcome.TheVariants.{Missing, Ill}
 use Rattle.bc_prov.specs.State.{State, AreSuited, children_at, mir_at, number_of_child}

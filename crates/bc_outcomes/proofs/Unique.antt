@@ -6,7 +6,7 @@ use Rattle.bc_syntax.specs.declared.syntax.Region.{Region}
 use Rattle.bc_syntax.specs.Children.{children_of}
 use Rattle.bc_names.specs.Names.{NameParts}
 use Rattle.bc_types.specs.Declarations.{first_bad}
-use Rattle.bc_mir.specs.Mir.{Mir}
+use Rattle.bc_bodies.specs.Mir.{Mir}
 use Rattle.bc_live.specs.Live.{IsLive}
 use Rattle.bc_cons.specs.declared.requirements.Requirements.{Requirements}
 use Rattle.bc_cons.specs.Constraints.{constraints_of}

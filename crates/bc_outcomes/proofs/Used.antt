@@ -10,7 +10,7 @@ use Rattle.bc_syntax.specs.Children.{children_of}
 use Rattle.bc_syntax.specs.declared.syntax.Declaration.{Declaration}
 use Rattle.bc_syntax.specs.declared.syntax.Body.{Body}
 use Rattle.bc_types.specs.Declarations.{first_bad}
-use Rattle.bc_mir.specs.Mir.{mir_of}
+use Rattle.bc_bodies.specs.Mir.{mir_of}
 use Rattle.bc_mir.specs.Typing.{misfit}
 use Rattle.bc_judge.specs.declared.verdict.Verdict.{Verdict}
 use Rattle.bc_prov.specs.declared.outcome.BodyErrors.{BodyErrors}

@@ -4,7 +4,7 @@ use Rattle.std.specs.List.{AllZip}
 use Rattle.bc_syntax.specs.declared.syntax.Body.{Body}
 use Rattle.bc_syntax.specs.Children.{children_of}
 use Rattle.bc_names.specs.Names.{NameParts}
-use Rattle.bc_mir.specs.declared.children.Child.{Child}
+use Rattle.bc_bodies.specs.declared.children.Child.{Child}
 use Rattle.bc_cons.specs.declared.requirements.Requirements.{Requirements}
 use Rattle.bc_judge.specs.declared.verdict.Verdict.{Verdict}
 use Rattle.bc_prov.specs.declared.outcome.BodyErrors.{BodyErrors}

@@ -2,7 +2,7 @@
 use Rattle.std.specs.Prelude.{◌≡◌, Option, IfSome}
 use Rattle.bc_syntax.specs.declared.syntax.Body.{Body}
 use Rattle.bc_names.specs.Names.{NameParts}
-use Rattle.bc_mir.specs.Mir.{Mir}
+use Rattle.bc_bodies.specs.Mir.{Mir}
 use Rattle.bc_prov.specs.Pieces.{PieceView, IsFitted}
 
 -- a visited body: its name, its unit, and the unit as it was typed

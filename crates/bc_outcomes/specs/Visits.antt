@@ -5,9 +5,9 @@ use Rattle.std.specs.Arc.{arc_value}
 use Rattle.bc_syntax.specs.declared.syntax.Body.{Body}
 use Rattle.bc_syntax.specs.Children.{children_of}
 use Rattle.bc_names.specs.Names.{NameParts}
-use Rattle.bc_mir.specs.declared.children.Child.{Child}
-use Rattle.bc_mir.specs.Children.{IsChild}
-use Rattle.bc_mir.specs.Mir.{Mir, mir_of}
+use Rattle.bc_bodies.specs.declared.children.Child.{Child}
+use Rattle.bc_bodies.specs.Children.{IsChild}
+use Rattle.bc_bodies.specs.Mir.{Mir, mir_of}
 use Rattle.bc_outcomes.specs.declared.held.Held.{Held}
 use Rattle.bc_outcomes.specs.declared.walk.Kid.{Kid}
 use Rattle.bc_outcomes.specs.declared.walk.Kids.{Kids}

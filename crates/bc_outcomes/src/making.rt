@@ -3,7 +3,7 @@ ghost use Rattle.std.specs.Prelude.{◌≡◌, Err, None, Some, IfOk, OnOk, leng
 ghost use Rattle.bc_syntax.specs.Children.{children_of};
 ghost use Rattle.bc_types.specs.Declarations.{first_bad};
 ghost use Rattle.bc_cons.specs.Requirements.{AreOfChildren};
-ghost use Rattle.bc_mir.specs.Mir.{mir_of};
+ghost use Rattle.bc_bodies.specs.Mir.{mir_of};
 ghost use Rattle.bc_mir.specs.Typing.{misfit};
 ghost use Rattle.bc_mir.specs.declared.typed.Where.{Where};
 ghost use Rattle.bc_prov.specs.Pieces.{IsFitted, IsFoundFrom};

@@ -7,7 +7,7 @@ use Rattle.bc_syntax.specs.declared.syntax.Operand.{Operand}
 use Rattle.bc_syntax.specs.declared.syntax.Outlives.{Outlives}
 use Rattle.bc_types.specs.declared.subtype.Constraint.{Constraint}
 use Rattle.bc_types.proofs.Appending.{appended-turn}
-use Rattle.bc_mir.specs.Mir.{Mir}
+use Rattle.bc_bodies.specs.Mir.{Mir}
 use Rattle.bc_points.specs.Pairs.{replaced_clause, clauses_where, operand_pair, operand_pairs}
 
 module _ (test : Outlives → Bool) (arguments : List Region) (whole items : List Constraint) (xs : List Outlives) (i : ℕ) (d : Outlives) (below : i < length xs) where

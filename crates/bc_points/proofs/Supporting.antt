@@ -12,10 +12,10 @@ use Rattle.bc_syntax.specs.declared.syntax.Projection.TheVariants.{Deref, Field}
 use Rattle.bc_syntax.specs.declared.syntax.Declaration.{Declaration}
 use Rattle.bc_shapes.specs.Replaced.{replaced_region, replaced_reference, replaced_base, replaced_ty}
 use Rattle.bc_types.specs.Fields.{declared_field}
-use Rattle.bc_mir.specs.Mir.{Mir}
-use Rattle.bc_mir.specs.PlaceTypes.{type_behind, leads_mutable}
+use Rattle.bc_bodies.specs.Mir.{Mir}
+use Rattle.bc_bodies.specs.PlaceTypes.{type_behind, leads_mutable}
 use Rattle.bc_points.specs.Supports.{goes_on_mutable, supports_behind, supports_from}
-use Rattle.bc_mir.proofs.Replacing.{mutable_replaced, mutable_tells}
+use Rattle.bc_bodies.proofs.Replacing.{mutable_replaced, mutable_tells}
 
 -- the type behind the first projections is one from which the rest dereference no shared reference
 abbrev leads_behind : List Declaration → List Projection → List Projection → List Reference → Base → Bool

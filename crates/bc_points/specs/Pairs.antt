@@ -20,9 +20,9 @@ use Rattle.bc_syntax.specs.declared.syntax.ExternDeclaration.{ExternDeclaration}
 use Rattle.bc_syntax.specs.declared.syntax.Declaration.{Declaration}
 use Rattle.bc_types.specs.declared.subtype.Constraint.{Constraint}
 use Rattle.bc_types.specs.Declarations.{struct_of, extern_of}
-use Rattle.bc_mir.specs.Mir.{Mir}
-use Rattle.bc_mir.specs.PlaceTypes.{type_of_place}
-use Rattle.bc_mir.specs.Children.{child_of, arguments_of, is_outer_clause}
+use Rattle.bc_bodies.specs.Mir.{Mir}
+use Rattle.bc_bodies.specs.PlaceTypes.{type_of_place}
+use Rattle.bc_bodies.specs.Children.{child_of, arguments_of, is_outer_clause}
 use Rattle.bc_shapes.specs.Replaced.{replaced_region, replaced_ty}
 use Rattle.bc_mir.specs.Rules.{type_of_operand, type_of_rvalue, closure_in}
 use Rattle.bc_types.specs.Subtype.{outlives}

@@ -5,11 +5,11 @@ use Rattle.std.specs.Option.{option_map_or}
 use Rattle.bc_syntax.specs.declared.syntax.Place.{Place}
 use Rattle.bc_syntax.specs.declared.syntax.Rvalue.TheVariants.{Use, Borrow, Aggregate, Closure, Calc}
 use Rattle.bc_syntax.specs.declared.syntax.Statement.TheVariants.{Assign, Dead, Drop, Nop}
-use Rattle.bc_mir.specs.declared.mir.Instruction.{Instruction}
-use Rattle.bc_mir.specs.declared.mir.Instruction.TheVariants.{Statement, Terminator}
+use Rattle.bc_bodies.specs.declared.mir.Instruction.{Instruction}
+use Rattle.bc_bodies.specs.declared.mir.Instruction.TheVariants.{Statement, Terminator}
 use Rattle.bc_points.specs.declared.loan.Loan.{Loan}
 use Rattle.bc_syntax.specs.declared.syntax.Rvalue.{Rvalue}
-use Rattle.bc_mir.specs.Mir.{Mir}
+use Rattle.bc_bodies.specs.Mir.{Mir}
 use Rattle.bc_points.specs.Prefixes.{is_prefix}
 use Rattle.bc_points.specs.Accesses.{uses_of, defines_of, overwritten}
 

@@ -6,7 +6,7 @@ use Rattle.bc_syntax.specs.declared.syntax.Place.{Place}
 use Rattle.bc_syntax.specs.declared.syntax.Reference.{Reference}
 use Rattle.bc_syntax.specs.declared.syntax.Projection.{Projection}
 use Rattle.bc_syntax.specs.declared.syntax.Projection.TheVariants.{Deref, Field}
-use Rattle.bc_mir.specs.Places.{are_mutable, is_field}
+use Rattle.bc_bodies.specs.Places.{are_mutable, is_field}
 
 -- the references that the supporting prefixes of a place dereference: from the last shared one on
 abbrev pub from_last_shared : List Reference → List Reference

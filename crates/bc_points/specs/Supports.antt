@@ -11,8 +11,8 @@ use Rattle.bc_syntax.specs.declared.syntax.Projection.TheVariants.{Deref, Field}
 use Rattle.bc_syntax.specs.declared.syntax.Declaration.{Declaration}
 use Rattle.bc_points.specs.Prefixes.{rest_of}
 use Rattle.bc_types.specs.Fields.{declared_field}
-use Rattle.bc_mir.specs.Mir.{Mir}
-use Rattle.bc_mir.specs.PlaceTypes.{type_of_place, leads_mutable, mutable_behind}
+use Rattle.bc_bodies.specs.Mir.{Mir}
+use Rattle.bc_bodies.specs.PlaceTypes.{type_of_place, leads_mutable, mutable_behind}
 
 -- from a place on, projections dereference no shared reference
 abbrev pub goes_on_mutable : Mir → Place → List Projection → Bool

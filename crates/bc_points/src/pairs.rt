@@ -1,8 +1,9 @@
 //! What points demand of regions, beside reborrows.
 ghost use Rattle.std.specs.Prelude.{◌≡◌, ◌++◌, ◌∷◌, [], Some, map, OnOk};
-ghost use Rattle.bc_mir.specs.Rules.{type_referenced, type_of_operand as operand_type, type_of_rvalue as rvalue_type};
+ghost use Rattle.bc_shapes.specs.Forms.{type_referenced};
+ghost use Rattle.bc_mir.specs.Rules.{type_of_operand as operand_type, type_of_rvalue as rvalue_type};
 ghost use Rattle.bc_shapes.specs.Replaced.{replaced_ty};
-ghost use Rattle.bc_mir.specs.Children.{is_outer_clause as outer_clause};
+ghost use Rattle.bc_bodies.specs.Children.{is_outer_clause as outer_clause};
 ghost use Rattle.bc_points.specs.Pairs.{sub_found, sub_place, operand_pair, operand_pairs, parameter_pairs, replaced_clause, clauses_where, captured_pairs, field_pairs, assignment_pairs, called_pairs, call_pairs, is_inner_clause, passed_pairs, invoked_pairs, invocation_pairs};
 
 use bc_mir::{Typed, arguments, is_outer_clause};

@@ -1,7 +1,7 @@
 //! Prefixes of places (RFC 2094, "Reborrow constraints" and "Borrow checker phase 2").
 ghost use Rattle.std.specs.Prelude.{◌≡◌};
 ghost use Rattle.std.specs.Option.{option_copied};
-ghost use Rattle.bc_mir.specs.Places.{are_mutable as all_mutable};
+ghost use Rattle.bc_bodies.specs.Places.{are_mutable as all_mutable};
 ghost use Rattle.bc_points.specs.Prefixes.{from_last_shared as since_last_shared, rest_after as after, same_projection, rest_of as what_follows, is_prefix as prefix_test, is_shallow_prefix as shallow_test};
 
 use crate::place_ref::PlaceRef;

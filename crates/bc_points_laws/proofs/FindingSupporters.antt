@@ -14,11 +14,11 @@ use Rattle.bc_syntax.specs.declared.syntax.Projection.{Projection}
 use Rattle.bc_syntax.specs.declared.syntax.Projection.TheVariants.{Deref, Field}
 use Rattle.bc_syntax.specs.declared.syntax.Declaration.{Declaration}
 use Rattle.bc_shapes.specs.Mutabilities.{is_mutable}
-use Rattle.bc_mir.specs.Places.{are_mutable}
+use Rattle.bc_bodies.specs.Places.{are_mutable}
 use Rattle.bc_points.specs.Prefixes.{rest_after, rest_of}
 use Rattle.bc_types.specs.Fields.{field_type}
-use Rattle.bc_mir.specs.Mir.{Mir}
-use Rattle.bc_mir.specs.PlaceTypes.{type_behind, type_of_place}
+use Rattle.bc_bodies.specs.Mir.{Mir}
+use Rattle.bc_bodies.specs.PlaceTypes.{type_behind, type_of_place}
 use Rattle.bc_points.specs.Supports.{goes_on_mutable, supports}
 use Rattle.bc_points_laws.specs.Supporters.{place_of, is_shared, reference_taken, last_taken_of, supporters_from, supporters}
 use Rattle.bc_flow.proofs.Membership.{Contains-nil, Contains-head, Contains-cons, Contains-later}

@@ -3,7 +3,7 @@ use Rattle.std.proofs.Common.{◌≡◌, Bool, true, false, ◌&&◌, cond, List
 use Rattle.std.proofs.lemmas.List.Folds.{list_all-append}
 use Rattle.bc_syntax.specs.declared.syntax.Reference.{Reference}
 use Rattle.bc_shapes.specs.Mutabilities.{is_mutable}
-use Rattle.bc_mir.specs.Places.{are_mutable}
+use Rattle.bc_bodies.specs.Places.{are_mutable}
 use Rattle.bc_points.specs.Prefixes.{from_last_shared}
 
 choose : (mutable all : Bool) (first reference : Reference) (references rest : List Reference) → cond (all && (mutable && true)) (first ∷ references ++ reference ∷ []) (cond mutable (rest ++ reference ∷ []) (reference ∷ [])) ≡ cond mutable (cond all (first ∷ references) rest ++ reference ∷ []) (reference ∷ [])

@@ -14,8 +14,8 @@ use Rattle.bc_syntax.specs.declared.syntax.Declaration.{Declaration}
 use Rattle.bc_shapes.specs.Mutabilities.{is_mutable}
 use Rattle.bc_points.specs.Prefixes.{from_last_shared}
 use Rattle.bc_types.specs.Fields.{field_type}
-use Rattle.bc_mir.specs.Mir.{Mir}
-use Rattle.bc_mir.specs.PlaceTypes.{type_behind, references_behind, references_of_place}
+use Rattle.bc_bodies.specs.Mir.{Mir}
+use Rattle.bc_bodies.specs.PlaceTypes.{type_behind, references_behind, references_of_place}
 use Rattle.bc_points_laws.specs.Supporters.{place_of, is_shared, reference_taken, last_taken_of, last_taken, supporters_from}
 use Rattle.bc_points_laws.proofs.Supported.{from_last_shared-more}
 

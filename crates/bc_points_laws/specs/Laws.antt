@@ -6,8 +6,8 @@ use Rattle.bc_syntax.specs.declared.syntax.Region.{Region}
 use Rattle.bc_syntax.specs.declared.syntax.Ty.{Ty}
 use Rattle.bc_syntax.specs.declared.syntax.Place.{Place}
 use Rattle.bc_syntax.specs.Fits.{region_fits}
-use Rattle.bc_mir.specs.Mir.{Mir}
-use Rattle.bc_mir.specs.PlaceTypes.{type_of_place, references_of_place}
+use Rattle.bc_bodies.specs.Mir.{Mir}
+use Rattle.bc_bodies.specs.PlaceTypes.{type_of_place, references_of_place}
 use Rattle.bc_points.specs.Prefixes.{from_last_shared, is_prefix}
 use Rattle.bc_points.specs.Regions.{region_number, region_of_number}
 use Rattle.bc_points.specs.Supports.{supports}

@@ -6,8 +6,8 @@ use Rattle.bc_syntax.specs.declared.syntax.Reference.{Reference}
 use Rattle.bc_syntax.specs.declared.syntax.Projection.{Projection}
 use Rattle.bc_syntax.specs.declared.syntax.Projection.TheVariants.{Deref, Field}
 use Rattle.bc_shapes.specs.Mutabilities.{is_mutable}
-use Rattle.bc_mir.specs.Mir.{Mir}
-use Rattle.bc_mir.specs.PlaceTypes.{type_of_place}
+use Rattle.bc_bodies.specs.Mir.{Mir}
+use Rattle.bc_bodies.specs.PlaceTypes.{type_of_place}
 
 -- a place, by its local and its projections, the last one first
 abbrev pub place_of : ℕ → List Projection → Place

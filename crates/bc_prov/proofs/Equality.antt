@@ -8,7 +8,7 @@ use Rattle.bc_syntax.proofs.Equality.{apart, declaration, region}
 use Rattle.bc_names.proofs.Equality.{name}
 use Rattle.bc_names.specs.Names.{NameParts, is_same_name}
 use Rattle.bc_syntax.specs.declared.syntax.Declaration.{Declaration}
-use Rattle.bc_mir.specs.declared.mir.Point.{Point}
+use Rattle.bc_bodies.specs.declared.mir.Point.{Point}
 use Rattle.bc_mir.specs.declared.typed.Where.{Where}
 use Rattle.bc_mir.specs.declared.typed.Where.TheVariants as wheres
 use Rattle.bc_judge.specs.declared.error.BorrowError.{BorrowError}
@@ -17,7 +17,7 @@ use Rattle.bc_prov.specs.Outcome.{OutcomeRows}
 use Rattle.bc_prov.specs.declared.outcome.BodyErrors.{BodyErrors}
 use Rattle.bc_prov.specs.declared.outcome.Outcome.{Outcome}
 use Rattle.bc_prov.specs.declared.outcome.Outcome.TheVariants as outcomes
-use Rattle.bc_mir.specs.contracts.mir.PointPartialEq.TheImpl as point_impl
+use Rattle.bc_bodies.specs.contracts.mir.PointPartialEq.TheImpl as point_impl
 use Rattle.bc_mir.specs.contracts.typed.WherePartialEq.TheImpl as place_impl
 use Rattle.bc_judge.specs.contracts.error.BorrowErrorPartialEq.TheImpl as error_impl
 use Rattle.bc_prov.specs.contracts.outcome.BodyErrorsPartialEq.TheImpl as body_impl

@@ -2,7 +2,7 @@
 use Rattle.std.proofs.Common.{◌≡◌, ℕ, Bool, List, subst}
 use Rattle.bc_syntax.specs.declared.syntax.Region.{Region}
 use Rattle.bc_cons.specs.declared.facts.NumberedConstraint.{NumberedConstraint}
-use Rattle.bc_mir.specs.Mir.{Mir}
+use Rattle.bc_bodies.specs.Mir.{Mir}
 use Rattle.bc_solve.specs.Values.{IsInValue, Tells}
 use Rattle.bc_solve.specs.Chains.{ExplainsOver}
 use Rattle.bc_judge.specs.declared.error.BorrowError.{BorrowError}

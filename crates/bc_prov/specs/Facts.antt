@@ -5,7 +5,7 @@ use Rattle.std.proofs.Common.{Bor}
 use Rattle.std.specs.declared.alloc.AllocError.{AllocError}
 use Rattle.std.specs.declared.alloc.Global.{Global}
 use Rattle.bc_flow.specs.Flow.{holds}
-use Rattle.bc_mir.specs.Mir.{Mir}
+use Rattle.bc_bodies.specs.Mir.{Mir}
 use Rattle.bc_cons.specs.Facts.{RegionFacts}
 use Rattle.bc_live.specs.Live.{IsLive}
 use Rattle.bc_solve.specs.Values.{Tells, AreValues}

@@ -10,8 +10,8 @@ use Rattle.bc_syntax.specs.declared.syntax.UnitKind.{UnitKind}
 use Rattle.bc_syntax.specs.declared.syntax.UnitKind.TheVariants.{Function, Closure}
 use Rattle.bc_syntax.specs.Children.{children_of}
 use Rattle.bc_names.specs.Names.{NameParts, name_order}
-use Rattle.bc_mir.specs.declared.children.Child.{Child}
-use Rattle.bc_mir.specs.Mir.{Mir, mir_of}
+use Rattle.bc_bodies.specs.declared.children.Child.{Child}
+use Rattle.bc_bodies.specs.Mir.{Mir, mir_of}
 
 -- the body at each name, if there is one
 abbrev pub Bodies : Type 0

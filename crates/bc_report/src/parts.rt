@@ -2,7 +2,8 @@
 ghost use Rattle.std.specs.Prelude.{OnOk, decimal};
 ghost use Rattle.std.specs.Io.KnownBytes.{Appends};
 ghost use Rattle.bc_names.specs.Names.{name_text, segment_text};
-ghost use Rattle.bc_mir.specs.Lines.{place_text, point_text};
+ghost use Rattle.bc_bodies.specs.Lines.{point_text};
+ghost use Rattle.bc_mir.specs.Lines.{place_text};
 
 use crate::texts::put_point;
 use bc_mir::{Point, Where};

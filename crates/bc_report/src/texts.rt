@@ -1,7 +1,7 @@
 //! The texts of errors and of regions, built backwards.
 ghost use Rattle.std.specs.Prelude.{◌≡◌, ◌≤◌, ◌+◌, ◌*◌, ◌++◌, length, drop};
 ghost use Rattle.std.specs.List.{flat_map};
-ghost use Rattle.bc_mir.specs.Lines.{point_text};
+ghost use Rattle.bc_bodies.specs.Lines.{point_text};
 ghost use Rattle.bc_judge.specs.Lines.{error_text, next_region};
 
 use crate::line::{put, put_number};

@@ -1,3 +1,4 @@
 pub mod Mutabilities
 pub mod Replaced
 pub mod Shapes
+pub mod Forms

@@ -1,8 +1,7 @@
 //! Types without their regions.
 ghost use Rattle.std.specs.Prelude.{◌≡◌};
-ghost use Rattle.bc_shapes.specs.Shapes.{same_name};
+ghost use Rattle.bc_shapes.specs.Shapes.{same_name, alike, alike_closures, alike_bases, alike_types, is_int_base as int_base, is_int_behind as int_behind, is_copyable_behind as copyable_behind, is_copyable_type as copyable_type};
 ghost use Rattle.bc_shapes.specs.Mutabilities.{same_mutability};
-ghost use Rattle.bc_shapes.specs.Shapes.{alike, alike_closures, alike_bases, alike_types, is_int_base as int_base, is_int_behind as int_behind, is_copyable_behind as copyable_behind, is_copyable_type as copyable_type};
 
 use crate::mutabilities::is_mutable;
 use bc_syntax::{Base, ClosureInstance, Instance, ItemName, Mutability, Reference, Ty};

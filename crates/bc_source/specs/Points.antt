@@ -2,7 +2,7 @@
 use Rattle.std.specs.Prelude.{ℕ, ◌+◌, ◌-◌, ◌==◌, ◌||◌, Bool, not, List, [], ◌++◌, length, reverse, map, take, drop, take_while, slice_get, decimal, codes, Option, if◌then◌else◌}
 use Rattle.std.specs.Option.{option_map_or}
 use Rattle.bc_syntax.specs.Fits.{point_count}
-use Rattle.bc_mir.specs.declared.mir.Point.{Point}
+use Rattle.bc_bodies.specs.declared.mir.Point.{Point}
 use Rattle.bc_places.specs.Places.{places_of}
 use Rattle.bc_position.specs.Positions.{position_in}
 use Rattle.bc_report.specs.Text.{line as ended}

@@ -5,7 +5,7 @@
 //! that makes each and its region, the loans in scope before a point, the regions that a universal one is known to outlive, and
 //! the errors, each with its chain.
 ghost use Rattle.std.specs.Prelude.{◌≡◌, [], map, IfOk};
-ghost use Rattle.bc_mir.specs.declared.children.Child.{Child as AChild};
+ghost use Rattle.bc_bodies.specs.declared.children.Child.{Child as AChild};
 ghost use Rattle.bc_solve.specs.Values.{AreValues};
 ghost use Rattle.bc_loans.specs.Scope.{AreScopes};
 

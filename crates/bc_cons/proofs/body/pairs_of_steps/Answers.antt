@@ -1,7 +1,7 @@
 use Rattle.std.proofs.Common.{List, ◌∷◌, ◌+◌, drop, refl, sym, ap, ◌∙◌}
 use Rattle.std.specs.List.{flat_map}
 use Rattle.std.proofs.lemmas.List.{at_drop_more}
-use Rattle.bc_mir.specs.declared.mir.Step.{Step}
+use Rattle.bc_bodies.specs.declared.mir.Step.{Step}
 use Rattle.bc_types.proofs.Appending.{appended-turn, appended-all}
 use Rattle.bc_cons.specs.Constraints.{pairs_at}
 use Rattle.bc_cons.proofs.body.pairs_of_steps.Goals as goal

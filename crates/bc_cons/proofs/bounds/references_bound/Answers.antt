@@ -1,7 +1,7 @@
 use Rattle.std.proofs.Common.{List, sym, ◌∙◌, arith}
 use Rattle.std.proofs.lemmas.List.{at_drop_more, at_drop_all}
 use Rattle.bc_syntax.specs.declared.syntax.Reference.{Reference}
-use Rattle.bc_mir.specs.Mentions.{regions_of_references}
+use Rattle.bc_types.specs.Mentions.{regions_of_references}
 use Rattle.bc_cons.specs.Bounds.{regions_bound}
 use Rattle.bc_cons.proofs.bounds.references_bound.Goals as goal
 

@@ -1,5 +1,5 @@
 use Rattle.std.proofs.Common.{◌≡◌, ◌+◌, ◌≤◌, max, drop}
-use Rattle.bc_mir.specs.Mentions.{regions_of_references}
+use Rattle.bc_types.specs.Mentions.{regions_of_references}
 use Rattle.bc_cons.specs.Bounds.{regions_bound}
 use Rattle.bc_cons.proofs.bounds.references_bound.Given as goal
 

@@ -3,7 +3,7 @@ use Rattle.std.specs.List.{list_any}
 use Rattle.bc_syntax.specs.declared.syntax.Region.{Region}
 use Rattle.bc_syntax.specs.declared.syntax.Reference.{Reference}
 use Rattle.bc_points.specs.Regions.{region_number}
-use Rattle.bc_mir.specs.Mentions.{regions_of_base}
+use Rattle.bc_types.specs.Mentions.{regions_of_base}
 use Rattle.bc_cons.specs.Starts.{mentions, goes_to_variable}
 use Rattle.bc_cons.proofs.Mentioning.{mentioned, all_below}
 use Rattle.bc_cons.proofs.Growing.{AreGrown-then, both_go}

@@ -1,7 +1,7 @@
 use Rattle.std.proofs.Common.{ℕ, List, ◌∷◌, ◌+◌, drop, refl, sym, ap, ◌∙◌}
 use Rattle.std.specs.List.{flat_map, enumerate_from}
 use Rattle.std.proofs.lemmas.List.{at_drop_more}
-use Rattle.bc_mir.specs.declared.mir.Step.{Step}
+use Rattle.bc_bodies.specs.declared.mir.Step.{Step}
 use Rattle.bc_live.specs.Entries.{uses_at}
 use Rattle.bc_live.proofs.Appending.{appended-turn, appended-all}
 use Rattle.bc_live.proofs.entries.use_entries.Goals as goal

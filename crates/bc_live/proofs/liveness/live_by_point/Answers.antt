@@ -2,7 +2,7 @@ use Rattle.std.proofs.Common.{◌≡◌, ℕ, ◌↔◌, true, map}
 use Rattle.std.proofs.lemmas.Result.{IfOk-weaker}
 use Rattle.bc_flow.specs.Graph.{turned}
 use Rattle.bc_flow.specs.Flow.{holds, IsFlow}
-use Rattle.bc_mir.specs.Mir.{edges_of}
+use Rattle.bc_bodies.specs.Mir.{edges_of}
 use Rattle.bc_live.specs.Live.{IsLive}
 use Rattle.bc_live.proofs.Paths.{sets_are_live}
 use Rattle.bc_live.proofs.liveness.live_by_point.Goals as goal

@@ -1,6 +1,6 @@
 use Rattle.std.proofs.Common.{◌≡◌, ◌++◌, ℕ, List, Option, Some, None, get_or, sym, ap, append-nil, ◌∙◌}
 use Rattle.std.specs.List.{flat_map, enumerate_from}
-use Rattle.bc_mir.specs.declared.mir.Step.{Step}
+use Rattle.bc_bodies.specs.declared.mir.Step.{Step}
 use Rattle.bc_points.specs.declared.loan.Loan.{Loan}
 use Rattle.bc_loans.specs.Loans.{with_point, loans_of_step}
 use Rattle.bc_loans.proofs.Listing.{listed-turn, listed-all}

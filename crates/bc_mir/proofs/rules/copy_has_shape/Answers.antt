@@ -1,5 +1,5 @@
 use Rattle.std.proofs.Common.{sym, ◌∙◌}
-use Rattle.bc_mir.specs.PlaceTypes.{type_of_place}
+use Rattle.bc_bodies.specs.PlaceTypes.{type_of_place}
 use Rattle.bc_mir.proofs.Blanking.{copy-shape}
 use Rattle.bc_mir.proofs.rules.copy_has_shape.Goals as goal
 

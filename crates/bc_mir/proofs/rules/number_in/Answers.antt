@@ -1,6 +1,6 @@
 use Rattle.std.proofs.lemmas.Grind.{common_steps}
 use Rattle.std.proofs.Common.{arith}
-use Rattle.bc_mir.specs.PlaceTypes.{type_of_place}
+use Rattle.bc_bodies.specs.PlaceTypes.{type_of_place}
 use Rattle.bc_mir.proofs.Blanking.{number_found-blanked}
 use Rattle.bc_mir.proofs.rules.number_in.Goals as goal
 

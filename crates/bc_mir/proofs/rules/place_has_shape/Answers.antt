@@ -1,5 +1,5 @@
 use Rattle.std.proofs.Common.{ap, ◌∙◌}
-use Rattle.bc_mir.specs.PlaceTypes.{type_of_place}
+use Rattle.bc_bodies.specs.PlaceTypes.{type_of_place}
 use Rattle.bc_mir.specs.Rules.{has_shape}
 use Rattle.bc_mir.proofs.Blanking.{has_shape-blanked}
 use Rattle.bc_mir.proofs.rules.place_has_shape.Goals as goal

@@ -1,6 +1,7 @@
 use Rattle.std.proofs.Common.{ap, ◌∙◌}
 use Rattle.std.specs.Option.{option_map}
-use Rattle.bc_mir.specs.Rules.{type_to_borrow, type_referenced, has_shape}
+use Rattle.bc_shapes.specs.Forms.{type_referenced}
+use Rattle.bc_mir.specs.Rules.{type_to_borrow, has_shape}
 use Rattle.bc_mir.proofs.Blanking.{borrow-blanked}
 use Rattle.bc_mir.proofs.rules.takes_borrow.Goals as goal
 

@@ -1,7 +1,8 @@
 use Rattle.std.proofs.Common.{Some, ap, ◌∙◌}
 use Rattle.bc_shapes.specs.Shapes.{one_shape}
 use Rattle.bc_mir.specs.Rules.{type_to_write, of_one_shape}
-use Rattle.bc_mir.proofs.Blanking.{one_shape-left, of_one_shape-blanked}
+use Rattle.bc_shapes.proofs.Blanking.{one_shape-left}
+use Rattle.bc_mir.proofs.Blanking.{of_one_shape-blanked}
 use Rattle.bc_mir.proofs.rules.takes_result.Goals as goal
 
 pub returns-in-Some : goal.returns-in-Some

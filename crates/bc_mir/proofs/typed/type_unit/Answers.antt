@@ -1,6 +1,6 @@
 use Rattle.std.proofs.Common.{◌≡◌, None, sym, subst, ◌∙◌}
 use Rattle.std.specs.Arc.{arc_value}
-use Rattle.bc_mir.specs.Mir.{mir_of}
+use Rattle.bc_bodies.specs.Mir.{mir_of}
 use Rattle.bc_mir.specs.Typing.{misfit, HasNoMisfit}
 use Rattle.bc_mir.specs.Typed.{IsTyped}
 use Rattle.bc_mir.proofs.Kept.{typed}

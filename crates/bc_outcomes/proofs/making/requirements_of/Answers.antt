@@ -1,7 +1,7 @@
 use Rattle.std.proofs.Common.{List, ◌∷◌, ◌+◌, drop, map, refl, sym, ap, ◌∙◌}
 use Rattle.std.proofs.lemmas.List.{at_drop_more}
 use Rattle.bc_cons.specs.declared.requirements.Requirements.{Requirements}
-use Rattle.bc_mir.specs.declared.children.Child.{Child}
+use Rattle.bc_bodies.specs.declared.children.Child.{Child}
 use Rattle.bc_types.proofs.Appending.{appended-turn, appended-all}
 use Rattle.bc_outcomes.proofs.making.requirements_of.Goals as goal
 

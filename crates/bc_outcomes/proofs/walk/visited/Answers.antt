@@ -1,7 +1,7 @@
 use Rattle.std.proofs.Common.{◌≡◌, Some, refl, sym, ap, ◌∙◌, subst}
 use Rattle.std.specs.Arc.{arc_value}
 use Rattle.bc_syntax.specs.declared.syntax.Body.{Body}
-use Rattle.bc_mir.specs.Mir.{Mir, mir_of}
+use Rattle.bc_bodies.specs.Mir.{Mir, mir_of}
 use Rattle.bc_mir.specs.Typing.{misfit}
 use Rattle.bc_prov.specs.Pieces.{IsFitted}
 use Rattle.bc_outcomes.specs.Visits.{mir_in}

@@ -1,6 +1,6 @@
 use Rattle.std.proofs.Common.{refl, sym, ◌∙◌}
 use Rattle.bc_types.proofs.Appending.{appended-all}
-use Rattle.bc_mir.specs.Children.{is_outer_clause}
+use Rattle.bc_bodies.specs.Children.{is_outer_clause}
 use Rattle.bc_points.specs.Pairs.{clauses_where}
 use Rattle.bc_points.proofs.Clauses.{clause-kept, clause-left}
 use Rattle.bc_points.proofs.pairs.push_outer_clauses.Goals as goal

@@ -1,5 +1,5 @@
 use Rattle.std.proofs.Common.{◌≡◌, ◌++◌, drop}
-use Rattle.bc_mir.specs.Children.{is_outer_clause}
+use Rattle.bc_bodies.specs.Children.{is_outer_clause}
 use Rattle.bc_points.specs.Pairs.{clauses_where}
 use Rattle.bc_points.proofs.pairs.push_outer_clauses.Given as goal
 

@@ -1,5 +1,5 @@
 use Rattle.std.proofs.Common.{◌≡◌, ℕ, List, [], ◌∷◌, map, refl, sym, ◌∙◌, subst}
-use Rattle.bc_mir.specs.declared.children.Child.{Child}
+use Rattle.bc_bodies.specs.declared.children.Child.{Child}
 use Rattle.bc_cons.specs.declared.requirements.Requirements.{Requirements}
 use Rattle.bc_cons.specs.Requirements.{AreOfChildren}
 use Rattle.rows_steps.proofs.steps.facts_of.Goals as goal

@@ -1,4 +1,4 @@
-use Rattle.bc_mir.specs.Mir.{edges_of_step}
+use Rattle.bc_bodies.specs.Mir.{edges_of_step}
 use Rattle.bc_mir.proofs.Numbering.{numbered-turn, numbered-all}
 use Rattle.bc_mir.proofs.Fitting.{fits_at-first_unfit}
 use Rattle.bc_mir.proofs.typed.Typed.edges.Goals as goal

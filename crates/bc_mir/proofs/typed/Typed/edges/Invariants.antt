@@ -1,6 +1,6 @@
 use Rattle.std.proofs.Common.{◌≡◌, ◌++◌, drop}
 use Rattle.std.specs.List.{flat_map, enumerate_from}
-use Rattle.bc_mir.specs.Mir.{edges_of_step, edges_of}
+use Rattle.bc_bodies.specs.Mir.{edges_of_step, edges_of}
 use Rattle.bc_mir.proofs.typed.Typed.edges.Given as goal
 
 abbrev pub invariant-loop-point : goal.invariant-loop-point

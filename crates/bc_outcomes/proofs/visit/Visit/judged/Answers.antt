@@ -1,7 +1,7 @@
 use Rattle.std.proofs.Common.{◌≡◌, refl, sym, ap, ◌∙◌, subst}
 use Rattle.std.specs.Prelude.{Option, IfSome}
 use Rattle.bc_cons.specs.Requirements.{AreOfChildren}
-use Rattle.bc_mir.specs.Mir.{Mir}
+use Rattle.bc_bodies.specs.Mir.{Mir}
 use Rattle.bc_prov.specs.Pieces.{IsPiece, PieceView}
 use Rattle.bc_outcomes.specs.Visited.{VisitView}
 use Rattle.bc_outcomes.proofs.visit.Visit.judged.Goals as goal

@@ -3,8 +3,8 @@ use Rattle.std.specs.Prelude.{map, nat_le}
 use Rattle.std.specs.List.{list_all}
 use Rattle.std.proofs.lemmas.List.{drop_all}
 use Rattle.bc_syntax.specs.Children.{children_of}
-use Rattle.bc_mir.specs.Mir.{Mir}
-use Rattle.bc_mir.specs.declared.children.Child.{Child}
+use Rattle.bc_bodies.specs.Mir.{Mir}
+use Rattle.bc_bodies.specs.declared.children.Child.{Child}
 use Rattle.bc_prov.specs.Pieces.{PieceView}
 use Rattle.bc_prov.specs.State.{number_of_child}
 use Rattle.bc_prov.proofs.Numbers.{children_low}

@@ -1,0 +1,2 @@
+pub mod Mirs
+pub mod Replacing

@@ -1,5 +1,0 @@
-use Rattle.std.proofs.Common.{length}
-use Rattle.bc_mir.proofs.children.+push_arguments.Given as goal
-
-abbrev pub decreases-push_arguments : goal.decreases-push_arguments
-decreases-push_arguments l = length l.names.now

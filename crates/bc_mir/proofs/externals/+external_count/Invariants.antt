@@ -1,5 +1,0 @@
-use Rattle.std.proofs.Common.{length}
-use Rattle.bc_mir.proofs.externals.+external_count.Given as goal
-
-abbrev pub decreases-external_count : goal.decreases-external_count
-decreases-external_count l = length l.names.now

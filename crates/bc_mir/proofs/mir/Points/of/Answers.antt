@@ -1,9 +1,0 @@
-use Rattle.bc_mir.proofs.mir.Points.of.Goals as goal
-
-pub returns : goal.returns
-returns c =
-    let listed = c.in_ok-push_blocks.ensures in
-    record {
-      steps = rw c.in_ok-steps.ensures.items at listed.steps;
-      entries = rw (c.in_ok-steps.ensures.items, c.in_ok-entries.ensures.items) at listed.entries;
-    }

@@ -1,5 +1,0 @@
-use Rattle.std.proofs.Common.{length}
-use Rattle.bc_mir.proofs.place_types.+passes_only_mutable.Given as goal
-
-abbrev pub decreases-passes_only_mutable : goal.decreases-passes_only_mutable
-decreases-passes_only_mutable l = length l.projections.now

@@ -1,5 +1,0 @@
-use Rattle.std.proofs.Common.{length}
-use Rattle.bc_mir.proofs.place_types.+push_references_behind.Given as goal
-
-abbrev pub decreases-push_references_behind : goal.decreases-push_references_behind
-decreases-push_references_behind l = length l.projections.now
