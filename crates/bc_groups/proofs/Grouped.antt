@@ -1,9 +1,8 @@
 -- The facts that flow between groups of nodes are those that flow between the nodes.
-use Rattle.std.proofs.Common.{◌≡◌, ℕ, ◌+◌, ◌<◌, ◌⊎◌, inl, inr, Bool, true, ◌||◌, List, [], ◌∷◌, ◌++◌, map, length, get_or, refl, sym, ap, ◌∙◌, arith}
+use Rattle.std.proofs.Common.{◌≡◌, ℕ, ◌+◌, ◌<◌, inl, inr, Bool, true, ◌||◌, List, [], map, length, get_or, refl, sym, ap, ◌∙◌, arith}
 use Rattle.std.specs.List.{All, range_with_len}
 use Rattle.std.proofs.lemmas.Bool.{cases_eq, cases_lt, both_ways, or_cases, or_left, or_right}
-use Rattle.std.proofs.Math.Seq.{get_or-append_seam}
-use Rattle.std.proofs.lemmas.List.{get_or_append_left, get_or-map, get_or_past, length-map}
+use Rattle.std.proofs.lemmas.List.{get_or-map, get_or_past, length-map}
 use Rattle.std.proofs.lemmas.List.Elements.{All-contains, All-map, All-weaker, All-get_or, All-from_get_or}
 use Rattle.std.proofs.lemmas.List.FromFn.{fill_by_all}
 use Rattle.bc_flow.specs.declared.graph.Edge.{Edge}
@@ -132,18 +131,6 @@ labels_within nodes before behind labels count same within agreed = All-from_get
       | inl own ↦ omega (arith, own, inside)
       | inr t ↦ omega (arith, t.0, All-get_or (λ n. n < nodes) before n 0 (omega (arith, inside, same)) within)
     ])
-
--- one label more
-pub agreed_more : (before behind labels new : List ℕ) (label node : ℕ) → new ≡ labels ++ label ∷ [] → length labels ≡ node →
-    (label ≡ node) ⊎ ((label ≡ get_or before node 0) × (label ≡ get_or behind node 0)) → ((n : ℕ) → n < node → IsAgreed before behind labels n) →
-    (n : ℕ) → n < node + 1 → IsAgreed before behind new n
-agreed_more before behind labels new label node is count own all n h = elim (cases_lt n node) [
-  | inl early ↦ rw (is, get_or_append_left labels (label ∷ []) 0 n (omega (arith, early, count))) (all n early)
-  | inr late ↦
-      let here : n ≡ node = omega (arith, h, late) in
-      let written : get_or new node 0 ≡ label = ap (λ xs. get_or xs node 0) is ∙ (ap (λ k. get_or (labels ++ label ∷ []) k 0) (sym count) ∙ get_or-append_seam labels label [] 0) in
-      rw (here, written) own
-]
 
 -- nodes with one number have one label
 pub together : (edges : List Edge) (nodes : ℕ) (labels group_of : List ℕ) → ((n : ℕ) → n < nodes → AreMutual edges n (get_or labels n 0)) →
