@@ -377,21 +377,21 @@ impl Draft {
         self.kind
     }
 
-    /// Returns how many universal regions there are, 1 to 16: `'static` and the declared ones.
+    /// Returns how many universal regions there are: `'static` and the declared ones.
     pub fn universals(&self) -> u8
         ensures { result ≡ self.now.universals }
     {
         self.universals
     }
 
-    /// Returns the headers of the children, ascending by their numbers.
+    /// Returns the headers of the children, in the order in which they were handed in.
     pub fn children(&self) -> &[Child]
         ensures { result.now ≡ self.now.children }
     {
         self.children.as_slice()
     }
 
-    /// Returns the external regions of a closure, by number, ascending: the declared ones in the types of its captures.
+    /// Returns the external regions of a closure, by number: the declared ones in the types of its captures.
     pub fn externals(&self) -> &[usize]
         ensures { result.now ≡ self.now.externals }
     {
