@@ -1,27 +1,12 @@
--- Loops that append the clauses that pass a test, and what is appended in turns.
-use Rattle.std.proofs.Common.{◌≡◌, ℕ, suc, ◌+◌, ◌-◌, ◌<◌, ◌≤◌, Bool, true, false, cond, List, [], ◌∷◌, ◌++◌, map, filter, length, get_or, take, drop, sym, ap, ◌∙◌, append_assoc, arith}
-use Rattle.std.proofs.lemmas.List.{at_drop_more, take_all}
+-- What is appended in turns.
+use Rattle.std.proofs.Common.{◌≡◌, suc, ◌-◌, ◌≤◌, List, [], ◌∷◌, ◌++◌, length, get_or, take, drop, ap, ◌∙◌, append_assoc, arith}
+use Rattle.std.proofs.lemmas.List.{take_all}
 use Rattle.bc_syntax.specs.declared.syntax.Region.{Region}
 use Rattle.bc_syntax.specs.declared.syntax.Ty.{Ty}
 use Rattle.bc_syntax.specs.declared.syntax.Operand.{Operand}
-use Rattle.bc_syntax.specs.declared.syntax.Outlives.{Outlives}
 use Rattle.bc_types.specs.declared.subtype.Constraint.{Constraint}
-use Rattle.bc_types.proofs.Appending.{appended-turn}
 use Rattle.bc_bodies.specs.Mir.{Mir}
-use Rattle.bc_points.specs.Pairs.{replaced_clause, clauses_where, operand_pair, operand_pairs}
-
-module _ (test : Outlives → Bool) (arguments : List Region) (whole items : List Constraint) (xs : List Outlives) (i : ℕ) (d : Outlives) (below : i < length xs) where
-  turn : (passes : Bool) → test (get_or xs i d) ≡ passes → clauses_where test arguments (drop i xs) ≡ map (replaced_clause arguments) (cond passes (get_or xs i d ∷ filter test (drop (i + 1) xs)) (filter test (drop (i + 1) xs)))
-  turn passes is =
-      at_drop_more (clauses_where test arguments) xs i d below
-      ∙ ap (λ b. map (replaced_clause arguments) (cond b (get_or xs i d ∷ filter test (drop (i + 1) xs)) (filter test (drop (i + 1) xs)))) is
-
-  pub clause-kept : (new : List Constraint) → new ≡ items ++ replaced_clause arguments (get_or xs i d) ∷ [] → test (get_or xs i d) ≡ true → items ++ clauses_where test arguments (drop i xs) ≡ whole → new ++ clauses_where test arguments (drop (i + 1) xs) ≡ whole
-  clause-kept new grown passes before =
-      appended-turn (clauses_where test arguments) whole items xs i new (replaced_clause arguments (get_or xs i d) ∷ []) grown (turn true passes) before
-
-  pub clause-left : test (get_or xs i d) ≡ false → items ++ clauses_where test arguments (drop i xs) ≡ whole → items ++ clauses_where test arguments (drop (i + 1) xs) ≡ whole
-  clause-left fails before = ap (λ l. items ++ l) (sym (turn false fails)) ∙ before
+use Rattle.bc_points.specs.Pairs.{operand_pair, operand_pairs}
 
 -- what is appended in two turns
 pub appended-both : {A : Type 0} (old mid new one two : List A) → mid ≡ old ++ one → new ≡ mid ++ two → new ≡ old ++ (one ++ two)
