@@ -4,7 +4,7 @@ ghost use Rattle.bc_judge.specs.declared.error.BorrowError.TheVariants.{Conflict
 ghost use Rattle.bc_json.specs.Json.{region_json, chain_json, error_json};
 ghost use Rattle.bc_json.specs.Texts.{HasText, array_text};
 
-use crate::members::{put_number, put_point, put_word};
+use crate::members::{put_number, put_point, put_string};
 use bc_judge::{BorrowError, PrintedRegion};
 use bc_mir::Point;
 use bc_syntax::Region;
@@ -47,7 +47,7 @@ fn conflict_value(
     put_number(&mut members, alloc, "access", access)?;
     put_point(&mut members, alloc, "at", at)?;
     put_point(&mut members, alloc, "loan", loan)?;
-    put_word(&mut members, alloc, "kind", "conflict")?;
+    put_string(&mut members, alloc, "kind", "conflict")?;
     Ok(Value::Object(members))
 }
 
@@ -63,7 +63,7 @@ fn lifetime_value(
     let chain = chain_value(alloc, chain)?;
     let mut members = Map::new(alloc);
     put(&mut members, alloc, "chain", chain)?;
-    put_word(&mut members, alloc, "kind", "lifetime")?;
+    put_string(&mut members, alloc, "kind", "lifetime")?;
     put_number(&mut members, alloc, "longer", usize::from(longer))?;
     put_number(&mut members, alloc, "shorter", usize::from(shorter))?;
     Ok(Value::Object(members))

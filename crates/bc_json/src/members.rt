@@ -11,22 +11,23 @@ use bc_names::Name;
 use serde_json::{Map, ToValue, Value, put};
 use std::alloc::{AllocError, Global};
 
-/// Puts a word into an object.
-pub(crate) fn put_word(
+/// Puts a string into an object, under a key. Returns `AllocError` only where memory was refused. (RFC 8259 for the text of JSON.)
+pub fn put_string(
     members: &mut Map<String, Value>,
     alloc: Global,
     key: &str,
-    word: &str,
+    text: &str,
 ) -> Result<(), AllocError>
     ensures { OnOk result (members_view members.new.entries
-        ≡ with_member key.now (string word.now) (members_view members.old.entries)) }
+        ≡ with_member key.now (string text.now) (members_view members.old.entries)) }
 {
-    let value = word.to_value(alloc)?;
+    let value = text.to_value(alloc)?;
     put(members, alloc, key, value)
 }
 
-/// Puts the name of a body into an object.
-pub(crate) fn put_name(
+/// Puts the name of a body into an object, under a key. Returns `AllocError` only where memory was refused. (RFC 8259 for the text of
+/// JSON.)
+pub fn put_name(
     members: &mut Map<String, Value>,
     alloc: Global,
     key: &str,
@@ -53,8 +54,8 @@ pub(crate) fn put_point(
     put(members, alloc, key, Value::String(text))
 }
 
-/// Puts a number into an object.
-pub(crate) fn put_number(
+/// Puts a number into an object, under a key. Returns `AllocError` only where memory was refused. (RFC 8259 for the text of JSON.)
+pub fn put_number(
     members: &mut Map<String, Value>,
     alloc: Global,
     key: &str,

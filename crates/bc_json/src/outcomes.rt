@@ -5,7 +5,7 @@ ghost use Rattle.bc_json.specs.Json.{body_json, outcome_json};
 ghost use Rattle.bc_json.specs.Texts.{HasText, array_text};
 
 use crate::errors::errors_value;
-use crate::members::{put_name, put_number, put_place, put_word};
+use crate::members::{put_name, put_number, put_place, put_string};
 use bc_mir::Where;
 use bc_names::Name;
 use bc_prov::{BodyErrors, Outcome};
@@ -39,7 +39,7 @@ fn no_body_value(alloc: Global) -> Result<Value, AllocError>
     ensures { IfOk result (λ value. HasText value (outcome_json NoBody)) }
 {
     let mut members = Map::new(alloc);
-    put_word(&mut members, alloc, "kind", "nobody")?;
+    put_string(&mut members, alloc, "kind", "nobody")?;
     Ok(Value::Object(members))
 }
 
@@ -48,7 +48,7 @@ fn missing_value(alloc: Global, name: &Name) -> Result<Value, AllocError>
     ensures { IfOk result (λ value. HasText value (outcome_json (Missing name.now))) }
 {
     let mut members = Map::new(alloc);
-    put_word(&mut members, alloc, "kind", "missing")?;
+    put_string(&mut members, alloc, "kind", "missing")?;
     put_name(&mut members, alloc, "name", name)?;
     Ok(Value::Object(members))
 }
@@ -59,7 +59,7 @@ fn bad_types_value(alloc: Global, index: usize) -> Result<Value, AllocError>
 {
     let mut members = Map::new(alloc);
     put_number(&mut members, alloc, "index", index)?;
-    put_word(&mut members, alloc, "kind", "badtypes")?;
+    put_string(&mut members, alloc, "kind", "badtypes")?;
     Ok(Value::Object(members))
 }
 
@@ -69,7 +69,7 @@ fn ill_value(alloc: Global, name: &Name, place: &Where) -> Result<Value, AllocEr
 {
     let mut members = Map::new(alloc);
     put_place(&mut members, alloc, "at", place)?;
-    put_word(&mut members, alloc, "kind", "ill")?;
+    put_string(&mut members, alloc, "kind", "ill")?;
     put_name(&mut members, alloc, "name", name)?;
     Ok(Value::Object(members))
 }
@@ -81,7 +81,7 @@ fn report_value(alloc: Global, bodies: &[BodyErrors]) -> Result<Value, AllocErro
     let bodies = bodies_value(alloc, bodies)?;
     let mut members = Map::new(alloc);
     put(&mut members, alloc, "bodies", bodies)?;
-    put_word(&mut members, alloc, "kind", "report")?;
+    put_string(&mut members, alloc, "kind", "report")?;
     Ok(Value::Object(members))
 }
 

@@ -5,9 +5,10 @@ ghost use Rattle.cli_requests.specs.Ids.{told};
 ghost use Rattle.cli_answers.specs.Words.{refusal_word};
 ghost use Rattle.cli_answers.specs.Answers.{fault_data, text_data, wrong_data};
 
-use crate::members::{new_members, put_number, put_words};
+use crate::members::new_members;
 use crate::words::{kind_name, refusal_name};
 use bc_book::Refusal;
+use bc_json::{put_number, put_string};
 use cli_requests::{Id, RequestFault, TextFault};
 use serde_json::Value;
 use std::alloc::{AllocError, Global};
@@ -22,7 +23,7 @@ fn fault_value(
     ensures { IfOk result (λ value. data_of value ≡ fault_data (told id.now) session words.now) }
 {
     let mut members = new_members(alloc, id, session)?;
-    put_words(&mut members, alloc, "fault", words)?;
+    put_string(&mut members, alloc, "fault", words)?;
     Ok(Value::Object(members))
 }
 
@@ -38,7 +39,7 @@ fn text_value(
     let mut members = new_members(alloc, id, session)?;
     put_number(&mut members, alloc, "at", fault.at)?;
     put_number(&mut members, alloc, "column", fault.position.column)?;
-    put_words(&mut members, alloc, "fault", kind_name(fault.kind))?;
+    put_string(&mut members, alloc, "fault", kind_name(fault.kind))?;
     put_number(&mut members, alloc, "line", fault.position.line)?;
     Ok(Value::Object(members))
 }

@@ -7,7 +7,7 @@ ghost use Rattle.cli_entries.specs.Replies.{reply_key, IsReplyData, IsRoot};
 
 use crate::words::{put_word, remove_word};
 use bc_calls::Event;
-use bc_json::outcome_value;
+use bc_json::{outcome_value, put_name};
 use bc_names::Name;
 use bc_prov::{Outcome, Shared};
 use serde_json::{Map, ToValue, Value, put};
@@ -17,10 +17,9 @@ use std::alloc::{AllocError, Global};
 fn root_value(alloc: Global, name: &Name, outcome: &Outcome) -> Result<Value, AllocError>
     ensures { IfOk result (λ value. IsRoot (name.now, outcome.now) (data_of value)) }
 {
-    let name = format!(in alloc; "{name}")?;
     let outcome = outcome_value(alloc, outcome)?;
     let mut members = Map::new(alloc);
-    put(&mut members, alloc, "name", Value::String(name))?;
+    put_name(&mut members, alloc, "name", name)?;
     put(&mut members, alloc, "outcome", outcome)?;
     Ok(Value::Object(members))
 }
