@@ -9,7 +9,7 @@ use bc_cons::Requirements;
 use bc_memo::Shelf;
 use bc_mir::{KidHeader, Typed};
 use bc_names::Name;
-use bc_outcomes::{piece, report};
+use bc_outcomes::{piece, report, report_pieces};
 use bc_points::accesses;
 use bc_prov::{Check, Piece, Providers, Shared, Snapshot, share};
 use bc_syntax::{Sequence, Unit, UnitKind};
@@ -121,6 +121,16 @@ fn carrying(
     Ok(snapshot.carry(outcome))
 }
 
+/// A snapshot that carries the pieces of its bodies.
+fn carrying_pieces(
+    alloc: Global,
+    providers: &Providers,
+    snapshot: Snapshot,
+) -> Result<Snapshot, AllocError> {
+    let (_, pieces) = report_pieces(alloc, providers, &snapshot)?;
+    Ok(snapshot.carry_pieces(pieces))
+}
+
 /// Whether a report wants memory where its providers always do, and so asks these.
 fn wants_memory(alloc: Global, snapshot: &Snapshot) -> Result<bool, AllocError> {
     let providers = refusing!(alloc);
@@ -140,6 +150,14 @@ fn is_carried(alloc: Global, providers: &Providers, shelf: &Shelf) -> Result<boo
     Ok(is_report(alloc, providers, &snapshot)?)
 }
 
+/// Whether it is so where the snapshot carries the pieces of its bodies, by providers that are never asked: they always want memory.
+fn is_of_pieces(alloc: Global, providers: &Providers, shelf: &Shelf) -> Result<bool> {
+    let snapshot = shelf.part(alloc, &name(b"f")?)?.snapshot;
+    let snapshot = carrying_pieces(alloc, providers, snapshot)?;
+    let providers = refusing!(alloc);
+    Ok(is_report(alloc, &providers, &snapshot)?)
+}
+
 /// A shelf that holds a function and its closure.
 fn shelf(alloc: Global) -> Result<Shelf> {
     let mut shelf = Shelf::new(alloc, no_declarations(alloc)?, 1)?;
@@ -154,7 +172,8 @@ fn is_over(alloc: Global, providers: &Providers, shelf: &Shelf) -> Result<bool> 
     let inner = errors_at(alloc, providers, shelf, b"f/0")?;
     let is_anew = is_reported(alloc, providers, shelf)?;
     let is_carried = is_carried(alloc, providers, shelf)?;
-    Ok(outer == 0 && inner == 1 && is_anew && is_carried)
+    let is_of_pieces = is_of_pieces(alloc, providers, shelf)?;
+    Ok(outer == 0 && inner == 1 && is_anew && is_carried && is_of_pieces)
 }
 
 /// A snapshot of a name in a new book that holds the unit of a text there.
