@@ -150,12 +150,17 @@ fn is_carried(alloc: Global, providers: &Providers, shelf: &Shelf) -> Result<boo
     Ok(is_report(alloc, providers, &snapshot)?)
 }
 
-/// Whether it is so where the snapshot carries the pieces of its bodies, by providers that are never asked: they always want memory.
+/// Whether the report of a snapshot is as it has to be where no provider is asked: they always want memory.
+fn asks_none(alloc: Global, snapshot: &Snapshot) -> Result<bool, AllocError> {
+    let providers = refusing!(alloc);
+    is_report(alloc, &providers, snapshot)
+}
+
+/// Whether it is so where the snapshot carries the pieces of its bodies, of which no provider is asked.
 fn is_of_pieces(alloc: Global, providers: &Providers, shelf: &Shelf) -> Result<bool> {
     let snapshot = shelf.part(alloc, &name(b"f")?)?.snapshot;
     let snapshot = carrying_pieces(alloc, providers, snapshot)?;
-    let providers = refusing!(alloc);
-    Ok(is_report(alloc, &providers, &snapshot)?)
+    Ok(asks_none(alloc, &snapshot)?)
 }
 
 /// A shelf that holds a function and its closure.
