@@ -1,4 +1,5 @@
-//! Two sessions of `run` that are inside a provider at once.
+//! Two sessions of `run`, and two asks of `check`, that are inside a provider at once.
+use crate::checks::FOUR_JOBS;
 use crate::command::leave_with;
 use crate::runs::TWO;
 use bc_analyses::{find_values, providers};
@@ -13,10 +14,13 @@ use std::time::{Clock, Duration};
 use test_devices::SOUND;
 
 /// Each of two sessions puts a body of its own and asks for it.
-const FILE: &[u8] =
+const CALLS: &[u8] =
     b"@0 put f\nfn()->int{bb0{_0=1;return;}}\n@0 ask f\n@1 put g\nfn()->int{bb0{_0=1;return;}}\n@1 ask g\n";
 
-/// How many turns of a millisecond a session waits at most.
+/// Two bodies, each of which `check` asks for.
+const PUTS: &[u8] = b"@put f\nfn()->int{bb0{_0=1;return;}}\n@put g\nfn()->int{bb0{_0=1;return;}}\n";
+
+/// How many turns of a millisecond one waits at most.
 const MOST_TURNS: u32 = 10_000;
 
 /// How many have come to the solver, and how many waited there in vain.
@@ -34,11 +38,11 @@ impl Meeting {
         }
     }
 
-    /// Comes to the solver, and waits there until another one has come.
+    /// Comes to the solver, and waits there until the other one of two has come.
     fn meet<C: Clock>(&self, clock: &C) {
-        self.came.fetch_add(1, SeqCst);
+        let before = self.came.fetch_add(1, SeqCst);
         for _turn in 0..MOST_TURNS {
-            if self.came.load(SeqCst) >= 2 {
+            if self.came.load(SeqCst) > before | 1 {
                 return;
             }
             thread::sleep(clock, Duration::from_millis(1));
@@ -47,9 +51,10 @@ impl Meeting {
     }
 }
 
-/// Catches sessions that make their calls one after another: each waits in its solver until the other is in its own.
+/// Catches sessions of `run` that make their calls one after another, and a `check` with more than one job that works on its asks one after
+/// another, or only as it settles them: each waits in its solver until the other is in its own.
 #[test]
-fn two_sessions_are_in_a_provider_at_once(rt: HostRuntime) -> Result<(), Fail> {
+fn two_are_in_a_provider_at_once(rt: HostRuntime) -> Result<(), Fail> {
     let Ok(meeting) = Arc::new(rt.alloc(), Meeting::new()) else {
         return Err("memory")?;
     };
@@ -58,9 +63,11 @@ fn two_sessions_are_in_a_provider_at_once(rt: HostRuntime) -> Result<(), Fail> {
         to_solve.meet(&rt);
         find_values(alloc, facts)
     });
-    let left = leave_with(&rt, &providers, TWO, FILE, SOUND)?;
-    assert_eq!(rt; left.status, 0);
-    assert_eq!(rt; meeting.came.load(SeqCst), 2, "each body is solved once");
+    for (words, file) in [(TWO, CALLS), (FOUR_JOBS, PUTS)] {
+        let left = leave_with(&rt, &providers, words, file, SOUND)?;
+        assert_eq!(rt; left.status, 0);
+    }
+    assert_eq!(rt; meeting.came.load(SeqCst), 4, "each body is solved once");
     assert_eq!(rt; meeting.late.load(SeqCst), 0, "nobody waits too long");
     Ok(())
 }
