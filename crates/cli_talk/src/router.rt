@@ -104,7 +104,7 @@ fn session_of_line(alloc: Global, line: &InputLine, sessions: u8) -> Result<Opti
 /// Reads the next line of an input, of at most `MOST_REQUEST_BYTES` bytes, and returns it as the message for the session that it names,
 /// numbered for this session. Nothing is waited for behind the line. Inside it returns `None` where the line names no session: what is
 /// wrong with it was answered then. Outside it returns `None` where there is no line left. The message is to go to the worker of its
-/// session.
+/// session. The counts of lines, one for each session, are those that `no_counts` returned and the calls since then have left.
 ///
 /// Returns `CannotRead` where the input fails, `NoMemory` where there is no room for the line or its answer, and `CannotWrite` where the
 /// answer is not given on.
@@ -116,7 +116,9 @@ pub fn route_line<L: Talk + Drop, I: BufRead, P: Replies>(
     counts: &mut Vec<u64>,
 ) -> Result<Option<Option<Message<L>>>, TalkFault>
     requires sessions { sessions ≡ L.sessions }
+    requires sized { length counts.old.items ≡ sessions }
     requires counted { CountsSoFar sessions counts.old.items L.lines (I.remaining input.old) }
+    ensures sized { length counts.new.items ≡ sessions }
     ensures counted { IfOk result (λ routed. MatchOption routed (CountsAll sessions counts.new.items L.lines) (λ _. CountsSoFar sessions counts.new.items L.lines (I.remaining input.new))) }
     ensures routed { IfOk result (λ routed. RoutesNext sessions (I.remaining input.old) (I.remaining input.new) (option_map (option_map (λ m. (m.session, m.line.items))) routed) (P.given replies.old) (P.given replies.new)) }
 {
@@ -138,10 +140,10 @@ pub fn route_line<L: Talk + Drop, I: BufRead, P: Replies>(
     let InputLine::Text(text) = line else {
         return Err(TalkFault::OutOfTurn);
     };
-    let place = usize::from(session);
-    if text.len() > MOST_REQUEST_BYTES || place >= counts.len() {
+    if text.len() > MOST_REQUEST_BYTES {
         return Err(TalkFault::OutOfTurn);
     }
+    let place = usize::from(session);
     let number = counts[place];
     if number == u64::MAX {
         return Err(TalkFault::OutOfTurn);
@@ -158,7 +160,8 @@ pub fn no_counts<L: Talk + Drop, I: BufRead>(
     sessions: u8,
 ) -> Result<Vec<u64>, TalkFault>
     requires lines { L.lines ≡ option_map lines_of (I.remaining _input.now) }
-    ensures { IfOk result (λ counts. CountsSoFar sessions counts.items L.lines (I.remaining _input.now)) }
+    ensures sized { IfOk result (λ counts. length counts.items ≡ sessions) }
+    ensures counted { IfOk result (λ counts. CountsSoFar sessions counts.items L.lines (I.remaining _input.now)) }
 {
     match vec![in alloc; 0u64; usize::from(sessions)] {
         Ok(counts) => Ok(counts),

@@ -23,7 +23,7 @@ pub make_message-message-requires-clause-is_of : goal.make_message-message-requi
 make_message-message-requires-clause-is_of g c =
     let read = rw c.in-Ok-Some.field-0-is at c.in-Ok-Some.ensures in
     let here : c.index-number.result.now ≡ slice_index c.args.counts.now.items c.in-Some.session =
-    get_or_read c.args.counts.now.items c.from-place.result c.index-number.result.now (omega (arith, c.args.counts.now.ok.0)) c.index-number.ensures 0 ∙ ap (λ (i : ℕ). slice_index c.args.counts.now.items i) c.from-place.ensures in
+    get_or_read c.args.counts.now.items c.from-place.result c.index-number.result.now (omega (arith, c.requires.sized, c.from-place.ensures, rw c.in-Some.is at c.in-Ok.ensures.low)) c.index-number.ensures 0 ∙ ap (λ (i : ℕ). slice_index c.args.counts.now.items i) c.from-place.ensures in
     subst (λ (s : ℕ). IsLineOf s c.in-Some.session c.index-number.result.now c.in-Text.text.items g.L.Talk.lines) c.requires.sessions
     (placed c.args.sessions c.in-Some.session c.index-number.result.now c.args.counts.now.items g.L.Talk.lines (g.I.Read.remaining c.args.input.now) (g.I.Read.remaining c.next_line.new.input) c.in-Ok-Some.line c.in-Text.text.items
     (rw c.in-Some.is at c.in-Ok.ensures.low) c.requires.counted read (λ bytes l. ((subst (λ (ln : InputLine). IsLine MOST_REQUEST_BYTES bytes ln) c.in-Text.is l).0, (rw c.in-Some.is at c.in-Ok.ensures.which) bytes l)) here)
@@ -32,6 +32,6 @@ pub returns-clause-counted : goal.returns-clause-counted
 returns-clause-counted g c =
     let read = rw c.in-Ok-Some.field-0-is at c.in-Ok-Some.ensures in
     let here : c.index-number.result.now ≡ slice_index c.args.counts.now.items c.in-Some.session =
-    get_or_read c.args.counts.now.items c.from-place.result c.index-number.result.now (omega (arith, c.args.counts.now.ok.0)) c.index-number.ensures 0 ∙ ap (λ (i : ℕ). slice_index c.args.counts.now.items i) c.from-place.ensures in
+    get_or_read c.args.counts.now.items c.from-place.result c.index-number.result.now (omega (arith, c.requires.sized, c.from-place.ensures, rw c.in-Some.is at c.in-Ok.ensures.low)) c.index-number.ensures 0 ∙ ap (λ (i : ℕ). slice_index c.args.counts.now.items i) c.from-place.ensures in
     counts_one c.args.sessions c.in-Some.session c.index-number.result.now c.args.counts.now.items (set c.args.counts.now.items c.from-place.result (c.index-number.result.now + 1)) g.L.Talk.lines (g.I.Read.remaining c.args.input.now) (g.I.Read.remaining c.next_line.new.input) c.in-Ok-Some.line
-    (omega (arith, c.if-place-len.false, c.from-place.ensures, c.args.counts.now.ok.0)) (ap (λ (i : ℕ). set c.args.counts.now.items i (c.index-number.result.now + 1)) c.from-place.ensures) c.requires.counted read (rw c.in-Some.is at c.in-Ok.ensures.which) here
+    (omega (arith, c.requires.sized, rw c.in-Some.is at c.in-Ok.ensures.low)) (ap (λ (i : ℕ). set c.args.counts.now.items i (c.index-number.result.now + 1)) c.from-place.ensures) c.requires.counted read (rw c.in-Some.is at c.in-Ok.ensures.which) here
