@@ -54,7 +54,7 @@ impl Meeting {
 /// Catches sessions of `run` that make their calls one after another, and a `check` with more than one job that works on its asks one after
 /// another, or only as it settles them: each waits in its solver until the other is in its own.
 #[test]
-fn two_are_in_a_provider_at_once(rt: HostRuntime) -> Result<(), Fail> {
+fn two_bodies_are_solved_at_once(rt: HostRuntime) -> Result<(), Fail> {
     let Ok(meeting) = Arc::new(rt.alloc(), Meeting::new()) else {
         return Err("memory")?;
     };
