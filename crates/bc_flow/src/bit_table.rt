@@ -130,7 +130,8 @@ impl<'a> BitRow<'a> {
 }
 
 impl BitTable {
-    /// Makes a table of empty rows. Returns `AllocError` only where memory was refused.
+    /// Makes a table of empty rows. Returns `AllocError` if memory was refused, and, without asking for any, if the table would have
+    /// 2^64 words or more: no table of a body within the limits comes near.
     pub fn new(alloc: Global, rows: usize, size: usize) -> Result<Self, AllocError>
         ensures rows { IfOk result (λ table. length table ≡ rows) }
         ensures size { IfOk result (λ table. HaveSize size table) }

@@ -358,7 +358,8 @@ fn walk_word(
     Ok(())
 }
 
-/// A word for each of so many points, and for those that fill the last run of 64.
+/// Returns a word for each of so many points, and for those that fill the last run of 64. Returns `AllocError` if memory was refused, and,
+/// without asking for any, if there would be 2^64 words or more: no body has so many points.
 fn point_words(alloc: Global, points: usize) -> Result<Vec<u64>, AllocError>
     ensures { IfOk result (λ words. length words.items ≡ 64 * ((points + 63) / 64)) }
 {
