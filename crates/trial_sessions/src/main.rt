@@ -16,6 +16,8 @@ use anyhow::Result;
 use bc_analyses::providers;
 use std::env;
 use std::io::Write;
+use std::sync::Wait;
+use std::thread::Threads;
 
 /// Rounds of which the first puts more names than may be held, and in the others all sessions write the four names of one function.
 const SHORT: [Shape; 2] = [("many names", 700, 1000, 1), ("four names", 1, 1000, 50)];
@@ -40,7 +42,11 @@ fn read_words(rt: &HostRuntime) -> Result<Asked> {
 }
 
 /// Has sixteen sessions call and read, in so many longer rounds, or in short where none are asked for.
-fn show_sessions(rt: &HostRuntime, rounds: Option<u32>) -> Result<()> {
+fn show_sessions<R: AllocGlobal + Threads + Wait + Sync, W: Write>(
+    rt: &R,
+    rounds: Option<u32>,
+    out: &mut W,
+) -> Result<()> {
     let providers = providers!(rt.alloc());
     let stock = Stock::new(rt.alloc())?;
     let table = Table {
@@ -48,14 +54,13 @@ fn show_sessions(rt: &HostRuntime, rounds: Option<u32>) -> Result<()> {
         stock: &stock,
         providers: &providers,
     };
-    let mut out = rt.stdout();
     let Some(rounds) = rounds else {
         out.write_all(b"#sessions on threads\n")?;
-        table.show(SHORT[0], &mut out)?;
-        return table.show(SHORT[1], &mut out);
+        table.show(SHORT[0], out)?;
+        return table.show(SHORT[1], out);
     };
-    table.show(("many names", 440, 10_000, rounds), &mut out)?;
-    table.show(("a history that is nearly full", 440, 99_000, 1), &mut out)
+    table.show(("many names", 440, 10_000, rounds), out)?;
+    table.show(("a history that is nearly full", 440, 99_000, 1), out)
 }
 
 fn main(rt: HostRuntime) -> Result<()> {
@@ -63,12 +68,13 @@ fn main(rt: HostRuntime) -> Result<()> {
         Ok(asked) => asked,
         Err(_) => read_words(&rt)?,
     };
+    let mut out = rt.stdout();
     if let Asked::Rounds(rounds) = asked {
-        return show_sessions(&rt, Some(rounds));
+        return show_sessions(&rt, Some(rounds), &mut out);
     }
-    memory::show(&rt, &mut rt.stdout())?;
+    memory::show(&rt, &mut out)?;
     if let Asked::Short = asked {
-        show_sessions(&rt, None)?;
+        show_sessions(&rt, None, &mut out)?;
     }
     Ok(())
 }
