@@ -72,12 +72,6 @@ less_apart Equal is = absurd cc
 less_apart Greater is = absurd cc
 
 module _ (name : NameParts) where
-  is_before : NameParts × PieceView → Bool
-  is_before entry = is_lt (name_order entry.0 name)
-
-  is_at : NameParts × PieceView → Bool
-  is_at entry = is_eq (name_order entry.0 name)
-
   rises : (es : List (NameParts × PieceView)) → AreAscending es → IsNonDecreasingBy (λ (e : NameParts × PieceView). ordering_index (name_order e.0 name)) es
   rises es up =
       IsNonDecreasingBy-from_all_adjacent (λ (e : NameParts × PieceView). ordering_index (name_order e.0 name)) es
@@ -119,8 +113,9 @@ module _ (name : NameParts) where
   pub pieces_at_for : (types : List Declaration) (units : List (NameParts × Body)) (pieces : List (NameParts × PieceView)) → ArePieces types units pieces
       → AllByRecursion (λ (p : NameParts × PieceView). IsPieceFor types (at_name units name) p.1) (pieces_at name pieces)
   pieces_at_for types units [] are = tt
-  pieces_at_for types units (p ∷ ps) are = by_test (is_eq (name_order p.0 name)) refl
+  pieces_at_for types units (p ∷ ps) are = by_test (is_eq (name_order p.0 name)) refl (pieces_at_for types units ps are.1)
     where
-      by_test : (b : Bool) → is_eq (name_order p.0 name) ≡ b → AllByRecursion (λ (q : NameParts × PieceView). IsPieceFor types (at_name units name) q.1) (cond b (p ∷ pieces_at name ps) (pieces_at name ps))
-      by_test true is = (subst (λ (n : NameParts). IsPieceFor types (at_name units n) p.1) (exact_names p.0 name (equal_only _ is)) are.0, pieces_at_for types units ps are.1)
-      by_test false is = pieces_at_for types units ps are.1
+      by_test : (b : Bool) → is_eq (name_order p.0 name) ≡ b → AllByRecursion (λ (q : NameParts × PieceView). IsPieceFor types (at_name units name) q.1) (pieces_at name ps)
+          → AllByRecursion (λ (q : NameParts × PieceView). IsPieceFor types (at_name units name) q.1) (cond b (p ∷ pieces_at name ps) (pieces_at name ps))
+      by_test true is rest = (subst (λ (n : NameParts). IsPieceFor types (at_name units n) p.1) (exact_names p.0 name (equal_only _ is)) are.0, rest)
+      by_test false is rest = rest
