@@ -1,4 +1,4 @@
-//! Tests of both commands and of the whole program over readers and writers in memory, also such as fail at one call, of the line of each
+//! Tests of `check`, of `run` and of the whole program over readers and writers in memory, also such as fail at one call, of the line of each
 //! stop, and of a report that no file brings about.
 #![tactic(auto)]
 
