@@ -1,6 +1,6 @@
 //! E0373: a closure may outlive what it borrows. Closures that own it may be returned.
 pub fn borrows_a_parameter(value: u32) -> impl Fn() -> u32 {
-    || value + 1 // E0373
+    || value + 1 //~ E0373
 }
 
 pub fn owns_a_parameter(value: u32) -> impl Fn() -> u32 {
@@ -8,7 +8,7 @@ pub fn owns_a_parameter(value: u32) -> impl Fn() -> u32 {
 }
 
 pub fn boxed_and_borrows(value: u32) -> Box<dyn Fn() -> u32> {
-    Box::new(|| value + 1) // E0373
+    Box::new(|| value + 1) //~ E0373
 }
 
 pub fn boxed_and_owns(value: u32) -> Box<dyn Fn() -> u32> {
@@ -16,7 +16,7 @@ pub fn boxed_and_owns(value: u32) -> Box<dyn Fn() -> u32> {
 }
 
 pub fn to_a_thread_and_borrows(values: Vec<u32>) {
-    std::thread::spawn(|| drop(values.len())); // E0373
+    std::thread::spawn(|| drop(values.len())); //~ E0373
 }
 
 pub fn to_a_thread_and_owns(values: Vec<u32>) {
@@ -25,7 +25,8 @@ pub fn to_a_thread_and_owns(values: Vec<u32>) {
 
 pub fn a_local_that_is_borrowed() -> impl FnMut() -> u32 {
     let mut count = 0;
-    || { // E0373
+    || {
+        //~^ E0373
         count += 1;
         count
     }
@@ -40,7 +41,7 @@ pub fn a_local_that_is_owned() -> impl FnMut() -> u32 {
 }
 
 pub fn within_an_iterator(values: Vec<u32>, by: u32) -> impl Iterator<Item = u32> {
-    values.into_iter().map(|it| it + by) // E0373
+    values.into_iter().map(|it| it + by) //~ E0373
 }
 
 pub fn within_an_iterator_that_owns(values: Vec<u32>, by: u32) -> impl Iterator<Item = u32> {

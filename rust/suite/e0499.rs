@@ -7,7 +7,7 @@ pub struct Pair {
 pub fn two_of_one_local() {
     let mut value = 1;
     let first = &mut value;
-    let second = &mut value; // E0499
+    let second = &mut value; //~ E0499
     *first += 1;
     *second += 1;
 }
@@ -28,19 +28,19 @@ pub fn two_fields(pair: &mut Pair) {
 
 pub fn one_field_twice(pair: &mut Pair) {
     let left = &mut pair.left;
-    let again = &mut pair.left; // E0499
+    let again = &mut pair.left; //~ E0499
     std::mem::swap(left, again);
 }
 
 pub fn a_field_and_the_whole(pair: &mut Pair) {
     let left = &mut pair.left;
-    let whole = &mut *pair; // E0499
+    let whole = &mut *pair; //~ E0499
     whole.right = *left;
 }
 
 pub fn two_elements(values: &mut Vec<u32>) {
     let first = &mut values[0];
-    let second = &mut values[1]; // E0499
+    let second = &mut values[1]; //~ E0499
     std::mem::swap(first, second);
 }
 
@@ -51,7 +51,7 @@ pub fn two_parts_of_a_slice(values: &mut [u32]) {
 
 pub fn one_call_with_both(value: &mut u32) {
     fn both(_: &mut u32, _: &mut u32) {}
-    both(value, value); // E0499
+    both(value, value); //~ E0499
 }
 
 pub fn two_calls_with_one_each(value: &mut u32) {
@@ -71,7 +71,7 @@ impl Store {
 
     pub fn asked_twice(&mut self) {
         let first = self.first();
-        let again = self.first(); // E0499
+        let again = self.first(); //~ E0499
         first.push('a');
         again.push('b');
     }
@@ -94,14 +94,14 @@ impl Store {
         if first.is_empty() {
             return first;
         }
-        self.first() // E0499
+        self.first() //~ E0499
     }
 }
 
 /// E0524: two closures that need unique access.
 pub fn two_closures(values: &mut Vec<u32>) {
     let mut add = || values.push(1);
-    let mut take = || values.pop(); // E0499
+    let mut take = || values.pop(); //~ E0524
     add();
     take();
 }
@@ -119,7 +119,7 @@ pub fn in_a_loop_through_an_option(values: &mut Vec<u32>) {
         if let Some(it) = last {
             *it += 1;
         }
-        last = values.first_mut(); // E0499
+        last = values.first_mut();
     }
 }
 

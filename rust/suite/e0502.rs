@@ -3,7 +3,7 @@ use std::collections::HashMap;
 
 pub fn a_push_while_an_element_is_shown(values: &mut Vec<u32>) -> u32 {
     let first = &values[0];
-    values.push(1); // E0502
+    values.push(1); //~ E0502
     *first
 }
 
@@ -15,7 +15,7 @@ pub fn a_push_after_the_element_was_copied(values: &mut Vec<u32>) -> u32 {
 
 pub fn a_look_while_it_is_changed(values: &mut Vec<u32>) -> usize {
     let first = &mut values[0];
-    let count = values.len(); // E0502
+    let count = values.len(); //~ E0502
     *first = 1;
     count
 }
@@ -28,7 +28,7 @@ pub fn a_look_after_the_change(values: &mut Vec<u32>) -> usize {
 
 pub fn a_shared_field_and_the_whole(pair: &mut (u32, u32)) -> u32 {
     let left = &pair.0;
-    let whole = &mut *pair; // E0502
+    let whole = &mut *pair; //~ E0502
     whole.1 = 2;
     *left
 }
@@ -43,7 +43,7 @@ pub fn a_shared_field_and_the_other(pair: &mut (u32, u32)) -> u32 {
 pub fn iterated_and_grown(values: &mut Vec<u32>) {
     for it in values.iter() {
         if *it == 0 {
-            values.push(1); // E0502
+            values.push(1); //~ E0502
         }
     }
 }
@@ -57,7 +57,7 @@ pub fn iterated_then_grown(values: &mut Vec<u32>) {
 
 pub fn a_key_of_the_map_itself(map: &mut HashMap<String, u32>) {
     if let Some(name) = map.keys().next() {
-        map.remove(name); // E0502
+        map.remove(name); //~ E0502
     }
 }
 
@@ -70,7 +70,7 @@ pub fn a_copied_key_of_the_map(map: &mut HashMap<String, u32>) {
 pub fn a_string_and_its_slice() -> usize {
     let mut text = String::from("words");
     let word = text.trim();
-    text.clear(); // E0502
+    text.clear(); //~ E0502
     word.len()
 }
 
@@ -83,7 +83,7 @@ pub fn a_string_after_its_slice() -> usize {
 
 pub fn shared_by_a_closure(values: &mut Vec<u32>) -> usize {
     let count = || values.len();
-    values.push(1); // E0502
+    values.push(1); //~ E0502
     count()
 }
 
@@ -96,7 +96,7 @@ pub fn shared_by_a_closure_before(values: &mut Vec<u32>) -> usize {
 
 pub fn swapped_with_what_it_shows(values: &mut [u32], other: &mut u32) {
     let first = &values[0];
-    let second = &mut values[1..]; // E0502
+    let second = &mut values[1..]; //~ E0502
     second[0] = *first;
     *other = 0;
 }
@@ -106,7 +106,7 @@ pub fn through_a_call_that_keeps(value: &mut u32) -> u32 {
         it
     }
     let kept = keep(value);
-    let shown = &*value; // E0502
+    let shown = &*value; //~ E0502
     *kept + *shown
 }
 

@@ -2,7 +2,7 @@
 pub fn compared_while_borrowed() -> bool {
     let mut value = 3;
     let held = &mut value;
-    let equal = value == 3; // E0503
+    let equal = value == 3; //~ E0503
     *held = 4;
     equal
 }
@@ -17,7 +17,7 @@ pub fn compared_after_the_borrow() -> bool {
 pub fn copied_while_borrowed() -> u32 {
     let mut value = 3;
     let held = &mut value;
-    let copied = value; // E0503
+    let copied = value; //~ E0503
     *held = 4;
     copied
 }
@@ -33,14 +33,14 @@ pub fn a_field_copied_while_the_other_is_borrowed() -> u32 {
 pub fn added_to_while_borrowed() {
     let mut value = 3;
     let held = &mut value;
-    value += 1; // E0506
+    value += 1; //~ E0503
     *held = 4;
 }
 
 pub fn an_index_while_borrowed(values: &[u32]) -> u32 {
     let mut at = 0;
     let held = &mut at;
-    let found = values[at]; // E0503
+    let found = values[at]; //~ E0503
     *held = 4;
     found
 }
@@ -48,7 +48,8 @@ pub fn an_index_while_borrowed(values: &[u32]) -> u32 {
 pub fn a_condition_while_borrowed() -> u32 {
     let mut flag = true;
     let held = &mut flag;
-    if flag { // E0503
+    if flag {
+        //~^ E0503
         return 1;
     }
     *held = false;
@@ -74,9 +75,10 @@ pub enum Colour {
 pub fn matched_while_borrowed() -> u32 {
     let mut colour = Colour::Blue(1);
     let held = &mut colour;
-    let found = match colour { // E0503
+    let found = match colour {
+        //~^ E0503
         Colour::Red => 0,
-        Colour::Blue(shade) => shade, // E0503
+        Colour::Blue(shade) => shade, //~ E0503
     };
     *held = Colour::Red;
     found
@@ -95,7 +97,7 @@ pub fn matched_after_the_borrow() -> u32 {
 pub fn counted_by_a_closure() -> u32 {
     let mut count = 0;
     let mut add = || count += 1;
-    let seen = count; // E0503
+    let seen = count; //~ E0503
     add();
     seen
 }

@@ -4,7 +4,7 @@ fn take<T>(_: T) {}
 pub fn moved_while_it_is_shown() -> usize {
     let text = String::from("a");
     let shown = &text;
-    take(text); // E0505
+    take(text); //~ E0505
     shown.len()
 }
 
@@ -19,7 +19,7 @@ pub fn moved_after_it_was_shown() -> usize {
 pub fn moved_into_another_local() -> usize {
     let text = String::from("a");
     let shown = &text;
-    let moved = text; // E0505
+    let moved = text; //~ E0505
     shown.len() + moved.len()
 }
 
@@ -37,14 +37,14 @@ pub fn moved_on_a_path_that_does_not_look(flag: bool) -> usize {
 pub fn moved_into_a_closure() -> usize {
     let text = String::from("a");
     let shown = &text;
-    let count = move || text.len(); // E0505
+    let count = move || text.len(); //~ E0505
     shown.len() + count()
 }
 
 pub fn a_box_moved_while_it_is_shown() -> u32 {
     let boxed = Box::new(1);
     let shown = &*boxed;
-    take(boxed); // E0505
+    take(boxed); //~ E0505
     *shown
 }
 
@@ -62,7 +62,7 @@ pub fn a_vector_moved_while_an_element_is_kept() {
     for it in &values {
         kept = Some(it);
     }
-    take(values); // E0505
+    take(values); //~ E0505
     take(kept);
 }
 
@@ -73,7 +73,7 @@ pub struct Holder<'a> {
 pub fn moved_while_a_struct_shows_it() -> usize {
     let text = String::from("a");
     let holder = Holder { held: &text };
-    take(text); // E0505
+    take(text); //~ E0505
     holder.held.len()
 }
 
@@ -95,13 +95,13 @@ pub fn a_field_moved_while_the_other_is_shown() -> usize {
 pub fn a_field_moved_while_it_is_shown() -> usize {
     let pair = (String::new(), String::new());
     let shown = &pair.1;
-    take(pair.1); // E0505
+    take(pair.1); //~ E0505
     shown.len()
 }
 
 pub fn the_whole_moved_while_a_field_is_shown() -> usize {
     let pair = (String::new(), String::new());
     let shown = &pair.1;
-    take(pair); // E0505
+    take(pair); //~ E0505
     shown.len()
 }

@@ -1,7 +1,7 @@
 //! E0515: a reference to what the function owns is returned.
 pub fn a_local() -> &'static u32 {
     let value = String::new().len() as u32;
-    &value // E0515
+    &value //~ E0515
 }
 
 pub fn a_constant() -> &'static u32 {
@@ -9,7 +9,7 @@ pub fn a_constant() -> &'static u32 {
 }
 
 pub fn a_parameter(value: u32) -> &'static u32 {
-    &value // E0515
+    &value //~ E0515
 }
 
 pub fn what_a_parameter_shows(value: &u32) -> &u32 {
@@ -17,12 +17,12 @@ pub fn what_a_parameter_shows(value: &u32) -> &u32 {
 }
 
 pub fn the_parameter_that_shows<'a>(value: &'a u32) -> &'a &'a u32 {
-    &value // E0515
+    &value //~ E0515
 }
 
 pub fn a_slice_of_a_local_string() -> &'static str {
     let text = String::from("a");
-    text.as_str() // E0515
+    text.as_str() //~ E0515
 }
 
 pub fn a_local_string_itself() -> String {
@@ -32,7 +32,7 @@ pub fn a_local_string_itself() -> String {
 
 pub fn an_iterator_over_a_local() -> impl Iterator<Item = &'static u32> {
     let values = vec![1];
-    values.iter() // E0515
+    values.iter() //~ E0515
 }
 
 pub fn an_iterator_that_owns() -> impl Iterator<Item = u32> {
@@ -46,7 +46,7 @@ pub struct Holder<'a> {
 
 pub fn a_struct_that_shows_a_local<'a>() -> Holder<'a> {
     let value = String::new().len() as u32;
-    Holder { held: &value } // E0515
+    Holder { held: &value } //~ E0515
 }
 
 pub fn a_struct_that_shows_a_parameter<'a>(held: &'a u32) -> Holder<'a> {
@@ -54,18 +54,18 @@ pub fn a_struct_that_shows_a_parameter<'a>(held: &'a u32) -> Holder<'a> {
 }
 
 pub fn in_an_option(value: u32) -> Option<&'static u32> {
-    Some(&value) // E0515
+    Some(&value) //~ E0515
 }
 
 pub fn in_a_pair<'a>(value: &'a u32) -> (&'a u32, &'a u32) {
     let copied = *value;
-    (value, &copied) // E0515
+    (value, &copied) //~ E0515
 }
 
 pub fn on_one_path<'a>(value: &'a u32, flag: bool) -> &'a u32 {
     let copied = *value;
     if flag {
-        return &copied; // E0515
+        return &copied; //~ E0515
     }
     value
 }

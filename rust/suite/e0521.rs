@@ -4,7 +4,7 @@ use std::cell::RefCell;
 fn forever(_: &'static u32) {}
 
 pub fn an_argument_that_has_to_be_static(value: &u32) {
-    forever(value); // E0521
+    forever(value); //~ E0521
 }
 
 pub fn an_argument_that_is_static(value: &'static u32) {
@@ -12,11 +12,11 @@ pub fn an_argument_that_is_static(value: &'static u32) {
 }
 
 pub fn a_named_argument_that_has_to_be_static<'a>(value: &'a u32) {
-    forever(value); // E0521
+    forever(value); //~ E0521
 }
 
 pub fn to_a_thread(values: &Vec<u32>) {
-    std::thread::spawn(move || values.len()); // E0521
+    std::thread::spawn(move || values.len()); //~ E0521
 }
 
 pub fn owned_by_a_thread(values: Vec<u32>) {
@@ -31,7 +31,7 @@ pub fn to_a_scoped_thread(values: &Vec<u32>) {
 
 pub fn out_of_a_closure(values: &[u32]) -> usize {
     let mut kept: Vec<&u32> = vec![];
-    let mut keep = |it| kept.push(it); 
+    let mut keep = |it| kept.push(it);
     for it in values {
         keep(it);
     }
@@ -40,7 +40,7 @@ pub fn out_of_a_closure(values: &[u32]) -> usize {
 
 pub fn out_of_a_closure_with_a_type() -> usize {
     let mut kept: Vec<&u32> = vec![];
-    let mut keep = |it: &u32| kept.push(it); // E0521
+    let mut keep = |it: &u32| kept.push(it); //~ E0521
     keep(&1);
     kept.len()
 }
@@ -50,7 +50,7 @@ pub fn into_a_cell<'a>(cell: &RefCell<Vec<&'a u32>>, value: &'a u32) {
 }
 
 pub fn into_a_cell_of_others(cell: &RefCell<Vec<&u32>>, value: &u32) {
-    cell.borrow_mut().push(value); // E0521
+    cell.borrow_mut().push(value); //~ lifetime
 }
 
 pub struct Queue<'a> {
@@ -63,12 +63,12 @@ impl<'a> Queue<'a> {
     }
 
     pub fn adds_what_it_may_not(&mut self, name: &str) {
-        self.waiting.push(name); // E0521
+        self.waiting.push(name); //~ E0621
     }
 
     pub fn shows_itself_for_ever(&self) {
         fn needs(_: &'static Queue<'static>) {}
-        needs(self); // E0521
+        needs(self); //~ E0521
     }
 }
 
@@ -76,7 +76,7 @@ pub fn a_boxed_trait_object(value: &u32) -> usize {
     fn needs(_: Box<dyn Fn() -> u32>) -> usize {
         0
     }
-    needs(Box::new(move || *value)) // E0521
+    needs(Box::new(move || *value)) //~ lifetime
 }
 
 pub fn a_boxed_trait_object_with_a_region(value: &u32) -> usize {

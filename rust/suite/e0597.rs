@@ -7,7 +7,7 @@ pub fn shown_after_its_block() -> u32 {
     let shown;
     {
         let value = 1;
-        shown = &value; // E0597
+        shown = &value; //~ E0597
     }
     *shown
 }
@@ -37,7 +37,7 @@ pub fn overwritten_before_its_end() -> u32 {
 pub fn pushed_to_a_longer_vector() {
     let mut kept = vec![];
     for it in 0..3 {
-        kept.push(&it); // E0597
+        kept.push(&it); //~ E0597
     }
 }
 
@@ -52,7 +52,7 @@ pub fn in_a_struct_that_lives_longer() -> u32 {
     let holder;
     {
         let value = 1;
-        holder = Holder { held: &value }; // E0597
+        holder = Holder { held: &value }; //~ E0597
     }
     *holder.held
 }
@@ -60,7 +60,7 @@ pub fn in_a_struct_that_lives_longer() -> u32 {
 pub fn demanded_static() {
     fn forever(_: &'static u32) {}
     let value = 1;
-    forever(&value); // E0597
+    forever(&value); //~ E0597
 }
 
 pub fn demanded_static_of_a_constant() {
@@ -70,7 +70,7 @@ pub fn demanded_static_of_a_constant() {
 
 pub fn annotated_with_a_longer_region<'a>(outer: &'a u32) -> u32 {
     let value = *outer;
-    let shown: &'a u32 = &value; // E0597
+    let shown: &'a u32 = &value; //~ E0597
     *shown
 }
 
@@ -87,7 +87,7 @@ pub fn the_order_of_drops() {
     }
     let loud;
     let value = 1;
-    loud = Loud(&value); // E0597
+    loud = Loud(&value); //~ E0597
     drop(&loud);
 }
 
@@ -111,7 +111,7 @@ pub fn without_a_drop_the_order_is_free() {
 pub fn a_string_of_a_block_is_trimmed() -> usize {
     let word = {
         let text = String::from(" a ");
-        text.trim() // E0597
+        text.trim() //~ E0597
     };
     word.len()
 }
@@ -120,7 +120,7 @@ pub fn a_closure_that_outlives_what_it_shows() -> u32 {
     let show;
     {
         let value = 1;
-        show = || value + 1; // E0597
+        show = || value + 1; //~ E0597
     }
     show()
 }
@@ -140,7 +140,7 @@ pub fn on_one_path_alone(flag: bool) -> u32 {
     {
         let value = 1;
         if flag {
-            shown = &value; // E0597
+            shown = &value; //~ E0597
         } else {
             shown = &outer;
         }

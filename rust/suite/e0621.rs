@@ -3,7 +3,7 @@ pub fn the_greater<'a>(first: &'a u32, second: &u32) -> &'a u32 {
     if first > second {
         first
     } else {
-        second // E0621
+        second //~ E0621
     }
 }
 
@@ -21,7 +21,7 @@ pub fn the_first_alone<'a>(first: &'a u32, second: &u32) -> &'a u32 {
 }
 
 pub fn pushed_to_a_named_vector<'a>(kept: &mut Vec<&'a u32>, value: &u32) {
-    kept.push(value); // E0621
+    kept.push(value); //~ E0621
 }
 
 pub fn pushed_by_name<'a>(kept: &mut Vec<&'a u32>, value: &'a u32) {
@@ -33,7 +33,7 @@ pub struct Holder<'a> {
 }
 
 pub fn made_of_no_name<'a>(value: &u32) -> Holder<'a> {
-    Holder { held: value } // E0621
+    Holder { held: value } //~ E0621
 }
 
 pub fn made_of_a_name<'a>(value: &'a u32) -> Holder<'a> {
@@ -41,7 +41,7 @@ pub fn made_of_a_name<'a>(value: &'a u32) -> Holder<'a> {
 }
 
 pub fn set_to_no_name<'a>(holder: &mut Holder<'a>, value: &u32) {
-    holder.held = value; // E0621
+    holder.held = value; //~ E0621
 }
 
 pub fn set_to_a_name<'a>(holder: &mut Holder<'a>, value: &'a u32) {
@@ -49,19 +49,19 @@ pub fn set_to_a_name<'a>(holder: &mut Holder<'a>, value: &'a u32) {
 }
 
 pub fn a_struct_without_a_name<'a>(holder: Holder) -> &'a u32 {
-    holder.held // E0621
+    holder.held //~ E0621
 }
 
 pub fn static_of_no_name(value: &u32) -> &'static u32 {
-    value // E0621
+    value //~ lifetime
 }
 
 pub fn through_a_local<'a>(first: &'a u32, second: &u32) -> &'a u32 {
     let mut kept = first;
     if *kept == 0 {
-        kept = second; // E0621
+        kept = second;
     }
-    kept
+    kept //~ E0621
 }
 
 pub fn through_a_local_that_is_set_again<'a>(first: &'a u32, second: &u32) -> &'a u32 {

@@ -12,7 +12,7 @@ pub struct Plain<'a> {
 }
 
 pub fn out_of_a_guard<'a>(guard: Guard<'a>) -> &'a mut u32 {
-    &mut *guard.url // E0713
+    &mut *guard.url //~ E0713
 }
 
 pub fn out_of_a_plain_struct<'a>(plain: Plain<'a>) -> &'a mut u32 {
@@ -24,11 +24,11 @@ pub fn out_of_a_borrowed_guard<'a, 'b>(guard: &'b mut Guard<'a>) -> &'b mut u32 
 }
 
 pub fn out_of_a_boxed_guard<'a>(guard: Box<Guard<'a>>) -> &'a mut u32 {
-    &mut *guard.url // E0713
+    &mut *guard.url //~ E0713
 }
 
 pub fn out_of_a_guard_in_a_pair<'a>(pair: (Guard<'a>, u32)) -> &'a mut u32 {
-    &mut *pair.0.url // E0713
+    &mut *pair.0.url //~ E0713
 }
 
 pub fn out_of_a_guard_that_is_forgotten<'a>(guard: Guard<'a>) -> u32 {
@@ -40,7 +40,7 @@ pub fn out_of_a_guard_that_is_forgotten<'a>(guard: Guard<'a>) -> u32 {
 pub fn out_of_a_guard_in_a_block(value: &mut u32) -> u32 {
     let shown = {
         let guard = Guard { url: value };
-        &mut *guard.url // E0713
+        &mut *guard.url //~ E0713
     };
     *shown
 }

@@ -4,7 +4,7 @@ pub fn make() -> String {
 }
 
 pub fn a_slice_of_a_temporary() -> usize {
-    let word = make().trim(); // E0716
+    let word = make().trim(); //~ E0716
     word.len()
 }
 
@@ -35,18 +35,18 @@ pub fn a_temporary_in_a_call() -> usize {
     fn same(text: &String) -> &String {
         text
     }
-    let text = same(&make()); // E0716
+    let text = same(&make()); //~ E0716
     text.len()
 }
 
 pub fn a_temporary_in_an_option() -> usize {
-    let text = Some(&make()); 
+    let text = Some(&make());
     text.map_or(0, |it| it.len())
 }
 
 pub fn a_temporary_through_a_method() -> usize {
     let mut kept = vec![];
-    kept.push(&make()); // E0716
+    kept.push(&make()); //~ E0716
     kept.len()
 }
 
@@ -60,7 +60,7 @@ pub fn a_mutable_temporary_in_a_call() -> u32 {
     fn same(value: &mut u32) -> &mut u32 {
         value
     }
-    let value = same(&mut 1); // E0716
+    let value = same(&mut 1); //~ E0716
     *value
 }
 
@@ -72,7 +72,7 @@ pub fn a_lock_that_is_matched(lock: &std::sync::Mutex<Vec<u32>>) -> u32 {
 }
 
 pub fn a_lock_that_is_kept(lock: &std::sync::Mutex<Vec<u32>>) -> u32 {
-    let first = lock.lock().unwrap().first(); // E0716
+    let first = lock.lock().unwrap().first(); //~ E0716
     first.copied().unwrap_or(0)
 }
 
@@ -80,7 +80,7 @@ pub fn assigned_to_a_longer_local() -> usize {
     let outer = String::new();
     let mut shown: &str = &outer;
     if outer.is_empty() {
-        shown = &make(); // E0716
+        shown = &make(); //~ E0716
     }
     shown.len()
 }

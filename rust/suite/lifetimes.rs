@@ -1,7 +1,7 @@
 //! Lifetime errors: a region of the signature has to outlive another one, and nothing says so.
 pub fn returns_the_other<'a, 'b>(first: &'a u32, second: &'b u32) -> &'a u32 {
     drop(*first);
-    second // lifetime
+    second //~ lifetime
 }
 
 pub fn returns_the_other_by_a_clause<'a, 'b: 'a>(first: &'a u32, second: &'b u32) -> &'a u32 {
@@ -11,7 +11,7 @@ pub fn returns_the_other_by_a_clause<'a, 'b: 'a>(first: &'a u32, second: &'b u32
 
 pub fn the_clause_the_other_way_round<'a: 'b, 'b>(first: &'a u32, second: &'b u32) -> &'a u32 {
     drop(*first);
-    second // lifetime
+    second //~ lifetime
 }
 
 pub fn through_three_regions<'a, 'b, 'c>(value: &'c u32) -> &'a u32
@@ -26,7 +26,7 @@ pub fn through_three_regions_with_a_gap<'a, 'b, 'c>(value: &'c u32) -> &'a u32
 where
     'c: 'b,
 {
-    value // lifetime
+    value //~ lifetime
 }
 
 pub fn an_elided_result(_: &u32, _: &u32) -> u32 {
@@ -48,7 +48,7 @@ impl<'a> Parser<'a> {
 
     pub fn replaced<'b>(&mut self, text: &'b str) -> &'a str {
         let rest = self.text;
-        self.text = text; // lifetime
+        self.text = text; //~ lifetime
         rest
     }
 
@@ -59,16 +59,20 @@ impl<'a> Parser<'a> {
     }
 
     pub fn shows_self_for_its_text(&self) -> &'a Parser<'a> {
-        self // lifetime
+        self //~ lifetime
     }
 
     pub fn both(&self, other: &Parser<'a>) -> &'a str {
-        if self.text.is_empty() { other.text } else { self.text }
+        if self.text.is_empty() {
+            other.text
+        } else {
+            self.text
+        }
     }
 }
 
 pub fn a_mutable_reference_is_invariant<'a, 'b: 'a>(kept: &mut &'a u32, value: &mut &'b u32) {
-    std::mem::swap(kept, value); // lifetime
+    std::mem::swap(kept, value); //~ lifetime
 }
 
 pub fn a_mutable_reference_of_one_region<'a>(kept: &mut &'a u32, value: &mut &'a u32) {
@@ -80,7 +84,7 @@ pub fn a_reborrow_through_a_shared_one<'a, 'b>(value: &'a &'b mut u32) -> &'a u3
 }
 
 pub fn a_reborrow_through_a_mutable_one<'a, 'b>(value: &'a mut &'b mut u32) -> &'b mut u32 {
-    &mut **value // lifetime
+    &mut **value //~ lifetime
 }
 
 pub fn the_long_one_through_a_shared_one<'a, 'b>(value: &'a &'b u32) -> &'b u32 {
@@ -93,7 +97,7 @@ pub fn implied_by_a_parameter<'a, 'b>(_: &'a &'b u32, value: &'b u32) -> &'a u32
 }
 
 pub fn implied_the_other_way<'a, 'b>(_: &'a &'b u32, value: &'a u32) -> &'b u32 {
-    value // lifetime
+    value //~ lifetime
 }
 
 pub fn a_call_with_a_clause<'a, 'b>(first: &'a u32, second: &'b u32) {
@@ -109,15 +113,15 @@ pub fn a_call_with_a_clause_and_names<'a, 'b>(first: &'a u32, second: &'b u32) {
         'y: 'y,
     {
     }
-    needs::<'a, 'b>(first, second); // lifetime
+    needs::<'a, 'b>(first, second); //~ lifetime
 }
 
 pub fn a_static_result<'a>(value: &'a u32) -> &'static u32 {
-    value // lifetime
+    value //~ lifetime
 }
 
 pub fn two_errors<'a, 'b>(first: &'a u32, second: &'b u32) -> (&'b u32, &'a u32) {
-    (first, second) // lifetime
+    (first, second) //~ lifetime
 }
 
 pub fn an_iterator_of_the_text<'a>(text: &'a str) -> impl Iterator<Item = &'a str> {
@@ -129,5 +133,5 @@ pub fn a_boxed_iterator<'a>(values: &'a [u32]) -> Box<dyn Iterator<Item = u32> +
 }
 
 pub fn a_boxed_iterator_without_a_region(values: &[u32]) -> Box<dyn Iterator<Item = u32>> {
-    Box::new(values.iter().map(|it| it + 1)) // lifetime
+    Box::new(values.iter().map(|it| it + 1)) //~ lifetime
 }

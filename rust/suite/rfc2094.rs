@@ -20,7 +20,7 @@ pub fn case_1_the_reference_is_used_later() -> Vec<char> {
     let mut data = vec!['a', 'b', 'c'];
     let slice = &mut data[..];
     capitalize(slice);
-    data.push('d'); // E0499
+    data.push('d'); //~ E0499
     capitalize(slice);
     data
 }
@@ -38,17 +38,20 @@ pub fn case_2_one_arm_needs_the_borrow(map: &mut HashMap<u32, String>, key: u32)
 pub fn case_2_both_arms_need_the_borrow(map: &mut HashMap<u32, String>, key: u32) {
     let mut spare = String::new();
     let value = map.get_mut(&key).unwrap_or(&mut spare);
-    map.insert(key, String::new()); // E0499
+    map.insert(key, String::new()); //~ E0499
     value.push('x');
 }
 
 /// Case 3: the borrow is returned in one arm, so that it lasts to the end of the function in the other one too.
-pub fn case_3_the_borrow_is_returned_in_one_arm(map: &mut HashMap<u32, String>, key: u32) -> &mut String {
+pub fn case_3_the_borrow_is_returned_in_one_arm(
+    map: &mut HashMap<u32, String>,
+    key: u32,
+) -> &mut String {
     match map.get_mut(&key) {
         Some(value) => value,
         None => {
-            map.insert(key, String::new()); // E0499
-            map.get_mut(&key).unwrap() // E0499
+            map.insert(key, String::new()); //~ E0499
+            map.get_mut(&key).unwrap() //~ E0499
         }
     }
 }
@@ -81,7 +84,7 @@ pub fn case_4_references_to_all_values<T>(mut list: &mut List<T>) -> Vec<&mut T>
 
 pub fn case_4_the_value_is_borrowed_again<T>(list: &mut List<T>) -> (&mut T, &mut T) {
     let first = &mut list.value;
-    let second = &mut list.value; // E0499
+    let second = &mut list.value; //~ E0499
     (first, second)
 }
 
@@ -110,7 +113,7 @@ pub fn liveness_keeps_the_loan(flag: bool) -> u32 {
     let second = 44;
     let mut shown = &first;
     if flag {
-        first += 1; // E0506
+        first += 1; //~ E0506
     } else {
         shown = &second;
     }
@@ -122,7 +125,7 @@ pub fn a_loan_of_the_turn_before() {
     let mut value = 0;
     let mut kept = vec![];
     for _ in 0..3 {
-        kept.push(&mut value); // E0499
+        kept.push(&mut value); //~ E0499
     }
 }
 
