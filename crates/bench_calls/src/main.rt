@@ -1,4 +1,4 @@
-//! Glances at bodies of 200 points, asks for them, and puts them as texts, by one session: the calls that `.ci/converse` makes by `nlldb serve`, in one process.
+//! Glances at bodies of 200 points, asks for them, and puts them as texts, by one session: the calls that `.ci/gate/converse` makes by `nlldb serve`, in one process.
 //! How many answers were wrong goes to standard output, the same at each run, and how long a call took to standard error.
 #![tactic(auto)]
 

@@ -1,6 +1,6 @@
 //! Makes calls of the library that take memory and that no command makes, or none in this way, and prints whether each was answered as it
 //! has to be. Where a call is refused, all are made once more; where one was refused that leaves what it worked on behind, it is looked
-//! whether that is as it was, and the call is made again there. `.ci/refused-memory` refuses each request for memory in turn.
+//! whether that is as it was, and the call is made again there. `.ci/gate/refused-memory` refuses each request for memory in turn.
 #![tactic(auto)]
 
 mod found;

@@ -1,5 +1,5 @@
 """Bodies that are timed: seven shapes of code, each in the language of `docs/LANGUAGE.md` and as Rust, and three bodies with loans that
-live long. `.ci/bench` and `.ci/shapes` write files of them."""
+live long. `.ci/benchmarks/bench` and `.ci/benchmarks/shapes` write files of them."""
 import typing
 
 

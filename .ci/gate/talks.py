@@ -1,4 +1,4 @@
-"""Conversations with `nlldb serve` in which a request may be refused for want of memory. `.ci/refused-memory` holds them."""
+"""Conversations with `nlldb serve` in which a request may be refused for want of memory. `.ci/gate/refused-memory` holds them."""
 import collections
 import dataclasses
 import json

@@ -1,4 +1,4 @@
-"""Runs of a program that is timed, and what they print. `.ci/bench` and `.ci/shapes` time by it."""
+"""Runs of a program that is timed, and what they print. `.ci/benchmarks/bench` and `.ci/benchmarks/shapes` time by it."""
 import contextlib, os, sys, time
 
 
