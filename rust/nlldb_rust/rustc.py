@@ -42,13 +42,14 @@ class Diagnostic:
 
 @dataclass
 class RustcRun:
-    """What rustc left: the folders of its dumps and of its facts, its exit status, and its errors."""
+    """What rustc left: the folders of its dumps and of its facts, its exit status, its errors, and these as it said them, in lines of JSON."""
 
     dumps: Path
     facts: Path
     status: int
     root: Path
     errors: list[Diagnostic] = field(default_factory=list)
+    said: str = ""
 
 
 def version_of(rustc: str) -> str:
@@ -132,5 +133,5 @@ def ran(words: list[str], dumps: Path, facts: Path, root: Path, stream: str) -> 
         left = subprocess.run(words, capture_output=True, text=True, errors="replace", env=environment)
     except OSError as fault:
         raise Stopped(f"cannot run {words[0]}: {fault}") from fault
-    errors = errors_in(getattr(left, stream))
-    return RustcRun(dumps, facts, left.returncode, root, errors)
+    said = getattr(left, stream)
+    return RustcRun(dumps, facts, left.returncode, root, errors_in(said), said)
