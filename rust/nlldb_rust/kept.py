@@ -14,8 +14,9 @@ import re
 import tarfile
 from dataclasses import dataclass
 from pathlib import Path
+from typing import Optional
 
-from .rustc import DUMP_SUFFIX, RustcRun, errors_in
+from .rustc import DUMP_SUFFIX
 
 FACTS = ("drop_of_var_derefs_origin.facts", "var_dropped_at.facts")
 LEFT_OUT = re.compile(r"\| '\?\d+ \| U\d|\| '\?\d+ live at |\s+// ")
@@ -67,8 +68,9 @@ def kept_errors(said: str) -> str:
     return "".join(f"{line}\n" for line in lines)
 
 
-def files_of(folder: Path, said: str, made: Made) -> dict[str, bytes]:
-    """Returns what an archive has of a run of rustc that left `dumps` and `facts` in a folder: each file by its name."""
+def files_of(folder: Path, made: Made) -> dict[str, bytes]:
+    """Returns what an archive has of a run of rustc that left `errors.json`, `dumps` and `facts` in a folder: each file by its name."""
+    said = (folder / "errors.json").read_text(errors="replace")
     files = {"made.json": json.dumps(vars(made), sort_keys=True) + "\n", "errors.json": kept_errors(said)}
     for path in sorted((folder / "dumps").glob(f"*{DUMP_SUFFIX}")):
         files[f"dumps/{path.name}"] = kept_dump(path.read_text(errors="replace"))
@@ -98,7 +100,7 @@ def unpacked(archive: Path) -> dict[str, bytes]:
         return {entry.name: kept.extractfile(entry).read() for entry in kept if entry.isfile()}
 
 
-def made_of(files: dict[str, bytes]) -> Made | None:
+def made_of(files: dict[str, bytes]) -> Optional[Made]:
     """Returns of what source an archive with these files was made, or None where it does not say so."""
     try:
         return Made(**json.loads(files["made.json"]))
@@ -106,13 +108,10 @@ def made_of(files: dict[str, bytes]) -> Made | None:
         return None
 
 
-def run_of(files: dict[str, bytes], folder: Path) -> RustcRun:
-    """Writes the dumps and the facts of an archive into a folder, and returns what rustc left there."""
+def unpack(files: dict[str, bytes], folder: Path) -> None:
+    """Writes the files of an archive into a folder, as `--keep-dumps` leaves them."""
     for name in ("dumps", "facts"):
         (folder / name).mkdir(parents=True, exist_ok=True)
     for name, data in files.items():
-        if name.startswith(("dumps/", "facts/")):
-            (folder / name).parent.mkdir(parents=True, exist_ok=True)
-            (folder / name).write_bytes(data)
-    errors = errors_in(files["errors.json"].decode())
-    return RustcRun(folder / "dumps", folder / "facts", 1 if errors else 0, Path.cwd(), errors)
+        (folder / name).parent.mkdir(parents=True, exist_ok=True)
+        (folder / name).write_bytes(data)

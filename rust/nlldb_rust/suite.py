@@ -9,7 +9,7 @@ import re
 from pathlib import Path
 
 from . import kept
-from .rustc import Diagnostic, RustcRun, run_rustc
+from .rustc import Diagnostic, run_rustc
 
 FOLDER = Path("rust/suite")
 EDITION = "2021"
@@ -31,11 +31,16 @@ def archive_of(name: str) -> Path:
     return FOLDER / "kept" / f"{name}.tar.xz"
 
 
-def dumped(rustc: str, version: str, name: str, folder: Path) -> tuple[dict[str, bytes], RustcRun]:
-    """Lets rustc check a subject; returns what is kept of that, and what rustc left in the folder."""
-    run = run_rustc(rustc, str(source_of(name)), EDITION, [], folder)
-    made = kept.Made(version, EDITION, kept.digest_of(source_of(name)))
-    return kept.files_of(folder, run.said, made), run
+def dumped(rustc: str, version: str, name: str, folder: Path) -> dict[str, bytes]:
+    """Lets rustc check a subject and dump what it found into a folder; returns what is kept of that."""
+    run_rustc(rustc, source_of(name), EDITION, [], folder)
+    return kept.files_of(folder, kept.Made(version, EDITION, kept.digest_of(source_of(name))))
+
+
+def differing(name: str, came: dict[str, bytes]) -> list[str]:
+    """Returns the names of the files in which the archive of a subject differs from what rustc left now."""
+    wanted = kept.unpacked(archive_of(name))
+    return sorted(it for it in wanted.keys() | came.keys() if wanted.get(it) != came.get(it))
 
 
 def marks_of(source: str) -> set[tuple[int, str]]:
