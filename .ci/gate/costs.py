@@ -4,7 +4,8 @@ import os
 import re
 
 ROOT = os.path.dirname(os.path.dirname(os.path.dirname(os.path.realpath(__file__))))
-UNIT = "bc_flow"
+# The crate, and how many seconds its proof takes at least on any machine: where it was taken over, what is seen of it takes less.
+UNIT, LEAST = "bc_flow", 20
 PAGE, WHY, HEADING = "docs/GATE.md", "docs/DECISIONS.md", "## What a crate and a function may cost"
 # A row of a table there: a crate, or a function by its path from its crate on.
 ROW = re.compile(r"^\| `(\w+(?:::[\w+]+)*)` \| ([\d.]+) \|$", re.M)
@@ -41,6 +42,12 @@ def of_functions(folder, crate, processor):
     took = by_function(folder, crate)
     whole = sum(took.values())
     return {f"{crate}::{name.replace('.', '::')}": seconds * processor / whole for name, seconds in took.items() if whole and not name.startswith("(")}
+
+
+def unit_of(by_crate):
+    """The unit in seconds of a processor, by what the crates took by kind; 0 where its crate was not proved."""
+    seconds = by_crate.get(UNIT, {}).get("libraries", 0)
+    return seconds if seconds >= LEAST else 0
 
 
 def allowed():

@@ -1,12 +1,15 @@
 //! Has a session glance at names, begin their parts and put units, alone and beside others that put on threads of their own, and do so with a book
-//! under a lock; then asks for all of as many bodies as may be held. How many answers were wrong goes to standard output, the same at each run;
-//! how fast each session was, and how long each Ask for all took, goes to standard error.
+//! under a lock; then asks for all of as many bodies as may be held; then has a session glance at large bodies, ask for them and put their texts.
+//! How many answers were wrong goes to standard output, the same at each run; how fast each session was, and how long each Ask for all took, goes
+//! to standard error.
 #![tactic(auto)]
 
 mod all;
+mod calls;
 mod seats;
 
 use crate::all::show_all;
+use crate::calls::show_calls;
 use crate::seats::{Act, Answered, Seat, act_all, show};
 use anyhow::{Result, bail};
 use bc_analyses::providers;
@@ -192,5 +195,6 @@ fn main(rt: HostRuntime) -> Result<()> {
             bench.measure(row, *count)?;
         }
     }
-    show_all(&rt, &unit, &providers)
+    show_all(&rt, &unit, &providers)?;
+    show_calls(&rt, &providers)
 }

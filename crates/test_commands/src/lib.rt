@@ -1,5 +1,5 @@
-//! Tests of `check`, of `run` and of the whole program over readers and writers in memory, also such as fail at one call, of the line of each
-//! stop, and of a report that no file brings about.
+//! Tests of `check` and of `run` over readers and writers in memory, also such as fail at one call, of the line of each stop, and of a report
+//! that no file brings about.
 #![tactic(auto)]
 
 #[cfg(test)]
@@ -13,10 +13,6 @@ mod limits;
 #[cfg(test)]
 mod meeting;
 #[cfg(test)]
-mod programs;
-#[cfg(test)]
 mod reports;
 #[cfg(test)]
 mod runs;
-#[cfg(test)]
-mod telling;

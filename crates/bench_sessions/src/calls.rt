@@ -1,9 +1,6 @@
-//! Glances at bodies of 200 points, asks for them, and puts them as texts, by one session: the calls that `.ci/gate/converse` makes by `nlldb serve`, in one process.
-//! How many answers were wrong goes to standard output, the same at each run, and how long a call took to standard error.
-#![tactic(auto)]
-
+//! Glances at bodies of 200 points, asks for them, and puts them as texts, by one session: the calls that `.ci/gate/converse` makes by `nlldb serve`, in
+//! one process.
 use anyhow::{Result, bail};
-use bc_analyses::providers;
 use bc_names::Name;
 use bc_prov::Providers;
 use bc_share::{Db, Session};
@@ -173,9 +170,12 @@ fn show_rows<R: AllocGlobal + Clock + Eprint + Print + Wait>(
     Ok(())
 }
 
-fn main(rt: HostRuntime) -> Result<()> {
-    let providers = providers!(rt.alloc());
+/// Shows how fast one session is that glances at bodies of 200 points, asks for them, and puts their text.
+pub fn show_calls<R: AllocGlobal + Clock + Eprint + Print + Wait>(
+    rt: &R,
+    providers: &Providers,
+) -> Result<()> {
     let names = names(rt.alloc())?;
     let text = large_text(rt.alloc())?;
-    show_rows(&rt, &providers, &text, &names)
+    show_rows(rt, providers, &text, &names)
 }

@@ -1,13 +1,7 @@
 //! Makes calls of the library that take memory and that no command makes, or none in this way, and prints whether each was answered as it
 //! has to be. Where a call is refused, all are made once more; where one was refused that leaves what it worked on behind, it is looked
 //! whether that is as it was, and the call is made again there. `.ci/gate/refused-memory` refuses each request for memory in turn.
-#![tactic(auto)]
-
-mod found;
-mod held;
-mod late;
-mod scripts;
-
+use crate::{found, held, late, scripts};
 use anyhow::Result;
 use bc_analyses::providers;
 use bc_prov::Providers;
@@ -33,12 +27,12 @@ fn are_well<R: AllocGlobal + Threads + Wait + Sync>(rt: &R) -> Result<[bool; 4]>
     told(rt, &providers)
 }
 
-fn main(rt: HostRuntime) -> Result<()> {
-    let [is_found, is_held, is_late, is_run] = match are_well(&rt) {
+/// Shows whether they are. Fails where what shows it does, or where calls are refused twice.
+pub fn show<R: AllocGlobal + Threads + Wait + Sync, W: Write>(rt: &R, out: &mut W) -> Result<()> {
+    let [is_found, is_held, is_late, is_run] = match are_well(rt) {
         Ok(told) => told,
-        Err(_) => are_well(&rt)?,
+        Err(_) => are_well(rt)?,
     };
-    let mut out = rt.stdout();
     writeln!(
         out,
         "found {is_found}, held {is_held}, late {is_late}, scripts {is_run}"

@@ -1,0 +1,7 @@
+//! Tests of the whole program over readers and writers in memory, also such as fail at one call.
+#![tactic(auto)]
+
+#[cfg(test)]
+mod programs;
+#[cfg(test)]
+mod telling;
