@@ -35,12 +35,13 @@ class Options:
 @dataclass
 class Text:
     """A written body: its declarations, its unit, the point of rustc that each written point stands for, and the region of rustc for each name in
-    a chain (a variable as it is written, a universal region by its number)."""
+    a chain (a variable as it is written, a universal region by its number). `equal` leads from regions to those that stand for them."""
 
     types: str
     unit: str
     points: list[list[Point]]
     regions: dict[str, int]
+    equal: dict[int, int]
     sizes: dict[str, int]
     notes: Counter[str] = field(default_factory=Counter)
     two_phase: int = 0
@@ -107,7 +108,8 @@ class BodyWriter:
             "regions": len(writing.names.variables),
             "loans": sum(text.count(" = &") for text in blocks),
         }
-        return Text(types, unit, points, self.region_names(header), sizes, writing.notes, len(writing.survey.two_phase))
+        names, equal = self.region_names(header), writing.regions.parent
+        return Text(types, unit, points, names, equal, sizes, writing.notes, len(writing.survey.two_phase))
 
     def header_names(self) -> list[int]:
         """Returns the universal regions that the unit declares, in their order."""
