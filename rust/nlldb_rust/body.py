@@ -67,6 +67,7 @@ def write_body(dump: Dump, reader: TypeReader, facts: DropFacts, drop_names: fro
     survey = surveyor.survey()
     initialized = maybe_initialized(dump)
     surveyor.note_variance()
+    fields.settle_elements()
     declared = Declarations(fields, [locals[local].shape for local in sorted(locals)], marks.has)
     names = Names({region: "'static" if region == STATIC else f"'u{region}" for region in dump.universal})
     writing = Writing(

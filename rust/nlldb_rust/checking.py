@@ -11,10 +11,12 @@ from typing import Iterator, Optional, Sequence
 
 from .body import Options
 from .crate import Body, write_crate
+from .drops import DROP_FACTS
+from .dump import trimmed
 from .findings import Answer, answer_of
 from .program import ask_all
 from .refused import Stopped
-from .rustc import RustcRun, kept_run, require_tested, run_cargo, run_rustc
+from .rustc import DUMP_SUFFIX, RustcRun, kept_run, require_tested, run_cargo, run_rustc
 
 
 @dataclass(frozen=True)
@@ -68,13 +70,15 @@ def dumped(source: Path, request: Request) -> Iterator[RustcRun]:
 
 
 def keep(folder: Path, target: Path) -> None:
-    """Copies what is read of rustc's dumps: not its graphs, and of its facts those of drops."""
+    """Copies what is read of what rustc left: its dumps, its facts of drops where there are any, and its errors."""
     try:
-        for path in folder.rglob("*"):
-            if path.name == "errors.json" or path.name.endswith(".nll.0.mir") or path.name in ("var_dropped_at.facts", "drop_of_var_derefs_origin.facts"):
+        for path in sorted(folder.rglob("*")):
+            if path.name in ("errors.json", *DROP_FACTS) or path.name.endswith(DUMP_SUFFIX):
+                text = path.read_text(errors="replace")
                 place = target / path.relative_to(folder)
-                place.parent.mkdir(parents=True, exist_ok=True)
-                shutil.copyfile(path, place)
+                if text:
+                    place.parent.mkdir(parents=True, exist_ok=True)
+                    place.write_text(trimmed(text) if path.name.endswith(DUMP_SUFFIX) else text)
     except OSError as fault:
         raise Stopped(f"cannot write {target}: {fault.strerror}") from fault
 

@@ -74,7 +74,7 @@ class Control:
 
     def drop(self, kind: Drop, point: Point) -> None:
         """Writes a drop, if what is dropped may hold a value."""
-        text, dropped, rest = self.writing.place(kind.place)
+        text, dropped, rest, _ = self.writing.place(kind.place)
         if rest or dropped is None:
             self.writing.notes["drop behind a raw pointer or a cut"] += 1
         elif ".*" in text:

@@ -70,11 +70,13 @@ class Reader:
                 body.refused = fault_of(fault)
 
     def paths(self) -> Paths:
-        """The full paths of types in these bodies."""
+        """The full paths of types in these bodies. Those of parameters are left out: a header has shorter ones."""
         paths: Paths = defaultdict(set)
         for body in self.bodies:
-            for text in set(body.dump.locals.values()) if body.dump else ():
-                note_paths(text, paths)
+            if body.dump is not None:
+                count = len(body.dump.parameters)
+                for text in {text for local, text in body.dump.locals.items() if not 0 < local <= count}:
+                    note_paths(text, paths)
         return paths
 
     def drops(self, paths: Paths) -> tuple[set[str], set[str]]:

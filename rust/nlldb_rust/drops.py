@@ -17,6 +17,8 @@ from .types import Shape
 # Types of the standard library whose drop looks at their regions.
 STANDARD_DROPS = frozenset("Ref RefMut MutexGuard RwLockReadGuard RwLockWriteGuard Drain PeekMut Splice".split())
 LOCAL = re.compile(r'"_(\d+)"')
+# The files of facts that are read: which locals are dropped, and which drops use regions.
+DROP_FACTS = ("var_dropped_at.facts", "drop_of_var_derefs_origin.facts")
 
 
 @dataclass(frozen=True)
@@ -31,7 +33,8 @@ def read_facts(folder: Optional[Path]) -> DropFacts:
     """Returns the facts of a body's folder; none where it is not there."""
     if folder is None or not folder.is_dir():
         return DropFacts()
-    return DropFacts(locals_in(folder / "var_dropped_at.facts"), locals_in(folder / "drop_of_var_derefs_origin.facts"))
+    dropped, uses_regions = (locals_in(folder / name) for name in DROP_FACTS)
+    return DropFacts(dropped, uses_regions)
 
 
 def locals_in(path: Path) -> frozenset[int]:

@@ -74,6 +74,12 @@ def read_dump(path: Path) -> Dump:
     return dump
 
 
+def trimmed(text: str) -> str:
+    """Returns a dump without the lines that nothing here reads: the values that rustc found, and what it says of constants."""
+    lines = (line for line in text.split("\n") if not line.lstrip().startswith("//"))
+    return "\n".join(line for line in lines if not (line.startswith("|") and (" | U" in line or " live at " in line)))
+
+
 def read_analysis(dump: Dump, lines: list[str]) -> int:
     """Reads the lines before the body. Returns the number of the body's header."""
     for number, line in enumerate(lines):

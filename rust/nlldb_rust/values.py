@@ -101,7 +101,7 @@ class Values:
 
     def raw_reference(self, target: Place, value: RawRef, point: Point) -> None:
         """Writes `&raw`: a borrow that nobody keeps."""
-        text, kind, rest = self.writing.place(value.place)
+        text, kind, rest, _ = self.writing.place(value.place)
         if rest or kind is None:
             self.calls.step(target, (Operand(Access.COPY, value.place),), point, "raw borrow")
             return
@@ -164,9 +164,8 @@ class Values:
         return int(argument.text.removeprefix("move _"))
 
     def borrow_of_subslice(self, target: Place, borrowed: Written, value: Ref, point: Point) -> None:
-        """Writes the borrow of a subslice: one of the whole slice."""
-        count = len(value.place.projections) - len(borrowed.rest)
-        whole = self.writing.place(Place(value.place.local, value.place.projections[:count]))
+        """Writes the borrow of a subslice: one of the elements in it, which a call makes the slice of."""
+        whole = Written(borrowed.text, borrowed.element)
         self.calls.step(target, (), point, "borrow of a subslice", (self.borrow_of(whole, value, point),))
 
     def discriminant(self, target: Place, place: Place, point: Point) -> None:
@@ -216,7 +215,7 @@ class Values:
             return False
         if operand.text:
             return self.writing.fields.is_number(field.shape)
-        text, kind, rest = self.writing.place(operand.place)
+        text, kind, rest, _ = self.writing.place(operand.place)
         if rest or kind is None or not self.writing.fields.same(kind.shape, field.shape):
             return False
         return self.writing.fields.can_be_copied(kind.shape) if operand.access is Access.COPY else ".*" not in text
