@@ -3,11 +3,12 @@ from __future__ import annotations
 
 from collections import Counter, defaultdict
 from dataclasses import dataclass, field
+from typing import Sequence
 
 from .calls import Calls, Externs
 from .control import Control, block
 from .declarations import Declarations
-from .drops import DropFacts, DropMarks, maybe_initialized
+from .drops import DropFacts, DropMarks, dropped_whole, maybe_initialized
 from .dump import Dump
 from .fields import Fields
 from .guards import Guards
@@ -17,7 +18,7 @@ from .regions import Regions
 from .survey import Surveyor
 from .types import INT, STATIC, Type, TypeReader
 from .values import Values
-from .writing import STOP, Names, Writing
+from .writing import STOP, Label, Names, Writing
 
 MOST_DECLARED, MOST_CLAUSES, MOST_PARAMETERS, MOST_BLOCKS, MOST_POINTS, MOST_LOCALS, MOST_REGIONS = 15, 32, 16, 256, 4096, 256, 8
 
@@ -152,6 +153,30 @@ class BodyWriter:
         if writing.needs_stop:
             writing.begin(STOP)
             writing.end("stop", [], Point(0, 0))
+        self.end_values()
+
+    def end_values(self) -> None:
+        """Writes that a local has no value where it has none on one path and is dropped behind the join with another: `dead`, on the edge."""
+        writing = self.writing
+        dropped = [it for it in dropped_whole(writing.dump) if writing.declared.holds_drop(writing.locals[it].shape)]
+        if not dropped:
+            return
+        for _, lines in list(writing.blocks):
+            end = lines[-1]
+            lines[-1] = end._replace(labels=tuple(self.ended_on(label, end.point, dropped) for label in end.labels))
+
+    def ended_on(self, label: Label, point: Point, dropped: Sequence[int]) -> Label:
+        """Returns a label that leads to a block, by way of the ends of those of these locals that have a value there but not at a point."""
+        writing = self.writing
+        ended = writing.initialized.only_elsewhere(point.block, label.number, dropped) if label.kind == "block" else []
+        if not ended:
+            return label
+        following = writing.own_label()
+        writing.begin(following)
+        for local in ended:
+            writing.emit(f"dead _{local}", point)
+        writing.end("goto", [label], point)
+        return following
 
     def numbered_blocks(self) -> tuple[list[str], list[list[Point]]]:
         """Returns the text of each block, and the points in it. Refuses what is too long."""

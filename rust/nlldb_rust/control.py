@@ -81,7 +81,7 @@ class Control:
             self.writing.notes["drop behind a reference"] += 1
             if self.writing.declared.holds_drop(dropped.shape):
                 self.calls.handed_borrow(text, dropped, True, point)
-        elif not self.writing.initialized.get(point.block, 0) >> kind.place.local & 1:
+        elif not self.writing.initialized.at_terminator(point.block, kind.place.local):
             self.writing.notes["drop of what was moved out"] += 1
         else:
             self.writing.emit(f"drop {text}", point)

@@ -74,6 +74,8 @@ class Fields:
     shapes: dict[str, Shape] = field(default_factory=dict)
     # places in a struct's regions that are seen to be invariant
     invariant: dict[str, set[int]] = field(default_factory=lambda: defaultdict(set))
+    # shapes of which a region is seen to be contravariant, as in `fn(&'a u32)`: no form of the language but a call assigns their values
+    contravariant: set[str] = field(default_factory=set)
     # the shapes that are indexed by a local, and the pieces that are taken of the others, with the fields that these are in the end
     indexed: set[str] = field(default_factory=set)
     pieces: dict[str, dict[Piece, int]] = field(default_factory=lambda: defaultdict(dict))
@@ -89,6 +91,12 @@ class Fields:
 
     def can_be_copied(self, shape: Shape) -> bool:
         return not shape.mutable if shape.kind is Kind.REFERENCE else not self.is_struct(shape)
+
+    def is_contravariant(self, shape: Shape) -> bool:
+        """Whether a value of this shape, or one that it refers to, has a region that is contravariant."""
+        while shape.kind is Kind.REFERENCE:
+            shape = shape.parts[0][0]
+        return shape.key in self.contravariant
 
     def same(self, one: Shape, other: Shape) -> bool:
         """Whether two shapes are written alike."""

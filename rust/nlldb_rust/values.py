@@ -90,7 +90,8 @@ class Values:
         """Whether an assignment has a form of its own."""
         if target.rest or source.rest or source.type is None or not self.writing.same(source.type, target.type):
             return False
-        return self.writing.fields.can_be_copied(source.type.shape) if access is Access.COPY else ".*" not in source.text
+        fields, shape = self.writing.fields, source.type.shape
+        return not fields.is_contravariant(shape) and (fields.can_be_copied(shape) if access is Access.COPY else ".*" not in source.text)
 
     def interface(self, source: Written, target: Written, *places: Place) -> list[int]:
         """The regions between which an assignment makes the demands itself."""
@@ -133,6 +134,8 @@ class Values:
     def can_borrow(self, target: Written, borrowed: Written, value: Ref) -> bool:
         """Whether a borrow has a form of its own."""
         if target.rest or borrowed.rest or target.type is None or not target.type.is_reference():
+            return False
+        if borrowed.type is None or self.writing.fields.is_contravariant(borrowed.type.shape):
             return False
         mutable = value.borrow is Borrow.MUTABLE
         return target.type.shape.mutable == mutable and self.writing.same(borrowed.type, target.type.part(0))
@@ -216,6 +219,7 @@ class Values:
         if operand.text:
             return self.writing.fields.is_number(field.shape)
         text, kind, rest, _ = self.writing.place(operand.place)
-        if rest or kind is None or not self.writing.fields.same(kind.shape, field.shape):
+        fields = self.writing.fields
+        if rest or kind is None or not fields.same(kind.shape, field.shape) or fields.is_contravariant(kind.shape):
             return False
-        return self.writing.fields.can_be_copied(kind.shape) if operand.access is Access.COPY else ".*" not in text
+        return fields.can_be_copied(kind.shape) if operand.access is Access.COPY else ".*" not in text

@@ -6,6 +6,7 @@ from dataclasses import dataclass, field
 from typing import Iterable, NamedTuple, Optional, Sequence
 
 from .declarations import Declarations
+from .drops import Initialized
 from .dump import Dump
 from .fields import Fields
 from .mir import Operand, Place, Point, Projection, Step
@@ -90,7 +91,7 @@ class Writing:
     declared: Declarations
     names: Names
     survey: Survey
-    initialized: dict[int, int]
+    initialized: Initialized
     naive_two_phase: bool = False
     unwind: bool = False
     notes: Counter[str] = field(default_factory=Counter)
