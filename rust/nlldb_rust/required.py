@@ -1,7 +1,8 @@
 """What closures require of their creators: by nlldb, and by rustc. Nothing here is proved.
 
 A closure is written once more, as a function without clauses for what rustc found that it requires. Then each pair of its universal regions that it
-needs and does not know is a lifetime error. Those of regions that it has from its creator are what it requires; any other is an error of its own.
+needs and does not know is a lifetime error. Those of regions that it has from its creator are what it requires. The language takes any other for an
+error of its own; rustc asks the creator for more where it can, for a region that is known to outlive the shorter one.
 """
 from __future__ import annotations
 
@@ -47,13 +48,21 @@ def known_of(dump: Dump) -> frozenset[Edge]:
     return frozenset(pairs | {(0, region) for region in dump.universal})
 
 
+def bounds_of(dump: Dump, region: int) -> list[int]:
+    """Returns the region itself where the closure has it from its creator, or else the least of those that are known to outlive it: rustc asks the
+    creator for these. There may be none."""
+    if region in dump.external:
+        return [region]
+    bounds = [it for it in dump.external if it and region in dump.universal[it]]
+    return [it for it in bounds if not any(other != it and other in dump.universal[it] for other in bounds)]
+
+
 def required_of(body: Body, bare: Answer) -> Required:
     """Returns what a closure requires. `bare` is the answer to its text without clauses for that."""
     assert body.dump is not None and body.bare is not None
     constraints = Constraints(body.dump, body.bare)
-    external = body.dump.external
-    pairs = ((it.longer, it.shorter) for it in bare.findings if isinstance(it, Lifetime))
-    ours = frozenset((longer, shorter) for longer, shorter in pairs if longer in external and shorter in external)
+    pairs = ((it.longer, it.shorter) for it in bare.findings if isinstance(it, Lifetime) and it.longer in body.dump.external)
+    ours = frozenset((longer, bound) for longer, shorter in pairs for bound in bounds_of(body.dump, shorter))
     theirs = frozenset((constraints.find(longer), constraints.find(shorter)) for longer, shorter in body.dump.requirements)
     return Required(body.name, ours, theirs, known_of(body.dump))
 
