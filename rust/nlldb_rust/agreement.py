@@ -14,6 +14,7 @@ from .checking import Checked
 from .crate import Body
 from .explain import Teller
 from .findings import Answer, Conflict, Finding, position_of
+from .required import Required, required_in
 from .rustc import Diagnostic
 from .spans import Position, read_span
 
@@ -71,6 +72,7 @@ class Compared:
     roots: list[Root]
     homeless: list[Diagnostic] = field(default_factory=list)
     others: list[Diagnostic] = field(default_factory=list)
+    required: list[Required] = field(default_factory=list)
 
     def counts(self) -> dict[str, int]:
         """How many functions there are, and how many of each kind."""
@@ -84,6 +86,9 @@ class Compared:
             "lines": sum(1 for root in told if root.agrees() and root.ours and root.agrees_by_line()),
             "differ": sum(1 for root in told if not root.agrees()),
             "faults": sum(1 for root in self.roots if root.faults),
+            "closures": len(self.required),
+            "requiring": sum(1 for it in self.required if it.ours or it.theirs),
+            "required": sum(1 for it in self.required if (it.ours or it.theirs) and it.agrees()),
         }
 
 
@@ -97,6 +102,7 @@ def compared(found: Checked) -> Compared:
     for root in roots.values():
         root.range = range_of(root)
     result = Compared(str(found.source), sorted(roots.values(), key=lambda root: root.name), others=found.run.other_errors())
+    result.required = required_in(found)
     for error in found.run.errors:
         if error.is_of_borrows():
             place(result, error)

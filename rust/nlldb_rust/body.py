@@ -2,7 +2,7 @@
 from __future__ import annotations
 
 from collections import Counter, defaultdict
-from dataclasses import dataclass, field
+from dataclasses import dataclass, field, replace
 from typing import Sequence
 
 from .calls import Calls, Externs
@@ -26,11 +26,14 @@ MOST_DECLARED, MOST_CLAUSES, MOST_PARAMETERS, MOST_BLOCKS, MOST_POINTS, MOST_LOC
 @dataclass(frozen=True)
 class Options:
     """How bodies are written: with the blocks of unwinding or without; with two-phase borrows as such, or as mutable ones; with regions that
-    outlive each other as one, or each by itself."""
+    outlive each other as one, or each by itself. Of closures, whether what rustc found that they require is a clause, and whether each is
+    written without these clauses too."""
 
     unwind: bool = False
     naive_two_phase: bool = False
     merge_regions: bool = False
+    requirements: bool = True
+    bare_closures: bool = False
 
 
 @dataclass
@@ -74,6 +77,9 @@ def write_body(dump: Dump, reader: TypeReader, facts: DropFacts, drop_names: fro
     writing = Writing(
         dump, regions, reader, locals, fields, declared, names, survey, initialized, options.naive_two_phase, options.unwind, fields.notes
     )
+    if not options.requirements:
+        dump = replace(dump, requirements=[])
+        writing.dump = dump
     return BodyWriter(writing, Externs()).text()
 
 

@@ -5,7 +5,7 @@ import os
 import shutil
 import tempfile
 from contextlib import contextmanager
-from dataclasses import dataclass, field
+from dataclasses import dataclass, field, replace
 from pathlib import Path
 from typing import Iterator, Optional, Sequence
 
@@ -40,6 +40,8 @@ class Checked:
     run: RustcRun
     bodies: list[Body]
     answers: dict[str, Answer] = field(default_factory=dict)
+    # those to closures without clauses for what they require
+    bare: dict[str, Answer] = field(default_factory=dict)
 
 
 def is_kept(source: Path) -> bool:
@@ -87,10 +89,15 @@ def checked(source: Path, request: Request) -> Checked:
     """Returns nlldb's answers about the bodies of a source."""
     with dumped(source, request) as run:
         bodies = write_crate(run.dumps, run.facts, request.options, request.jobs)
-    written = [body for body in bodies if body.text is not None]
-    said = ask_all(request.program, [(body.text.types, {"f": body.text.unit}) for body in written if body.text]) if written else []
-    answers = {body.name: answer_of(body, outcome) for body, outcome in zip(written, said)}
-    return Checked(source, run, bodies, answers)
+    bare = [replace(body, text=body.bare) for body in bodies if body.bare]
+    return Checked(source, run, bodies, asked(bodies, request.program), asked(bare, request.program))
+
+
+def asked(bodies: Sequence[Body], program: str) -> dict[str, Answer]:
+    """Returns nlldb's answers to the bodies that are written, by their names."""
+    written = [body for body in bodies if body.text]
+    said = ask_all(program, [(body.text.types, {"f": body.text.unit}) for body in written if body.text])
+    return {body.name: answer_of(body, outcome) for body, outcome in zip(written, said)}
 
 
 def shown_name(name: str) -> str:

@@ -68,7 +68,7 @@ class Agreement(unittest.TestCase):
         it = agreement.compared(kept_answers("small"))
         self.assertEqual(it.homeless, [])
         self.assertEqual([root.name for root in it.roots if not root.agrees() or not root.agrees_by_line()], [])
-        self.assertEqual(it.counts() | {"faults": 0}, {"functions": 11, "written": 11, "agree": 11, "rejected": 4, "lines": 4, "differ": 0, "faults": 0})
+        self.assertLessEqual({"functions": 11, "written": 11, "agree": 11, "rejected": 4, "lines": 4, "differ": 0, "faults": 0}.items(), it.counts().items())
 
     def test_a_false_error_is_a_difference(self):
         found = kept_answers("small")
