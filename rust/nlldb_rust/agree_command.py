@@ -29,8 +29,10 @@ def command(words: Sequence[str]) -> int:
     parser.usage = "agree FILE .. [OPTIONS] [-- RUSTC ARGUMENTS]"
     parser.add_argument("files", metavar="FILE", type=Path, nargs="+")
     parser.add_argument("--all", action="store_true", help="print a line for each function, not only for those that differ")
+    parser.add_argument("--closures", action="store_true", help="compare what each closure requires of its creator too")
     given = parser.parse_args(own)
     request = request_of(given, arguments)
+    request = replace(request, options=replace(request.options, bare_closures=given.closures))
     sources = [source for file in given.files for source in sources_of(file)]
     results = list(zip(sources, outcomes(sources, request)))
     total = summed(result.counts() for _, result in results if isinstance(result, Compared))
@@ -41,6 +43,8 @@ def command(words: Sequence[str]) -> int:
         for source, result in results:
             for line in lines_of(source, result, given.all):
                 print(line)
+        if given.closures:
+            print("{closures} closures, {requiring} require something, {required} of them what rustc found".format_map(total))
         print(last_line(total, len(failed)))
     return 2 if failed or total.get("faults") else 1 if total.get("differ") else 0
 
@@ -92,6 +96,10 @@ def lines_of(source: Path, result: Outcome, all_of_them: bool) -> Iterable[str]:
     for root in result.roots:
         if all_of_them or not root.agrees() or root.refused or root.faults or not root.agrees_by_line():
             yield f"{source}: {shown_name(root.name)}: {word_of(root)}"
+    for it in result.required:
+        if not it.agrees():
+            parts = [f"{who} alone {pairs}" for who, pairs in (("nlldb", it.added()), ("rustc", it.missed())) if pairs]
+            yield f"{source}: {shown_name(it.name)} requires other pairs of regions: {'; '.join(parts)}"
 
 
 def word_of(root: Root) -> str:

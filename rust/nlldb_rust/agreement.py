@@ -14,6 +14,7 @@ from .checking import Checked
 from .crate import Body
 from .explain import Teller
 from .findings import Answer, Conflict, Finding, position_of
+from .required import Required, required_in
 from .rustc import Diagnostic
 from .spans import Position, read_span
 
@@ -71,18 +72,23 @@ class Compared:
     roots: list[Root]
     homeless: list[Diagnostic] = field(default_factory=list)
     others: list[Diagnostic] = field(default_factory=list)
+    required: list[Required] = field(default_factory=list)
 
     def counts(self) -> dict[str, int]:
         """How many functions there are, and how many of each kind."""
         written = [root for root in self.roots if not root.refused]
+        told = [root for root in written if not root.faults]
         return {
             "functions": len(self.roots),
             "written": len(written),
-            "agree": sum(1 for root in written if root.agrees()),
-            "rejected": sum(1 for root in written if root.agrees() and root.ours),
-            "lines": sum(1 for root in written if root.agrees() and root.ours and root.agrees_by_line()),
-            "differ": sum(1 for root in written if not root.agrees()),
+            "agree": sum(1 for root in told if root.agrees()),
+            "rejected": sum(1 for root in told if root.agrees() and root.ours),
+            "lines": sum(1 for root in told if root.agrees() and root.ours and root.agrees_by_line()),
+            "differ": sum(1 for root in told if not root.agrees()),
             "faults": sum(1 for root in self.roots if root.faults),
+            "closures": len(self.required),
+            "requiring": sum(1 for it in self.required if it.ours or it.theirs),
+            "required": sum(1 for it in self.required if (it.ours or it.theirs) and it.agrees()),
         }
 
 
@@ -96,6 +102,7 @@ def compared(found: Checked) -> Compared:
     for root in roots.values():
         root.range = range_of(root)
     result = Compared(str(found.source), sorted(roots.values(), key=lambda root: root.name), others=found.run.other_errors())
+    result.required = required_in(found)
     for error in found.run.errors:
         if error.is_of_borrows():
             place(result, error)

@@ -2,12 +2,13 @@
 from __future__ import annotations
 
 from collections import Counter, defaultdict
-from dataclasses import dataclass, field
+from dataclasses import dataclass, field, replace
+from typing import Sequence
 
 from .calls import Calls, Externs
 from .control import Control, block
 from .declarations import Declarations
-from .drops import DropFacts, DropMarks, maybe_initialized
+from .drops import DropFacts, DropMarks, dropped_whole, maybe_initialized
 from .dump import Dump
 from .fields import Fields
 from .guards import Guards
@@ -17,7 +18,7 @@ from .regions import Regions
 from .survey import Surveyor
 from .types import INT, STATIC, Type, TypeReader
 from .values import Values
-from .writing import STOP, Names, Writing
+from .writing import STOP, Label, Names, Writing
 
 MOST_DECLARED, MOST_CLAUSES, MOST_PARAMETERS, MOST_BLOCKS, MOST_POINTS, MOST_LOCALS, MOST_REGIONS = 15, 32, 16, 256, 4096, 256, 8
 
@@ -25,11 +26,14 @@ MOST_DECLARED, MOST_CLAUSES, MOST_PARAMETERS, MOST_BLOCKS, MOST_POINTS, MOST_LOC
 @dataclass(frozen=True)
 class Options:
     """How bodies are written: with the blocks of unwinding or without; with two-phase borrows as such, or as mutable ones; with regions that
-    outlive each other as one, or each by itself."""
+    outlive each other as one, or each by itself. Of closures, whether what rustc found that they require is a clause, and whether each is
+    written without these clauses too."""
 
     unwind: bool = False
     naive_two_phase: bool = False
     merge_regions: bool = False
+    requirements: bool = True
+    bare_closures: bool = False
 
 
 @dataclass
@@ -67,11 +71,15 @@ def write_body(dump: Dump, reader: TypeReader, facts: DropFacts, drop_names: fro
     survey = surveyor.survey()
     initialized = maybe_initialized(dump)
     surveyor.note_variance()
+    fields.settle_elements()
     declared = Declarations(fields, [locals[local].shape for local in sorted(locals)], marks.has)
     names = Names({region: "'static" if region == STATIC else f"'u{region}" for region in dump.universal})
     writing = Writing(
         dump, regions, reader, locals, fields, declared, names, survey, initialized, options.naive_two_phase, options.unwind, fields.notes
     )
+    if not options.requirements:
+        dump = replace(dump, requirements=[])
+        writing.dump = dump
     return BodyWriter(writing, Externs()).text()
 
 
@@ -151,6 +159,30 @@ class BodyWriter:
         if writing.needs_stop:
             writing.begin(STOP)
             writing.end("stop", [], Point(0, 0))
+        self.end_values()
+
+    def end_values(self) -> None:
+        """Writes that a local has no value where it has none on one path and is dropped behind the join with another: `dead`, on the edge."""
+        writing = self.writing
+        dropped = [it for it in dropped_whole(writing.dump) if writing.declared.holds_drop(writing.locals[it].shape)]
+        if not dropped:
+            return
+        for _, lines in list(writing.blocks):
+            end = lines[-1]
+            lines[-1] = end._replace(labels=tuple(self.ended_on(label, end.point, dropped) for label in end.labels))
+
+    def ended_on(self, label: Label, point: Point, dropped: Sequence[int]) -> Label:
+        """Returns a label that leads to a block, by way of the ends of those of these locals that have a value there but not at a point."""
+        writing = self.writing
+        ended = writing.initialized.only_elsewhere(point.block, label.number, dropped) if label.kind == "block" else []
+        if not ended:
+            return label
+        following = writing.own_label()
+        writing.begin(following)
+        for local in ended:
+            writing.emit(f"dead _{local}", point)
+        writing.end("goto", [label], point)
+        return following
 
     def numbered_blocks(self) -> tuple[list[str], list[list[Point]]]:
         """Returns the text of each block, and the points in it. Refuses what is too long."""

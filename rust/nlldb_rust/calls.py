@@ -59,7 +59,7 @@ class Calls:
         """Returns an operand as a call takes it, with what has to be written before; None for a constant. Refuses a subslice."""
         if operand.access is Access.CONSTANT:
             return None
-        text, kind, rest = self.writing.place(operand.place)
+        text, kind, rest, _ = self.writing.place(operand.place)
         if kind is None:
             raise Refused("subslice operand")
         fields, moves = self.writing.fields, operand.access is Access.MOVE
@@ -98,7 +98,7 @@ class Calls:
         nowhere = lambda: (f"_{self.writing.number_local()}", INT)  # noqa: E731
         if place is None:
             return nowhere()
-        text, kind, rest = self.writing.place(place)
+        text, kind, rest, _ = self.writing.place(place)
         if kind is None:
             raise Refused("subslice target")
         if not rest:

@@ -5,16 +5,18 @@ import os
 import shutil
 import tempfile
 from contextlib import contextmanager
-from dataclasses import dataclass, field
+from dataclasses import dataclass, field, replace
 from pathlib import Path
 from typing import Iterator, Optional, Sequence
 
 from .body import Options
 from .crate import Body, write_crate
+from .drops import DROP_FACTS
+from .dump import trimmed
 from .findings import Answer, answer_of
 from .program import ask_all
 from .refused import Stopped
-from .rustc import RustcRun, kept_run, require_tested, run_cargo, run_rustc
+from .rustc import DUMP_SUFFIX, RustcRun, kept_run, require_tested, run_cargo, run_rustc
 
 
 @dataclass(frozen=True)
@@ -38,6 +40,8 @@ class Checked:
     run: RustcRun
     bodies: list[Body]
     answers: dict[str, Answer] = field(default_factory=dict)
+    # those to closures without clauses for what they require
+    bare: dict[str, Answer] = field(default_factory=dict)
 
 
 def is_kept(source: Path) -> bool:
@@ -68,13 +72,15 @@ def dumped(source: Path, request: Request) -> Iterator[RustcRun]:
 
 
 def keep(folder: Path, target: Path) -> None:
-    """Copies what is read of rustc's dumps: not its graphs, and of its facts those of drops."""
+    """Copies what is read of what rustc left: its dumps, its facts of drops where there are any, and its errors."""
     try:
-        for path in folder.rglob("*"):
-            if path.name == "errors.json" or path.name.endswith(".nll.0.mir") or path.name in ("var_dropped_at.facts", "drop_of_var_derefs_origin.facts"):
+        for path in sorted(folder.rglob("*")):
+            if path.name in ("errors.json", *DROP_FACTS) or path.name.endswith(DUMP_SUFFIX):
+                text = path.read_text(errors="replace")
                 place = target / path.relative_to(folder)
-                place.parent.mkdir(parents=True, exist_ok=True)
-                shutil.copyfile(path, place)
+                if text:
+                    place.parent.mkdir(parents=True, exist_ok=True)
+                    place.write_text(trimmed(text) if path.name.endswith(DUMP_SUFFIX) else text)
     except OSError as fault:
         raise Stopped(f"cannot write {target}: {fault.strerror}") from fault
 
@@ -83,10 +89,15 @@ def checked(source: Path, request: Request) -> Checked:
     """Returns nlldb's answers about the bodies of a source."""
     with dumped(source, request) as run:
         bodies = write_crate(run.dumps, run.facts, request.options, request.jobs)
-    written = [body for body in bodies if body.text is not None]
-    said = ask_all(request.program, [(body.text.types, {"f": body.text.unit}) for body in written if body.text]) if written else []
-    answers = {body.name: answer_of(body, outcome) for body, outcome in zip(written, said)}
-    return Checked(source, run, bodies, answers)
+    bare = [replace(body, text=body.bare) for body in bodies if body.bare]
+    return Checked(source, run, bodies, asked(bodies, request.program), asked(bare, request.program))
+
+
+def asked(bodies: Sequence[Body], program: str) -> dict[str, Answer]:
+    """Returns nlldb's answers to the bodies that are written, by their names."""
+    written = [body for body in bodies if body.text]
+    said = ask_all(program, [(body.text.types, {"f": body.text.unit}) for body in written if body.text])
+    return {body.name: answer_of(body, outcome) for body, outcome in zip(written, said)}
 
 
 def shown_name(name: str) -> str:

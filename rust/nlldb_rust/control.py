@@ -74,14 +74,14 @@ class Control:
 
     def drop(self, kind: Drop, point: Point) -> None:
         """Writes a drop, if what is dropped may hold a value."""
-        text, dropped, rest = self.writing.place(kind.place)
+        text, dropped, rest, _ = self.writing.place(kind.place)
         if rest or dropped is None:
             self.writing.notes["drop behind a raw pointer or a cut"] += 1
         elif ".*" in text:
             self.writing.notes["drop behind a reference"] += 1
             if self.writing.declared.holds_drop(dropped.shape):
                 self.calls.handed_borrow(text, dropped, True, point)
-        elif not self.writing.initialized.get(point.block, 0) >> kind.place.local & 1:
+        elif not self.writing.initialized.at_terminator(point.block, kind.place.local):
             self.writing.notes["drop of what was moved out"] += 1
         else:
             self.writing.emit(f"drop {text}", point)

@@ -28,13 +28,18 @@ FAULTS = (IndexError, KeyError, AttributeError, ValueError, TypeError, Recursion
 
 @dataclass
 class Body:
-    """A body of a crate: its name in the dumps (`CRATE.PATH`), its text or why it is not written, and what the dump says of it."""
+    """A body of a crate: its name in the dumps (`CRATE.PATH`), its text or why it is not written, and what the dump says of it. `bare` is the text
+    of a closure without clauses for what rustc found that it requires, where that is asked for."""
 
     name: str
     text: Optional[Text] = None
+    bare: Optional[Text] = None
     refused: str = ""
     dump: Optional[Dump] = None
     mir_points: int = 0
+
+    def is_closure(self) -> bool:
+        return "-{closure" in self.name
 
     def root(self) -> str:
         """The function that a closure lies in; itself for a function."""
@@ -70,11 +75,13 @@ class Reader:
                 body.refused = fault_of(fault)
 
     def paths(self) -> Paths:
-        """The full paths of types in these bodies."""
+        """The full paths of types in these bodies. Those of parameters are left out: a header has shorter ones."""
         paths: Paths = defaultdict(set)
         for body in self.bodies:
-            for text in set(body.dump.locals.values()) if body.dump else ():
-                note_paths(text, paths)
+            if body.dump is not None:
+                count = len(body.dump.parameters)
+                for text in {text for local, text in body.dump.locals.items() if not 0 < local <= count}:
+                    note_paths(text, paths)
         return paths
 
     def drops(self, paths: Paths) -> tuple[set[str], set[str]]:
@@ -121,6 +128,8 @@ def write_one(body: Body, reader: TypeReader, facts: DropFacts, drop_names: froz
     for turn in tries:
         try:
             body.text, body.refused = write_body(body.dump, reader, facts, drop_names, turn), ""
+            if options.bare_closures and body.is_closure():
+                body.bare = write_body(body.dump, reader, facts, drop_names, replace(turn, requirements=False))
             return
         except Refused as fault:
             body.refused = str(fault)

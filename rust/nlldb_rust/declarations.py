@@ -126,7 +126,7 @@ class Declarations:
 
 
 def note_invariance(fields: Fields, source: Type, target: Type, edges: set[tuple[int, int]]) -> None:
-    """Notes the regions of a shape that an assignment between two types of it ties both ways."""
+    """Notes the regions of a shape that an assignment between two types of it ties both ways, or only against the assignment."""
     while source.is_reference():
         if source.shape.mutable:
             return
@@ -134,3 +134,5 @@ def note_invariance(fields: Fields, source: Type, target: Type, edges: set[tuple
     for at, (one, other) in enumerate(zip(source.regions, target.regions)):
         if one != other and (other, one) in edges:
             fields.invariant[source.shape.key].add(at)
+            if (one, other) not in edges:
+                fields.contravariant.add(source.shape.key)

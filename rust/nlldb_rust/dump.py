@@ -16,7 +16,7 @@ from .statements import read_statement
 from .terminators import read_terminator
 
 REGION = re.compile(r"'\?(\d+)")
-UNIVERSAL = re.compile(r"\| '\?(\d+) \| (?:Global|External|Local) \| \[(.*)\]")
+UNIVERSAL = re.compile(r"\| '\?(\d+) \| (Global|External|Local) \| \[(.*)\]")
 CONSTRAINT = re.compile(r"\| '\?(\d+): '\?(\d+) due to (.*) at (?:All\(.*\)|Single\(bb(\d+)\[(\d+)\]\)) \((.*) \(#\d+\)")
 REQUIREMENT = re.compile(r"\| where '\?(\d+): '\?(\d+)")
 NAMED = re.compile(r"\s+debug (.*) => (_(\d+)|.*);")
@@ -45,6 +45,8 @@ class Dump:
     head: str = ""
     # each universal region, with those that it is known to outlive
     universal: dict[int, list[int]] = field(default_factory=dict)
+    # those of them that a closure has from its creator, and `'static`
+    external: set[int] = field(default_factory=set)
     constraints: list[Constraint] = field(default_factory=list)
     # what a closure requires of its creator
     requirements: list[tuple[int, int]] = field(default_factory=list)
@@ -74,6 +76,12 @@ def read_dump(path: Path) -> Dump:
     return dump
 
 
+def trimmed(text: str) -> str:
+    """Returns a dump without the lines that nothing here reads: the values that rustc found, and what it says of constants."""
+    lines = (line for line in text.split("\n") if not line.lstrip().startswith("//"))
+    return "\n".join(line for line in lines if not (line.startswith("|") and (" | U" in line or " live at " in line)))
+
+
 def read_analysis(dump: Dump, lines: list[str]) -> int:
     """Reads the lines before the body. Returns the number of the body's header."""
     for number, line in enumerate(lines):
@@ -85,7 +93,9 @@ def read_analysis(dump: Dump, lines: list[str]) -> int:
             if " due to " in line:
                 read_constraint(dump, line)
             elif found := UNIVERSAL.match(line):
-                dump.universal[int(found[1])] = [int(it) for it in REGION.findall(found[2])]
+                dump.universal[int(found[1])] = [int(it) for it in REGION.findall(found[3])]
+                if found[2] != "Local":
+                    dump.external.add(int(found[1]))
         elif found := REQUIREMENT.match(line):
             dump.requirements.append((int(found[1]), int(found[2])))
     raise Refused("parse: no body")

@@ -9,8 +9,9 @@ from collections import Counter, defaultdict
 from dataclasses import dataclass, field
 from typing import NamedTuple, Optional
 
+from .elements import Piece, groups_of, piece_of
 from .graphs import Edge, leads, successors_of
-from .mir import Place, Point, Step
+from .mir import Place, Point, Projection, Step
 from .refused import Refused
 from .regions import Regions
 from .types import INT, STATIC, Kind, Shape, Type, TypeReader
@@ -26,7 +27,7 @@ class Key(NamedTuple):
     number: int
 
 
-HIDDEN_FIELD, POINTEE_FIELD = Key("", HIDDEN), Key("", POINTEE)
+HIDDEN_FIELD, POINTEE_FIELD, ANY_ELEMENT = Key("", HIDDEN), Key("", POINTEE), Key("", 0)
 
 
 @dataclass
@@ -73,8 +74,11 @@ class Fields:
     shapes: dict[str, Shape] = field(default_factory=dict)
     # places in a struct's regions that are seen to be invariant
     invariant: dict[str, set[int]] = field(default_factory=lambda: defaultdict(set))
-    # whether all indexing is by constants, so that each has a field of its own
-    constant_indices: bool = True
+    # shapes of which a region is seen to be contravariant, as in `fn(&'a u32)`: no form of the language but a call assigns their values
+    contravariant: set[str] = field(default_factory=set)
+    # the shapes that are indexed by a local, and the pieces that are taken of the others, with the fields that these are in the end
+    indexed: set[str] = field(default_factory=set)
+    pieces: dict[str, dict[Piece, int]] = field(default_factory=lambda: defaultdict(dict))
     notes: Counter[str] = field(default_factory=Counter)
 
     def is_struct(self, shape: Shape) -> bool:
@@ -87,6 +91,12 @@ class Fields:
 
     def can_be_copied(self, shape: Shape) -> bool:
         return not shape.mutable if shape.kind is Kind.REFERENCE else not self.is_struct(shape)
+
+    def is_contravariant(self, shape: Shape) -> bool:
+        """Whether a value of this shape, or one that it refers to, has a region that is contravariant."""
+        while shape.kind is Kind.REFERENCE:
+            shape = shape.parts[0][0]
+        return shape.key in self.contravariant
 
     def same(self, one: Shape, other: Shape) -> bool:
         """Whether two shapes are written alike."""
@@ -122,19 +132,30 @@ class Fields:
             map_regions(found, owner, used_as, edges)
         return used_as
 
-    def constant_index(self, number: int) -> int:
-        """The field for a constant index, from the end where it is negative. Field 0 is for all, where anything else is indexed."""
-        if not self.constant_indices:
-            return 0
-        return min(number + 1, 8) if number >= 0 else max(15 + number, 9)
-
-    def key_of(self, step: Step, number: int, variant: str) -> Key:
+    def key_of(self, shape: Shape, it: Projection, variant: str) -> Key:
         """The field that a projection takes."""
-        if step is Step.FIELD:
-            return Key(variant, number)
-        if step is Step.DEREF:
+        if it.step is Step.FIELD:
+            return Key(variant, it.number)
+        if it.step is Step.DEREF:
             return POINTEE_FIELD
-        return Key("", self.constant_index(number) if step is Step.CONSTANT_INDEX else 0)
+        if it.step is Step.INDEX or shape.key in self.indexed:
+            return ANY_ELEMENT
+        return Key("", self.pieces[shape.key].get(piece_of(it), 0))
+
+    def note_element(self, shape: Shape, it: Projection) -> None:
+        """Notes which element a projection takes."""
+        if it.step is Step.INDEX:
+            self.indexed.add(shape.key)
+        elif it.step in (Step.CONSTANT_INDEX, Step.SUBSLICE):
+            self.pieces[shape.key][piece_of(it)] = 0
+
+    def settle_elements(self) -> None:
+        """Gives pieces that cannot overlap fields of their own, once all are noted."""
+        for key, pieces in self.pieces.items():
+            if key not in self.indexed:
+                pieces.update(groups_of(list(pieces)))
+                element = self.of[key].pop(ANY_ELEMENT)
+                self.of[key].update({Key("", number): element for number in pieces.values()})
 
 
 def map_regions(found: Field, owner: Type, used_as: Type, edges: set[Edge]) -> None:
@@ -161,20 +182,18 @@ def walk(fields: Fields, regions: Regions, reader: TypeReader, start: Type, plac
     if not place.projections:
         return kind
     edges = regions.edges_at(point)
-    for step, number, text in place.projections:
-        if step is Step.VARIANT:
-            variant = text
+    for it in place.projections:
+        if it.step is Step.VARIANT:
+            variant = it.text
             continue
-        if step is Step.DEREF and kind.shape.kind in (Kind.REFERENCE, Kind.POINTER):
+        if it.step is Step.DEREF and kind.shape.kind in (Kind.REFERENCE, Kind.POINTER):
             kind = kind.part(0)
-        elif step is Step.DEREF and kind.shape.name != "Box":
+        elif it.step is Step.DEREF and kind.shape.name != "Box":
             raise Refused(f"deref of {kind.shape.kind.value}")
         else:
-            used_as = regions.read(reader, text) if step is Step.FIELD else None
-            noted = fields.note(kind, fields.key_of(step, number, variant), used_as, edges)
-            if step is Step.SUBSLICE:
-                fields.notes["subslice"] += 1
-            else:
-                kind = noted
+            used_as = regions.read(reader, it.text) if it.step is Step.FIELD else None
+            fields.note_element(kind.shape, it)
+            noted = fields.note(kind, fields.key_of(kind.shape, it, variant), used_as, edges)
+            kind = kind if it.step is Step.SUBSLICE else noted
         variant = ""
     return kind

@@ -48,7 +48,7 @@ class Guards:
     def borrow(self, target: Place, value: Ref, point: Point) -> None:
         """Writes a fake borrow."""
         self.writing.notes["fake borrow"] += 1
-        text, kind, rest = self.writing.place(value.place)
+        text, kind, rest, _ = self.writing.place(value.place)
         if value.borrow is not Borrow.FAKE_SHALLOW or rest or kind is None or target.projections:
             return
         guard = self.guard(target.local)

@@ -62,7 +62,8 @@ def element(text: str) -> Projection:
     if found := LOCAL.fullmatch(text):
         return Projection(Step.INDEX, int(found[1]))
     if " of " in text:
-        return Projection(Step.CONSTANT_INDEX, int(text.split(" of ")[0]))
+        index, length = text.split(" of ")
+        return Projection(Step.CONSTANT_INDEX, int(index), length)
     return Projection(Step.SUBSLICE, text=text)
 
 

@@ -46,6 +46,8 @@ def ask_all(program: str, bodies: list[tuple[str, dict[str, str]]]) -> list[dict
         for request in requests_of(types, units):
             requests.append(json.dumps(request | {"id": len(requests)}))
         asked.append(len(requests))
+    if not requests:
+        return []
     try:
         ran = subprocess.run([program, "serve"], input="\n".join(requests) + "\n", capture_output=True, text=True, errors="replace")
     except OSError as fault:

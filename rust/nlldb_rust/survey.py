@@ -14,7 +14,7 @@ from .dump import Dump
 from .fields import Fields, Key, walk
 from .mir import (
     Access, Aggregate, Assert, Assign, Borrow, Call, Discriminant, Drop, Intrinsic, Made, Operand, Operation, Place, Point, Ref, RawRef, Statement,
-    Step, Switch, TerminatorKind, Use,
+    Switch, TerminatorKind, Use,
 )  # fmt: skip
 from .refused import Refused
 from .regions import Regions
@@ -98,8 +98,6 @@ class Surveyor:
 
     def survey(self) -> Survey:
         """Looks at all points. Refuses a body whose fields cannot be told."""
-        if any(has_index(it) for _, it in self.points()):
-            self.fields.constant_indices = False
         for point, it in self.points():
             self._look(point, it)
         self._find_two_phase()
@@ -228,16 +226,6 @@ class Surveyor:
 def calls_operator(callee: str) -> bool:
     """Whether a callee is that of `a[b]` or `*a`, whose borrows are no two-phase ones."""
     return OPERATOR.search(callee) is not None
-
-
-def has_index(it: Statement | TerminatorKind) -> bool:
-    """Whether a place is indexed by a local."""
-    places = [operand.place for operand in operands_at(it)]
-    if isinstance(it, Assign):
-        places += [it.target, *places_read(it.value)]
-    elif isinstance(it, (Call, Drop)):
-        places.append(it.place)
-    return any(step.step is Step.INDEX for place in places for step in place.projections)
 
 
 def constant_type(text: str) -> Optional[str]:

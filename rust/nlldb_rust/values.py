@@ -90,7 +90,8 @@ class Values:
         """Whether an assignment has a form of its own."""
         if target.rest or source.rest or source.type is None or not self.writing.same(source.type, target.type):
             return False
-        return self.writing.fields.can_be_copied(source.type.shape) if access is Access.COPY else ".*" not in source.text
+        fields, shape = self.writing.fields, source.type.shape
+        return not fields.is_contravariant(shape) and (fields.can_be_copied(shape) if access is Access.COPY else ".*" not in source.text)
 
     def interface(self, source: Written, target: Written, *places: Place) -> list[int]:
         """The regions between which an assignment makes the demands itself."""
@@ -101,7 +102,7 @@ class Values:
 
     def raw_reference(self, target: Place, value: RawRef, point: Point) -> None:
         """Writes `&raw`: a borrow that nobody keeps."""
-        text, kind, rest = self.writing.place(value.place)
+        text, kind, rest, _ = self.writing.place(value.place)
         if rest or kind is None:
             self.calls.step(target, (Operand(Access.COPY, value.place),), point, "raw borrow")
             return
@@ -134,6 +135,8 @@ class Values:
         """Whether a borrow has a form of its own."""
         if target.rest or borrowed.rest or target.type is None or not target.type.is_reference():
             return False
+        if borrowed.type is None or self.writing.fields.is_contravariant(borrowed.type.shape):
+            return False
         mutable = value.borrow is Borrow.MUTABLE
         return target.type.shape.mutable == mutable and self.writing.same(borrowed.type, target.type.part(0))
 
@@ -164,9 +167,8 @@ class Values:
         return int(argument.text.removeprefix("move _"))
 
     def borrow_of_subslice(self, target: Place, borrowed: Written, value: Ref, point: Point) -> None:
-        """Writes the borrow of a subslice: one of the whole slice."""
-        count = len(value.place.projections) - len(borrowed.rest)
-        whole = self.writing.place(Place(value.place.local, value.place.projections[:count]))
+        """Writes the borrow of a subslice: one of the elements in it, which a call makes the slice of."""
+        whole = Written(borrowed.text, borrowed.element)
         self.calls.step(target, (), point, "borrow of a subslice", (self.borrow_of(whole, value, point),))
 
     def discriminant(self, target: Place, place: Place, point: Point) -> None:
@@ -216,7 +218,8 @@ class Values:
             return False
         if operand.text:
             return self.writing.fields.is_number(field.shape)
-        text, kind, rest = self.writing.place(operand.place)
-        if rest or kind is None or not self.writing.fields.same(kind.shape, field.shape):
+        text, kind, rest, _ = self.writing.place(operand.place)
+        fields = self.writing.fields
+        if rest or kind is None or not fields.same(kind.shape, field.shape) or fields.is_contravariant(kind.shape):
             return False
-        return self.writing.fields.can_be_copied(kind.shape) if operand.access is Access.COPY else ".*" not in text
+        return fields.can_be_copied(kind.shape) if operand.access is Access.COPY else ".*" not in text

@@ -6,6 +6,7 @@ from dataclasses import dataclass, field
 from typing import Iterable, NamedTuple, Optional, Sequence
 
 from .declarations import Declarations
+from .drops import Initialized
 from .dump import Dump
 from .fields import Fields
 from .mir import Operand, Place, Point, Projection, Step
@@ -36,11 +37,12 @@ class Line(NamedTuple):
 
 
 class Written(NamedTuple):
-    """A place as far as it can be written: its text and its type (none for a subslice), and the steps that are left."""
+    """A place as far as it can be written: its text and its type, and the steps that are left. A subslice has the type of its elements alone."""
 
     text: str
     type: Optional[Type]
     rest: tuple[Projection, ...] = ()
+    element: Optional[Type] = None
 
 
 class Argument(NamedTuple):
@@ -89,7 +91,7 @@ class Writing:
     declared: Declarations
     names: Names
     survey: Survey
-    initialized: dict[int, int]
+    initialized: Initialized
     naive_two_phase: bool = False
     unwind: bool = False
     notes: Counter[str] = field(default_factory=Counter)
@@ -153,23 +155,23 @@ class Writing:
     def place(self, place: Place) -> Written:
         """Writes a place, up to a dereference of a raw pointer, a cut field or a subslice."""
         kind, text, variant = self.locals[place.local], f"_{place.local}", ""
-        for at, (step, number, name) in enumerate(place.projections):
+        for at, it in enumerate(place.projections):
             rest = place.projections[at:]
-            if step is Step.VARIANT:
-                variant = name
+            if it.step is Step.VARIANT:
+                variant = it.text
                 continue
-            if step is Step.DEREF and kind.is_reference():
+            if it.step is Step.DEREF and kind.is_reference():
                 text, kind = text + ".*", kind.part(0)
                 continue
-            if step is Step.DEREF and kind.shape.kind is Kind.POINTER:
+            if it.step is Step.DEREF and kind.shape.kind is Kind.POINTER:
                 return Written(text, kind, rest)
-            key = self.fields.key_of(step, number, variant)
+            key = self.fields.key_of(kind.shape, it, variant)
             if (kind.shape.key, key) in self.declared.cut:
                 return Written(text, kind, rest)
             text += f".{self.declared.numbers[(kind.shape.key, key)]}"
-            if step is Step.SUBSLICE:
-                return Written(text, None, rest)
             kind, variant = self.fields.of[kind.shape.key][key].type_in(kind), ""
+            if it.step is Step.SUBSLICE:
+                return Written(text, None, rest, kind)
         return Written(text, kind)
 
     def regions_along(self, place: Place) -> list[int]:

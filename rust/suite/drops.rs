@@ -234,3 +234,53 @@ pub fn an_iterator_that_shows(values: &mut Vec<u32>) -> usize {
     values.push(1);
     values.len()
 }
+
+pub fn loud_is_moved_into_another_on_one_path(flag: bool) {
+    let mut value = 1;
+    let loud = Loud(&value);
+    if flag {
+        let other = loud;
+        drop(other);
+        value = 2;
+    }
+}
+
+pub fn loud_is_moved_into_another_that_lives(flag: bool) {
+    let mut value = 1;
+    let loud = Loud(&value);
+    if flag {
+        let other = loud;
+        value = 2; //~ E0506
+    }
+}
+
+pub fn loud_is_moved_in_a_loop(count: u32) {
+    let mut value = 1;
+    for at in 0..count {
+        let loud = Loud(&value);
+        if at == 1 {
+            drop(loud);
+            value += 1;
+        }
+    }
+}
+
+pub fn loud_is_moved_and_made_again(flag: bool) {
+    let mut value = 1;
+    let mut loud = Loud(&value);
+    if flag {
+        drop(loud);
+        value = 2;
+        loud = Loud(&value);
+    }
+}
+
+pub fn loud_is_moved_and_made_again_before(flag: bool) {
+    let mut value = 1;
+    let mut loud = Loud(&value);
+    if flag {
+        drop(loud);
+        loud = Loud(&value);
+        value = 2; //~ E0506
+    }
+}

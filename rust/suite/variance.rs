@@ -151,3 +151,29 @@ pub fn a_trait_object_of_a_longer_region<'a, 'b: 'a>(
 ) -> Box<dyn Fn() -> u32 + 'b> {
     value //~ lifetime
 }
+
+pub fn a_function_behind_a_reference<'a, 'b: 'a>(call: &'a fn(&'a u32)) -> &'a fn(&'b u32) {
+    call
+}
+
+pub fn a_function_in_a_pair<'a, 'b: 'a>(pair: (fn(&'a u32), u32)) -> (fn(&'b u32), u32) {
+    pair
+}
+
+pub fn a_function_put_into_a_struct<'a, 'b: 'a>(call: fn(&'a u32)) -> Takes<'b> {
+    Takes { call }
+}
+
+pub fn a_shorter_function_put_into_a_struct<'a, 'b: 'a>(call: fn(&'b u32)) -> Takes<'a> {
+    Takes { call } //~ lifetime
+}
+
+pub fn a_function_borrowed<'a, 'b: 'a>(takes: &Takes<'a>) -> usize {
+    let local: &Takes<'b> = &*takes;
+    local.call as usize
+}
+
+pub fn a_shorter_function_borrowed<'a, 'b: 'a>(takes: &Takes<'b>) -> usize {
+    let local: &Takes<'a> = &*takes; //~ lifetime
+    local.call as usize
+}
