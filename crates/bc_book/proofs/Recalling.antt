@@ -119,13 +119,14 @@ others_kept_by k n o old new row answers named is other apart =
 -- ---- ledgers that are the same but for what is remembered
 
 pub same_itself : (l : LedgerView) → SameButAnswers l l
-same_itself l = record { capacity = refl; entries = refl; shelf = refl; room = refl; places = refl; ready = refl }
+same_itself l = record { capacity = refl; entries = refl; shelf = refl; pieces = refl; room = refl; places = refl; ready = refl }
 
 pub same_again : (one mid other : LedgerView) → SameButAnswers one mid → SameButAnswers mid other → SameButAnswers one other
 same_again one mid other first second = record {
   capacity = second.capacity ∙ first.capacity;
   entries = second.entries ∙ first.entries;
   shelf = second.shelf ∙ first.shelf;
+  pieces = second.pieces ∙ first.pieces;
   room = second.room ∙ first.room;
   places = second.places ∙ first.places;
   ready = second.ready ∙ first.ready;

@@ -11,7 +11,7 @@ use Rattle.bc_memo.specs.declared.memo.Remembered.{Remembered}
 use Rattle.bc_memo.specs.declared.change.Change.{Change}
 use Rattle.bc_memo.specs.declared.change.Change.TheVariants as changes
 use Rattle.bc_memo.specs.Memos.{IsRemembered, Stands}
-use Rattle.bc_memo.specs.Places.{ShelfView, AreOrdered, changed, empty_shelf, unit_of}
+use Rattle.bc_memo.specs.Places.{PieceRows, ShelfView, AreOrdered, changed, empty_shelf, unit_of}
 use Rattle.bc_calls.specs.declared.call.PutReply.TheVariants.{Added}
 use Rattle.bc_calls.specs.declared.call.Event.{Event}
 use Rattle.bc_calls.specs.declared.call.Event.TheVariants.{Types, Put, Remove, Ask, All as EveryRoot}
@@ -23,16 +23,18 @@ use Rattle.bc_calls.specs.Changes.{change_of, writes_after, writes_of}
 use Rattle.bc_calls.specs.Answers.{IsShelfOf, asks}
 use Rattle.bc_book.specs.Memory.{IsRight, ArePast}
 
--- how many entries there may be, those that there are, what is held, what is remembered, and for how many more entries, places and
--- answers there is memory; and the outcomes that are ready for a change that brings many
+-- how many entries there may be, those that there are, what is held, what is remembered, and the pieces that are kept; for how many more
+-- entries, places, answers and pieces there is memory; and the outcomes that are ready for a change that brings many
 pub record LedgerView : Type 0 where
   pub capacity : ℕ
   pub entries : List Entry
   pub shelf : ShelfView
   pub answers : List (NameParts × Remembered)
+  pub pieces : PieceRows
   pub room : ℕ
   pub places : ℕ
   pub rows : ℕ
+  pub piece_room : ℕ
   pub ready : List (NameParts × Outcome)
 
 -- how many sessions a database may have
@@ -59,20 +61,33 @@ pub record IsLedger (capacity : ℕ) (h : List Entry) (counts : List ℕ) (write
   pub held : (name : NameParts) (row : Remembered) → at_name answers name ≡ Some row → IsSome (at_name shelf.places name)
   pub right : (name : NameParts) (row : Remembered) → at_name answers name ≡ Some row → IsRight shelf h name row
 
--- two ledgers have the same history, and hold and remember the same
+-- two ledgers have the same history, and hold, remember and keep the same
 pub record SameLedger (one other : LedgerView) : Type 0 where
   pub capacity : other.capacity ≡ one.capacity
   pub entries : other.entries ≡ one.entries
   pub shelf : other.shelf ≡ one.shelf
   pub answers : other.answers ≡ one.answers
+  pub pieces : other.pieces ≡ one.pieces
 
 -- all but what is remembered, and the memory for it, is as it was
 pub record SameButAnswers (one other : LedgerView) : Type 0 where
   pub capacity : other.capacity ≡ one.capacity
   pub entries : other.entries ≡ one.entries
   pub shelf : other.shelf ≡ one.shelf
+  pub pieces : other.pieces ≡ one.pieces
   pub room : other.room ≡ one.room
   pub places : other.places ≡ one.places
+  pub ready : other.ready ≡ one.ready
+
+-- all but the pieces that are kept, and the memory for them, is as it was
+pub record SameButPieces (one other : LedgerView) : Type 0 where
+  pub capacity : other.capacity ≡ one.capacity
+  pub entries : other.entries ≡ one.entries
+  pub shelf : other.shelf ≡ one.shelf
+  pub answers : other.answers ≡ one.answers
+  pub room : other.room ≡ one.room
+  pub places : other.places ≡ one.places
+  pub rows : other.rows ≡ one.rows
   pub ready : other.ready ≡ one.ready
 
 -- this may be remembered for a name: the name is held, it is right, and it stands
@@ -133,16 +148,17 @@ HasPlace held (Remove name reply) = Unit {0}
 HasPlace held (Ask name outcome) = Unit {0}
 HasPlace held (EveryRoot listing) = Unit {0}
 
--- how many entries there may be, those that there are, what is held, and what is remembered
+-- how many entries there may be, those that there are, what is held, what is remembered, and the pieces that are kept
 pub record BookView : Type 0 where
   pub capacity : ℕ
   pub entries : List Entry
   pub shelf : ShelfView
   pub answers : List (NameParts × Remembered)
+  pub pieces : PieceRows
 
--- no entry, which may become so many, no declaration and no body, and nothing remembered
+-- no entry, which may become so many, no declaration and no body, nothing remembered, and no piece
 abbrev pub empty_book : ℕ → BookView
-empty_book capacity = record { capacity = capacity; entries = []; shelf = empty_shelf []; answers = [] }
+empty_book capacity = record { capacity = capacity; entries = []; shelf = empty_shelf []; answers = []; pieces = [] }
 
 -- the one entry is added, with its session's next number: the call, and the reply that what is held gives it. What is held changes as
 -- the event says, and what it writes has as its revision the count of accepted writes with it; the history is legal with it

@@ -4,7 +4,7 @@ ghost use Rattle.bc_prov.specs.Outcome.{IsOutcomeIn};
 ghost use Rattle.bc_prov.specs.Pieces.{rows_of};
 ghost use Rattle.bc_prov.specs.Snapshots.{IsPartOf};
 ghost use Rattle.bc_memo.specs.Memos.{IsRemembered};
-ghost use Rattle.bc_memo.specs.Places.{AreFitting, changed};
+ghost use Rattle.bc_memo.specs.Places.{AreFitting, changed, pieces_after, pieces_with};
 ghost use Rattle.bc_calls.specs.Calls.{IsLegal, IsReply, MayComeNext, after};
 ghost use Rattle.bc_calls.specs.Changes.{change_of, writes_after, writes_of};
 ghost use Rattle.bc_versions.specs.Tables.{pressed};
@@ -16,7 +16,7 @@ ghost use Rattle.bc_book.specs.Ledgers.{Appends, AreRows, HasPlace, IsFull, Keep
 
 use crate::asked::Asked;
 use crate::ledger::{Ledger, MOST_SESSIONS, Refusal};
-use crate::roots::{FoundAll, push_row, reusable};
+use crate::roots::{FoundAll, count_pieces, push_row};
 use bc_calls::{Begun, Entry, Event, PutReply, RemoveReply, Told, Work, no_declarations};
 use bc_memo::Remembered;
 use bc_names::Name;
@@ -101,8 +101,9 @@ fn publish<E: Ending, R: Wait>(
 }
 
 /// The state under the lock: the append-only history of all calls, what is held after it, the remembered outcomes, and the writer of
-/// the published table. Contracts see how many entries it may have, those that it has, what is held, and what is remembered. The type
-/// keeps that the entries that it has are those that were published, and so is what is held, with its revisions and its answers.
+/// the published table. Contracts see how many entries it may have, those that it has, what is held, what is remembered, and the pieces that
+/// are kept. The type keeps that the entries that it has are those that were published, and so is what is held, with its revisions and its
+/// answers.
 pub struct Book<E: Ending> {
     ledger: Ledger,
     press: Press<E>,
@@ -124,7 +125,7 @@ impl<E: Ending> Model for Book<E> {
 
     ghost Value = { BookView };
 
-    ghost view = { λ b. record { capacity = b.ledger.capacity; entries = b.ledger.entries; shelf = b.ledger.shelf; answers = b.ledger.answers } };
+    ghost view = { λ b. record { capacity = b.ledger.capacity; entries = b.ledger.entries; shelf = b.ledger.shelf; answers = b.ledger.answers; pieces = b.ledger.pieces } };
 
     ghost invariant = { λ b. b.press ≡ record { entries = b.ledger.entries; shelf = b.ledger.shelf } };
 }
@@ -268,11 +269,12 @@ impl<E: Ending> Book<E> {
         self.ledger.begin(alloc, name)
     }
 
-    /// Enters a session's Ask of the name of a work, and replies with the name's outcome: the one that is remembered and still valid; else
-    /// the work's own where its revisions, declarations and units are those held; else the one that the pieces that the work made and those
-    /// that are kept give, as far as they are still valid, with the other bodies worked on by the providers. The outcome of a name that is
-    /// held is remembered, and published with the entry, and so are the pieces; that of an absent name is remembered nowhere. Published and
-    /// refused as `put_types` is, and with `NoMemory` where a provider runs out of memory.
+    /// Enters a session's Ask of the name of a work, and replies with the name's outcome: the work's own where its revisions, declarations and
+    /// units are those held; else the one that is remembered and still valid; else the one that the pieces that the work made and those that
+    /// are kept give, as far as they are still valid, with the other bodies worked on by the providers. Where the work made no pieces, what is
+    /// remembered comes first: it is the same outcome. The outcome of a name that is held is remembered, and published with the entry, and so
+    /// are the pieces; that of an absent name is remembered nowhere. Published and refused as `put_types` is, and with `NoMemory` where a
+    /// provider runs out of memory.
     pub fn settle<R: Wait>(
         &mut self,
         rt: &R,
@@ -293,7 +295,6 @@ impl<E: Ending> Book<E> {
         let name = *work.name();
         let Found { outcome, pieces } = self.ledger.outcome(alloc, &name, Some(work), providers)?;
         let row = self.ledger.row(alloc, &name, &outcome)?;
-        let pieces = reusable(&name, outcome.get(), pieces);
         let mut rows = Vec::new(alloc);
         push_row(&mut rows, row)?;
         let findings = Findings::of(alloc, rows, pieces)?;
@@ -302,9 +303,8 @@ impl<E: Ending> Book<E> {
 
     /// Enters a session's Ask for all, and replies with the outcome of each held root, in the order of their names. Each is the one that
     /// `settle` would reply to an Ask of that name, with a session's work on it where one is handed in. Works may be handed in in any
-    /// order, and may be of names that are no held roots, of another database, or doubled: those that do not come in the order of the names
-    /// are dropped, and what they found is found again. All outcomes are remembered, and published with the one entry, and so are the
-    /// pieces. Published and refused as `settle` is.
+    /// order, and may be of names that are no held roots, or of another database. Of several of one name one is taken, and the others are
+    /// dropped. All outcomes are remembered, and published with the one entry, and so are the pieces. Published and refused as `settle` is.
     pub fn settle_all<R: Wait>(
         &mut self,
         rt: &R,
@@ -334,7 +334,7 @@ impl<E: Ending> Book<E> {
     // Adds a session's event, whose reply is the one that what is held gives it, publishes it, and remembers outcomes and keeps pieces,
     // where there are any: the pieces that are kept fit what is held, and those that are published fit what the event leaves of it. The
     // capacity is tested first, all that may be refused comes next, and of that the writer's own room is the
-    // last. Answers two more owners of the event.
+    // last: a refused event leaves what is remembered and what is kept. Answers two more owners of the event.
     fn append<R: Wait>(
         &mut self,
         rt: &R,
@@ -351,6 +351,7 @@ impl<E: Ending> Book<E> {
         ensures told { IfOk result (λ told. told ≡ event) }
         ensures step { OnOk result (Appends session event self.old self.new) }
         ensures answers { OnOk result (self.new.answers ≡ kept_rows (change_of event) (remembering findings.rows.items self.old.answers)) }
+        ensures pieces { OnOk result (self.new.pieces ≡ pieces_after (change_of event) (pieces_with (rows_of findings.kept) self.old.pieces)) }
         ensures refused { OnErr result (self.new ≡ self.old) }
         ensures full { IfErr result (IsFull self.old) }
         ensures below { OnOk result (length self.old.entries < self.old.capacity) }
@@ -360,7 +361,8 @@ impl<E: Ending> Book<E> {
             kept,
             published,
         } = findings;
-        let change = self.ledger.make_ready(&event, rows.len(), kept)?;
+        let pieces = count_pieces(&kept);
+        let change = self.ledger.make_ready(&event, rows.len(), pieces)?;
         let told = Told::of(&event)?;
         let number = self.ledger.number(session);
         let revision = self.ledger.revision(&event);
@@ -370,6 +372,7 @@ impl<E: Ending> Book<E> {
             event,
         };
         publish(rt, &mut self.press, &entry, revision, published)?;
+        self.ledger.keep(kept);
         self.ledger.remember(rows);
         self.ledger.record(entry, change, revision);
         Ok(told)

@@ -9,18 +9,18 @@ ghost use Rattle.bc_prov.specs.Pieces.{rows_of};
 ghost use Rattle.bc_prov.specs.Snapshots.{IsPartOf};
 ghost use Rattle.bc_prov.specs.State.{at_name};
 ghost use Rattle.bc_memo.specs.Memos.{IsRemembered};
-ghost use Rattle.bc_memo.specs.Places.{AreFitting, IsReady, changed, empty_shelf, units_in};
+ghost use Rattle.bc_memo.specs.Places.{AreFitting, IsReady, changed, empty_shelf, pieces_after, pieces_with, units_in};
 ghost use Rattle.bc_calls.specs.Calls.{IsLegal, IsListing, IsPutReply, IsRemoveReply, MayComeNext, after, count_of, most_bodies};
 ghost use Rattle.bc_calls.specs.Changes.{change_of, writes_after, writes_of};
-ghost use Rattle.bc_book.specs.Ledgers.{AreRows, HasPlace, IsFoundAll, IsRow, Recalls, SameButAnswers, SameLedger, kept_rows, remembering};
+ghost use Rattle.bc_book.specs.Ledgers.{AreRows, HasPlace, IsFoundAll, IsRow, Recalls, SameButAnswers, SameButPieces, SameLedger, kept_rows, remembering};
 
 use crate::reply::{put_reply, remove_reply};
-use crate::roots::{FoundAll, push_pieces, push_row, reusable, take_work};
+use crate::roots::{FoundAll, brings_pieces, in_reverse, push_pieces, push_row, take_work};
 use bc_calls::{Begun, Entry, Event, MOST_BODIES, PutReply, RemoveReply, Work, no_declarations};
 use bc_memo::{Change, Memo, Part, PieceMemo, Remembered, Shelf};
 use bc_names::Name;
 use bc_outcomes::Found;
-use bc_prov::{Outcome, PieceSet, Pieces, Providers, Shared};
+use bc_prov::{Outcome, PieceSet, Providers, Shared};
 use bc_syntax::Unit;
 use std::alloc::{AllocError, Global};
 use std::marker::Model;
@@ -83,7 +83,7 @@ impl Model for Ledger {
 
     ghost Value = { LedgerView };
 
-    ghost view = { λ l. record { capacity = l.capacity; entries = l.history.items; shelf = l.shelf.held; answers = l.memo.rows; room = vec_capacity l.history - l.history.len; places = l.shelf.room; rows = l.memo.room; ready = l.shelf.ready } };
+    ghost view = { λ l. record { capacity = l.capacity; entries = l.history.items; shelf = l.shelf.held; answers = l.memo.rows; pieces = l.pieces.rows; room = vec_capacity l.history - l.history.len; places = l.shelf.room; rows = l.memo.room; piece_room = l.pieces.room; ready = l.shelf.ready } };
 
     ghost invariant = { λ l. IsLedger l.capacity l.history.items l.counts l.writes l.shelf.held l.memo.rows × AreKeptPieces l.shelf.held l.pieces.rows × (most_bodies < most_rows l.pieces) };
 }
@@ -91,7 +91,7 @@ impl Model for Ledger {
 impl Ledger {
     /// An empty history, with no declaration and no body, and memory for all bodies. Returns `AllocError` only where memory was refused.
     pub(crate) fn new(alloc: Global, capacity: u32) -> Result<Ledger, AllocError>
-        ensures same { IfOk result (λ ledger. (ledger.capacity ≡ capacity) × (ledger.entries ≡ []) × (ledger.shelf ≡ empty_shelf []) × (ledger.answers ≡ [])) }
+        ensures same { IfOk result (λ ledger. (ledger.capacity ≡ capacity) × (ledger.entries ≡ []) × (ledger.shelf ≡ empty_shelf []) × (ledger.answers ≡ []) × (ledger.pieces ≡ [])) }
         ensures places { IfOk result (λ ledger. most_bodies < ledger.places) }
     {
         let types = no_declarations(alloc)?;
@@ -117,11 +117,11 @@ impl Ledger {
         Ok(())
     }
 
-    /// Makes room for one entry, one body and so many answers. The capacity is tested first: `HistoryFull` exactly where the history is as
-    /// long as it may be, and `NoMemory` only where memory was refused. What is kept is as it was in each case.
-    pub(crate) fn reserve(&mut self, answers: usize) -> Result<(), Refusal>
+    /// Makes room for one entry, one body, so many answers and so many pieces. The capacity is tested first: `HistoryFull` exactly where the
+    /// history is as long as it may be, and `NoMemory` only where memory was refused. What is kept is as it was in each case.
+    pub(crate) fn reserve(&mut self, answers: usize, pieces: usize) -> Result<(), Refusal>
         ensures same { SameLedger self.old self.new }
-        ensures room { OnOk result ((0 < self.new.room) × (0 < self.new.places) × (answers ≤ self.new.rows)) }
+        ensures room { OnOk result ((0 < self.new.room) × (0 < self.new.places) × (answers ≤ self.new.rows) × (pieces ≤ self.new.piece_room)) }
         ensures below { OnOk result (length self.old.entries < self.old.capacity) }
         ensures full { IfErr result (λ r. r ≡ Refusal.HistoryFull ↔ length self.old.entries ≡ self.old.capacity) }
     {
@@ -129,6 +129,7 @@ impl Ledger {
         self.history.reserve(1)?;
         self.shelf.reserve()?;
         self.memo.reserve(answers)?;
+        self.pieces.reserve(pieces)?;
         Ok(())
     }
 
@@ -208,8 +209,9 @@ impl Ledger {
         Ok(Begun::carrying(part, answer))
     }
 
-    /// The outcome of a name, of which a session may have worked on a part: what is remembered for it; else the work's own where the work
-    /// stands; else what its pieces and those that are kept give, as far as they stand, with the other bodies worked on. With it come the
+    /// The outcome of a name, of which a session may have worked on a part: the work's own where the work stands; else what is remembered for
+    /// the name; else what the pieces of the work and those that are kept give, as far as they stand, with the other bodies worked on. What is
+    /// remembered comes first where no pieces were made for the work: it is the same outcome, for which nothing is compared. With it come the
     /// pieces that are not kept yet, each found from what is held. Returns `AllocError` only where memory was refused, as a provider may
     /// answer too.
     pub(crate) fn outcome(
@@ -224,8 +226,10 @@ impl Ledger {
         ensures over { IfOk result (λ found. IfSome found.pieces (λ set. set.types ≡ self.now.shelf.types)) }
         ensures fit { IfOk result (λ found. AreFitting self.now.shelf (rows_of found.pieces)) }
     {
-        if let Some(outcome) = self.shared_answer(name)? {
-            return Ok(Found::without_pieces(outcome));
+        if !brings_pieces(&work) {
+            if let Some(outcome) = self.shared_answer(name)? {
+                return Ok(Found::without_pieces(outcome));
+            }
         }
         match work {
             Some(work) => match work.standing(&self.shelf) {
@@ -236,7 +240,8 @@ impl Ledger {
         }
     }
 
-    // The outcome of a name, worked out, but for the bodies of which a piece is handed in or kept that stands.
+    // The outcome of a name: what is remembered for it, else what is worked out, but for the bodies of which a piece is handed in or kept
+    // that stands.
     fn found_anew(
         &self,
         alloc: Global,
@@ -254,8 +259,8 @@ impl Ledger {
     }
 
     /// The outcome of each held root, in the order of their names, with what is to be remembered and the pieces that are not kept yet. The
-    /// works are taken as `outcome` takes one, where they come in the order of their names; any other is let go, and what it found is found
-    /// again. Returns `AllocError` only where memory was refused, as a provider may answer too.
+    /// works are taken as `outcome` takes one, in whatever order they come: for each root one work of its name. Any other is let go. Returns
+    /// `AllocError` only where memory was refused, as a provider may answer too.
     pub(crate) fn outcomes(
         &self,
         alloc: Global,
@@ -268,8 +273,7 @@ impl Ledger {
     {
         let types = self.shelf.types().clone()?;
         let mut found = FoundAll::none(alloc, types);
-        let mut works = works;
-        works.reverse();
+        let mut works = in_reverse(works);
         let roots = self.shelf.roots(alloc)?;
         for name in &roots {
             let work = take_work(&mut works, name);
@@ -300,7 +304,6 @@ impl Ledger {
         let Found { outcome, pieces } = self.outcome(alloc, name, work, providers)?;
         let row = self.row(alloc, name, &outcome)?;
         push_row(&mut found.rows, row)?;
-        let pieces = reusable(name, outcome.get(), pieces);
         push_pieces(&mut found.pieces, pieces)?;
         found.listing.push((*name, outcome))?;
         Ok(())
@@ -389,59 +392,47 @@ impl Ledger {
     }
 
     /// Keeps these pieces, if there are any, each in the place of one that was kept for its name. It asks that each was found from what is
-    /// held, and compares nothing. Contracts do not see them. Returns `AllocError` only where memory was refused: then none is kept.
-    pub(crate) fn keep(&mut self, pieces: Option<PieceSet>) -> Result<(), AllocError>
-        requires { AreFitting self.old.shelf (rows_of pieces) }
-        ensures { self.new ≡ self.old }
+    /// held, which it does not compare, and for room for them. It takes no memory.
+    pub(crate) fn keep(&mut self, pieces: Option<PieceSet>)
+        requires fit { AreFitting self.old.shelf (rows_of pieces) }
+        requires room { length (rows_of pieces) ≤ self.old.piece_room }
+        ensures same { SameButPieces self.old self.new }
+        ensures pieces { self.new.pieces ≡ pieces_with (rows_of pieces) self.old.pieces }
     {
-        match pieces {
-            Some(set) => self.keep_rows(set.into_rows()),
-            None => Ok(()),
+        if let Some(set) = pieces {
+            self.pieces.keep_all(set.into_rows());
         }
-    }
-
-    // Keeps pieces that were found from what is held.
-    fn keep_rows(&mut self, rows: Pieces) -> Result<(), AllocError>
-        requires { AreFitting self.old.shelf rows.items }
-        ensures { self.new ≡ self.old }
-    {
-        self.pieces.reserve(rows.len())?;
-        self.pieces.keep_all(rows);
-        Ok(())
     }
 
     /// Makes the owners that a change brings for many names. Returns `AllocError` only where memory or an owner was refused. What is kept
     /// is as it was in each case.
     pub(crate) fn prepare(&mut self, change: &Change) -> Result<(), AllocError>
         ensures same { SameLedger self.old self.new }
-        ensures room { (self.new.room ≡ self.old.room) × (self.new.places ≡ self.old.places) × (self.new.rows ≡ self.old.rows) }
+        ensures room { (self.new.room ≡ self.old.room) × (self.new.places ≡ self.old.places) × (self.new.rows ≡ self.old.rows) × (self.new.piece_room ≡ self.old.piece_room) }
         ensures ready { OnOk result (IsReady change.now self.new.ready) }
     {
         self.shelf.prepare(change)
     }
 
-    /// Makes ready for an event: makes room for its entry, for one body and for so many answers, makes the owners that its change brings, and
-    /// keeps these pieces as `keep` does. Returns the change. The capacity is tested first: `HistoryFull` exactly where the history is as long
-    /// as it may be, and `NoMemory` only where memory was refused. What contracts see of the ledger is as it was in each case, but for the
-    /// memory that is ready.
+    /// Makes ready for an event: makes room for its entry, for one body, for so many answers and for so many pieces, and makes the owners that
+    /// its change brings. Returns the change. The capacity is tested first: `HistoryFull` exactly where the history is as long as it may be,
+    /// and `NoMemory` only where memory was refused. What is kept is as it was in each case.
     pub(crate) fn make_ready(
         &mut self,
         event: &Event,
         answers: usize,
-        pieces: Option<PieceSet>,
+        pieces: usize,
     ) -> Result<Change, Refusal>
-        requires { AreFitting self.old.shelf (rows_of pieces) }
         ensures same { SameLedger self.old self.new }
-        ensures room { OnOk result ((0 < self.new.room) × (0 < self.new.places) × (answers ≤ self.new.rows)) }
+        ensures room { OnOk result ((0 < self.new.room) × (0 < self.new.places) × (answers ≤ self.new.rows) × (pieces ≤ self.new.piece_room)) }
         ensures change { IfOk result (λ change. change ≡ change_of event.now) }
         ensures ready { IfOk result (λ change. IsReady change self.new.ready) }
         ensures below { OnOk result (length self.old.entries < self.old.capacity) }
         ensures full { IfErr result (λ r. r ≡ Refusal.HistoryFull ↔ length self.old.entries ≡ self.old.capacity) }
     {
-        self.reserve(answers)?;
+        self.reserve(answers, pieces)?;
         let change = event.change()?;
         self.prepare(&change)?;
-        self.keep(pieces)?;
         Ok(change)
     }
 
@@ -460,6 +451,7 @@ impl Ledger {
         ensures entries { self.new.entries ≡ self.old.entries ++ entry ∷ [] }
         ensures shelf { self.new.shelf ≡ changed self.old.shelf change revision }
         ensures answers { self.new.answers ≡ kept_rows change self.old.answers }
+        ensures pieces { self.new.pieces ≡ pieces_after change self.old.pieces }
         ensures legal { IsLegal self.new.entries }
     {
         self.writes = revision;

@@ -1,5 +1,5 @@
 //! What is found for all held roots.
-ghost use Rattle.std.specs.Prelude.{◌≡◌, ◌++◌, [], IfSome, OnOk, Some};
+ghost use Rattle.std.specs.Prelude.{◌≡◌, ◌++◌, [], length, IfSome, OnOk};
 ghost use Rattle.bc_prov.specs.Pieces.{rows_of};
 ghost use Rattle.bc_book.specs.Ledgers.{row_list};
 
@@ -61,24 +61,29 @@ pub(crate) fn push_pieces(pieces: &mut PieceSet, more: Option<PieceSet>) -> Resu
     }
 }
 
-/// The pieces that a later report may take: none of a root that was reported alone, since what was found of it is remembered until its body
-/// or the declarations are written, which would drop its piece too.
-pub(crate) fn reusable(name: &Name, outcome: &Outcome, pieces: Option<PieceSet>) -> Option<PieceSet>
-    ensures { IfSome result (λ set. pieces ≡ Some set) }
-{
-    if name.depth() == 0 && bodies_in(outcome) == 1 {
-        None
-    } else {
-        pieces
+/// Whether there is work for which pieces were made. It takes no memory.
+pub(crate) fn brings_pieces(work: &Option<Work>) -> bool {
+    match work {
+        Some(work) => work.has_pieces(),
+        None => false,
     }
 }
 
-/// How many bodies an outcome reports.
-fn bodies_in(outcome: &Outcome) -> usize {
-    match outcome {
-        Outcome::Report(bodies) => bodies.len(),
-        Outcome::NoBody | Outcome::Missing(_) | Outcome::BadTypes(_) | Outcome::Ill(_, _) => 0,
+/// How many pieces a set has, if there is one. It takes no memory.
+pub(crate) fn count_pieces(pieces: &Option<PieceSet>) -> usize
+    ensures { result ≡ length (rows_of pieces.now) }
+{
+    match pieces {
+        Some(set) => set.rows().len(),
+        None => 0,
     }
+}
+
+/// Works in the order of their names, in reverse. It takes no memory.
+pub(crate) fn in_reverse(works: Vec<Work>) -> Vec<Work> {
+    let mut works = works;
+    works.sort_unstable_by(|one, other| other.name().cmp(one.name()));
+    works
 }
 
 /// The work of a name among works that lie in reverse, if it is the next of them; those before it, of lesser names, are let go.

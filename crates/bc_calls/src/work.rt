@@ -158,6 +158,14 @@ impl Work {
         self.snapshot.root()
     }
 
+    /// Returns whether pieces were made for it. Contracts do not see them. It takes no memory.
+    pub fn has_pieces(&self) -> bool {
+        match &self.pieces {
+            Some(set) => !set.rows().is_empty(),
+            None => false,
+        }
+    }
+
     /// Returns the outcome that was found.
     pub fn outcome(&self) -> &Outcome
         ensures value { result.now ≡ self.now.outcome }

@@ -3,10 +3,9 @@ ghost use Rattle.std.specs.Prelude.{◌≡◌, ◌++◌, ℕ, Bool, true, IfOk, 
 ghost use Rattle.std.specs.List.{flat_map, enumerate_from};
 ghost use Rattle.bc_flow.specs.BitSet.{has};
 ghost use Rattle.bc_flow.specs.Flow.{holds};
-ghost use Rattle.bc_points.specs.Accesses.{accesses_of};
 ghost use Rattle.bc_loans.specs.Loans.{loans_of};
 ghost use Rattle.bc_judge.specs.Candidates.{HaveCandidates, AreCandidates};
-ghost use Rattle.bc_judge.specs.Conflicts.{is_conflict as conflict_test, conflict_with, conflicts_of_access, conflicts_at, conflicts_of_step, conflicts_of};
+ghost use Rattle.bc_judge.specs.Conflicts.{conflict_with, conflicts_of_access, conflicts_at, conflicts_of_step, conflicts_of};
 
 use crate::candidates::{candidate_rows, next_in_both, row_number};
 use crate::relevance::is_conflict;
@@ -27,23 +26,40 @@ pub(crate) struct Conflict {
     pub(crate) region: Region,
 }
 
-/// Appends the conflict of an access with a loan that is in scope, if they conflict.
+/// A body with its loans, and for each kind of access and each local, by `row_number`, a row of the loans that such an access may conflict
+/// with.
+#[derive(Drop)]
+struct BodyLoans<'a> {
+    typed: &'a Typed,
+    loans: &'a [(usize, Loan<'a>)],
+    rows: BitTable,
+    ghost all: { loans.now ≡ loans_of typed.now },
+    ghost candidates: { HaveCandidates loans.now rows },
+}
+
+/// An access, with the number of its point and its own among the accesses of that point.
+#[derive(Clone, Copy)]
+struct PointAccess<'a> {
+    point: usize,
+    number: usize,
+    access: &'a Access<'a>,
+}
+
+/// Appends the conflict of an access with a loan that is in scope, if they conflict. Returns `AllocError` only if memory was refused.
 fn push_conflict(
     conflicts: &mut Vec<Conflict>,
     typed: &Typed,
-    point: usize,
-    number: usize,
-    access: &Access<'_>,
+    here: PointAccess<'_>,
     maker: usize,
     loan: &Loan<'_>,
 ) -> Result<(), AllocError>
     ensures { OnOk result ((scope : ℕ → Bool) (n : ℕ) → scope n ≡ true →
-        conflicts.new.items ≡ conflicts.old.items ++ conflict_with typed.now scope point (number, access.now) (n, (maker, loan.now))) }
+        conflicts.new.items ≡ conflicts.old.items ++ conflict_with typed.now scope here.entry.point (here.entry.number, here.entry.access.now) (n, (maker, loan.now))) }
 {
-    if is_conflict(typed, access, loan) {
+    if is_conflict(typed, here.access, loan) {
         conflicts.push(Conflict {
-            point,
-            access: number,
+            point: here.point,
+            access: here.number,
             maker,
             region: loan.region,
         })?;
@@ -51,137 +67,126 @@ fn push_conflict(
     Ok(())
 }
 
-/// Appends the conflicts of an access with those of its candidates that `scope` has, which are in scope on entry to its point.
-fn push_candidates(
-    conflicts: &mut Vec<Conflict>,
-    typed: &Typed,
-    loans: &[(usize, Loan<'_>)],
-    candidates: &BitRow<'_>,
-    scope: &BitRow<'_>,
-    point: usize,
-    number: usize,
-    access: &Access<'_>,
-) -> Result<(), AllocError>
-    requires loans { loans.now ≡ loans_of typed.now }
-    requires candidates { AreCandidates typed.now access.now loans.now candidates.now }
-    ensures { OnOk result (conflicts.new.items
-        ≡ conflicts.old.items ++ conflicts_of_access typed.now (has scope.now) point (number, access.now)) }
-{
-    let mut from = 0;
-    while let Some(member) = next_in_both(candidates, scope, from) {
-        let Some((maker, loan)) = loans.get(member) else {
+impl<'a> BodyLoans<'a> {
+    /// Returns a body with its loans. Returns `AllocError` only if memory was refused.
+    fn of(
+        alloc: Global,
+        typed: &'a Typed,
+        loans: &'a [(usize, Loan<'a>)],
+    ) -> Result<BodyLoans<'a>, AllocError>
+        requires { loans.now ≡ loans_of typed.now }
+        ensures { IfOk result (λ body. body.typed.now ≡ typed.now) }
+    {
+        let rows = candidate_rows(alloc, loans)?;
+        Ok(BodyLoans { typed, loans, rows })
+    }
+
+    /// Appends the conflicts of an access with those of its candidates that `scope` has, which are in scope on entry to its point. Returns
+    /// `AllocError` only if memory was refused.
+    fn push_candidates(
+        &self,
+        conflicts: &mut Vec<Conflict>,
+        candidates: &BitRow<'_>,
+        scope: &BitRow<'_>,
+        here: PointAccess<'_>,
+    ) -> Result<(), AllocError>
+        requires candidates { AreCandidates self.now.typed.now here.access.now self.now.loans.now candidates.now }
+        ensures { OnOk result (conflicts.new.items
+            ≡ conflicts.old.items ++ conflicts_of_access self.now.typed.now (has scope.now) here.entry.point (here.entry.number, here.entry.access.now)) }
+    {
+        let mut from = 0;
+        while let Some(member) = next_in_both(candidates, scope, from) {
+            let Some((maker, loan)) = self.loans.get(member) else {
+                return Ok(());
+            };
+            push_conflict(conflicts, self.typed, here, *maker, loan)?;
+            from = member + 1;
+        }
+        Ok(())
+    }
+
+    /// Appends the conflicts of an access with the loans of `scope`, which are in scope on entry to its point. Returns `AllocError` only if
+    /// memory was refused.
+    fn push_access(
+        &self,
+        conflicts: &mut Vec<Conflict>,
+        scope: &BitRow<'_>,
+        here: PointAccess<'_>,
+    ) -> Result<(), AllocError>
+        ensures { OnOk result (conflicts.new.items
+            ≡ conflicts.old.items ++ conflicts_of_access self.now.typed.now (has scope.now) here.entry.point (here.entry.number, here.entry.access.now)) }
+    {
+        let access = here.access;
+        let reached = row_number(access.kind, access.place.local());
+        match self.rows.get(reached) {
+            Some(candidates) => self.push_candidates(conflicts, &candidates, scope, here),
+            None => Ok(()),
+        }
+    }
+
+    /// Appends the conflicts of the accesses of a point. Returns `AllocError` only if memory was refused.
+    fn push_conflicts(
+        &self,
+        conflicts: &mut Vec<Conflict>,
+        scope: &BitRow<'_>,
+        point: usize,
+        accesses: &[Access<'_>],
+    ) -> Result<(), AllocError>
+        ensures { OnOk result (conflicts.new.items
+            ≡ conflicts.old.items ++ flat_map (conflicts_of_access self.now.typed.now (has scope.now) point) (enumerate_from 0 accesses.now)) }
+    {
+        for (number, access) in accesses.iter().enumerate() {
+            let here = PointAccess {
+                point,
+                number,
+                access,
+            };
+            self.push_access(conflicts, scope, here)?;
+        }
+        Ok(())
+    }
+
+    /// Appends the conflicts of a numbered point with the loans of `scope`, which are in scope on entry to it. `accesses` is a list to be
+    /// filled anew. Returns `AllocError` only if memory was refused.
+    fn push_step<'s>(
+        &self,
+        alloc: Global,
+        conflicts: &mut Vec<Conflict>,
+        accesses: &mut Vec<Access<'s>>,
+        scope: &BitRow<'_>,
+        here: (usize, &'s Step),
+    ) -> Result<(), AllocError>
+        ensures { OnOk result (conflicts.new.items ≡ conflicts.old.items ++ conflicts_at self.now.typed.now (has scope.now) (here.entry.0, here.entry.1.now)) }
+    {
+        if scope.next_member(0).is_none() {
             return Ok(());
-        };
-        push_conflict(conflicts, typed, point, number, access, *maker, loan)?;
-        from = member + 1;
+        }
+        accesses.clear();
+        push_accesses(alloc, accesses, self.typed, &here.1.instruction)?;
+        self.push_conflicts(conflicts, scope, here.0, accesses)
     }
-    Ok(())
-}
 
-/// Appends the conflicts of an access with the loans of `scope`, which are in scope on entry to its point. `rows` has the candidates
-/// of each access.
-fn push_access(
-    conflicts: &mut Vec<Conflict>,
-    typed: &Typed,
-    loans: &[(usize, Loan<'_>)],
-    rows: &BitTable,
-    scope: &BitRow<'_>,
-    point: usize,
-    number: usize,
-    access: &Access<'_>,
-) -> Result<(), AllocError>
-    requires loans { loans.now ≡ loans_of typed.now }
-    requires rows { HaveCandidates loans.now rows.now }
-    ensures { OnOk result (conflicts.new.items
-        ≡ conflicts.old.items ++ conflicts_of_access typed.now (has scope.now) point (number, access.now)) }
-{
-    let reached = row_number(access.kind, access.place.local());
-    match rows.get(reached) {
-        Some(candidates) => push_candidates(
-            conflicts,
-            typed,
-            loans,
-            &candidates,
-            scope,
-            point,
-            number,
-            access,
-        ),
-        None => Ok(()),
+    /// Appends the conflicts of a numbered point, where `scopes` has for each point the loans that are in scope on entry to it. Returns
+    /// `AllocError` only if memory was refused.
+    fn push_point<'s>(
+        &self,
+        alloc: Global,
+        conflicts: &mut Vec<Conflict>,
+        accesses: &mut Vec<Access<'s>>,
+        scopes: &BitTable,
+        here: (usize, &'s Step),
+    ) -> Result<(), AllocError>
+        ensures { OnOk result (conflicts.new.items ≡ conflicts.old.items ++ conflicts_of_step self.now.typed.now (holds scopes.now) (here.entry.0, here.entry.1.now)) }
+    {
+        match scopes.get(here.0) {
+            Some(scope) => self.push_step(alloc, conflicts, accesses, &scope, here),
+            None => Ok(()),
+        }
     }
 }
 
-/// Appends the conflicts of the accesses of a point.
-fn push_conflicts(
-    conflicts: &mut Vec<Conflict>,
-    typed: &Typed,
-    loans: &[(usize, Loan<'_>)],
-    rows: &BitTable,
-    scope: &BitRow<'_>,
-    point: usize,
-    accesses: &[Access<'_>],
-) -> Result<(), AllocError>
-    requires loans { loans.now ≡ loans_of typed.now }
-    requires rows { HaveCandidates loans.now rows.now }
-    ensures { OnOk result (conflicts.new.items
-        ≡ conflicts.old.items ++ flat_map (conflicts_of_access typed.now (has scope.now) point) (enumerate_from 0 accesses.now)) }
-{
-    for (number, access) in accesses.iter().enumerate() {
-        push_access(conflicts, typed, loans, rows, scope, point, number, access)?;
-    }
-    Ok(())
-}
-
-/// Appends the conflicts of a point with the loans of `scope`, which are in scope on entry to it. `accesses` is a list to be
-/// filled anew.
-fn push_step<'a>(
-    alloc: Global,
-    conflicts: &mut Vec<Conflict>,
-    accesses: &mut Vec<Access<'a>>,
-    typed: &Typed,
-    loans: &[(usize, Loan<'_>)],
-    rows: &BitTable,
-    scope: &BitRow<'_>,
-    point: usize,
-    step: &'a Step,
-) -> Result<(), AllocError>
-    requires loans { loans.now ≡ loans_of typed.now }
-    requires rows { HaveCandidates loans.now rows.now }
-    ensures { OnOk result (conflicts.new.items ≡ conflicts.old.items ++ conflicts_at typed.now (has scope.now) (point, step.now)) }
-{
-    if scope.next_member(0).is_none() {
-        return Ok(());
-    }
-    accesses.clear();
-    push_accesses(alloc, accesses, typed, &step.instruction)?;
-    push_conflicts(conflicts, typed, loans, rows, scope, point, accesses)
-}
-
-/// Appends the conflicts of a point, by its number.
-fn push_point<'a>(
-    alloc: Global,
-    conflicts: &mut Vec<Conflict>,
-    accesses: &mut Vec<Access<'a>>,
-    typed: &Typed,
-    loans: &[(usize, Loan<'_>)],
-    rows: &BitTable,
-    scopes: &BitTable,
-    point: usize,
-    step: &'a Step,
-) -> Result<(), AllocError>
-    requires loans { loans.now ≡ loans_of typed.now }
-    requires rows { HaveCandidates loans.now rows.now }
-    ensures { OnOk result (conflicts.new.items ≡ conflicts.old.items ++ conflicts_of_step typed.now (holds scopes.now) (point, step.now)) }
-{
-    match scopes.get(point) {
-        Some(scope) => push_step(
-            alloc, conflicts, accesses, typed, loans, rows, &scope, point, step,
-        ),
-        None => Ok(()),
-    }
-}
-
-/// The conflicts of a body in order, where `scopes` has for each point the loans that are in scope on entry to it.
+/// Returns the conflicts of a body in order, where `scopes` has for each point the loans that are in scope on entry to it. Returns `AllocError`
+/// only if memory was refused.
 pub(crate) fn conflicts(
     alloc: Global,
     typed: &Typed,
@@ -190,21 +195,11 @@ pub(crate) fn conflicts(
     ensures { IfOk result (λ conflicts. conflicts.items ≡ conflicts_of typed.now (holds scopes.now)) }
 {
     let loans = loans(alloc, typed)?;
-    let rows = candidate_rows(alloc, &loans)?;
+    let body = BodyLoans::of(alloc, typed, &loans)?;
     let mut conflicts = Vec::new(alloc);
     let mut accesses = Vec::new(alloc);
     for (point, step) in typed.steps().iter().enumerate() {
-        push_point(
-            alloc,
-            &mut conflicts,
-            &mut accesses,
-            typed,
-            &loans,
-            &rows,
-            scopes,
-            point,
-            step,
-        )?;
+        body.push_point(alloc, &mut conflicts, &mut accesses, scopes, (point, step))?;
     }
     Ok(conflicts)
 }

@@ -1,5 +1,5 @@
 -- Loans that come to points from those that make them, one loan after another.
-use Rattle.std.proofs.Common.{◌≡◌, ℕ, ◌+◌, ◌<◌, ◌≤◌, ◌⊎◌, inl, inr, ◌↔◌, Bool, true, false, List, length, Some, sym, ◌∙◌, arith}
+use Rattle.std.proofs.Common.{◌≡◌, ℕ, ◌+◌, ◌<◌, ◌≤◌, ◌⊎◌, inl, inr, ◌↔◌, Bool, true, false, not, List, length, Some, refl, sym, ◌∙◌, arith}
 use Rattle.std.specs.Prelude.{slice_get}
 use Rattle.std.proofs.lemmas.Bool.{cases_eq, cases_lt, both_ways}
 use Rattle.std.proofs.lemmas.Option.{slice_get_past}
@@ -9,6 +9,8 @@ use Rattle.bc_flow.specs.Reach.{Spreads}
 use Rattle.bc_flow.specs.Flow.{holds, HaveSize}
 use Rattle.bc_bodies.specs.declared.mir.Step.{Step}
 use Rattle.bc_points.specs.declared.loan.Loan.{Loan}
+use Rattle.bc_points.specs.Points.{kills}
+use Rattle.bc_syntax.specs.declared.syntax.Place.{Place}
 use Rattle.bc_loans.specs.Overwrites.{keeps}
 use Rattle.bc_loans.specs.Sweeps.{IsSeed}
 use Rattle.bc_loans.proofs.Regions.{no_place}
@@ -24,16 +26,15 @@ AreSeeded-none edges steps loans inside rows none = record {
   fresh = λ n l _. none n l;
 }
 
-pub AreSeeded-more : (edges : List Edge) (steps : List Step) (loans : List (ℕ × Loan)) (inside : ℕ → ℕ → Bool) (number : ℕ) (made : ℕ × Loan) (old new : List (List Bool)) → slice_get loans number ≡ Some made →
-    ((n l : ℕ) → (l ≡ number → ⊥) → holds new n l ≡ holds old n l) →
-    ((n : ℕ) → (holds new n number ≡ true) ↔ ((holds old n number ≡ true) ⊎ ((keeps steps made.1.path made.0 ≡ true) × HasEdge edges made.0 n × (inside n number ≡ true)))) →
+pub AreSeeded-more : (edges : List Edge) (steps : List Step) (loans : List (ℕ × Loan)) (inside : ℕ → ℕ → Bool) (number : ℕ) (old new : List (List Bool)) →
+    ((n l : ℕ) → (l ≡ number → ⊥) → holds new n l ≡ holds old n l) → ((n : ℕ) → (holds new n number ≡ true) ↔ ((holds old n number ≡ true) ⊎ IsSeed edges steps loans inside n number)) →
     AreSeeded edges steps loans inside number old → AreSeeded edges steps loans inside (number + 1) new
-AreSeeded-more edges steps loans inside number made old new is others seeded before = record {
+AreSeeded-more edges steps loans inside number old new others seeded before = record {
   seeds = λ n l below. elim (cases_eq l number) [
     | inr apart ↦
         let earlier = before.seeds n l (omega (arith, below, apart)) in
         let same = others n l apart in (λ h. earlier.0 (sym same ∙ h), λ h. same ∙ earlier.1 h)
-    | inl this ↦ rw (this, is) (
+    | inl this ↦ rw this (
       λ h. elim ((seeded n).0 h) [
         | inl was ↦ absurd (both_ways (holds old n number) (before.fresh n number (omega arith)) was)
         | inr now ↦ now
@@ -88,3 +89,13 @@ seeded_nowhere edges maker number enters rows lets none n = (
   λ h. inl h,
   λ h. elim h [ inl was ↦ was | inr t ↦ absurd (both_ways (enters n) (none n) t.2) ],
 )
+
+-- a step keeps a path
+pub keeps_is : (steps : List Step) (path : Place) (point : ℕ) (step : Step) → slice_get steps point ≡ Some step → not (kills path step.instruction) ≡ keeps steps path point
+keeps_is steps path point step is = rw is refl
+
+-- where a loan comes to from the point that makes it
+pub seeded_is : (edges : List Edge) (steps : List Step) (loans : List (ℕ × Loan)) (inside : ℕ → ℕ → Bool) (number : ℕ) (made : ℕ × Loan) (old new : List (List Bool)) → slice_get loans number ≡ Some made →
+    ((n : ℕ) → (holds new n number ≡ true) ↔ ((holds old n number ≡ true) ⊎ ((keeps steps made.1.path made.0 ≡ true) × HasEdge edges made.0 n × (inside n number ≡ true)))) →
+    (n : ℕ) → (holds new n number ≡ true) ↔ ((holds old n number ≡ true) ⊎ IsSeed edges steps loans inside n number)
+seeded_is edges steps loans inside number made old new is seeded n = rw is (seeded n)

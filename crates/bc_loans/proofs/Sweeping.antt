@@ -17,8 +17,8 @@ use Rattle.bc_flow.proofs.Membership.{Contains-nil, Contains-one}
 use Rattle.bc_flow.proofs.Visits.{itself, only}
 use Rattle.bc_bodies.specs.declared.mir.Step.{Step}
 use Rattle.bc_points.specs.declared.loan.Loan.{Loan}
-use Rattle.bc_loans.specs.Overwrites.{keeps, is_overwritten_at}
-use Rattle.bc_loans.specs.Sweeps.{WalksTo, IsSeed, passes, goes_on_from, ArePushed, IsSwept, AreReached, AreTargets}
+use Rattle.bc_loans.specs.Overwrites.{keeps, is_overwritten, is_overwritten_at}
+use Rattle.bc_loans.specs.Sweeps.{WalksTo, IsSeed, passes, ArePushed, IsSwept, AreReached, AreTargets, AreWalked}
 use Rattle.bc_loans.proofs.Closing.{kept_there}
 use Rattle.bc_loans.proofs.Overwriting.{at_point}
 use Rattle.bc_loans.proofs.Telling.{added_same, word_within}
@@ -80,6 +80,10 @@ ArePushed-one point to here inside grew again old new within added unchanged gro
         let s = sum_by-set absent_count old to (row new to) [] within in
         let t : sum_by absent_count new ≡ sum_by absent_count (set old to (row new to)) = ap (sum_by absent_count) (row_written old new to (λ l. here l && inside to l) within added) in
         omega (arith, s, t, fewer)
+
+-- of two tests of which not both hold and the first does, the second does not
+pub second_false : (one other : Bool) → one ≡ true → (one && other) ≡ false → other ≡ false
+second_false one other first none = rw first at none
 
 -- the loans of a word along one edge, within those that are told to be inside
 pub pushed_along : (point to word here mask : ℕ) (inside : ℕ → ℕ → Bool) (grew again : Bool) (old new : List (List Bool)) → to < length old → ((l : ℕ) → l / 64 ≡ word → is_set mask (l % 64) ≡ inside to l) →
@@ -153,7 +157,7 @@ IsSwept-none edges steps loans inside word rows = record {
 
 -- the loans that go on from a point
 pub here_is : (word : ℕ) (loans : List (ℕ × Loan)) (steps : List Step) (rows : List (List Bool)) (point : ℕ) (step : Step) → slice_get steps point ≡ Some step →
-    (l : ℕ) → goes_on_from word loans step.instruction rows point l ≡ ((l / 64 == word) && passes loans steps rows point l)
+    (l : ℕ) → ((l / 64 == word) && (holds rows point l && not (is_overwritten loans step.instruction l))) ≡ ((l / 64 == word) && passes loans steps rows point l)
 here_is word loans steps rows point step is l = ap (λ (b : Bool). (l / 64 == word) && (holds rows point l && not b)) (at_point loans steps point step is l)
 
 -- a loan that walks to a point walks on from it
@@ -301,11 +305,6 @@ pub seed_walks : (edges : List Edge) (steps : List Step) (loans : List (ℕ × L
 seed_walks edges steps loans inside n l seed = begins_found edges steps inside n l (slice_get loans l) seed
 
 -- ---- one run of loans after another
-
--- the loans of the first runs walked, and the others are where they came to from those that make them
-pub record AreWalked (edges : List Edge) (steps : List Step) (loans : List (ℕ × Loan)) (inside : ℕ → ℕ → Bool) (word : ℕ) (rows : List (List Bool)) : Type 0 where
-  pub done : (n l : ℕ) → l / 64 < word → (holds rows n l ≡ true) ↔ WalksTo edges steps loans inside n l
-  pub rest : (n l : ℕ) → word ≤ l / 64 → (holds rows n l ≡ true) ↔ IsSeed edges steps loans inside n l
 
 pub AreWalked-sound : (edges : List Edge) (steps : List Step) (loans : List (ℕ × Loan)) (inside : ℕ → ℕ → Bool) (word : ℕ) (rows : List (List Bool)) → AreWalked edges steps loans inside word rows →
     (n l : ℕ) → holds rows n l ≡ true → WalksTo edges steps loans inside n l

@@ -5,3 +5,4 @@ pub mod Walks
 pub mod Entries
 pub mod Inside
 pub mod Sweeps
+pub mod Flows

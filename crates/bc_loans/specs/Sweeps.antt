@@ -1,5 +1,5 @@
 -- Sweeps over the points for one run of 64 loans: which of them go on from a point, and to where. `inside` tells the loans of each point whose region's value has it.
-use Rattle.std.specs.Prelude.{◌≡◌, ℕ, ◌<◌, ◌≤◌, ◌⊎◌, ◌/◌, ◌&&◌, ◌==◌, Bool, true, false, not, ⊤, List, length, MatchOption, slice_get}
+use Rattle.std.specs.Prelude.{◌≡◌, ℕ, ◌<◌, ◌≤◌, ◌⊎◌, ◌↔◌, ◌/◌, ◌&&◌, Bool, true, false, not, ⊤, List, length, MatchOption, slice_get}
 use Rattle.std.specs.List.{sum_by}
 use Rattle.bc_flow.specs.declared.graph.Edge.{Edge}
 use Rattle.bc_flow.specs.Graph.{HasEdge}
@@ -7,9 +7,8 @@ use Rattle.bc_flow.specs.BitSet.{absent_count}
 use Rattle.bc_flow.specs.Flow.{row, holds}
 use Rattle.bc_flow.specs.Reach.{Reaches}
 use Rattle.bc_bodies.specs.declared.mir.Step.{Step}
-use Rattle.bc_bodies.specs.declared.mir.Instruction.{Instruction}
 use Rattle.bc_points.specs.declared.loan.Loan.{Loan}
-use Rattle.bc_loans.specs.Overwrites.{keeps, is_overwritten, is_overwritten_at}
+use Rattle.bc_loans.specs.Overwrites.{keeps, is_overwritten_at}
 
 -- edges lead from the point that makes a loan to a point, out of points that keep its path and into points where it is inside
 abbrev pub WalksTo : List Edge → List Step → List (ℕ × Loan) → (ℕ → ℕ → Bool) → ℕ → ℕ → Type 0
@@ -24,10 +23,6 @@ IsSeed edges steps loans inside point loan =
 -- a loan is in the row of a point, and the point does not overwrite it
 abbrev pub passes : List (ℕ × Loan) → List Step → List (List Bool) → ℕ → ℕ → Bool
 passes loans steps rows point loan = holds rows point loan && not (is_overwritten_at loans steps point loan)
-
--- a loan of the run is in a row, and an instruction does not overwrite it
-abbrev pub goes_on_from : ℕ → List (ℕ × Loan) → Instruction → List (List Bool) → ℕ → ℕ → Bool
-goes_on_from word loans here rows point loan = (loan / 64 == word) && (holds rows point loan && not (is_overwritten loans here loan))
 
 -- the loans of a set were let in where edges lead from a point; `again` tells that a new one got to that point or one before it
 pub record ArePushed (edges : List Edge) (point : ℕ) (here : ℕ → Bool) (inside : ℕ → ℕ → Bool) (again : Bool) (old new : List (List Bool)) : Type 0 where
@@ -64,3 +59,8 @@ pub record IsSwept (edges : List Edge) (steps : List Step) (loans : List (ℕ ×
   pub closed : again ≡ false → (m : ℕ) → m < point → IsClosed edges steps loans inside word new m
   pub progress : sum_by absent_count new ≤ sum_by absent_count old
   pub grown : again ≡ true → sum_by absent_count new < sum_by absent_count old
+
+-- the loans of the first runs walked, and the others are where they came to from those that make them
+pub record AreWalked (edges : List Edge) (steps : List Step) (loans : List (ℕ × Loan)) (inside : ℕ → ℕ → Bool) (word : ℕ) (rows : List (List Bool)) : Type 0 where
+  pub done : (n l : ℕ) → l / 64 < word → (holds rows n l ≡ true) ↔ WalksTo edges steps loans inside n l
+  pub rest : (n l : ℕ) → word ≤ l / 64 → (holds rows n l ≡ true) ↔ IsSeed edges steps loans inside n l

@@ -1,14 +1,17 @@
 //! Which loans are inside at a point: those whose region's value has it. Told for 64 points and 64 loans at once.
-ghost use Rattle.std.specs.Prelude.{◌≡◌, ◌*◌, ◌/◌, ◌%◌, ◌+◌, ◌<◌, ◌≤◌, ℕ, length, slice_index};
+ghost use Rattle.std.specs.Prelude.{◌≡◌, ◌*◌, ◌/◌, ◌%◌, ◌+◌, ◌<◌, ◌≤◌, ℕ, Bool, length, slice_index, IfOk, OnOk};
 ghost use Rattle.bc_flow.specs.Packed.{is_set};
 ghost use Rattle.bc_flow.specs.Flow.{row, holds};
-ghost use Rattle.bc_loans.specs.Inside.{inside_at, AreTold, IsWritten};
+ghost use Rattle.bc_loans.specs.Inside.{AreTold, IsWritten};
+ghost use Rattle.bc_loans.specs.Flows.{inside};
 
+use crate::loan_flow::LoanFlow;
 use bc_flow::{BitTable, turned_words};
-use bc_points::{Loan, region_number};
+use bc_points::region_number;
 use bc_solve::Values;
+use std::alloc::{AllocError, Global};
 
-/// Which of a run of 64 points the value of a region has. A number that is no region has none.
+/// Returns which of a run of 64 points the value of a region has. A number that is no region has none.
 fn value_word(values: &Values, region: usize, run: usize) -> u64
     ensures { (p : ℕ) → p / 64 ≡ run → is_set result (p % 64) ≡ holds values.now region p }
 {
@@ -18,23 +21,18 @@ fn value_word(values: &Values, region: usize, run: usize) -> u64
     }
 }
 
-/// For each of a run of 64 points, which of a run of 64 loans are inside there.
-fn inside_block(
-    universals: u8,
-    loans: &[(usize, Loan<'_>)],
-    values: &Values,
-    word: usize,
-    run: usize,
-) -> [u64; 64]
-    requires { 64 * word < length loans.now }
-    ensures { (p l : ℕ) → p / 64 ≡ run → l / 64 ≡ word → is_set (slice_index result (p % 64)) (l % 64) ≡ inside_at universals loans.now (holds values.now) p l }
+/// Returns for each of a run of 64 points which of a run of 64 loans are inside there.
+fn inside_block(flow: &LoanFlow<'_>, word: usize, run: usize) -> [u64; 64]
+    requires { 64 * word < length flow.now.set.loans.now }
+    ensures { (p l : ℕ) → p / 64 ≡ run → l / 64 ≡ word → is_set (slice_index result (p % 64)) (l % 64) ≡ inside flow.now p l }
 {
+    let loans = flow.set.loans;
     let count = loans.len();
     let first = 64 * word;
     let mut block = [0; 64];
     for k in 0..(count - first).min(64) {
-        let region = region_number(universals, loans[first + k].1.region);
-        block[k] = value_word(values, region, run);
+        let region = region_number(flow.universals, loans[first + k].1.region);
+        block[k] = value_word(flow.values, region, run);
     }
     turned_words(&block)
 }
@@ -49,27 +47,71 @@ fn write_words(words: &mut [u64], first: usize, block: &[u64; 64])
     }
 }
 
-/// Tells of a point, and of those of its run, which of a run of 64 loans are inside there, unless that was told: `told` has a word for each
-/// point, and the first row of `runs` the runs of points that are told.
-pub(crate) fn tell(
-    told: &mut [u64],
-    runs: &mut BitTable,
-    universals: u8,
-    loans: &[(usize, Loan<'_>)],
-    values: &Values,
-    word: usize,
-    point: usize,
-)
-    requires word { 64 * word < length loans.now }
-    requires point { point < length told.old }
-    requires told { AreTold (inside_at universals loans.now (holds values.now)) word told.old runs.old }
-    ensures size { length told.new ≡ length told.old }
-    ensures told { AreTold (inside_at universals loans.now (holds values.now)) word told.new runs.new }
-    ensures here { (l : ℕ) → l / 64 ≡ word → is_set (slice_index told.new point) (l % 64) ≡ inside_at universals loans.now (holds values.now) point l }
+/// Which loans of a run of 64 are inside at points, as far as it was asked: a word for each point, and in one row the runs of 64 points whose
+/// words are told.
+#[derive(Drop)]
+pub(crate) struct InsideWords {
+    words: Vec<u64>,
+    runs: BitTable,
+}
+
+/// Returns a word for each of so many points, and for those that fill the last run of 64. Returns `AllocError` if memory was refused, and,
+/// without asking for any, if there would be 2^64 words or more: no body has so many points.
+fn point_words(alloc: Global, points: usize) -> Result<Vec<u64>, AllocError>
+    ensures { IfOk result (λ words. length words.items ≡ 64 * ((points + 63) / 64)) }
 {
-    let run = point / 64;
-    if runs.insert(0, run) {
-        let block = inside_block(universals, loans, values, word, run);
-        write_words(told, 64 * run, &block);
+    let Some(count) = points.div_ceil(64).checked_mul(64) else {
+        return Err(AllocError);
+    };
+    vec![in alloc; 0; count]
+}
+
+impl InsideWords {
+    /// Returns words for so many points. Returns `AllocError` as `point_words` does.
+    pub(crate) fn of(alloc: Global, points: usize) -> Result<InsideWords, AllocError>
+        ensures { IfOk result (λ made. length made.words.items ≡ 64 * ((points + 63) / 64)) }
+    {
+        let words = point_words(alloc, points)?;
+        let runs = BitTable::new(alloc, 1, 0)?;
+        Ok(InsideWords { words, runs })
+    }
+
+    /// Forgets what was told, so that another run of loans can be asked for. Returns `AllocError` only if memory was refused.
+    pub(crate) fn forget(&mut self, alloc: Global, points: usize) -> Result<(), AllocError>
+        requires long { length self.old.words.items ≡ 64 * ((points + 63) / 64) }
+        ensures words { OnOk result (self.new.words.items ≡ self.old.words.items) }
+        ensures told { OnOk result ((inside : ℕ → ℕ → Bool) (word : ℕ) → AreTold inside word self.new.words.items self.new.runs) }
+    {
+        self.runs = BitTable::new(alloc, 1, points.div_ceil(64))?;
+        Ok(())
+    }
+
+    /// Tells of a point, and of those of its run, which loans of a run are inside there, unless that was told.
+    fn tell(&mut self, flow: &LoanFlow<'_>, word: usize, point: usize)
+        requires word { 64 * word < length flow.now.set.loans.now }
+        requires point { point < length self.old.words.items }
+        requires told { AreTold (inside flow.now) word self.old.words.items self.old.runs }
+        ensures size { length self.new.words.items ≡ length self.old.words.items }
+        ensures told { AreTold (inside flow.now) word self.new.words.items self.new.runs }
+        ensures here { (l : ℕ) → l / 64 ≡ word → is_set (slice_index self.new.words.items point) (l % 64) ≡ inside flow.now point l }
+    {
+        let run = point / 64;
+        if self.runs.insert(0, run) {
+            let block = inside_block(flow, word, run);
+            write_words(&mut self.words, 64 * run, &block);
+        }
+    }
+
+    /// Returns which loans of a run are inside at a point. With it, all points of its run are told.
+    pub(crate) fn word_at(&mut self, flow: &LoanFlow<'_>, word: usize, point: usize) -> u64
+        requires word { 64 * word < length flow.now.set.loans.now }
+        requires point { point < length self.old.words.items }
+        requires told { AreTold (inside flow.now) word self.old.words.items self.old.runs }
+        ensures size { length self.new.words.items ≡ length self.old.words.items }
+        ensures told { AreTold (inside flow.now) word self.new.words.items self.new.runs }
+        ensures here { (l : ℕ) → l / 64 ≡ word → is_set result (l % 64) ≡ inside flow.now point l }
+    {
+        self.tell(flow, word, point);
+        self.words[point]
     }
 }

@@ -3,9 +3,9 @@
 
 mod entries;
 mod insides;
+mod loan_flow;
 mod loan_list;
-mod overwrites;
-mod overwritten;
+mod loan_set;
 mod scopes;
 mod seeds;
 mod sweeps;

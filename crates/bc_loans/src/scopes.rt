@@ -4,6 +4,7 @@ ghost use Rattle.bc_flow.specs.Flow.{holds, HaveSize};
 ghost use Rattle.bc_loans.specs.Loans.{loans_of};
 ghost use Rattle.bc_loans.specs.Scope.{IsInScope};
 
+use crate::loan_flow::LoanFlow;
 use crate::loan_list::loans;
 use crate::sweeps::swept_rows;
 use bc_flow::BitTable;
@@ -55,13 +56,14 @@ pub fn in_scope(alloc: Global, typed: &Typed, values: &Values) -> Result<Scopes,
 {
     let loans = loans(alloc, typed)?;
     let edges = typed.edges(alloc)?;
-    let rows = swept_rows(
+    let flow = LoanFlow::of(
         alloc,
         typed.universals(),
         &loans,
+        values,
         typed.steps(),
         &edges,
-        values,
     )?;
+    let rows = swept_rows(alloc, &flow)?;
     Ok(Scopes { rows })
 }

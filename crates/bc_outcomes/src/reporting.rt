@@ -29,6 +29,7 @@ fn outcome_held(
 {
     let mut visits = Vec::new(alloc);
     let root = held.snapshot.root();
+    // Nothing uses the bytes. That a name has at most seven segments, which `walk` requires, is in the contract of this call.
     let _bytes = root.root();
     match walk(alloc, held, *root, unit, &mut visits)? {
         Some(fault) => Ok((fault, Judged::none(alloc))),

@@ -121,7 +121,7 @@ impl Held<'_> {
         let mut required = Stack::new(alloc);
         while let Some(visit) = visits.pop() {
             let kids = take_kids(alloc, visit.children(), &mut required)?;
-            let (piece, is_kept) = visit.judged(alloc, providers, self.snapshot.types(), kids)?;
+            let (piece, is_kept) = visit.judged(alloc, providers, self.snapshot, kids)?;
             push_judged(&mut required, found, unkept, piece, is_kept)?;
         }
         Ok(())

@@ -1,24 +1,22 @@
 //! Bodies that are visited.
-ghost use Rattle.std.specs.Prelude.{◌≡◌, IfOk};
+ghost use Rattle.std.specs.Prelude.{◌≡◌, ◌↔◌, IfOk, IfSome, IsTrue, Some};
 ghost use Rattle.bc_cons.specs.Requirements.{AreOfChildren};
-ghost use Rattle.bc_prov.specs.Pieces.{IsFitted, IsFoundFrom};
+ghost use Rattle.bc_prov.specs.Pieces.{IsFitted, IsFoundFrom, IsPiece, IsPieceFor};
+ghost use Rattle.bc_prov.specs.State.{at_name};
 
 use bc_cons::Requirements;
 use bc_mir::{Child, Typed};
 use bc_names::Name;
-use bc_prov::{Declared, Piece, Providers, Shared, piece_of, share};
+use bc_prov::{Piece, Providers, Shared, Snapshot, piece_of, share};
 use bc_syntax::Unit;
 use std::alloc::{AllocError, Global};
 use std::marker::Model;
 
-/// A visited body: its name, its unit, and the unit as it was typed; a piece, too, that was found from it as it was typed, if the
-/// snapshot has one, and whether the snapshot keeps that. Contracts see all but the piece.
+/// A visited body: its name, its unit, and the unit as it was typed.
 pub(crate) struct Visit {
     name: Name,
     unit: Shared<Unit>,
     typed: Shared<Typed>,
-    piece: Option<Shared<Piece>>,
-    is_kept: bool,
 }
 
 impl Drop for Visit {
@@ -27,93 +25,134 @@ impl Drop for Visit {
             name: _,
             unit: _,
             typed: _,
-            piece: _,
-            is_kept: _,
         } = self;
     }
 }
 
 impl Model for Visit {
-    ghost use Rattle.bc_outcomes.specs.Visited.{IsVisit, VisitView};
+    ghost use Rattle.bc_prov.specs.Pieces.{IsFitted};
+    ghost use Rattle.bc_outcomes.specs.Visited.{VisitView};
 
     ghost Value = { VisitView };
 
     ghost view = { λ v. record { name = v.name; unit = v.unit; typed = v.typed } };
 
-    ghost invariant = { λ v. IsVisit v.unit v.typed v.piece };
+    ghost invariant = { λ v. IsFitted v.typed.types v.unit v.typed };
+}
+
+/// A piece that a snapshot has of a body, and whether the snapshot keeps it; else it is carried.
+#[derive(Clone, Copy)]
+struct Had<'a> {
+    piece: &'a Shared<Piece>,
+    is_kept: bool,
+}
+
+/// Returns whether children have the same number and the same header.
+fn same_child(one: &Child, other: &Child) -> bool
+    ensures { IsTrue result ↔ (one.now ≡ other.now) }
+{
+    one.number == other.number && one.header == other.header
+}
+
+/// Returns whether children have the same numbers and the same headers, in the same order.
+fn same_children(one: &[Child], other: &[Child]) -> bool
+    ensures { IsTrue result ↔ (one.now ≡ other.now) }
+{
+    match one {
+        [] => other.is_empty(),
+        [first, more @ ..] => match other {
+            [] => false,
+            [second, rest @ ..] => same_child(first, second) && same_children(more, rest),
+        },
+    }
+}
+
+/// Returns whether a piece was found from these children, of which each required so much.
+fn is_from(piece: &Shared<Piece>, children: &[Child], kids: &[(u8, Requirements)]) -> bool
+    ensures from { IsTrue result ↔ ((piece.now.mir.children ≡ children.now) × (piece.now.kids ≡ kids.now)) }
+    ensures right { IsPiece piece.now }
+{
+    let piece = piece.get();
+    piece.is_from(kids) && same_children(piece.typed().get().children(), children)
+}
+
+/// Returns a piece of the body at a name, if the snapshot has one that was found from these children, of which each required so much: the one
+/// that it keeps, else the first such one of those that are carried.
+fn piece_from<'a>(
+    snapshot: &'a Snapshot,
+    name: &Name,
+    children: &[Child],
+    kids: &[(u8, Requirements)],
+) -> Option<Had<'a>>
+    ensures over { IfSome result (λ had. IsPieceFor snapshot.now.types (at_name snapshot.now.units name.now) had.piece.now) }
+    ensures from { IfSome result (λ had. (had.piece.now.mir.children ≡ children.now) × (had.piece.now.kids ≡ kids.now)) }
+    ensures right { IfSome result (λ had. IsPiece had.piece.now) }
+{
+    if let Some(piece) = snapshot.kept_piece(name) {
+        if is_from(piece, children, kids) {
+            return Some(Had {
+                piece,
+                is_kept: true,
+            });
+        }
+    }
+    for entry in snapshot.carried_pieces(name) {
+        if is_from(&entry.1, children, kids) {
+            return Some(Had {
+                piece: &entry.1,
+                is_kept: false,
+            });
+        }
+    }
+    None
 }
 
 impl Visit {
-    /// The visit of a body that was typed.
+    /// Returns the visit of a body that was typed.
     pub(crate) fn of(name: Name, unit: Shared<Unit>, typed: Shared<Typed>) -> Visit
         requires { IsFitted typed.types unit typed }
         ensures { result ≡ record { name = name; unit = unit; typed = typed } }
     {
-        Visit {
-            name,
-            unit,
-            typed,
-            piece: None,
-            is_kept: false,
-        }
+        Visit { name, unit, typed }
     }
 
-    /// The visit of a body that a piece was found from, which the snapshot keeps or not. Returns `AllocError` only where one more owner
-    /// was refused.
-    pub(crate) fn with_piece(
-        name: Name,
-        piece: &Shared<Piece>,
-        is_kept: bool,
-    ) -> Result<Visit, AllocError>
+    /// Returns the visit of a body as a piece of it has it. Returns `AllocError` only where one more owner was refused.
+    pub(crate) fn of_piece(name: Name, piece: &Shared<Piece>) -> Result<Visit, AllocError>
         ensures { IfOk result (λ visit. visit ≡ record { name = name; unit = piece.now.unit; typed = piece.now.mir }) }
     {
         let unit = piece.get().unit().clone()?;
         let typed = piece.get().typed().clone()?;
-        let piece = piece.clone()?;
-        Ok(Visit {
-            name,
-            unit,
-            typed,
-            piece: Some(piece),
-            is_kept,
-        })
+        Ok(Visit { name, unit, typed })
     }
 
-    /// The headers of the children, ascending by their numbers.
+    /// Returns the headers of the children, ascending by their numbers.
     pub(crate) fn children(&self) -> &[Child]
         ensures { result.now ≡ self.now.typed.children }
     {
         self.typed.get().children()
     }
 
-    /// The piece of the body, whose children require so much, under its name: the one that the snapshot has where its children required
-    /// the same, else a new one; and whether the snapshot keeps it. Returns `AllocError` only where memory was refused, as a provider
-    /// may answer too.
+    /// Returns the piece of the body, whose children require so much, under its name: one that the snapshot has, where all that it was found
+    /// from is there, else a new one; and whether the snapshot keeps it. Returns `AllocError` only where memory was refused, as a provider
+    /// may too.
     pub(crate) fn judged(
         self,
         alloc: Global,
         providers: &Providers,
-        types: &Shared<Declared>,
+        snapshot: &Snapshot,
         kids: Vec<(u8, Requirements)>,
     ) -> Result<((Name, Shared<Piece>), bool), AllocError>
-        requires types { types.now ≡ self.typed.types }
+        requires types { snapshot.now.types ≡ self.typed.types }
+        requires held { at_name snapshot.now.units self.name ≡ Some self.unit }
         requires kids { AreOfChildren self.typed.children kids.items }
         ensures named { IfOk result (λ found. found.0.0 ≡ self.name) }
-        ensures found { IfOk result (λ found. IsFoundFrom types.now self.unit self.typed kids.items found.0.1) }
+        ensures found { IfOk result (λ found. IsFoundFrom snapshot.now.types self.unit self.typed kids.items found.0.1) }
     {
-        let Visit {
-            name,
-            unit,
-            typed,
-            piece,
-            is_kept,
-        } = self;
-        if let Some(piece) = piece {
-            if piece.get().is_from(&kids) {
-                return Ok(((name, piece), is_kept));
-            }
+        let Visit { name, unit, typed } = self;
+        if let Some(had) = piece_from(snapshot, &name, typed.get().children(), &kids) {
+            return Ok(((name, had.piece.clone()?), had.is_kept));
         }
-        let types = types.clone()?;
+        let types = snapshot.types().clone()?;
         let piece = piece_of(alloc, providers, types, unit, typed, kids)?;
         Ok(((name, share(alloc, piece)?), false))
     }

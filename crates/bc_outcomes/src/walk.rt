@@ -13,7 +13,7 @@ use crate::held::Held;
 use crate::visit::Visit;
 use bc_mir::{Child, IllFault, KidHeader, type_unit};
 use bc_names::Name;
-use bc_prov::{Had, Outcome, Shared, share};
+use bc_prov::{Outcome, Piece, Shared, share};
 use bc_syntax::Unit;
 use std::alloc::{AllocError, Global};
 
@@ -93,21 +93,35 @@ fn has_header(child: &Child, kid: &Kid<'_>) -> bool
     child.number == kid.number && child.header == kid.unit.get().body().header
 }
 
-/// The piece that the snapshot has of a body with these closures, if it was found from closures with their headers.
-fn piece_with<'a>(held: &Held<'a>, name: &Name, kids: &[Kid<'_>]) -> Option<Had<'a>>
-    ensures over { IfSome result (λ had. IsPieceFor held.now.snapshot.now.types (at_name held.now.snapshot.now.units name.now) had.piece.now) }
-    ensures from { IfSome result (λ had. had.piece.now.mir.children ≡ map child_of_kid kids.now) }
-    ensures right { IfSome result (λ had. IsPiece had.piece.now) }
+/// Returns whether a piece was found from closures with the headers of these.
+fn is_with(piece: &Shared<Piece>, kids: &[Kid<'_>]) -> bool
+    ensures with { IsTrue result ↔ (piece.now.mir.children ≡ map child_of_kid kids.now) }
+    ensures right { IsPiece piece.now }
 {
-    let had = held.snapshot.piece(name)?;
-    if have_headers(had.piece.get().typed().get().children(), kids) {
-        Some(had)
-    } else {
-        None
-    }
+    have_headers(piece.get().typed().get().children(), kids)
 }
 
-/// The visit of a body with these closures: as a piece of it has it, if the snapshot has one that was found from closures with their
+/// Returns a piece of a body with these closures, if the snapshot has one that was found from closures with their headers: the one that it
+/// keeps, else the first such one of those that are carried.
+fn piece_with<'a>(held: &Held<'a>, name: &Name, kids: &[Kid<'_>]) -> Option<&'a Shared<Piece>>
+    ensures over { IfSome result (λ piece. IsPieceFor held.now.snapshot.now.types (at_name held.now.snapshot.now.units name.now) piece.now) }
+    ensures from { IfSome result (λ piece. piece.now.mir.children ≡ map child_of_kid kids.now) }
+    ensures right { IfSome result (λ piece. IsPiece piece.now) }
+{
+    if let Some(piece) = held.snapshot.kept_piece(name) {
+        if is_with(piece, kids) {
+            return Some(piece);
+        }
+    }
+    for entry in held.snapshot.carried_pieces(name) {
+        if is_with(&entry.1, kids) {
+            return Some(&entry.1);
+        }
+    }
+    None
+}
+
+/// Returns the visit of a body with these closures: as a piece of it has it, if the snapshot has one that was found from closures with their
 /// headers, else typed. Returns `Ill` with the place of the first misfit where a typing rule fails, and `NoMemory` only where memory
 /// was refused.
 fn visited(
@@ -124,8 +138,8 @@ fn visited(
     ensures fits { OnOk result (misfit (mir_in held.now kids.now unit.now) ≡ None) }
     ensures ill { (place : Where) → result ≡ Err (IllFault.Ill place) → misfit (mir_in held.now kids.now unit.now) ≡ Some place }
 {
-    if let Some(had) = piece_with(held, &name, kids) {
-        return Ok(Visit::with_piece(name, had.piece, had.is_kept)?);
+    if let Some(piece) = piece_with(held, &name, kids) {
+        return Ok(Visit::of_piece(name, piece)?);
     }
     let headers = headers(alloc, kids)?;
     let typed = type_unit(alloc, held.types, unit.get(), &headers)?;

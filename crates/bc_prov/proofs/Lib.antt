@@ -3,3 +3,4 @@ pub mod Starts
 pub mod Numbers
 pub mod Lookup
 pub mod Sets
+pub mod Runs

@@ -1,5 +1,5 @@
 -- Pieces that were found from the same declarations.
-use Rattle.std.proofs.Common.{◌≡◌, ℕ, zero, suc, ◌<◌, Bool, true, false, List, [], ◌∷◌, ◌++◌, length, get_or, subst, arith, Some, None}
+use Rattle.std.proofs.Common.{◌≡◌, ℕ, zero, suc, ◌<◌, Bool, true, false, List, [], ◌∷◌, ◌++◌, length, get_or, subst, arith, Option, Some, None}
 use Rattle.std.specs.List.{AllByRecursion, items_where_true}
 use Rattle.bc_syntax.specs.declared.syntax.Declaration.{Declaration}
 use Rattle.bc_syntax.specs.declared.syntax.Body.{Body}
@@ -33,6 +33,11 @@ pub by_index : {X : Type 0} (P : X → Type 0) (xs : List X) (i : ℕ) (d : X) �
 by_index P [] i d all within = absurd (omega (arith, within))
 by_index P (x ∷ xs) zero d all within = all.0
 by_index P (x ∷ xs) (suc i) d all within = by_index P xs i d all.1 (omega (arith, within))
+
+-- what follows of each value follows of one that there may be
+pub some_map : {X : Type 0} (o : Option X) (P Q : X → Type 0) → ((x : X) → P x → Q x) → IfSome o P → IfSome o Q
+some_map None P Q then is = tt
+some_map (Some x) P Q then is = then x is
 
 -- and so of a piece that stands among them
 pub among_for : (types : List Declaration) (units : List (NameParts × Body)) (pieces : PieceList) (name : NameParts) (piece : PieceView)

@@ -1,7 +1,8 @@
 -- The verdict on one body, with all that it was found from.
-use Rattle.std.specs.Prelude.{◌≡◌, ℕ, Bool, List, [], map, Option, Some, None}
+use Rattle.std.specs.Prelude.{◌≡◌, ℕ, Bool, List, [], filter, map, Option, Some, None}
 use Rattle.std.specs.List.{AllByRecursion, items_where_true}
 use Rattle.std.specs.List.Sorted.{IsSortedByKey}
+use Rattle.std.specs.Ordering.{is_eq}
 use Rattle.bc_syntax.specs.declared.syntax.Declaration.{Declaration}
 use Rattle.bc_syntax.specs.declared.syntax.Body.{Body}
 use Rattle.bc_syntax.specs.Children.{children_of}
@@ -54,6 +55,10 @@ ArePieces types units pieces = AllByRecursion (λ (p : NameParts × PieceView). 
 -- the names of pieces ascend, and one name may stand several times
 abbrev pub AreAscending : List (NameParts × PieceView) → Type 0
 AreAscending pieces = IsSortedByKey (λ (p : NameParts × PieceView). p.0) name_order pieces
+
+-- those of these pieces that are of a name, in their order
+abbrev pub pieces_at : NameParts → List (NameParts × PieceView) → List (NameParts × PieceView)
+pieces_at name pieces = filter (λ (p : NameParts × PieceView). is_eq (name_order p.0 name)) pieces
 
 -- each piece was found from these declarations
 abbrev pub AreOver : List Declaration → List (NameParts × PieceView) → Type 0

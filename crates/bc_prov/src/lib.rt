@@ -15,4 +15,4 @@ pub use outcome::{BodyErrors, Listing, Outcome};
 pub use pieces::{Piece, PieceSet, Pieces, piece_of, share_pieces};
 pub use providers::{Liveness, Providers, Scoping, Solver};
 pub use shared::{Shared, share};
-pub use snapshot::{Had, Snapshot};
+pub use snapshot::Snapshot;

@@ -1,11 +1,11 @@
 //! Snapshots: the part of what is stored that the outcome of one name rests on.
 ghost use Rattle.std.specs.Prelude.{◌≡◌, ◌≢◌, ◌<◌, ◌++◌, [], true, length, map, nat_le, Some, None, IfOk, IfSome, IsTrue, OnOk};
-ghost use Rattle.std.specs.List.{list_all};
+ghost use Rattle.std.specs.List.{AllByRecursion, list_all};
 ghost use Rattle.std.specs.List.Sorted.{IsPermutation};
 ghost use Rattle.std.specs.Option.{option_copied};
 ghost use Rattle.bc_prov.specs.Outcome.{IsOutcomeIn};
 ghost use Rattle.bc_syntax.specs.Children.{children_of};
-ghost use Rattle.bc_prov.specs.Pieces.{AreAscending, ArePieces, IsPieceFor};
+ghost use Rattle.bc_prov.specs.Pieces.{AreAscending, ArePieces, IsPieceFor, pieces_at};
 ghost use Rattle.bc_prov.specs.Snapshots.{IsAmongPieces, IsSnapshot, names_used};
 ghost use Rattle.bc_prov.specs.State.{AreSuited, at_name, child, state_of};
 
@@ -27,13 +27,6 @@ pub struct Snapshot {
     carried: Option<Shared<Outcome>>,
     kept: Option<Pieces>,
     offered: Option<Pieces>,
-}
-
-/// A piece of a body that a snapshot has, and whether the snapshot keeps it; else it is carried.
-#[derive(Clone, Copy)]
-pub struct Had<'a> {
-    pub piece: &'a Shared<Piece>,
-    pub is_kept: bool,
 }
 
 // Written out: the crates above call this, and prove nothing of its parts again.
@@ -73,7 +66,7 @@ fn push_children(names: &mut Vec<Name>, name: Name, numbers: &[u8]) -> Result<()
     Ok(())
 }
 
-/// The piece of a name, if it is found among pieces.
+/// Returns the piece of a name, if it is found among pieces.
 fn piece_of_name<'a>(pieces: &'a Option<Pieces>, name: &Name) -> Option<&'a Shared<Piece>>
     ensures { IfSome result (λ piece. IsAmongPieces pieces.now name.now piece.now) }
 {
@@ -82,6 +75,20 @@ fn piece_of_name<'a>(pieces: &'a Option<Pieces>, name: &Name) -> Option<&'a Shar
         Ok(at) => Some(&pieces[at].1),
         Err(_) => None,
     }
+}
+
+/// Returns those pieces that are of a name. They stand together, since the names ascend.
+fn pieces_of_name<'a>(
+    pieces: &'a [(Name, Shared<Piece>)],
+    name: &Name,
+) -> &'a [(Name, Shared<Piece>)]
+    requires { AreAscending pieces.now }
+    ensures { result.now ≡ pieces_at name.now pieces.now }
+{
+    let start = pieces.partition_point(|entry| entry.0.cmp(name).is_lt());
+    let rest = &pieces[start..];
+    let len = rest.partition_point(|entry| entry.0.cmp(name).is_eq());
+    &rest[..len]
 }
 
 impl Snapshot {
@@ -102,8 +109,8 @@ impl Snapshot {
         }
     }
 
-    /// Adds pieces that are kept of the snapshot's bodies. It takes no memory. It asks that each was found from the declarations
-    /// and from the unit at its name; `piece` finds one where their names ascend.
+    /// Adds pieces that are kept of the snapshot's bodies, in the place of those that it kept before. It takes no memory. It asks that each
+    /// was found from the declarations and from the unit at its name; `kept_piece` finds one where their names ascend.
     pub fn keep_pieces(self, pieces: Pieces) -> Snapshot
         requires { ArePieces self.types self.units pieces.items }
         ensures { result ≡ self }
@@ -126,9 +133,10 @@ impl Snapshot {
         }
     }
 
-    /// Adds pieces that a report takes, before any that are kept, where all that they were found from is there. It takes no memory,
-    /// and asks nothing of its caller: those that were found from other declarations or from another unit than that at their name are
-    /// left out. The others are put in the order of their names, in whatever order they were handed in.
+    /// Adds pieces that a report takes, as it takes those that are kept, where all that they were found from is there. They come in the place
+    /// of those that were carried before. It takes no memory, and asks nothing of its caller: those that were found from other declarations
+    /// or from another unit than that at their name are left out. The others are put in the order of their names, in whatever order they
+    /// were handed in, and one name may have several.
     pub fn carry_pieces(self, pieces: Pieces) -> Snapshot
         ensures { result ≡ self }
     {
@@ -136,9 +144,10 @@ impl Snapshot {
         self.with_offered(pieces)
     }
 
-    /// Adds the pieces of a set, which a report takes, before any that are kept, where all that they were found from is there. It takes
-    /// no memory, and asks nothing of its caller: of a set over other declarations none is taken, and of one over the snapshot's own
-    /// those that were found from the unit at their name. They are put in the order of their names, in whatever order the set has them.
+    /// Adds the pieces of a set, which a report takes, as it takes those that are kept, where all that they were found from is there. It takes
+    /// no memory, and asks nothing of its caller. A set over other declarations changes nothing. Of one over the snapshot's own those that
+    /// were found from the unit at their name come in the place of those that were carried before. They are put in the order of their names,
+    /// in whatever order the set has them, and one name may have several.
     pub fn offer(self, set: PieceSet) -> Snapshot
         ensures { result ≡ self }
     {
@@ -149,7 +158,7 @@ impl Snapshot {
         self.with_offered(pieces)
     }
 
-    /// The snapshot with these pieces of its bodies, in the order of their names, before any that are kept.
+    /// Returns the snapshot with these pieces of its bodies, in the order of their names, in the place of those that it carried.
     fn with_offered(self, pieces: Pieces) -> Snapshot
         requires { ArePieces self.types self.units pieces.items }
         ensures { result ≡ self }
@@ -173,7 +182,7 @@ impl Snapshot {
         }
     }
 
-    /// These pieces of its bodies in the order of their names. It takes no memory.
+    /// Returns these pieces of its bodies in the order of their names. It takes no memory.
     fn in_order(&self, pieces: Pieces) -> Pieces
         requires { ArePieces self.now.types self.now.units pieces.items }
         ensures pieces { ArePieces self.now.types self.now.units result.items }
@@ -185,7 +194,7 @@ impl Snapshot {
         pieces
     }
 
-    /// Those pieces that were found from its declarations and from the unit at their name.
+    /// Returns those pieces that were found from its declarations and from the unit at their name.
     fn fitting(&self, pieces: Pieces) -> Pieces
         ensures { ArePieces self.now.types self.now.units result.items }
     {
@@ -194,7 +203,7 @@ impl Snapshot {
         pieces
     }
 
-    /// Whether a piece was found from its declarations and from the unit at its name.
+    /// Returns whether a piece was found from its declarations and from the unit at its name.
     fn fits(&self, entry: &(Name, Shared<Piece>)) -> bool
         ensures { IsTrue result → IsPieceFor self.now.types (at_name self.now.units entry.now.0) entry.now.1 }
     {
@@ -204,7 +213,7 @@ impl Snapshot {
         }
     }
 
-    /// Those pieces of a set over its declarations that were found from the unit at their name.
+    /// Returns those pieces of a set over its declarations that were found from the unit at their name.
     fn of_units(&self, set: PieceSet) -> Pieces
         requires { set.types ≡ self.now.types }
         ensures { ArePieces self.now.types self.now.units result.items }
@@ -214,7 +223,7 @@ impl Snapshot {
         pieces
     }
 
-    /// Whether a piece was found from the unit at its name.
+    /// Returns whether a piece was found from the unit at its name.
     fn has_unit(&self, entry: &(Name, Shared<Piece>)) -> bool
         ensures { IsTrue result → at_name self.now.units entry.now.0 ≡ Some entry.now.1.unit }
     {
@@ -224,22 +233,32 @@ impl Snapshot {
         }
     }
 
-    /// Returns a piece of the body at a name, if one is carried or kept: one that is carried before one that is kept. The contract
-    /// does not say which of both it is. It takes no memory.
-    pub fn piece(&self, name: &Name) -> Option<Had<'_>>
-        ensures { IfSome result (λ had. IsPieceFor self.now.types (at_name self.now.units name.now) had.piece.now) }
+    /// Returns the piece that is kept of the body at a name, if one is. It takes no memory.
+    pub fn kept_piece(&self, name: &Name) -> Option<&Shared<Piece>>
+        ensures { IfSome result (λ piece. IsPieceFor self.now.types (at_name self.now.units name.now) piece.now) }
     {
-        match piece_of_name(&self.offered, name) {
-            Some(piece) => Some(Had {
-                piece,
-                is_kept: false,
-            }),
+        piece_of_name(&self.kept, name)
+    }
+
+    /// Returns the pieces that are carried of the body at a name. It takes no memory.
+    pub fn carried_pieces(&self, name: &Name) -> &[(Name, Shared<Piece>)]
+        ensures { AllByRecursion (λ entry. IsPieceFor self.now.types (at_name self.now.units name.now) entry.1) result.now }
+    {
+        match &self.offered {
+            Some(pieces) => pieces_of_name(pieces, name),
+            None => &[],
+        }
+    }
+
+    /// Returns a piece of the body at a name, if one is kept or carried: the kept one, else the first that is carried. It takes no memory.
+    fn any_piece(&self, name: &Name) -> Option<&Shared<Piece>>
+        ensures { IfSome result (λ piece. IsPieceFor self.now.types (at_name self.now.units name.now) piece.now) }
+    {
+        match self.kept_piece(name) {
+            Some(piece) => Some(piece),
             None => {
-                let piece = piece_of_name(&self.kept, name)?;
-                Some(Had {
-                    piece,
-                    is_kept: true,
-                })
+                let entry = self.carried_pieces(name).first()?;
+                Some(&entry.1)
             }
         }
     }
@@ -308,8 +327,8 @@ impl Snapshot {
         }
     }
 
-    /// Returns the numbers of the children of a unit, each once, ascending: those that a piece of the unit has, if one is carried
-    /// or kept, else those that are found in the unit. It asks that this unit is held under this name. Returns `AllocError` only
+    /// Returns the numbers of the children of a unit, each once, ascending: those that a piece of the unit has, if one is kept
+    /// or carried, else those that are found in the unit. It asks that this unit is held under this name. Returns `AllocError` only
     /// where memory was refused.
     pub fn children_of(
         &self,
@@ -321,8 +340,8 @@ impl Snapshot {
         ensures value { IfOk result (λ numbers. numbers.items ≡ children_of unit.now) }
         ensures low { IfOk result (λ numbers. list_all (λ number. nat_le number 63) numbers.items ≡ true) }
     {
-        match self.piece(name) {
-            Some(had) => had.piece.get().children(alloc),
+        match self.any_piece(name) {
+            Some(piece) => piece.get().children(alloc),
             None => unit.get().body().children(alloc),
         }
     }

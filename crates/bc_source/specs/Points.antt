@@ -5,6 +5,7 @@ use Rattle.bc_syntax.specs.Fits.{point_count}
 use Rattle.bc_bodies.specs.declared.mir.Point.{Point}
 use Rattle.bc_places.specs.Places.{places_of}
 use Rattle.bc_position.specs.Positions.{position_in}
+use Rattle.bc_position.specs.declared.position.Position.{Position}
 use Rattle.bc_report.specs.Text.{line as ended}
 use Rattle.bc_source.specs.declared.starts.Start.{Start}
 use Rattle.bc_source.specs.Sources.{UnitParts}
@@ -34,6 +35,10 @@ place_of source point = slice_get (drop (point_count (take point.block source.un
 -- a byte of a text, with its line and column there
 abbrev pub start_in : List ℕ → ℕ → Start
 start_in text at = record { at = at; position = position_in text at }
+
+-- the line and the column behind a byte that has these
+abbrev pub behind_byte : Position → ℕ → Position
+behind_byte position b = if b == 10 then record { line = position.line + 1; column = 1 } else record { line = position.line; column = position.column + 1 }
 
 -- a line and a column of the file, behind a word
 unfoldable pub position_text : List ℕ → ℕ → ℕ → List ℕ

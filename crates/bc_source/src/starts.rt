@@ -1,6 +1,7 @@
 //! Where points begin: their bytes, and the lines and columns of these.
-ghost use Rattle.std.specs.Prelude.{◌≡◌, length, map, IfOk};
-ghost use Rattle.bc_source.specs.Points.{start_in};
+ghost use Rattle.std.specs.Prelude.{◌≡◌, ◌≤◌, ◌<◌, ◌^◌, length, map, IfOk};
+ghost use Rattle.bc_position.specs.Positions.{position_in};
+ghost use Rattle.bc_source.specs.Points.{behind_byte, start_in};
 
 use bc_position::{Position, position_of};
 use std::alloc::{AllocError, Global};
@@ -12,17 +13,56 @@ pub(crate) struct Start {
     pub(crate) position: Position,
 }
 
-/// The byte, with its line and column.
-fn start_in(text: &[u8], at: usize) -> Start
-    ensures { result ≡ start_in text.now at }
+/// Returns the line and the column behind a byte that has these.
+fn behind_byte(position: Position, byte: u8) -> Position
+    requires line { position.line < 2 ^ 63 }
+    requires column { position.column < 2 ^ 63 }
+    ensures { result ≡ behind_byte position byte }
 {
-    Start {
-        at,
-        position: position_of(text, at),
+    if byte == b'\n' {
+        Position {
+            line: position.line + 1,
+            column: 1,
+        }
+    } else {
+        Position {
+            line: position.line,
+            column: position.column + 1,
+        }
     }
 }
 
-/// The bytes in their order, each with its line and column.
+/// Returns the line and the column of a byte, counted on from those of an earlier one.
+fn position_from(text: &[u8], from: Start, at: usize) -> Position
+    requires known { from.position ≡ position_in text.now from.at }
+    requires later { from.at ≤ at }
+    requires within { at ≤ length text.now }
+    ensures { result ≡ position_in text.now at }
+{
+    let mut position = from.position;
+    let mut passed = from.at;
+    while passed < at {
+        position = behind_byte(position, text[passed]);
+        passed += 1;
+    }
+    position
+}
+
+/// Returns the byte with its line and column, counted on from an earlier byte's, or from the start of the text where this is no later byte of it.
+fn start_from(text: &[u8], from: Start, at: usize) -> Start
+    requires { from.position ≡ position_in text.now from.at }
+    ensures { result ≡ start_in text.now at }
+{
+    let position = if from.at <= at && at <= text.len() {
+        position_from(text, from, at)
+    } else {
+        position_of(text, at)
+    };
+    Start { at, position }
+}
+
+/// Returns the bytes in their order, each with its line and column, or `AllocError` where memory was refused. Where the bytes go up, it passes over
+/// the text once.
 pub(crate) fn starts_in(
     alloc: Global,
     text: &[u8],
@@ -31,8 +71,13 @@ pub(crate) fn starts_in(
     ensures { IfOk result (λ starts. starts.items ≡ map (start_in text.now) places.now) }
 {
     let mut starts = Vec::new(alloc);
+    let mut last = Start {
+        at: 0,
+        position: Position { line: 1, column: 1 },
+    };
     for at in places {
-        starts.push(start_in(text, *at))?;
+        last = start_from(text, last, *at);
+        starts.push(last)?;
     }
     Ok(starts)
 }

@@ -2,6 +2,7 @@ pub mod Files
 pub mod Parts
 pub mod Left
 pub mod Faults
+pub mod OneLine
 pub mod Stops
 pub mod Words
 pub mod Headings

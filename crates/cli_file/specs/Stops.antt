@@ -1,5 +1,5 @@
 -- What is said where the command stops before its end, and its status.
-use Rattle.std.specs.Prelude.{ℕ, Bool, true, false, List, [], ◌++◌, codes}
+use Rattle.std.specs.Prelude.{ℕ, Bool, true, false, List, [], ◌++◌, map, codes}
 use Rattle.cli_file.specs.declared.stop.Stop.{Stop}
 use Rattle.cli_file.specs.declared.stop.Stop.TheVariants.{WrongUse, CannotRead, CannotWrite, CannotTell, NoMemory, File, TooManyCalls, HistoryFull, Foreign, Audit}
 use Rattle.bc_book.specs.declared.ledger.Refusal.{Refusal}
@@ -9,12 +9,13 @@ use Rattle.bc_share.specs.declared.db.OpenFault.TheVariants as open_faults
 use Rattle.bc_share.specs.declared.db.CloseFault.{CloseFault}
 use Rattle.bc_share.specs.declared.db.CloseFault.TheVariants as close_faults
 use Rattle.cli_file.specs.Faults.{message}
+use Rattle.cli_file.specs.OneLine.{in_one_line}
 use Rattle.bc_report.specs.Text.{line}
 
 -- the last line on standard error
 abbrev pub last_line : List ℕ → Stop → List ℕ
 last_line file WrongUse = line (codes "wrong use")
-last_line file CannotRead = line (codes "cannot read " ++ file)
+last_line file CannotRead = line (codes "cannot read " ++ map in_one_line file)
 last_line file CannotWrite = line (codes "cannot write")
 last_line file CannotTell = []
 last_line file NoMemory = line (codes "no memory")

@@ -7,6 +7,7 @@ mod file;
 mod heading;
 mod input;
 mod location;
+mod one_line;
 mod section;
 mod side;
 mod status;

@@ -4,6 +4,7 @@ ghost use Rattle.std.specs.Io.KnownBytes.{Appends};
 ghost use Rattle.cli_file.specs.Stops.{last_line, stop_status, refusal_stop, open_stop, close_stop};
 
 use crate::FileFault;
+use crate::one_line::write_in_one_line;
 use bc_book::Refusal;
 use bc_share::{CloseFault, OpenFault};
 use std::alloc::{AllocError, AllocFailed};
@@ -107,13 +108,22 @@ fn exit_status(stop: &Stop) -> u8
     }
 }
 
+/// Writes that the file of this name cannot be read.
+fn write_unread<E: Write>(file: &str, err: &mut E) -> io::Result<()>
+    ensures { OnOk result (Appends (E.contents err.old) (E.contents err.new) (last_line file.now Stop.CannotRead)) }
+{
+    err.write_all(b"cannot read ")?;
+    write_in_one_line(file, err)?;
+    err.write_all(b"\n")
+}
+
 /// Writes why a command on the file of this name stops: one line, and none where standard error failed already.
 fn write_last_line<E: Write>(file: &str, stop: &Stop, err: &mut E) -> io::Result<()>
     ensures { OnOk result (Appends (E.contents err.old) (E.contents err.new) (last_line file.now stop.now)) }
 {
     match *stop {
         Stop::WrongUse => writeln!(err, "wrong use"),
-        Stop::CannotRead => writeln!(err, "cannot read {file}"),
+        Stop::CannotRead => write_unread(file, err),
         Stop::CannotWrite => writeln!(err, "cannot write"),
         Stop::CannotTell => Ok(()),
         Stop::NoMemory => writeln!(err, "no memory"),
@@ -125,8 +135,8 @@ fn write_last_line<E: Write>(file: &str, stop: &Stop, err: &mut E) -> io::Result
     }
 }
 
-/// Writes why a command on the file of this name stops, and returns its exit status: 2 where the file has a fault, 3 for all else. The writer's
-/// fault where this cannot be written.
+/// Writes why a command on the file of this name stops, and returns its exit status: 2 where the file has a fault, 3 for all else. A control
+/// character of the name is written as `?`, so that this is one line. The writer's fault where this cannot be written.
 pub fn stop_with<E: Write>(file: &str, stop: &Stop, err: &mut E) -> io::Result<u8>
     ensures range { IfOk result (λ status. status ≤ 3) }
     ensures status { IfOk result (λ status. status ≡ stop_status stop.now) }

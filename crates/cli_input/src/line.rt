@@ -29,8 +29,9 @@ fn finish(line: Vec<u8>, limit: usize) -> InputLine
 /// behind the line is waited for. Of a line with more than `limit` bytes no more than `limit + 1` are held in memory at a time: it
 /// is read to its end and is `TooLong`.
 ///
-/// Returns an error of the input as it is, but for `ErrorKind::Interrupted`, after which reading goes on; and
-/// `ErrorKind::OutOfMemory` where memory was refused. Behind an error nothing is known of what was read.
+/// Returns an error of the input as it is, but for `ErrorKind::Interrupted`, after which reading goes on, and
+/// `ErrorKind::OutOfMemory`, in place of which it is `ErrorKind::Other`; and `ErrorKind::OutOfMemory` only where memory was
+/// refused. Behind an error nothing is known of what was read.
 pub fn read_input_line<I: BufRead>(
     alloc: Global,
     input: &mut I,

@@ -42,8 +42,8 @@ fn find_cut(bytes: &[u8]) -> Cut
 }
 
 /// Takes from the input as much of its first line as one read gives, with the line feed, and appends it to what was read of that line
-/// before, of which at most `most` bytes are kept. An interrupted read takes nothing. An error of the input is returned as it is, and so
-/// is refused memory; behind an error nothing is known of what was taken.
+/// before, of which at most `most` bytes are kept. An interrupted read takes nothing. An error of the input is returned as it is, but of
+/// the kind `Other` where it was `OutOfMemory`, which is refused memory alone. Behind an error nothing is known of what was taken.
 pub(crate) fn take_piece<I: BufRead>(
     input: &mut I,
     most: usize,
@@ -57,6 +57,7 @@ pub(crate) fn take_piece<I: BufRead>(
         Err(fault) => {
             return match fault.kind() {
                 ErrorKind::Interrupted => Ok(Met::More),
+                ErrorKind::OutOfMemory => Err(ErrorKind::Other.into()),
                 _ => Err(fault),
             };
         }

@@ -221,8 +221,8 @@ fn read_command(alloc: Global, name: &str, matches: &ArgMatches<'_>) -> Result<L
 /// a `=`. J, N and C are written in decimal digits, with leading zeros or none and a `+` before them or none. Behind a word `--` each word is FILE,
 /// so that its name may begin with `-`. How words are split into options and values is the rule of the crate `clap`.
 ///
-/// `Help` where the words ask for it by `--help` or `-h`, also behind a command, before a word that is wrong: on the command that the first word
-/// names, or else on the program. `Version` where they ask for it by `--version` or `-V`, which stands before a command. `NoMemory` only where
+/// `Help` where the words ask for it by `--help` or `-h`, also behind a command, before a word that has no place in the line, whatever the values of
+/// options say: on the command that the first word names, or else on the program. `Version` where they ask for it by `--version` or `-V`, which stands before a command. `NoMemory` only where
 /// memory was refused. `WrongUse` where the words write no line: no words, another command, no FILE or one too many, `--json` beside `--source`, an
 /// option that the command does not have, that stands twice, or whose value is missing or none of those above.
 pub fn read_line<'a>(alloc: Global, words: &'a [&'a str]) -> Result<Line, LineFault>

@@ -1,5 +1,5 @@
 -- What is said where the command stops.
-use Rattle.std.specs.Prelude.{ℕ, List, ◌∷◌, [], ◌++◌, codes}
+use Rattle.std.specs.Prelude.{ℕ, List, ◌∷◌, [], ◌++◌, codes, Result, Ok, Err}
 use Rattle.cli_talk.specs.declared.fault.TalkFault.{TalkFault}
 use Rattle.cli_talk.specs.declared.fault.TalkFault.TheVariants as faults
 use Rattle.cli_serve.specs.declared.stop.ServeStop.{ServeStop}
@@ -11,6 +11,18 @@ stop_of faults.CannotRead = CannotRead
 stop_of faults.CannotWrite = CannotWrite
 stop_of faults.NoMemory = NoMemory
 stop_of faults.OutOfTurn = LostLine
+
+-- how two parts of a conversation ended: well where both did, and else as the first that did not; but with a lost line only where nothing
+-- else was wrong
+abbrev pub both : Result Unit ServeStop → Result Unit ServeStop → Result Unit ServeStop
+both (Ok well) now = now
+both (Err CannotRead) now = Err CannotRead
+both (Err CannotWrite) now = Err CannotWrite
+both (Err NoMemory) now = Err NoMemory
+both (Err NoThread) now = Err NoThread
+both (Err LostLine) (Ok well) = Err LostLine
+both (Err LostLine) (Err stop) = Err stop
+both (Err Audit) now = Err Audit
 
 -- what a stop is called
 abbrev pub stop_text : ServeStop → List ℕ

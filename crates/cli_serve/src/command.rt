@@ -4,10 +4,10 @@ ghost use Rattle.cli_input.specs.Lines.{lines_of};
 ghost use Rattle.cli_serve.specs.Served.{IsEnd, IsServed};
 
 use crate::output::Output;
-use crate::stop::{ServeStop, write_stop};
+use crate::stop::{ServeStop, stop_of_close, write_stop};
 use crate::talk::{Talked, converse};
 use bc_prov::Providers;
-use bc_share::{CloseFault, Db, History};
+use bc_share::{Db, History};
 use bc_versions::Waiting;
 use std::alloc::Global;
 use std::io;
@@ -54,8 +54,7 @@ pub fn serve<R: Threads + Wait + Sync, I: BufRead, O: Write + Drop + Send>(
             Ok(()) => Ok(history),
             Err(stop) => Err(stop),
         },
-        Err(CloseFault::Foreign) => unreachable!(),
-        Err(CloseFault::Audit(_)) => Err(ServeStop::Audit),
+        Err(fault) => Err(stop_of_close(fault)),
     }
 }
 

@@ -2,6 +2,7 @@
 //! the database is closed.
 #![tactic(auto)]
 
+mod backlog;
 mod command;
 mod ends;
 mod output;

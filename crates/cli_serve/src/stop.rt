@@ -1,8 +1,9 @@
 //! Why the command stops.
-ghost use Rattle.std.specs.Prelude.{◌≡◌, IsOk, OnOk};
+ghost use Rattle.std.specs.Prelude.{◌≡◌, ◌≢◌, IsOk, OnOk};
 ghost use Rattle.std.specs.Io.KnownBytes.{Appends};
-ghost use Rattle.cli_serve.specs.Stops.{stop_line, stop_of};
+ghost use Rattle.cli_serve.specs.Stops.{both, stop_line, stop_of};
 
+use bc_share::CloseFault;
 use cli_talk::TalkFault;
 use std::io;
 use std::io::Write;
@@ -36,13 +37,26 @@ pub(crate) fn stop_of(fault: TalkFault) -> ServeStop
     }
 }
 
-/// Whether all is well so far: where it is not, the first that was wrong, but a lost line only where nothing else was.
+/// Why the command stops, where its database does not close well.
+pub(crate) fn stop_of_close(fault: CloseFault) -> ServeStop
+    requires { fault ≢ CloseFault.Foreign }
+    ensures { result ≡ ServeStop.Audit }
+{
+    match fault {
+        CloseFault::Foreign => unreachable!(),
+        CloseFault::Audit(_) => ServeStop::Audit,
+    }
+}
+
+/// Returns how two parts of a conversation ended: well where both did, and else as the first that did not; but with `LostLine` only where
+/// nothing else was wrong.
 pub(crate) fn both(
     before: Result<(), ServeStop>,
     now: Result<(), ServeStop>,
 ) -> Result<(), ServeStop>
     ensures before { OnOk result (IsOk before) }
     ensures now { OnOk result (IsOk now) }
+    ensures which { result ≡ both before now }
 {
     match (before, now) {
         (Ok(()), told) => told,

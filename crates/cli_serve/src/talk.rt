@@ -1,11 +1,12 @@
 //! The conversation: the router on this thread, and a worker for each session on a thread of its own.
-ghost use Rattle.std.specs.Prelude.{◌≡◌, ◌≤◌, [], IfOk, length, option_map};
+ghost use Rattle.std.specs.Prelude.{◌≡◌, ◌≤◌, [], IfErr, IfOk, length, option_map};
 ghost use Rattle.std.specs.List.{All};
 ghost use Rattle.cli_input.specs.Lines.{lines_of};
 ghost use Rattle.bc_share.specs.Sessions.{new_session};
 ghost use Rattle.cli_talk.specs.Counted.{CountsAll};
 ghost use Rattle.cli_serve.specs.Talked.{IsTalk};
 
+use crate::backlog::Backlog;
 use crate::ends::{Inbox, Printer};
 use crate::output::Output;
 use crate::stop::{ServeStop, both, stop_of};
@@ -14,7 +15,7 @@ use bc_prov::Providers;
 use bc_share::Session;
 use bc_versions::Ending;
 use cli_talk::{Message, Talk, no_counts, route_line};
-use crossbeam_channel::{SendError, Sender, unbounded};
+use crossbeam_channel::{Receiver, SendError, Sender, unbounded};
 use std::alloc::Global;
 use std::io::{BufRead, Write};
 use std::marker::Brand;
@@ -29,15 +30,20 @@ pub(crate) struct Talked<N: Ending> {
     pub ended: Result<(), ServeStop>,
 }
 
-// Puts a message into the queue of its session. `LostLine` where nobody takes it: its worker stopped, and knows why.
+/// Puts a message into the queue of its session, once the backlog has room for its line. Returns `LostLine` once a worker stopped, which
+/// knows why, and `NoMemory` only where memory was refused.
 fn send<L: Talk + Drop, R: Wait>(
     rt: &R,
+    backlog: &Backlog,
     queues: &[Sender<Message<L>>],
     message: Message<L>,
 ) -> Result<(), ServeStop> {
     let Some(queue) = queues.get(usize::from(message.session)) else {
         return Err(ServeStop::LostLine);
     };
+    if !backlog.add(rt, message.line.len()) {
+        return Err(ServeStop::LostLine);
+    }
     match queue.send(rt, message) {
         Ok(()) => Ok(()),
         Err(SendError::OutOfMemory(_)) => Err(ServeStop::NoMemory),
@@ -51,6 +57,7 @@ fn route_all<'b, L: Talk + Drop, I: BufRead, R: Wait, O: Write + Drop>(
     alloc: Global,
     input: &mut I,
     sessions: u8,
+    backlog: &Backlog,
     queues: &[Sender<Message<L>>],
     out: &Mutex<Output<'b, O>>,
 ) -> Result<Vec<u64>, ServeStop>
@@ -68,7 +75,7 @@ fn route_all<'b, L: Talk + Drop, I: BufRead, R: Wait, O: Write + Drop>(
             Ok(None) => return Ok(counts),
             Ok(Some(None)) => {}
             Ok(Some(Some(message))) => {
-                if let Err(stop) = send(rt, queues, message) {
+                if let Err(stop) = send(rt, backlog, queues, message) {
                     return Err(stop);
                 }
             }
@@ -78,7 +85,9 @@ fn route_all<'b, L: Talk + Drop, I: BufRead, R: Wait, O: Write + Drop>(
     Err(ServeStop::CannotRead)
 }
 
-// Joins the workers, and puts their sessions into `done`, which is empty and has room for them. `LostLine` where one is missing.
+/// Joins the workers, puts their sessions into `done`, which is empty and has room for them, and returns them with how the conversation
+/// ended: as the first worker that stopped, in the order of the sessions; or, where none did, as the router. Returns `LostLine` where a
+/// worker is missing.
 fn join_all<L: Talk + Drop, N: Ending, R: Threads>(
     rt: &R,
     sessions: u8,
@@ -106,6 +115,10 @@ fn join_all<L: Talk + Drop, N: Ending, R: Threads>(
     if done.len() != usize::from(sessions) {
         return Err(ServeStop::LostLine);
     }
+    let ended = match routed {
+        Ok(_) => ended,
+        Err(stop) => both(ended, Err(*stop)),
+    };
     Ok(Talked {
         sessions: done,
         ended,
@@ -119,6 +132,18 @@ fn end_all<L: Talk + Drop, N: Ending, R: Threads>(rt: &R, workers: Vec<Worker<L,
     }
 }
 
+/// Returns both ends of a new queue, and `NoMemory` only where memory was refused.
+fn open_queue<L: Talk + Drop>(
+    alloc: Global,
+) -> Result<(Sender<Message<L>>, Receiver<Message<L>>), ServeStop>
+    ensures { IfErr result (λ stop. stop ≡ ServeStop.NoMemory) }
+{
+    match unbounded(alloc) {
+        Ok(ends) => Ok(ends),
+        Err(_) => Err(ServeStop::NoMemory),
+    }
+}
+
 // Starts a worker for each session, with its queue.
 fn start_all<'s, 'b, V, L, N, R, O>(
     scope: &Scope<'s, V>,
@@ -127,6 +152,7 @@ fn start_all<'s, 'b, V, L, N, R, O>(
     providers: &'s Providers,
     count: u8,
     sessions: Vec<Session<N>>,
+    backlog: &'s Backlog,
     out: &'s Mutex<Output<'b, O>>,
     queues: &mut Vec<Sender<Message<L>>>,
     workers: &mut Vec<Worker<L, N>>,
@@ -141,10 +167,11 @@ where
 {
     'sessions: for session in sessions {
         let number = session.number();
-        let Ok((to, from)) = unbounded(alloc) else {
-            return Err(ServeStop::NoMemory);
+        let (to, from) = match open_queue(alloc) {
+            Ok(ends) => ends,
+            Err(stop) => return Err(stop),
         };
-        let inbox = Inbox { rt, messages: from };
+        let inbox = Inbox::new(rt, from, backlog);
         let printer = Printer { rt, out };
         let Some(worker) = start::<V, L, N, _, _, R>(
             scope, rt, alloc, providers, count, number, inbox, session, printer,
@@ -166,6 +193,7 @@ fn converse_in<'s, 'b, V, L, N, R, I, O>(
     providers: &'s Providers,
     input: &mut I,
     sessions: Vec<Session<N>>,
+    backlog: &'s Backlog,
     out: &'s Mutex<Output<'b, O>>,
 ) -> Result<Talked<N>, ServeStop>
 where
@@ -193,6 +221,7 @@ where
         providers,
         count,
         sessions,
+        backlog,
         out,
         &mut queues,
         &mut workers,
@@ -201,7 +230,10 @@ where
         end_all(rt, workers);
         return Err(stop);
     }
-    let routed = route_all::<L, I, R, O>(rt, alloc, input, count, &queues, out);
+    let routed = route_all::<L, I, R, O>(rt, alloc, input, count, backlog, &queues, out);
+    if let Err(ServeStop::CannotWrite) = routed {
+        backlog.stop(rt);
+    }
     drop(queues);
     join_all(rt, count, workers, done, &routed)
 }
@@ -227,13 +259,19 @@ where
     requires lines { L.lines ≡ option_map lines_of (I.remaining input.old) }
     ensures { IfOk result (λ talked. IsTalk L.sessions L.lines talked.sessions.items talked.ended) }
 {
+    let backlog = Backlog::new();
+    let shared = &backlog;
     thread::scope(
         thread::scope_env(),
         rt,
         |scope| -> Result<Talked<N>, ServeStop>
             requires { (length sessions.items ≤ 16) × (length sessions.items ≡ L.sessions) × All (λ s. s ≡ new_session 0 s.number) sessions.items × (L.lines ≡ option_map lines_of (I.remaining input.now)) }
             ensures { IfOk result (λ talked. IsTalk L.sessions L.lines talked.sessions.items talked.ended) }
-        { converse_in::<_, L, N, R, I, O>(scope, rt, alloc, providers, input, sessions, out) },
+        {
+            converse_in::<_, L, N, R, I, O>(
+                scope, rt, alloc, providers, input, sessions, shared, out,
+            )
+        },
     )
 }
 

@@ -118,8 +118,8 @@ where
     }
 }
 
-// Whether the session of this number answered each line that names it, of which the router counted so many; where the router stopped,
-// why.
+/// Returns whether the session of this number answered each line that names it, of which the router counted so many: what stopped its
+/// worker, or `LostLine` where it answered fewer, or the router stopped and did not count them.
 fn find_whole<L: Talk + Drop, N: Ending>(
     sessions: u8,
     number: u8,
@@ -139,7 +139,7 @@ fn find_whole<L: Talk + Drop, N: Ending>(
     };
     let counts = match routed {
         Ok(counts) => counts,
-        Err(stop) => return Err(*stop),
+        Err(_) => return Err(ServeStop::LostLine),
     };
     let place = usize::from(number);
     if place >= counts.len() || counts[place] != count {

@@ -1,4 +1,4 @@
-//! The program: `nlldb check FILE`, `nlldb run FILE` and `nlldb serve`.
+//! The program `nlldb`, over the words, the files and the outputs of the system.
 #![tactic(auto)]
 
 use cli_program::run_on_system;

@@ -16,7 +16,7 @@
 //!   begun an Ask until the others have begun two, and each of these, where it has begun one, until session 0 has come there and they all have
 //!   begun one; `run a worked 2 1` holds session 0 up where it has worked on an Ask.
 //! - `meet a put NAME TEXT` has session 0 ask for the name while session 1 makes this put, once session 0 works on the body that is there, and
-//!   reads what is published of the name, once session 0 works on this one.
+//!   reads what is published, once session 0 works on this one. `meetall a put NAME TEXT` has session 0 ask for all meanwhile.
 //! - `close a b` closes `a` with the sessions that `b` has left, and `close a` with none. The answer is how many entries the history has.
 //! - `refuse live`, `solve`, `scopes`, `all` or `none` says which providers want memory from then on, and `refuse first` that the solver does at
 //!   its first call.

@@ -39,6 +39,13 @@ impl Meeting {
         }
     }
 
+    /// Holds a meeting to which nobody has come.
+    fn open(&self) {
+        self.solving.store(0, SeqCst);
+        self.steps.store(0, SeqCst);
+        self.is_held.store(true, SeqCst);
+    }
+
     /// Where a meeting is held, marks that session 0 has come to its solver, and waits there until session 1 has made as many steps
     /// as session 0 has come there.
     pub fn solve<C: Clock>(&self, clock: &C) {
@@ -55,56 +62,64 @@ impl Meeting {
     }
 }
 
-/// Makes a put once session 0 works on the body that is at its name, and reads what is published there once session 0 works on this one.
+/// The put at which two sessions meet, and whether session 0 asks for all meanwhile, or for the name of the put.
+#[derive(Drop)]
+struct Parts {
+    at: Name,
+    unit: Shared<Unit>,
+    asks_all: bool,
+}
+
+/// Makes a put once session 0 works on the body that is at its name, and reads what is published once session 0 works on this one.
 fn put_and_read<R: Clock + Wait, E: Ending>(
     rt: &R,
     session: &mut Session<E>,
     meeting: &Meeting,
-    at: &Name,
-    unit: &Shared<Unit>,
+    parts: &Parts,
 ) -> Result<(), Refusal> {
     meeting.await_solving(rt, 1);
-    session.put(rt, *at, unit.clone()?.into_arc())?;
+    session.put(rt, parts.at, parts.unit.clone()?.into_arc())?;
     meeting.steps.fetch_add(1, SeqCst);
     meeting.await_solving(rt, 2);
-    session.glance(at)?;
-    session.begin(at)?;
+    session.glance(&parts.at)?;
+    session.begin(&parts.at)?;
+    session.begin_all()?;
     meeting.steps.fetch_add(1, SeqCst);
     Ok(())
 }
 
-/// Session 0 asks for the name of a put, and session 1 makes that put, and reads.
+/// Session 0 asks, and session 1 makes the put, and reads.
 fn take_part<R: Clock + Wait, E: Ending>(
     rt: &R,
     session: &mut Session<E>,
     providers: &Providers,
     meeting: &Meeting,
-    at: &Name,
-    unit: &Shared<Unit>,
+    parts: &Parts,
 ) {
-    if session.number() == 0 {
-        let _outcome = session.ask(rt, at, providers);
+    if session.number() != 0 {
+        let _made = put_and_read(rt, session, meeting, parts);
+    } else if parts.asks_all {
+        let _listing = session.ask_all(rt, providers);
     } else {
-        let _made = put_and_read(rt, session, meeting, at, unit);
+        let _outcome = session.ask(rt, &parts.at, providers);
     }
 }
 
-/// Has session 0 ask for the name of a put while session 1 makes that put, and reads.
+/// Has session 0 ask while session 1 makes a put, and reads.
 fn meet_at<R: Clock + Sync + Threads + Wait, E: Ending + Send>(
     rt: &R,
     sessions: &mut [Session<E>],
     providers: &Providers,
     meeting: &Meeting,
-    at: &Name,
-    unit: &Shared<Unit>,
+    parts: &Parts,
 ) {
-    meeting.is_held.store(true, SeqCst);
+    meeting.open();
     thread::for_each_mut(
         rt,
         sessions,
         2,
         &|_index: usize, session: &mut Session<E>| {
-            take_part(rt, session, providers, meeting, at, unit);
+            take_part(rt, session, providers, meeting, parts);
         },
     );
     meeting.is_held.store(false, SeqCst);
@@ -117,15 +132,16 @@ impl Context<'_> {
         rt: &R,
         case: &mut Case<E>,
         row: &str,
+        asks_all: bool,
     ) -> Answer {
         let (letter, row) = halves(row);
         let opened = case.at(letter)?;
         let meeting = &self.gauges.meeting;
-        let (sessions, providers) = (&mut opened.sessions, self.providers);
-        match self.call(row)? {
-            Call::Put(at, unit) => meet_at(rt, sessions, providers, meeting, &at, &unit),
-            _ => bail!("sessions meet at a put"),
-        }
+        let Call::Put(at, unit) = self.call(row)? else {
+            bail!("sessions meet at a put");
+        };
+        let parts = Parts { at, unit, asks_all };
+        meet_at(rt, &mut opened.sessions, self.providers, meeting, &parts);
         meeting.patience.is_kept()?;
         line(self.alloc, "met")
     }

@@ -1,4 +1,4 @@
-//! Both commands over readers and writers of which each call fails in turn.
+//! `check` and `run` over readers and writers of which each call fails in turn.
 use crate::command::leave_with;
 use crate::{checks, runs};
 use bc_analyses::providers;

@@ -1,5 +1,5 @@
-//! Two sessions of `run`, and two asks of `check`, that are inside a provider at once.
-use crate::checks::FOUR_JOBS;
+//! Two sessions of `run`, and two asks of `check`, that are inside a provider at once, and how many bodies `check` works on before it prints.
+use crate::checks::{FOUR_JOBS, ONE_JOB};
 use crate::command::leave_with;
 use crate::runs::TWO;
 use bc_analyses::{find_values, providers};
@@ -11,7 +11,7 @@ use std::sync::atomic::Ordering::SeqCst;
 use std::test::Fail;
 use std::thread;
 use std::time::{Clock, Duration};
-use test_devices::SOUND;
+use test_devices::{Devices, SOUND};
 
 /// Each of two sessions puts a body of its own and asks for it.
 const CALLS: &[u8] =
@@ -69,5 +69,30 @@ fn two_bodies_are_solved_at_once(rt: HostRuntime) -> Result<(), Fail> {
     }
     assert_eq!(rt; meeting.came.load(SeqCst), 4, "each body is solved once");
     assert_eq!(rt; meeting.late.load(SeqCst), 0, "nobody waits too long");
+    Ok(())
+}
+
+/// Catches a `check` with one job that works on a body before it printed the report of the one before, and one with more that prints before it
+/// worked on all: the first write fails, and how many bodies were worked on by then is counted.
+#[test]
+fn one_job_prints_each_report_before_it_works_on(rt: HostRuntime) -> Result<(), Fail> {
+    let Ok(worked) = Arc::new(rt.alloc(), AtomicU32::new(0)) else {
+        return Err("memory")?;
+    };
+    let to_work = Arc::try_clone(&worked)?;
+    let providers = providers!(rt.alloc(), move |alloc: Global, facts: &Facts| {
+        to_work.fetch_add(1, SeqCst);
+        find_values(alloc, facts)
+    });
+    let devices = Devices {
+        room: 0,
+        write: 0,
+        ..SOUND
+    };
+    for (words, count) in [(ONE_JOB, 1), (FOUR_JOBS, 3)] {
+        let left = leave_with(&rt, &providers, words, PUTS, devices)?;
+        assert!(rt; left.is(3, b"", b"cannot write\n"));
+        assert_eq!(rt; worked.load(SeqCst), count);
+    }
     Ok(())
 }

@@ -33,7 +33,7 @@ impl Fuse {
     }
 }
 
-/// A reader of so many bytes at a time.
+/// A reader of so many bytes at a time. Where it fails, it says that the system has no memory, or anything else, in turn.
 #[derive(Drop)]
 pub struct Input<'a> {
     rest: &'a [u8],
@@ -59,7 +59,14 @@ impl<'a> Input<'a> {
 
 impl Read for Input<'_> {
     fn read(&mut self, buf: &mut [u8]) -> io::Result<usize> {
-        self.fuse.burn()?;
+        let is_odd = self.fuse.calls() % 2 == 1;
+        if self.fuse.burn().is_err() {
+            return Err(if is_odd {
+                ErrorKind::OutOfMemory.into()
+            } else {
+                ErrorKind::Other.into()
+            });
+        }
         let count = buf.len().min(self.rest.len()).min(self.chunk);
         let (front, rest) = self.rest.split_at(count);
         buf[..count].copy_from_slice(front);

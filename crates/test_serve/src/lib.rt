@@ -6,4 +6,6 @@ mod command;
 #[cfg(test)]
 mod failing;
 #[cfg(test)]
+mod meeting;
+#[cfg(test)]
 mod talks;

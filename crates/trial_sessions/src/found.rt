@@ -11,7 +11,7 @@ use bc_mir::{KidHeader, Typed};
 use bc_names::Name;
 use bc_outcomes::{piece, report, report_pieces};
 use bc_points::accesses;
-use bc_prov::{Check, Piece, Providers, Shared, Snapshot, share};
+use bc_prov::{Check, Piece, Pieces, Providers, Shared, Snapshot, share};
 use bc_syntax::{Sequence, Unit, UnitKind};
 use bc_versions::Waiting;
 use std::alloc::{AllocError, Global};
@@ -27,6 +27,14 @@ const DECLARED: &[u8] =
 /// A body with calls, drops and types that have regions, over `DECLARED`.
 const BODY: &[u8] =
     b"fn <'a,'b> where 'a: 'b (&'b mut &'a int, int) -> &'a int { let _3: P<'?0,'?1>; let _4: &'?2 int; let _5: G<'?3>; let _6: int; let _7: &'?4 mut &'?5 int; bb0 { _6 = 1; _4 = &'?6 _6; _5 = G<'?7>(copy _4); _7 = &'?8 mut _1.*; _6 = 2; if copy _2 bb1 bb2; } bb1 { _3 = P<'?9,'?10>(move _7, move _5, 7); _6 = calc(copy _2, copy _2, copy _2, copy _2, copy _2); dead _7; drop _3; goto bb3; } bb2 { _4 = call k<'?11,'?12>(move _7, copy _2) bb3; } bb3 { _0 = copy _4; nop; return; } }";
+
+/// A function that creates a closure with regions, that closure, and one in its place that requires something.
+const CREATES: &[u8] =
+    b"fn <'a,'b,'c> (&'a int, &'c mut &'b int) -> int { let _3: closure 0<'a,'b,'c>; bb0 { _3 = closure 0<'a,'b,'c>(copy _1, move _2); _0 = invoke _3() bb1; } bb1 { return; } }";
+const REQUIRES_NOTHING: &[u8] =
+    b"closure <'x,'y,'z> [&'x int, &'z mut &'y int] () -> int { bb0 { _0 = 0; return; } }";
+const REQUIRES: &[u8] =
+    b"closure <'x,'y,'z> [&'x int, &'z mut &'y int] () -> int { bb0 { _2.* = copy _1; _0 = 0; return; } }";
 
 /// `BODY`, typed.
 fn typed(alloc: Global) -> Result<Typed> {
@@ -163,6 +171,39 @@ fn is_of_pieces(alloc: Global, providers: &Providers, shelf: &Shelf) -> Result<b
     Ok(asks_none(alloc, &snapshot)?)
 }
 
+/// A shelf that holds `CREATES` and its closure.
+fn creator_over(alloc: Global, closure: &[u8]) -> Result<Shelf> {
+    let mut shelf = Shelf::new(alloc, no_declarations(alloc)?, 1)?;
+    put(alloc, &mut shelf, b"f", CREATES, 1)?;
+    put(alloc, &mut shelf, b"f/0", closure, 2)?;
+    Ok(shelf)
+}
+
+/// The pieces of `CREATES` and of its closure.
+fn pieces_over(alloc: Global, providers: &Providers, closure: &[u8]) -> Result<Pieces> {
+    let shelf = creator_over(alloc, closure)?;
+    let snapshot = shelf.part(alloc, &name(b"f")?)?.snapshot;
+    let (_, pieces) = report_pieces(alloc, providers, &snapshot)?;
+    Ok(pieces)
+}
+
+/// Whether the report of `CREATES` over the closure that requires nothing is as it has to be, and no provider is asked, where the snapshot
+/// carries the pieces over both closures, in this order.
+fn is_of_either(
+    alloc: Global,
+    providers: &Providers,
+    first: &[u8],
+    second: &[u8],
+) -> Result<bool> {
+    let mut pieces = pieces_over(alloc, providers, first)?;
+    pieces.append(&mut pieces_over(alloc, providers, second)?)?;
+    let shelf = creator_over(alloc, REQUIRES_NOTHING)?;
+    let snapshot = shelf.part(alloc, &name(b"f")?)?.snapshot;
+    let refusing = refusing!(alloc);
+    let outcome = report(alloc, &refusing, &snapshot.carry_pieces(pieces))?;
+    Ok(Sight::of(&outcome) == Sight::Report(2, 0))
+}
+
 /// A shelf that holds a function and its closure.
 fn shelf(alloc: Global) -> Result<Shelf> {
     let mut shelf = Shelf::new(alloc, no_declarations(alloc)?, 1)?;
@@ -203,5 +244,7 @@ pub(crate) fn is_well<R: AllocGlobal + Wait>(rt: &R, providers: &Providers) -> R
     let is_begun = is_begun(rt, alloc, providers)?;
     let shelf = shelf(alloc)?;
     let is_over = is_over(alloc, providers, &shelf)?;
-    Ok(is_typed && is_begun && is_over)
+    let is_second = is_of_either(alloc, providers, REQUIRES, REQUIRES_NOTHING)?;
+    let is_first = is_of_either(alloc, providers, REQUIRES_NOTHING, REQUIRES)?;
+    Ok(is_typed && is_begun && is_over && is_second && is_first)
 }

@@ -7,13 +7,10 @@ use Rattle.bc_judge.proofs.conflicts.conflicts.Goals as goal
 pub loop-point-preserved : goal.loop-point-preserved
 loop-point-preserved c =
     let steps = c.steps-step-items.ensures.value in
-    each-turn (conflicts_of_step c.args.typed.now (holds c.args.scopes.now)) c.args.typed.now.steps _ _ _ c.loop-point.point c.step-item.result (rw steps at c.loop-point-test.true) (rw steps at c.step-item.is) c.in_ok-push_point.ensures c.loop-point.invariant
+    each-turn (conflicts_of_step c.args.typed.now (holds c.args.scopes.now)) c.args.typed.now.steps _ _ _ c.loop-point.point c.step-item.result (rw steps at c.loop-point-test.true) (rw steps at c.step-item.is) (rw c.in_ok-body.ensures at c.in_ok-push_point.ensures) c.loop-point.invariant
 
 pub returns : goal.returns
 returns c = each-end (conflicts_of_step c.args.typed.now (holds c.args.scopes.now)) c.args.typed.now.steps _ _ c.loop-point.point (rw c.steps-step-items.ensures.value at c.loop-point-test.false) c.loop-point.invariant
 
-pub push_point-requires-clause-rows : goal.push_point-requires-clause-rows
-push_point-requires-clause-rows c = rw c.deref-in-loop-point.ensures.value (rw c.deref.ensures.value at c.in_ok-rows.ensures)
-
-pub push_point-requires-clause-loans : goal.push_point-requires-clause-loans
-push_point-requires-clause-loans c = c.deref-in-loop-point.ensures.value ∙ c.in_ok-loans.ensures
+pub of-requires : goal.of-requires
+of-requires c = c.deref.ensures.value ∙ c.in_ok-loans.ensures

@@ -12,13 +12,13 @@ loop-k-init c = record { size = refl; done = λ k p low _. absurd (omega (arith,
 pub loop-k-preserved : goal.loop-k-preserved
 loop-k-preserved c =
     let few : c.loop-k.k < 64 = omega (arith, c.loop-k-test.true, c.min-k-end.ensures) in
-    let within : 64 * c.args.word + c.loop-k.k < length c.args.loans.now = omega (arith, c.loop-k-test.true, c.min-k-end.ensures) in
-    AreGathered-more c.args.universals c.args.loans.now (holds c.args.values.now) c.args.word c.args.run c.loop-k.k c.value_word.result c.loop-k.block c.loop-k.invariant few
-    (λ p at. c.value_word.ensures p at ∙ inside_of c.args.universals c.args.loans.now (holds c.args.values.now) (64 * c.args.word + c.loop-k.k) _ c.region_number-region.result
-    (slice_get-get_or c.args.loans.now (64 * c.args.word + c.loop-k.k) _ within) c.region_number-region.ensures.value p)
+    let within : 64 * c.args.word + c.loop-k.k < length c.args.flow.now.set.loans.now = omega (arith, c.loop-k-test.true, c.min-k-end.ensures) in
+    AreGathered-more c.args.flow.now.universals c.args.flow.now.set.loans.now (holds c.args.flow.now.values.now) c.args.word c.args.run c.loop-k.k c.value_word.result c.loop-k.block c.loop-k.invariant few
+    (λ p at. c.value_word.ensures p at ∙ inside_of c.args.flow.now.universals c.args.flow.now.set.loans.now (holds c.args.flow.now.values.now) (64 * c.args.word + c.loop-k.k) _ c.region_number-region.result
+    (slice_get-get_or c.args.flow.now.set.loans.now (64 * c.args.word + c.loop-k.k) _ within) c.region_number-region.ensures.value p)
 
 pub returns : goal.returns
 returns c = λ p l at_run at_word.
     c.turned_words.ensures (l % 64) (p % 64) (omega arith) (omega arith)
-    ∙ gathered_all c.args.universals c.args.loans.now (holds c.args.values.now) c.args.word c.args.run c.loop-k.k c.loop-k.block c.loop-k.invariant
+    ∙ gathered_all c.args.flow.now.universals c.args.flow.now.set.loans.now (holds c.args.flow.now.values.now) c.args.word c.args.run c.loop-k.k c.loop-k.block c.loop-k.invariant
     (λ more. omega (arith, more, c.loop-k-test.false, c.min-k-end.ensures)) p l at_run at_word

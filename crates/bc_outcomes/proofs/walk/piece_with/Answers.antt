@@ -1,9 +1,12 @@
-use Rattle.std.proofs.Common.{arith}
-use Rattle.std.proofs.lemmas.Grind.{common_steps}
+use Rattle.std.proofs.Common.{sym, subst}
+use Rattle.bc_names.specs.Names.{NameParts}
+use Rattle.bc_prov.specs.Pieces.{PieceView, IsPieceFor}
+use Rattle.bc_prov.specs.State.{at_name}
+use Rattle.bc_prov.proofs.Sets.{by_index}
 use Rattle.bc_outcomes.proofs.walk.piece_with.Goals as goal
 
-pub returns-then-have_headers-clause-right : goal.returns-then-have_headers-clause-right
-returns-then-have_headers-clause-right c = grind (arith, common_steps)
-
-pub returns-then-have_headers-clause-from : goal.returns-then-have_headers-clause-from
-returns-then-have_headers-clause-from c = grind (arith, common_steps)
+pub returns-then-is_with-2-clause-over : goal.returns-then-is_with-2-clause-over
+returns-then-is_with-2-clause-over c =
+    let snapshot = c.args.held.now.snapshot.now in
+    let has = λ (entry : NameParts × PieceView). IsPieceFor snapshot.types (at_name snapshot.units c.args.name.now) entry.1 in
+    subst has (sym c.entry-item.is) (by_index has c.carried_pieces-entry-items.result.now c.loop-entry.entry-index c.entry-item.result c.carried_pieces-entry-items.ensures c.loop-entry-test.true)

@@ -1,10 +1,10 @@
 use Rattle.bc_calls.specs.Calls.{after}
 use Rattle.bc_prov.specs.Outcome.{IsOutcomeIn}
-use Rattle.std.proofs.Common.{◌≡◌, ◌++◌, List, ap, sym, ◌∙◌, subst}
+use Rattle.std.proofs.Common.{◌≡◌, ◌++◌, List, Option, ap, sym, ◌∙◌, subst}
 use Rattle.std.specs.Prelude.{IfOk, OnOk, None}
 use Rattle.bc_names.specs.Names.{NameParts}
 use Rattle.bc_prov.specs.State.{at_name}
-use Rattle.bc_prov.specs.Pieces.{rows_of}
+use Rattle.bc_prov.specs.Pieces.{PieceSetView, rows_of}
 use Rattle.bc_prov.specs.declared.outcome.Outcome.{Outcome}
 use Rattle.bc_memo.specs.declared.memo.Remembered.{Remembered}
 use Rattle.bc_memo.specs.Places.{AreFitting, changed}
@@ -12,7 +12,6 @@ use Rattle.bc_memo.proofs.Found.{fitting_answer}
 use Rattle.bc_calls.specs.declared.call.Event.TheVariants as events
 use Rattle.bc_calls.specs.Changes.{change_of, writes_after, writes_of}
 use Rattle.bc_book.specs.Ledgers.{Appends, AreRows, BookView, KeepsOthers, Remembers, kept_rows, remembering, row_list}
-use Rattle.bc_book.proofs.Fitting.{left_fit}
 use Rattle.bc_book.proofs.Settling.{rows_of_row, settled_absent, settled_others, settled_step}
 use Rattle.bc_book.proofs.book.Book.settle.Goals as goal
 
@@ -27,7 +26,7 @@ append-requires-clause-rows g c =
 pub append-requires-clause-fit : goal.append-requires-clause-fit
 append-requires-clause-fit g c =
     let kept = c.in_ok-findings.findings.kept in
-    let fit : AreFitting c.self.inside.ledger.shelf (rows_of kept) = left_fit _ c.in_ok-outcome.field-0.pieces c.reusable-pieces.result kept c.reusable-pieces.ensures c.in_ok-findings.ensures.kept c.in_ok-outcome.ensures.fit in
+    let fit : AreFitting c.self.inside.ledger.shelf (rows_of kept) = subst (λ (p : Option PieceSetView). AreFitting c.self.inside.ledger.shelf (rows_of p)) (sym c.in_ok-findings.ensures.kept) c.in_ok-outcome.ensures.fit in
     subst (λ (v : BookView). AreFitting v.shelf (rows_of kept)) c.self.view_is fit
 
 pub append-requires-clause-published : goal.append-requires-clause-published
@@ -36,14 +35,14 @@ append-requires-clause-published g c =
     let k : NameParts = c.name.result.now in
     let x : Outcome = c.in_ok-outcome.field-0.outcome in
     let published = c.in_ok-findings.findings.published in
-    let fit : AreFitting l.shelf (rows_of published) = left_fit _ c.in_ok-outcome.field-0.pieces c.reusable-pieces.result published c.reusable-pieces.ensures c.in_ok-findings.ensures.published c.in_ok-outcome.ensures.fit in
+    let fit : AreFitting l.shelf (rows_of published) = subst (λ (p : Option PieceSetView). AreFitting l.shelf (rows_of p)) (sym c.in_ok-findings.ensures.published) c.in_ok-outcome.ensures.fit in
     subst (λ (v : BookView). AreFitting (changed v.shelf (change_of (events.Ask k x)) (writes_after (writes_of v.entries) (events.Ask k x))) (rows_of published)) c.self.view_is
     (fitting_answer l.shelf k x (writes_after (writes_of l.entries) (events.Ask k x)) (rows_of published) fit)
 
 pub returns-clause-step : goal.returns-clause-step
 returns-clause-step g c =
     let l = c.self.inside.ledger in
-    let old : BookView = record { capacity = l.capacity; entries = l.entries; shelf = l.shelf; answers = l.answers } in
+    let old : BookView = record { capacity = l.capacity; entries = l.entries; shelf = l.shelf; answers = l.answers; pieces = l.pieces } in
     let new : BookView = c.append.new.self in
     let row = c.in_ok-row.row in
     let k : NameParts = c.name.result.now in
@@ -59,7 +58,7 @@ returns-clause-step g c =
 pub returns-clause-others : goal.returns-clause-others
 returns-clause-others g c =
     let l = c.self.inside.ledger in
-    let old : BookView = record { capacity = l.capacity; entries = l.entries; shelf = l.shelf; answers = l.answers } in
+    let old : BookView = record { capacity = l.capacity; entries = l.entries; shelf = l.shelf; answers = l.answers; pieces = l.pieces } in
     let new : BookView = c.append.new.self in
     let row = c.in_ok-row.row in
     let k : NameParts = c.name.result.now in
@@ -74,7 +73,7 @@ returns-clause-others g c =
 pub returns-clause-absent : goal.returns-clause-absent
 returns-clause-absent g c =
     let l = c.self.inside.ledger in
-    let old : BookView = record { capacity = l.capacity; entries = l.entries; shelf = l.shelf; answers = l.answers } in
+    let old : BookView = record { capacity = l.capacity; entries = l.entries; shelf = l.shelf; answers = l.answers; pieces = l.pieces } in
     let new : BookView = c.append.new.self in
     let row = c.in_ok-row.row in
     let k : NameParts = c.name.result.now in

@@ -31,7 +31,7 @@ append-requires-clause-published g c =
 pub returns-clause-step : goal.returns-clause-step
 returns-clause-step g c =
     let l = c.self.inside.ledger in
-    let old : BookView = record { capacity = l.capacity; entries = l.entries; shelf = l.shelf; answers = l.answers } in
+    let old : BookView = record { capacity = l.capacity; entries = l.entries; shelf = l.shelf; answers = l.answers; pieces = l.pieces } in
     let new : BookView = c.append.new.self in
     let listing : List (NameParts × Outcome) = c.in_ok-listing-2.listing in
     let rows : List (NameParts × Remembered) = c.in_ok-findings.findings.rows.items in
@@ -48,7 +48,7 @@ returns-clause-step g c =
 pub returns-clause-others : goal.returns-clause-others
 returns-clause-others g c =
     let l = c.self.inside.ledger in
-    let old : BookView = record { capacity = l.capacity; entries = l.entries; shelf = l.shelf; answers = l.answers } in
+    let old : BookView = record { capacity = l.capacity; entries = l.entries; shelf = l.shelf; answers = l.answers; pieces = l.pieces } in
     let new : BookView = c.append.new.self in
     let listing : List (NameParts × Outcome) = c.in_ok-listing-2.listing in
     let rows : List (NameParts × Remembered) = c.in_ok-findings.findings.rows.items in

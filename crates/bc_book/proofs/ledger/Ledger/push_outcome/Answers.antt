@@ -1,6 +1,6 @@
 use Rattle.std.proofs.lemmas.List.{map-append}
 use Rattle.std.specs.Map.{keys_of}
-use Rattle.std.proofs.Common.{◌≡◌, ◌++◌, ◌∷◌, [], List, refl, rules, sym, subst, ◌∙◌, ap}
+use Rattle.std.proofs.Common.{◌≡◌, ◌++◌, ◌∷◌, [], List, rules, sym, subst, ◌∙◌, ap}
 use Rattle.bc_names.specs.Names.{NameParts}
 use Rattle.bc_prov.specs.declared.outcome.Outcome.{Outcome}
 use Rattle.bc_prov.specs.Outcome.{IsOutcomeIn}
@@ -9,7 +9,6 @@ use Rattle.bc_memo.specs.declared.memo.Remembered.{Remembered}
 use Rattle.bc_memo.specs.Places.{AreFitting, PieceRows}
 use Rattle.bc_calls.specs.Calls.{after}
 use Rattle.bc_book.specs.Ledgers.{IsFoundAll}
-use Rattle.bc_book.proofs.Fitting.{left_fit}
 use Rattle.bc_book.proofs.Listing.{all_append, found_more}
 use Rattle.bc_book.proofs.ledger.Ledger.push_outcome.Goals as goal
 
@@ -29,8 +28,7 @@ pub returns-clause-fit : goal.returns-clause-fit
 returns-clause-fit g c =
     let l = c.args.self.now in
     let before : PieceRows = c.args.found.now.pieces.rows in
-    let more : AreFitting l.shelf (rows_of c.reusable-pieces.result) = left_fit _ c.in_ok-outcome.field-0.pieces c.reusable-pieces.result c.reusable-pieces.result c.reusable-pieces.ensures refl c.in_ok-outcome.ensures.fit in
-    subst (λ (rows : PieceRows). AreFitting l.shelf rows) (sym c.in_ok-push_pieces.ensures.rows) (all_append _ before (rows_of c.reusable-pieces.result) c.requires.fit more)
+    subst (λ (rows : PieceRows). AreFitting l.shelf rows) (sym c.in_ok-push_pieces.ensures.rows) (all_append _ before (rows_of c.in_ok-outcome.field-0.pieces) c.requires.fit c.in_ok-outcome.ensures.fit)
 
 pub returns-clause-listed : goal.returns-clause-listed
 returns-clause-listed g c =
