@@ -77,13 +77,14 @@ class Compared:
     def counts(self) -> dict[str, int]:
         """How many functions there are, and how many of each kind."""
         written = [root for root in self.roots if not root.refused]
+        told = [root for root in written if not root.faults]
         return {
             "functions": len(self.roots),
             "written": len(written),
-            "agree": sum(1 for root in written if root.agrees()),
-            "rejected": sum(1 for root in written if root.agrees() and root.ours),
-            "lines": sum(1 for root in written if root.agrees() and root.ours and root.agrees_by_line()),
-            "differ": sum(1 for root in written if not root.agrees()),
+            "agree": sum(1 for root in told if root.agrees()),
+            "rejected": sum(1 for root in told if root.agrees() and root.ours),
+            "lines": sum(1 for root in told if root.agrees() and root.ours and root.agrees_by_line()),
+            "differ": sum(1 for root in told if not root.agrees()),
             "faults": sum(1 for root in self.roots if root.faults),
             "closures": len(self.required),
             "requiring": sum(1 for it in self.required if it.ours or it.theirs),

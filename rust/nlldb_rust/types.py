@@ -64,6 +64,7 @@ REFERENCE = re.compile(r"&('\?\d+|'\^\d+(?:\.Named\((?:[^()]|\([^()]*\))*\))?|'\
 RAW_POINTER = re.compile(r"\*(const|mut) ")
 BOUND_REGION = re.compile(r"'\^\d+(\.Named\([^()]*\([^()]*\)\))?|'\{erased\}|'\^\S+")
 PATH = re.compile(r"[A-Za-z_][\w:]*(::\{[^}]*\}[\w:]*)*")
+INNER = re.compile(r"(::\w+)+")
 ASSOCIATED = re.compile(r"\w+ = (.*)$")
 CONSTANT = re.compile(r"(ValTree|ConstValue|\d|-|true|false)")
 OPAQUE = ("dyn ", "for<", "fn(", "unsafe ", "extern ", "Opaque(", "<", "impl ", "Alias(", "(dyn")
@@ -186,13 +187,24 @@ class TypeReader:
         if not found:
             return opaque(text)
         path, rest = found[0], text[found.end() :]
-        last = path.rsplit("::", 1)[-1]
-        name = path if len(self.paths.get(last, ())) > 1 else last
+        while rest.startswith("<") and (end := group_end(rest, 0)) < len(rest) and (inner := INNER.match(rest, end)):
+            # a type that is declared in a function, behind the generics of what that is in
+            path, rest = path + inner[0], rest[inner.end() :]
+        name = self._name(path)
         if not rest:
             return Type(Shape(Kind.CONSTRUCTED, name, name=name))
         if rest[0] == "<" and is_group(rest):
             return self._group(Kind.CONSTRUCTED, name + "<", ">", split_outside(rest[1:-1]), name)
         return opaque(text)
+
+    def _name(self, path: str) -> str:
+        """Returns the name of a constructor: its last segment, or if several paths end with that, the one of them that ends as this one does."""
+        last = path.rsplit("::", 1)[-1]
+        full = self.paths.get(last, ())
+        if len(full) <= 1 or path in full:
+            return path if len(full) > 1 else last
+        ends = [it for it in full if it.endswith(f"::{path}")]
+        return ends[0] if len(ends) == 1 else path
 
     def _group(self, kind: Kind, begin: str, end: str, texts: list[str], name: str = "") -> Type:
         keys: list[str] = []
