@@ -1,11 +1,10 @@
 -- Each step keeps the rule of the tokens.
-use Rattle.std.proofs.Common.{◌≡◌, ◌≢◌, ◌⊎◌, ℕ, zero, suc, ◌+◌, ◌<◌, List, [], ◌∷◌, ◌++◌, length, set, Bool, true, false, true≢false, refl, sym, ap, ◌∙◌, subst, ⊎_elim, inl, inr, arith, eqb, eq-eqb, ne_eqb}
-use Rattle.std.specs.Prelude.{slice_index}
+use Rattle.std.proofs.Common.{◌≡◌, ◌≢◌, ◌⊎◌, ℕ, zero, suc, ◌+◌, ◌<◌, List, [], ◌∷◌, ◌++◌, length, set, true, false, true≢false, refl, sym, ap, ◌∙◌, subst, ⊎_elim, inl, inr, arith, eqb, eq-eqb, ne_eqb}
 use Rattle.std.proofs.lemmas.List.Elements.{All-nil}
 use mathlib.Core.Option.{some, some-ne-none, some-injective}
 use lib.ListN.{get_elem?}
 use prog.Atomic.{either}
-use Rattle.atomic_table.specs.Table.{Allows, Joins, Splits, State, Me, Step, step, keeps, opening}
+use Rattle.atomic_table.specs.Table.{Allows, Joins, Splits, Me, step, keeps, opening}
 use Rattle.atomic_table.proofs.Lists.{at_set, set_again}
 use Rattle.cli_output.specs.declared.token.Known.{Known}
 use Rattle.cli_output.specs.Logs.{texts_of, AreBelow}
@@ -108,11 +107,11 @@ admits id v makes s (keeping, making, seat, log, made, low, each) at =
           (fits_maker keeping making seat' log (v.made + 1) id (v.made + 1) made_by.0 refl)
           (fits_writer keeping making seat' log (v.made + 1) new v.made [] (seated-own seat v.made new) (sym (texts_of-none v.made log low')) (omega arith))
           (λ j u apart e. (let h = each j u e in record {
-              keeps = h.keeps;
-              makes = λ m. absurd (apart ((h.makes m).0 ∙ sym made_by.0));
-              writes = λ w. (let old = h.writes w in let below : u.author < v.made = subst (λ (n : ℕ). u.author < n) (sym made_by.1) old.2 in
-                  (old.0 ∙ seated-other seat v.made new u.author (λ same. omega (arith, same, below)), old.1, omega (arith, below)));
-            })),
+            keeps = h.keeps;
+            makes = λ m. absurd (apart ((h.makes m).0 ∙ sym made_by.0));
+            writes = λ w. (let old = h.writes w in let below : u.author < v.made = subst (λ (n : ℕ). u.author < n) (sym made_by.1) old.2 in
+                (old.0 ∙ seated-other seat v.made new u.author (λ same. omega (arith, same, below)), old.1, omega (arith, below)));
+          })),
     )
 
 -- an author's token goes on to another
@@ -131,11 +130,11 @@ hands_on id v knows makes writes s (keeping, making, seat, log, made, low, each)
           (fits_nobody keeping making seat' log made id)
           (record { keeps = λ e. absurd (off (sym knows ∙ e)); makes = λ e. absurd (off (sym makes ∙ e)); writes = λ _. (seated-own seat v.author new, mine.1, mine.2) })
           (λ j u apart e. (let h = each j u e in record {
-              keeps = h.keeps;
-              makes = h.makes;
-              writes = λ w. (let old = h.writes w in
-                  (old.0 ∙ seated-other seat v.author new u.author (λ same. apart (old.0 ∙ ap seat same ∙ sym mine.0)), old.1, old.2));
-            })),
+            keeps = h.keeps;
+            makes = h.makes;
+            writes = λ w. (let old = h.writes w in
+                (old.0 ∙ seated-other seat v.author new u.author (λ same. apart (old.0 ∙ ap seat same ∙ sym mine.0)), old.1, old.2));
+          })),
     )
 
 -- an author's token is taken in
@@ -155,11 +154,11 @@ takes_in id v other w writes s (keeping, making, seat, log, made, low, each) at 
           (record { keeps = mine.keeps; makes = mine.makes; writes = λ _. (seated-own seat w.author id, wrote.1, wrote.2) })
           (fits_nobody keeping making seat' log made other)
           (λ j u apart' others e. (let h = each j u e in record {
-              keeps = h.keeps;
-              makes = h.makes;
-              writes = λ y. (let old = h.writes y in
-                  (old.0 ∙ seated-other seat w.author id u.author (λ same. others (old.0 ∙ ap seat same ∙ sym wrote.0)), old.1, old.2));
-            })),
+            keeps = h.keeps;
+            makes = h.makes;
+            writes = λ y. (let old = h.writes y in
+                (old.0 ∙ seated-other seat w.author id u.author (λ same. others (old.0 ∙ ap seat same ∙ sym wrote.0)), old.1, old.2));
+          })),
     )
 
 -- the maker's token is taken in
@@ -201,12 +200,12 @@ wrote id v text knows writes s (keeping, making, seat, log, made, low, each) at 
           (fits_keeper keeping making seat' log' made id (v.log ++ (v.author, text) ∷ []) kept.0 (ap (λ l. l ++ (v.author, text) ∷ []) kept.1))
           (fits_writer keeping making seat' log' made new v.author (v.texts ++ text ∷ []) (seated-own seat v.author new) (ap (λ l. l ++ text ∷ []) mine.1 ∙ sym (texts_of-own v.author log text)) mine.2)
           (λ j u apart e. (let h = each j u e in record {
-              keeps = λ k. absurd (apart ((h.keeps k).0 ∙ sym kept.0));
-              makes = h.makes;
-              writes = λ y. (let old = h.writes y in
-                  let else : u.author ≢ v.author = λ same. apart (old.0 ∙ ap seat same ∙ sym mine.0) in
-                  (old.0 ∙ seated-other seat v.author new u.author else, old.1 ∙ sym (texts_of-other u.author v.author log text (λ same. else (sym same))), old.2));
-            })),
+            keeps = λ k. absurd (apart ((h.keeps k).0 ∙ sym kept.0));
+            makes = h.makes;
+            writes = λ y. (let old = h.writes y in
+                let else : u.author ≢ v.author = λ same. apart (old.0 ∙ ap seat same ∙ sym mine.0) in
+                (old.0 ∙ seated-other seat v.author new u.author else, old.1 ∙ sym (texts_of-other u.author v.author log text (λ same. else (sym same))), old.2));
+          })),
     )
 
 -- the token that knows the log learns
@@ -217,7 +216,9 @@ learns slots id me word s (keeping, making, seat, log, made, low, each) long at 
       keeps,
       tt,
       (keeping, making, seat, log, made, low, λ place v e. each place v (subst (λ l. get_elem? l place ≡ some v) (set_again s.views id me.0 at) e)),
-      (refl,
+      (
+        refl,
         (λ k w. (mine.writes w).1 ∙ ap (texts_of me.0.author) (sym (mine.keeps k).1)),
-        (λ k m. subst (λ (p : ℕ × List (ℕ × List ℕ)). AreBelow p.0 p.1) (λ i. (sym (mine.makes m).1 i, sym (mine.keeps k).1 i)) low)),
+        (λ k m. subst (λ (p : ℕ × List (ℕ × List ℕ)). AreBelow p.0 p.1) (λ i. (sym (mine.makes m).1 i, sym (mine.keeps k).1 i)) low),
+      ),
     )

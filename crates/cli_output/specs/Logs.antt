@@ -1,5 +1,5 @@
 -- What several authors wrote, in one order: texts, each with the number of its author.
-use Rattle.std.specs.Prelude.{◌≡◌, ℕ, ◌==◌, ◌<◌, List, map, All}
+use Rattle.std.specs.Prelude.{ℕ, ◌==◌, ◌<◌, List, map, All}
 use Rattle.std.specs.List.{filter, flat_map}
 
 -- the texts of one author, in order

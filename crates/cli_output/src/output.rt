@@ -3,11 +3,14 @@ ghost use Rattle.std.specs.Prelude.{◌≡◌, ◌≢◌, ◌<◌, ◌+◌, [], 
 ghost use Rattle.std.specs.Option.{ForSome};
 ghost use Rattle.std.specs.Io.Buffered.{writer_buffer, writer_contents};
 ghost use Rattle.std.specs.Io.KnownBytes.{Appends};
-ghost use Rattle.cli_output.specs.Logs.{AreBelow, bytes_of, texts_of};
+ghost use Rattle.cli_output.specs.Logs.{AreBelow, bytes_of};
+ghost use Rattle.cli_output.specs.Pens.{IsLogged};
 ghost use Rattle.cli_output.specs.Tokens.{first as first_known, known};
 
 use crate::pen::{Authors, Pen, Sheet};
-use crate::token::{LogTable, Token, learn_authors, learn_texts, leave_maker, make_author, new_table, write};
+use crate::token::{
+    LogTable, Token, learn_authors, learn_texts, leave_maker, make_author, new_table, write,
+};
 use std::alloc::{AllocError, Global};
 use std::io::{BufWriter, Write};
 use std::marker::{Brand, PhantomData};
@@ -74,7 +77,7 @@ impl<J: Sheet, O: Write + Drop> Output<J, O> {
     /// Lets in the author of this number, and returns its pen, by which it has printed nothing. Returns `None` where it is not its turn: the
     /// numbers go up from 0, to 254.
     pub fn admit(&self, authors: &mut Authors<J>, number: u8) -> Option<Pen<J>>
-        ensures { IfSome result (λ pen. (pen.number ≡ number) × ((known pen.token).texts ≡ [])) }
+        ensures { IfSome result (λ pen. pen ≡ record { number = number; texts = [] }) }
     {
         if authors.count != number || number == u8::MAX {
             return None;
@@ -95,7 +98,7 @@ impl<J: Sheet, O: Write + Drop> Output<J, O> {
         ensures failed { OnErr result (self.new.has_failed ≡ true) }
         ensures silent { self.old.has_failed ≡ true → (self.new.out ≡ self.old.out) }
         ensures number { pen.new.number ≡ pen.old.number }
-        ensures noted { OnOk result ((known pen.new.token).texts ≡ (known pen.old.token).texts ++ line.now ∷ []) }
+        ensures noted { OnOk result (pen.new.texts ≡ pen.old.texts ++ line.now ∷ []) }
     {
         if self.has_failed {
             return Err(Failed);
@@ -116,7 +119,7 @@ impl<J: Sheet, O: Write + Drop> Output<J, O> {
     /// Takes a pen back: what its author printed by it is just what the log has of this author.
     pub fn take_back(&mut self, pen: Pen<J>)
         ensures log { (known self.new.keeper).log ≡ (known self.old.keeper).log }
-        ensures texts { (known pen.token).texts ≡ texts_of pen.number (known self.old.keeper).log }
+        ensures texts { IsLogged (known self.old.keeper).log pen }
     {
         let Pen {
             number: _,
@@ -124,6 +127,18 @@ impl<J: Sheet, O: Write + Drop> Output<J, O> {
             of: _,
         } = pen;
         learn_texts(&self.table, &mut self.keeper, token);
+    }
+
+    /// Returns its writer, of which nothing is known.
+    pub fn into_writer(self) -> BufWriter<O> {
+        let Output {
+            out,
+            has_failed: _,
+            table: _,
+            keeper: _,
+            of: _,
+        } = self;
+        out
     }
 
     /// Ends the output: returns its writer, and how many authors were let in. Just the log was written, and the log has no others than these

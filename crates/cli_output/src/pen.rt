@@ -1,9 +1,9 @@
 //! The authors of an output.
-ghost use Rattle.std.specs.Prelude.{◌≡◌, [], true, false};
+ghost use Rattle.std.specs.Prelude.{◌≡◌, [], true};
 ghost use Rattle.cli_output.specs.Tokens.{known};
 
 use crate::token::Token;
-use std::marker::{Brand, PhantomData};
+use std::marker::{Brand, Model, PhantomData};
 
 /// The parameters of an output, for contracts: the table of its tokens, and what was on its writer before, and in the writer's buffer. The
 /// call that opens an output picks them.
@@ -29,15 +29,23 @@ impl Sheet for Brand {
     ghost buffer = { [] };
 }
 
-/// The right of the author of a number to print. Contracts see the texts that it printed.
+/// The right of an author to print. Contracts see the author's number, and the texts that it printed.
 #[derive(Drop)]
 pub struct Pen<J: Sheet> {
     pub(crate) number: u8,
     pub(crate) token: Token,
     pub(crate) of: PhantomData<J>,
-    ghost table: { (token.table_id ≡ J.table) × (token.me.1 ≡ []) },
-    ghost writes: { ((known token).writes ≡ true) × ((known token).keeps ≡ false) × ((known token).makes ≡ false) },
-    ghost author: { (known token).author ≡ number },
+}
+
+impl<J: Sheet> Model for Pen<J> {
+    ghost use Rattle.cli_output.specs.Pens.{IsPenOf, PenView};
+    ghost use Rattle.cli_output.specs.Tokens.{known};
+
+    ghost Value = { PenView };
+
+    ghost view = { λ p. record { number = p.number; texts = (known p.token).texts } };
+
+    ghost invariant = { λ p. IsPenOf J.table p.number p.token.table_id p.token.me };
 }
 
 impl<J: Sheet> Pen<J> {

@@ -1,5 +1,4 @@
-use Rattle.std.proofs.Common.{◌≡◌, true, ap, sym, ◌∙◌}
-use Rattle.cli_output.specs.Logs.{texts_of}
+use Rattle.std.proofs.Common.{◌∙◌}
 use Rattle.cli_output.proofs.Moves.{takes_in, learns}
 use Rattle.cli_output.proofs.token.learn_texts.Goals as goal
 

@@ -1,4 +1,4 @@
-use Rattle.std.proofs.Common.{◌≡◌, true, ap, sym, ◌∙◌}
+use Rattle.std.proofs.Common.{◌≡◌, true, ap, ◌∙◌}
 use Rattle.cli_output.proofs.Moves.{hands_on, takes_in, wrote}
 use Rattle.cli_output.proofs.token.write.Goals as goal
 
