@@ -210,9 +210,7 @@ pub fn serve<R: Threads + Wait + Sync, I: BufRead, O: Write + Drop + Send>(
     ensures printed { IfOk result (λ history. IsPrinted sessions (option_map lines_of (I.remaining input.old)) history (writer_contents O.contents out.old) (writer_contents O.contents out.new)) }
     ensures handed_on { OnOk result (writer_buffer out.old ≡ [] → writer_buffer out.new ≡ []) }
 {
-    serve_in_place(
-        rt, alloc, providers, sessions, capacity, input, out,
-    )
+    serve_in_place(rt, alloc, providers, sessions, capacity, input, out)
 }
 
 /// Serves sessions as `serve` does, and returns the exit status of the command: 0 at the end of the input, whatever was answered, or 3
