@@ -59,12 +59,16 @@ def allowed():
     return {it: of for it, of in rows.items() if "::" not in it}, {it: of for it, of in rows.items() if "::" in it}, int(budget[1]) if budget else None
 
 
-def wrong_of(took, listed, unit):
-    """What took longer than anything that is listed, of what is not, and of which no decision says why. Seconds by names."""
+def reasons():
+    """The decisions that speak of units."""
+    with open(f"{ROOT}/{WHY}", encoding="utf-8") as it:
+        return [entry for entry in it.read().split("\n\n") if re.search(r"\bunits\b", entry)]
+
+
+def wrong_of(took, listed, unit, why):
+    """What took longer than anything that is listed, of what is not, and of which none of these decisions says why. Seconds by names."""
     if not unit or not listed:
         return []
     most = max(listed.values())
-    with open(f"{ROOT}/{WHY}", encoding="utf-8") as it:
-        why = it.read()
-    dear = {it: seconds / unit for it, seconds in took.items() if seconds / unit > most and it not in listed and f"`{it}`" not in why}
-    return [f"{it} took {units:.2f} units; of what {PAGE} lists the dearest takes {most:.2f}, and no decision names this" for it, units in dear.items()]
+    dear = {it: seconds / unit for it, seconds in took.items() if seconds / unit > most and it not in listed and not any(f"`{it}`" in entry for entry in why)}
+    return [f"{it} took {units:.2f} units; of what {PAGE} lists the dearest takes {most:.2f}, and no decision says why" for it, units in dear.items()]
