@@ -17,10 +17,10 @@ class Costs(unittest.TestCase):
     def test_what_is_listed_may_take_more_and_what_is_not_may_take_as_much_as_the_dearest(self):
         listed = {"a": 3.0, "b": 1.0}
         self.assertEqual(costs.wrong_of({"a": 900.0, "b": 500.0, "c": 300.0}, listed, 100, []), [])
-        self.assertEqual(len(costs.wrong_of({"a": 900.0, "c": 301.0}, listed, 100, ["`b` takes 4 units"])), 1)
+        self.assertEqual(len(costs.wrong_of({"a": 900.0, "c": 301.0}, listed, 100, ["b"])), 1)
 
     def test_what_a_decision_names_may_take_more(self):
-        self.assertEqual(costs.wrong_of({"c": 301.0}, {"a": 3.0}, 100, ["`c` takes 4 units"]), [])
+        self.assertEqual(costs.wrong_of({"c": 301.0}, {"a": 3.0}, 100, ["c"]), [])
 
     def test_without_a_unit_or_a_list_nothing_is_compared(self):
         self.assertEqual(costs.wrong_of({"c": 900.0}, {"a": 3.0}, 0, []), [])
