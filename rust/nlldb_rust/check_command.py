@@ -6,7 +6,7 @@ import sys
 from pathlib import Path
 from typing import Iterable, Sequence
 
-from .checking import Checked, checked, shown_name
+from .checking import Checked, checked, shown_name, units_of
 from .crate import Body
 from .explain import Mark, Told, tell
 from .refused import Stopped
@@ -48,8 +48,10 @@ def keep_texts(found: Checked, folder: Path) -> None:
     try:
         folder.mkdir(parents=True, exist_ok=True)
         for body in found.bodies:
-            if body.text:
-                (folder / f"{body.name}.nll").write_text(f"@types\n{body.text.types}@put f\n{body.text.unit}")
+            if body.text and not body.within:
+                closures = [it for it in found.bodies if it.within and it.within[0] == body.name]
+                units = "".join(f"@put {name}\n{unit}" for name, unit in units_of(body, closures).items())
+                (folder / f"{body.name}.nll").write_text(f"@types\n{body.text.types}{units}")
     except OSError as fault:
         raise Stopped(f"cannot write {folder}: {fault.strerror}") from fault
 
@@ -112,11 +114,13 @@ def marks(them: Sequence[Mark]) -> list[dict[str, object]]:
 
 def tell_others(found: Checked) -> int:
     """Tells on standard error what rustc found beside borrows. Returns the exit status."""
-    others = found.run.other_errors()
+    # (where no body was dumped, an error was in the way, be it one of borrows: that of a crate that is needed before)
+    others = found.run.other_errors() if found.bodies else found.run.errors
     if others:
         first = others[0].rendered.strip() or others[0].message
         count = "an error" if len(others) == 1 else f"{len(others)} errors"
-        print(f"rustc found {count} that nlldb does not look for; the first:\n{first}", file=sys.stderr)
+        told = "that nlldb does not look for" if found.bodies else "before it checked a body"
+        print(f"rustc found {count} {told}; the first:\n{first}", file=sys.stderr)
     if others or any(True for _ in refusals(found)):
         return 2
     return 1 if any(answer.findings for answer in found.answers.values()) else 0

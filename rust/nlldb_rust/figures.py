@@ -18,7 +18,7 @@ from .agreement import Compared, compared
 from .checking import Checked, Request, is_kept, keep
 from .crate import Body, write_crate
 from .findings import answer_of
-from .mir import Assign, Step
+from .mir import Assign, Discriminant, Step
 from .program import ask_all
 from .refused import Stopped
 from .rustc import RustcRun, kept_run, require_tested, run_cargo
@@ -140,16 +140,21 @@ def told_of(crate: Crate, bodies: Sequence[Body], result: Compared) -> Crate:
             continue
         crate.bodies_written += 1
         crate.sizes.append(dict(body.text.sizes))
-        notes = +(body.text.notes + Counter({"write to some element": element_writes(body)}))
+        notes = +(body.text.notes + forms_in(body))
         crate.notes.update(notes)
         crate.noted_bodies.update(notes.keys())
     return crate
 
 
-def element_writes(body: Body) -> int:
-    """How many assignments of a body go to an element whose place is not known, behind or at a reference."""
-    statements = (it for block in body.dump.blocks for it in block.statements if isinstance(it, Assign)) if body.dump else ()
-    return sum(1 for it in statements if any(step is Step.INDEX for step, _, _ in it.target.projections))
+def forms_in(body: Body) -> Counter[str]:
+    """Counts what a body has that the language has no form of its own for, of what the writer does not note."""
+    found: Counter[str] = Counter()
+    for block in body.dump.blocks if body.dump else ():
+        for it in block.statements:
+            if isinstance(it, Assign):
+                found["write to some element"] += any(step is Step.INDEX for step, _, _ in it.target.projections)
+                found["read of a discriminant"] += isinstance(it.value, Discriminant)
+    return found
 
 
 def gathered(words: Sequence[str], registry: Path, request: Request) -> list[dict]:

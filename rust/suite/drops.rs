@@ -284,3 +284,20 @@ pub fn loud_is_moved_and_made_again_before(flag: bool) {
         value = 2; //~ E0506
     }
 }
+
+/// The loop never ends, so that `loud` is dropped only where a call panics.
+pub fn loud_is_dropped_by_unwinding_alone(mut work: impl FnMut(&mut u32)) -> ! {
+    let mut value = 1;
+    let loud = Loud(&value);
+    loop {
+        work(&mut value); //~ E0502
+    }
+}
+
+pub fn quiet_is_dropped_by_unwinding_alone(mut work: impl FnMut(&mut u32)) -> ! {
+    let mut value = 1;
+    let quiet = Quiet(&value);
+    loop {
+        work(&mut value);
+    }
+}

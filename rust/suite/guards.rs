@@ -176,3 +176,77 @@ pub fn an_if_let_guard_by_hand(values: &[Option<u32>]) -> u32 {
         _ => 0,
     }
 }
+
+pub fn a_guard_that_changes_where_it_looked(values: [u32; 3], at: usize) -> u32 {
+    let mut index = at;
+    match values[index] {
+        1 => 1,
+        _ if {
+            index = 0;
+            false
+        } =>
+        {
+            2
+        }
+        _ => 3,
+    }
+}
+
+pub fn a_guard_that_changes_the_reference_it_looked_through<'a>(
+    mut value: &'a u32,
+    other: &'a u32,
+) -> u32 {
+    match *value {
+        1 => 1,
+        _ if {
+            value = other; //~ E0510
+            false
+        } =>
+        {
+            2
+        }
+        _ => 3,
+    }
+}
+
+pub fn a_guard_that_changes_the_box_it_looked_into(mut value: Box<Option<u32>>) -> u32 {
+    match *value {
+        None => 1,
+        _ if {
+            value = Box::new(None); //~ E0510
+            false
+        } =>
+        {
+            2
+        }
+        Some(it) => it,
+    }
+}
+
+pub fn a_guard_that_changes_a_field(mut value: (Option<u32>, u32)) -> u32 {
+    match value {
+        (None, _) => 1,
+        _ if {
+            value.0 = None; //~ E0510
+            false
+        } =>
+        {
+            2
+        }
+        (Some(it), _) => it,
+    }
+}
+
+pub fn a_guard_that_changes_another_field(mut value: (Option<u32>, u32)) -> u32 {
+    match value.0 {
+        None => 1,
+        _ if {
+            value.1 = 2;
+            false
+        } =>
+        {
+            2
+        }
+        Some(it) => it + value.1,
+    }
+}

@@ -154,3 +154,22 @@ pub fn an_element_by_reference(values: &mut [(u32, u32)], at: usize) -> u32 {
     values[at].1 = *left;
     0
 }
+
+/// What is written is an element, and not the one that is lent, as far as anyone can tell.
+pub fn a_written_element_ends_no_loan_of_another(at: usize) -> u32 {
+    let (mut one, mut two, mut three) = (1, 2, 3);
+    let mut both = [&mut one, &mut two];
+    let first = &mut *both[at];
+    both[1 - at] = &mut three;
+    *both[at] += 1; //~ E0503
+    *first
+}
+
+pub fn a_written_array_ends_the_loans_of_its_elements(at: usize) -> u32 {
+    let (mut one, mut two, mut three, mut four) = (1, 2, 3, 4);
+    let mut both = [&mut one, &mut two];
+    let first = &mut *both[at];
+    both = [&mut three, &mut four];
+    *both[at] += 1;
+    *first
+}

@@ -158,7 +158,7 @@ impl<E: Ending> Session<E> {
         }
     }
 
-    /// Asks for the name of a work, and returns its outcome: what is remembered for it or what the work found, where that is
+    /// Asks for the name of a work, and returns its outcome: what the work found or what is remembered for the name, where that is
     /// still so, else it is worked out again from what is held now (its errors by RFC 2094, "Borrow checker phase 2" and "Named
     /// lifetimes"). The work may be another database's.
     ///
@@ -202,8 +202,8 @@ impl<E: Ending> Session<E> {
 
     /// Asks for all, with works of a session, and returns the outcome of each name without segments that is held, in the order of the
     /// names. Each is the one that `settle` would give to an Ask of that name, with the work on it where there is one (its errors by RFC
-    /// 2094, "Borrow checker phase 2" and "Named lifetimes"). A work that comes out of the order of the names, a second one of a name, or
-    /// one of a name that is not listed is dropped; it may be another database's.
+    /// 2094, "Borrow checker phase 2" and "Named lifetimes"). The works may come in any order, and may be another database's. Of several of
+    /// one name one is taken; the others, and those of names that are not listed, are dropped.
     ///
     /// It is one call, and replies to each name that it lists, as an Ask of that name does. Room in the session's own list is made first.
     /// Refused as `settle` is; the works are then gone.

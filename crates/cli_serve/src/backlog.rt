@@ -1,5 +1,5 @@
 //! The backlog: the lines that the router has read and no worker has answered. It has a bound, and so a conversation has one.
-ghost use Rattle.std.specs.Prelude.{◌≡◌, ◌≤◌, ◌<◌, ◌+◌, ◌-◌, ◌↔◌, IsFalse, IsTrue};
+ghost use Rattle.std.specs.Prelude.{◌≡◌, ◌≤◌, ◌<◌, ◌+◌, ◌-◌, ◌/◌, ◌↔◌, IsFalse, IsTrue};
 ghost use Rattle.cli_serve.specs.declared.backlog.TheConstants.{MOST_BYTES, MOST_LINES};
 
 use cli_requests::MOST_REQUEST_BYTES;

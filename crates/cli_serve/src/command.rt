@@ -4,10 +4,10 @@ ghost use Rattle.cli_input.specs.Lines.{lines_of};
 ghost use Rattle.cli_serve.specs.Served.{IsEnd, IsServed};
 
 use crate::output::Output;
-use crate::stop::{ServeStop, stop_of_close, write_stop};
+use crate::stop::{ServeStop, write_stop};
 use crate::talk::{Talked, converse};
 use bc_prov::Providers;
-use bc_share::{Db, History};
+use bc_share::{CloseFault, Db, History};
 use bc_versions::Waiting;
 use std::alloc::Global;
 use std::io;
@@ -54,7 +54,8 @@ pub fn serve<R: Threads + Wait + Sync, I: BufRead, O: Write + Drop + Send>(
             Ok(()) => Ok(history),
             Err(stop) => Err(stop),
         },
-        Err(fault) => Err(stop_of_close(fault)),
+        Err(CloseFault::Foreign) => unreachable!(),
+        Err(CloseFault::Audit(history)) => Err(stop_of_audit(&history)),
     }
 }
 
@@ -111,4 +112,11 @@ pub fn serve_over<R: Threads + Wait + Sync, I: BufRead, O: Write + Drop + Send, 
         Ok(status) => status,
         Err(_) => 3,
     }
+}
+
+/// Returns why the command stops where this history does not agree with its sessions.
+fn stop_of_audit(_history: &History) -> ServeStop
+    ensures { result ≡ ServeStop.Audit }
+{
+    ServeStop::Audit
 }

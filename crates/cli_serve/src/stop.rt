@@ -1,9 +1,8 @@
 //! Why the command stops.
-ghost use Rattle.std.specs.Prelude.{◌≡◌, ◌≢◌, IsOk, OnOk};
+ghost use Rattle.std.specs.Prelude.{◌≡◌, IsOk, OnOk};
 ghost use Rattle.std.specs.Io.KnownBytes.{Appends};
 ghost use Rattle.cli_serve.specs.Stops.{both, stop_line, stop_of};
 
-use bc_share::CloseFault;
 use cli_talk::TalkFault;
 use std::io;
 use std::io::Write;
@@ -34,17 +33,6 @@ pub(crate) fn stop_of(fault: TalkFault) -> ServeStop
         TalkFault::CannotWrite => ServeStop::CannotWrite,
         TalkFault::NoMemory => ServeStop::NoMemory,
         TalkFault::OutOfTurn => ServeStop::LostLine,
-    }
-}
-
-/// Why the command stops, where its database does not close well.
-pub(crate) fn stop_of_close(fault: CloseFault) -> ServeStop
-    requires { fault ≢ CloseFault.Foreign }
-    ensures { result ≡ ServeStop.Audit }
-{
-    match fault {
-        CloseFault::Foreign => unreachable!(),
-        CloseFault::Audit(_) => ServeStop::Audit,
     }
 }
 

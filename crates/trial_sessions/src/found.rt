@@ -31,8 +31,10 @@ const BODY: &[u8] =
 /// A function that creates a closure with regions, that closure, and one in its place that requires something.
 const CREATES: &[u8] =
     b"fn <'a,'b,'c> (&'a int, &'c mut &'b int) -> int { let _3: closure 0<'a,'b,'c>; bb0 { _3 = closure 0<'a,'b,'c>(copy _1, move _2); _0 = invoke _3() bb1; } bb1 { return; } }";
+
 const REQUIRES_NOTHING: &[u8] =
     b"closure <'x,'y,'z> [&'x int, &'z mut &'y int] () -> int { bb0 { _0 = 0; return; } }";
+
 const REQUIRES: &[u8] =
     b"closure <'x,'y,'z> [&'x int, &'z mut &'y int] () -> int { bb0 { _2.* = copy _1; _0 = 0; return; } }";
 
@@ -189,12 +191,7 @@ fn pieces_over(alloc: Global, providers: &Providers, closure: &[u8]) -> Result<P
 
 /// Whether the report of `CREATES` over the closure that requires nothing is as it has to be, and no provider is asked, where the snapshot
 /// carries the pieces over both closures, in this order.
-fn is_of_either(
-    alloc: Global,
-    providers: &Providers,
-    first: &[u8],
-    second: &[u8],
-) -> Result<bool> {
+fn is_of_either(alloc: Global, providers: &Providers, first: &[u8], second: &[u8]) -> Result<bool> {
     let mut pieces = pieces_over(alloc, providers, first)?;
     pieces.append(&mut pieces_over(alloc, providers, second)?)?;
     let shelf = creator_over(alloc, REQUIRES_NOTHING)?;
