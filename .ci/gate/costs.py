@@ -59,12 +59,16 @@ def allowed():
     return {it: of for it, of in rows.items() if "::" not in it}, {it: of for it, of in rows.items() if "::" in it}, int(budget[1]) if budget else None
 
 
-def wrong_of(took, listed, unit):
-    """What took longer than anything that is listed, of what is not, and of which no decision says why. Seconds by names."""
+def explained():
+    """The crates and functions of which a decision says that they take so many units."""
+    with open(f"{ROOT}/{WHY}", encoding="utf-8") as it:
+        return re.findall(r"`([\w:+]+)`\s+takes\s+[\d.]+\s+units", it.read())
+
+
+def wrong_of(took, listed, unit, why):
+    """What took longer than anything that is listed, of what is not, and of which no decision says why: these do. Seconds by names."""
     if not unit or not listed:
         return []
     most = max(listed.values())
-    with open(f"{ROOT}/{WHY}", encoding="utf-8") as it:
-        why = it.read()
-    dear = {it: seconds / unit for it, seconds in took.items() if seconds / unit > most and it not in listed and f"`{it}`" not in why}
-    return [f"{it} took {units:.2f} units; of what {PAGE} lists the dearest takes {most:.2f}, and no decision names this" for it, units in dear.items()]
+    dear = {it: seconds / unit for it, seconds in took.items() if seconds / unit > most and it not in listed and it not in why}
+    return [f"{it} took {units:.2f} units; of what {PAGE} lists the dearest takes {most:.2f}, and no decision says why" for it, units in dear.items()]
