@@ -8,15 +8,16 @@ from typing import Sequence
 from .calls import Calls, Externs
 from .control import Control, block
 from .declarations import Declarations
-from .drops import DropFacts, DropMarks, dropped_whole, maybe_initialized
+from .drops import DropFacts, DropMarks, Initialized, dropped_whole, maybe_initialized
 from .dump import Dump
 from .fields import Fields
 from .guards import Guards
-from .mir import Point
+from .invokes import Invokes
+from .mir import Assign, Point, Statement
 from .refused import Refused
 from .regions import Regions
-from .survey import Surveyor
-from .types import INT, STATIC, Type, TypeReader
+from .survey import Survey, Surveyor
+from .types import INT, STATIC, Shape, Type, TypeReader
 from .values import Values
 from .writing import STOP, Label, Names, Writing
 
@@ -26,12 +27,13 @@ MOST_DECLARED, MOST_CLAUSES, MOST_PARAMETERS, MOST_BLOCKS, MOST_POINTS, MOST_LOC
 @dataclass(frozen=True)
 class Options:
     """How bodies are written: with the blocks of unwinding or without; with two-phase borrows as such, or as mutable ones; with regions that
-    outlive each other as one, or each by itself. Of closures, whether what rustc found that they require is a clause, and whether each is
-    written without these clauses too."""
+    outlive each other as one, or each by itself. Of closures, whether those that are only called are written as closures, whether what rustc
+    found that the others require is a clause, and whether each is written without these clauses too."""
 
     unwind: bool = False
     naive_two_phase: bool = False
     merge_regions: bool = False
+    native_closures: bool = True
     requirements: bool = True
     bare_closures: bool = False
 
@@ -59,28 +61,56 @@ def locals_of(dump: Dump, regions: Regions, reader: TypeReader) -> dict[int, Typ
     return {local: known.get(local, INT) for local in range(max(known) + 1)}
 
 
-def write_body(dump: Dump, reader: TypeReader, facts: DropFacts, drop_names: frozenset[str], options: Options) -> Text:
-    """Returns the text of a body. Refuses one that cannot be written."""
+@dataclass
+class Prepared:
+    """A body that is looked at, and not written yet."""
+
+    dump: Dump
+    regions: Regions
+    locals: dict[int, Type]
+    surveyor: Surveyor
+    survey: Survey
+    initialized: Initialized
+
+
+def prepare(dump: Dump, reader: TypeReader, fields: Fields, options: Options) -> Prepared:
+    """Looks at a body, and notes the fields that it takes. Refuses one whose fields cannot be told."""
     if len(dump.universal) - 2 > MOST_DECLARED:
         raise Refused("limit: declared regions > 15")
     regions = Regions(dump, options.merge_regions)
     locals = locals_of(dump, regions, reader)
-    marks = DropMarks({locals[local].shape.key for local in facts.uses_regions if local in locals}, drop_names)
-    fields = Fields()
     surveyor = Surveyor(dump, locals, regions, reader, fields, options.unwind)
     survey = surveyor.survey()
     initialized = maybe_initialized(dump)
     surveyor.note_variance()
+    return Prepared(dump, regions, locals, surveyor, survey, initialized)
+
+
+def shapes_of(locals: dict[int, Type]) -> list[Shape]:
+    """The shapes of locals, in their order."""
+    return [locals[local].shape for local in sorted(locals)]
+
+
+def dropped_shapes(it: Prepared, facts: DropFacts) -> set[str]:
+    """The shapes of the locals of a body whose drop uses regions, by the facts."""
+    return {it.locals[local].shape.key for local in facts.uses_regions if local in it.locals}
+
+
+def writing_of(it: Prepared, reader: TypeReader, fields: Fields, declared: Declarations, options: Options) -> Writing:
+    """Returns the beginning of writing a body."""
+    names = Names({region: "'static" if region == STATIC else f"'u{region}" for region in it.dump.universal})
+    dump = it.dump if options.requirements else replace(it.dump, requirements=[])
+    parts = (dump, it.regions, reader, it.locals, fields, declared, names, it.survey, it.initialized)
+    return Writing(*parts, options.naive_two_phase, options.unwind, notes=fields.notes)
+
+
+def write_body(dump: Dump, reader: TypeReader, facts: DropFacts, drop_names: frozenset[str], options: Options) -> Text:
+    """Returns the text of a body. Refuses one that cannot be written."""
+    fields = Fields()
+    it = prepare(dump, reader, fields, options)
     fields.settle_elements()
-    declared = Declarations(fields, [locals[local].shape for local in sorted(locals)], marks.has)
-    names = Names({region: "'static" if region == STATIC else f"'u{region}" for region in dump.universal})
-    writing = Writing(
-        dump, regions, reader, locals, fields, declared, names, survey, initialized, options.naive_two_phase, options.unwind, fields.notes
-    )
-    if not options.requirements:
-        dump = replace(dump, requirements=[])
-        writing.dump = dump
-    return BodyWriter(writing, Externs()).text()
+    declared = Declarations(fields, shapes_of(it.locals), DropMarks(dropped_shapes(it, facts), drop_names).has)
+    return BodyWriter(writing_of(it, reader, fields, declared, options), Externs()).text()
 
 
 class BodyWriter:
@@ -89,23 +119,24 @@ class BodyWriter:
     def __init__(self, writing: Writing, externs: Externs) -> None:
         self.writing, self.externs = writing, externs
         calls = Calls(writing, externs)
-        self.values, self.control = Values(writing, calls, Guards(writing)), Control(writing, calls)
+        self.values = Values(writing, calls, Guards(writing))
+        self.invokes = Invokes(writing, self.values)
+        self.control = Control(writing, calls, self.invokes)
 
     def text(self) -> Text:
         """Returns the whole text."""
         writing = self.writing
-        header = self.header_names()
-        clauses = self.header_clauses()
         self.write_blocks()
         for longer, shorter in writing.regions.everywhere:
             writing.want(longer, shorter)
         blocks, points = self.numbered_blocks()
         first = 1 + len(writing.dump.parameters)
-        lets = [f"    let _{local}: {writing.text_of(kind)};" for local, kind in writing.locals.items() if local >= first]
+        lets = [f"    let _{local}: {self.type_text(local)};" for local in writing.locals if local >= first]
         lets += self.demands()
         if first + len(lets) > MOST_LOCALS:
             raise Refused("limit: locals > 256")
-        unit = "\n".join([self.head(header, clauses), *lets, *blocks, "}", ""])
+        header = self.header_names([*lets, *blocks])
+        unit = "\n".join([self.head(header, self.header_clauses(header)), *lets, *blocks, "}", ""])
         types = "\n".join([*writing.declared.texts, *self.externs.texts()]) + "\n"
         sizes = {
             "points": sum(len(it) for it in points),
@@ -119,7 +150,11 @@ class BodyWriter:
         names, equal = self.region_names(header), writing.regions.parent
         return Text(types, unit, points, names, equal, sizes, writing.notes, len(writing.survey.two_phase))
 
-    def header_names(self) -> list[int]:
+    def type_text(self, local: int) -> str:
+        """The type of a `let` local."""
+        return self.invokes.type_text(local) if local in self.writing.direct.units else self.writing.text_of(self.writing.locals[local])
+
+    def header_names(self, _lines: Sequence[str]) -> list[int]:
         """Returns the universal regions that the unit declares, in their order."""
         writing = self.writing
         regions = [region for region in sorted(writing.dump.universal) if region not in (STATIC, writing.regions.body)]
@@ -131,7 +166,7 @@ class BodyWriter:
             raise Refused("limit: parameters > 16")
         return regions
 
-    def header_clauses(self) -> list[str]:
+    def header_clauses(self, _header: Sequence[int]) -> list[str]:
         """Returns what is known of the universal regions, and what a closure requires of its creator."""
         regions, names = self.writing.regions, self.writing.names.universal
         clauses: dict[str, None] = {}
@@ -154,12 +189,20 @@ class BodyWriter:
             source = writing.dump.blocks[number]
             writing.begin(block(number))
             for index, statement in enumerate(source.statements):
-                self.values.statement(statement, Point(number, index))
+                self.statement(statement, Point(number, index))
             self.control.terminator(source.terminator, Point(number, len(source.statements)))
         if writing.needs_stop:
             writing.begin(STOP)
             writing.end("stop", [], Point(0, 0))
         self.end_values()
+
+    def statement(self, it: Statement, point: Point) -> None:
+        """Writes a statement. The borrow of a closure for a call is in the call."""
+        direct = self.writing.direct
+        if point in direct.made and isinstance(it, Assign):
+            self.invokes.make(it, direct.made[point], point)
+        elif point not in direct.borrows:
+            self.values.statement(it, point)
 
     def end_values(self) -> None:
         """Writes that a local has no value where it has none on one path and is dropped behind the join with another: `dead`, on the edge."""

@@ -6,7 +6,7 @@ import sys
 from pathlib import Path
 from typing import Iterable, Sequence
 
-from .checking import Checked, checked, shown_name
+from .checking import Checked, checked, shown_name, units_of
 from .crate import Body
 from .explain import Mark, Told, tell
 from .refused import Stopped
@@ -48,8 +48,10 @@ def keep_texts(found: Checked, folder: Path) -> None:
     try:
         folder.mkdir(parents=True, exist_ok=True)
         for body in found.bodies:
-            if body.text:
-                (folder / f"{body.name}.nll").write_text(f"@types\n{body.text.types}@put f\n{body.text.unit}")
+            if body.text and not body.within:
+                closures = [it for it in found.bodies if it.within and it.within[0] == body.name]
+                units = "".join(f"@put {name}\n{unit}" for name, unit in units_of(body, closures).items())
+                (folder / f"{body.name}.nll").write_text(f"@types\n{body.text.types}{units}")
     except OSError as fault:
         raise Stopped(f"cannot write {folder}: {fault.strerror}") from fault
 

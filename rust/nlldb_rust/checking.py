@@ -4,6 +4,7 @@ from __future__ import annotations
 import os
 import shutil
 import tempfile
+from collections import defaultdict
 from contextlib import contextmanager
 from dataclasses import dataclass, field, replace
 from pathlib import Path
@@ -89,15 +90,28 @@ def checked(source: Path, request: Request) -> Checked:
     """Returns nlldb's answers about the bodies of a source."""
     with dumped(source, request) as run:
         bodies = write_crate(run.dumps, run.facts, request.options, request.jobs)
-    bare = [replace(body, text=body.bare) for body in bodies if body.bare]
+    bare = [replace(body, text=body.bare, within=None, dump=body.plain or body.dump) for body in bodies if body.bare]
     return Checked(source, run, bodies, asked(bodies, request.program), asked(bare, request.program))
 
 
 def asked(bodies: Sequence[Body], program: str) -> dict[str, Answer]:
-    """Returns nlldb's answers to the bodies that are written, by their names."""
-    written = [body for body in bodies if body.text]
-    said = ask_all(program, [(body.text.types, {"f": body.text.unit}) for body in written if body.text])
-    return {body.name: answer_of(body, outcome) for body, outcome in zip(written, said)}
+    """Returns nlldb's answers to the bodies that are written, by their names. A closure that is written as one is asked with its creator."""
+    closures: dict[str, list[Body]] = defaultdict(list)
+    for body in bodies:
+        if body.within:
+            closures[body.within[0]].append(body)
+    asks = [body for body in bodies if body.text and not body.within]
+    said = ask_all(program, [(body.text.types, units_of(body, closures[body.name])) for body in asks if body.text])
+    answers = {}
+    for body, outcome in zip(asks, said):
+        for it in (body, *closures[body.name]):
+            answers[it.name] = answer_of(it, outcome)
+    return answers
+
+
+def units_of(body: Body, closures: Sequence[Body]) -> dict[str, str]:
+    """The units of a body and of its closures, by their names in the text."""
+    return {it.unit_name(): it.text.unit for it in (body, *closures) if it.text}
 
 
 def shown_name(name: str) -> str:

@@ -2,6 +2,7 @@
 from __future__ import annotations
 
 from .calls import Calls
+from .invokes import Invokes
 from .mir import Access, Assert, Call, Drop, FalseEdge, Goto, Point, Return, Stop, Switch, Terminator, Unread
 from .refused import Refused
 from .types import INT
@@ -16,8 +17,8 @@ def block(number: int) -> Label:
 class Control:
     """Writes the terminators of a body."""
 
-    def __init__(self, writing: Writing, calls: Calls) -> None:
-        self.writing, self.calls = writing, calls
+    def __init__(self, writing: Writing, calls: Calls, invokes: Invokes) -> None:
+        self.writing, self.calls, self.invokes = writing, calls, invokes
 
     def terminator(self, it: Terminator, point: Point) -> None:
         """Writes a terminator. Refuses what could not be read."""
@@ -108,4 +109,8 @@ class Control:
                 self.writing.emit(pending.text, pending.point)
         if kind.target is None:
             self.writing.needs_stop = True
-        self.calls.site(kind.place, kind.operands, point, STOP if kind.target is None else block(kind.target), "call")
+        label = STOP if kind.target is None else block(kind.target)
+        if point in self.writing.direct.calls:
+            self.invokes.invoke(kind, self.writing.direct.calls[point], point, label)
+        else:
+            self.calls.site(kind.place, kind.operands, point, label, "call")

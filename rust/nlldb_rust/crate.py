@@ -17,6 +17,7 @@ from typing import Optional, Sequence
 from .body import Options, Text, locals_of, write_body
 from .drops import STANDARD_DROPS, DropFacts, moved_whole, read_facts
 from .dump import Dump, read_dump
+from .groups import Source, write_group
 from .refused import Refused
 from .regions import Regions
 from .rustc import DUMP_SUFFIX
@@ -33,13 +34,21 @@ class Body:
 
     name: str
     text: Optional[Text] = None
+    # of a closure that is written as a closure, the body that is asked for it, and its number there
+    within: Optional[tuple[str, int]] = None
     bare: Optional[Text] = None
     refused: str = ""
     dump: Optional[Dump] = None
+    # that of a closure that is written as a closure as rustc left it: `dump` has its environment in another local
+    plain: Optional[Dump] = None
     mir_points: int = 0
 
     def is_closure(self) -> bool:
         return "-{closure" in self.name
+
+    def unit_name(self) -> str:
+        """The name of its unit in the text."""
+        return f"f/{self.within[1]}" if self.within else "f"
 
     def root(self) -> str:
         """The function that a closure lies in; itself for a function."""
@@ -105,7 +114,26 @@ class Reader:
         for body in self.bodies:
             if body.dump is not None:
                 write_one(body, TypeReader(paths), self.facts[body.name], drop_names, options)
+        if options.native_closures:
+            for body in self.bodies:
+                self.write_closures(body, TypeReader(paths), drop_names, options)
         return self.bodies
+
+    def write_closures(self, creator: Body, reader: TypeReader, drop_names: frozenset[str], options: Options) -> None:
+        """Writes a function anew with those of its closures that are only called, where that can be done."""
+        closures = {it.name.split(".", 1)[-1]: it for it in self.bodies if it.name.startswith(f"{creator.name}-{{closure") and it.text and it.dump}
+        if creator.is_closure() or not closures or not creator.text or not creator.dump:
+            return
+        sources = {name: Source(it.dump, self.facts[it.name]) for name, it in closures.items() if it.dump}
+        try:
+            group = write_group(Source(creator.dump, self.facts[creator.name]), sources, reader, drop_names, options)
+        except (Refused, *FAULTS):
+            return
+        creator.text = group.creator
+        for number, (name, (text, dump)) in enumerate(group.closures.items()):
+            closure = closures[name]
+            closure.text, closure.within = text, (creator.name, number)
+            closure.plain, closure.dump = closure.dump, dump
 
 
 def not_looked_into(dump: Dump, facts: DropFacts, reader: TypeReader) -> set[str]:
@@ -171,7 +199,16 @@ def write_crate(dumps: Path, facts: Optional[Path], options: Options = Options()
         reader = Reader(paths, facts)
         full = reader.paths()
         return reader.write(full, drop_names_of([reader.drops(full)]), options)
-    return write_by_processes([paths[number::jobs] for number in range(jobs)], facts, options)
+    return write_by_processes(shares_of(paths, jobs), facts, options)
+
+
+def shares_of(paths: Sequence[Path], count: int) -> list[list[Path]]:
+    """Divides dumps among processes. A function and its closures are in one share."""
+    roots = {root: number for number, root in enumerate(dict.fromkeys(Body(body_name(path)).root() for path in paths))}
+    shares: list[list[Path]] = [[] for _ in range(count)]
+    for path in paths:
+        shares[roots[Body(body_name(path)).root()] % count].append(path)
+    return shares
 
 
 def write_by_processes(shares: Sequence[Sequence[Path]], facts: Optional[Path], options: Options) -> list[Body]:

@@ -55,7 +55,7 @@ def answer_of(body: Body, said: dict) -> Answer:
     if outcome.get("kind") != "report":
         return Answer(body, [], fault_of(said))
     found: dict[object, Finding] = {}
-    for error in outcome["bodies"][0]["errors"]:
+    for error in next(it for it in outcome["bodies"] if it["name"] == body.unit_name())["errors"]:
         finding = finding_of(body, error)
         key = (position_of(body, finding.at), position_of(body, finding.loan)) if isinstance(finding, Conflict) else finding
         found.setdefault(key, finding)

@@ -59,12 +59,13 @@ def bounds_of(dump: Dump, region: int) -> list[int]:
 
 def required_of(body: Body, bare: Answer) -> Required:
     """Returns what a closure requires. `bare` is the answer to its text without clauses for that."""
-    assert body.dump is not None and body.bare is not None
-    constraints = Constraints(body.dump, body.bare)
-    pairs = ((it.longer, it.shorter) for it in bare.findings if isinstance(it, Lifetime) and it.longer in body.dump.external)
-    ours = frozenset((longer, bound) for longer, shorter in pairs for bound in bounds_of(body.dump, shorter))
-    theirs = frozenset((constraints.find(longer), constraints.find(shorter)) for longer, shorter in body.dump.requirements)
-    return Required(body.name, ours, theirs, known_of(body.dump))
+    dump = body.plain or body.dump
+    assert dump is not None and body.bare is not None
+    constraints = Constraints(dump, body.bare)
+    pairs = ((it.longer, it.shorter) for it in bare.findings if isinstance(it, Lifetime) and it.longer in dump.external)
+    ours = frozenset((longer, bound) for longer, shorter in pairs for bound in bounds_of(dump, shorter))
+    theirs = frozenset((constraints.find(longer), constraints.find(shorter)) for longer, shorter in dump.requirements)
+    return Required(body.name, ours, theirs, known_of(dump))
 
 
 def required_in(found: Checked) -> list[Required]:

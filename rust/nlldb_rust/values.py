@@ -7,11 +7,11 @@ from .calls import Calls
 from .fields import HIDDEN_FIELD, Field, Key
 from .guards import Guards
 from .mir import (
-    Access, Aggregate, Ascription, Assign, Borrow, Cast, Discriminant, GuardRead, Intrinsic, Operand, Operation, Place, Point, RawRef, Ref, Statement,
+    Access, Aggregate, Ascription, Assign, Borrow, Cast, Discriminant, GuardRead, Intrinsic, Made, Operand, Operation, Place, Point, RawRef, Ref, Statement,
     Step, StorageDead, Unread, Use,
 )  # fmt: skip
 from .refused import Refused
-from .types import Kind
+from .types import Kind, Type
 from .writing import Argument, Pending, Writing, Written
 
 
@@ -185,13 +185,17 @@ class Values:
 
     def aggregate(self, target: Place, value: Aggregate, point: Point) -> None:
         """Writes a struct or a tuple as that where each of its fields is an operand, and any other aggregate as a call."""
-        written = self.writing.place(target)
         made = self.writing.survey.made.get(point)
-        if made is None or written.rest or written.type is None or not self.makes_all_fields(written, made.type.shape.key, value.operands):
+        if made is None or not self.make_struct(target, value, made.type, point):
             self.calls.step(target, value.operands, point, "aggregate as a call")
-            return
+
+    def make_struct(self, target: Place, value: Aggregate, made: Type, point: Point) -> bool:
+        """Writes a struct that is made of its fields. Returns whether it has that form."""
+        written = self.writing.place(target)
+        if written.rest or written.type is None or not self.makes_all_fields(written, made.shape.key, value.operands):
+            return False
         texts = ["0" if it.text else f"{it.access.value} {self.writing.place(it.place).text}" for it in value.operands]
-        name, regions = self.writing.declared.names[written.type.shape.key], made.type.regions
+        name, regions = self.writing.declared.names[written.type.shape.key], made.regions
         given = f"<{', '.join(self.writing.names.of(it) for it in regions)}>" if regions else ""
         self.writing.emit(f"{written.text} = {name}{given}({', '.join(texts)})", point)
         interface = [*regions, *written.type.regions]
@@ -199,7 +203,10 @@ class Values:
             if not it.text:
                 source = self.writing.place(it.place)
                 interface += [*(source.type.regions if source.type else ()), *self.writing.regions_along(it.place)]
-        self.writing.want_but(point, interface)
+        if value.made is not Made.CLOSURE:
+            # (what a closure requires is in the constraints at this point too, and nlldb finds it itself)
+            self.writing.want_but(point, interface)
+        return True
 
     def makes_all_fields(self, target: Written, key: str, operands: Sequence[Operand]) -> bool:
         """Whether the declared fields of a struct are these operands, each as it is."""

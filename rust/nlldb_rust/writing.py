@@ -5,6 +5,7 @@ from collections import Counter
 from dataclasses import dataclass, field
 from typing import Iterable, NamedTuple, Optional, Sequence
 
+from .closures import DirectClosures
 from .declarations import Declarations
 from .drops import Initialized
 from .dump import Dump
@@ -94,6 +95,8 @@ class Writing:
     initialized: Initialized
     naive_two_phase: bool = False
     unwind: bool = False
+    # the closures that are written as closures
+    direct: DirectClosures = field(default_factory=DirectClosures)
     notes: Counter[str] = field(default_factory=Counter)
     # constraints that no written form makes
     wanted: set[tuple[int, int]] = field(default_factory=set)

@@ -52,6 +52,29 @@ class Texts(unittest.TestCase):
         self.assertEqual(written("refused")["refused.locals"].refused, "limit: operands > 16")
 
 
+class Closures(unittest.TestCase):
+    def test_one_that_is_only_called_is_written_as_a_closure(self):
+        bodies = written("small")
+        self.assertEqual(bodies["small.closure-{closure#0}"].within, ("small.closure", 0))
+        self.assertTrue(bodies["small.closure-{closure#0}"].text.unit.startswith("closure <"))
+        self.assertRegex(bodies["small.closure"].text.unit, r"_(\d+) = closure 0<'\?\d+>\(move _\d+\);")
+        self.assertRegex(bodies["small.closure"].text.unit, r"_0 = invoke _\d+<'\?\d+>\(move _\d+\.0\) bb\d+;")
+
+    def test_what_it_requires_is_no_clause_of_it(self):
+        it = written("small")["small.assigns-{closure#0}"]
+        self.assertEqual(it.within, ("small.assigns", 0))
+        self.assertEqual(len(it.plain.requirements), 1)
+        self.assertEqual(it.dump.requirements, [])
+        errors = kept_texts("small")["small.assigns"]["answer"]["outcome"]["bodies"]
+        self.assertEqual([[error["kind"] for error in body["errors"]] for body in errors], [["lifetime"], []])
+
+    def test_one_that_is_passed_on_is_written_as_a_function(self):
+        bodies = written("small")
+        for name in ("passed_on", "requires"):
+            self.assertIsNone(bodies[f"small.{name}-{{closure#0}}"].within)
+            self.assertTrue(bodies[f"small.{name}-{{closure#0}}"].text.unit.startswith("fn <"))
+
+
 class Graphs(unittest.TestCase):
     def test_components(self):
         found = graphs.strong_components(graphs.successors_of([(1, 2), (2, 3), (3, 1), (3, 4)]))

@@ -62,6 +62,24 @@ pub fn closure(numbers: &[i32], more: i32) -> i32 {
     add(&numbers[0])
 }
 
+/// A closure whose result has a lifetime of its creator that it does not capture. It is written as a function.
+pub fn requires<'a, 'b>(kept: &'a str, _other: &'b str) -> &'b str {
+    let give = || -> &'b str { kept };
+    give()
+}
+
+/// A closure that assigns one captured variable to another, and so requires that the one lives as long as the other.
+pub fn assigns<'a, 'b>(kept: &'a str, mut slot: &'b str) -> &'b str {
+    let mut set = || slot = kept;
+    set();
+    slot
+}
+
+/// A closure that is passed on, and so is written as a function.
+pub fn passed_on(numbers: &[i32], more: i32) -> Vec<i32> {
+    numbers.iter().map(|number| *number + more).collect()
+}
+
 /// An array and its elements by constant indices.
 pub fn elements() -> i32 {
     let mut row = [1, 2, 3];
