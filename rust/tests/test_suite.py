@@ -67,7 +67,8 @@ class Tables(unittest.TestCase):
 
     def test_each_table_has_its_rows(self):
         text = "\n".join(tables.tables([self.CRATE]))
-        for row in ("| a 1 | 3 | 2 | 2 | 4 | 0.2 |", "| **1 crates** | 3 |", "| `union` | 1 |", "| points | 51 | 100 | 100 | 4096 |", "| call | 2 | 5 |", "0 functions differ"):
+        rows = ("| a 1 | 3 | 2 | 2 | 4 | 0.2 |", "| **1 crates** | 3 |", "| `union` | 1 |", "| points | 51 | 100 | 100 | 4096 |", "| call | 2 | 5 |")
+        for row in (*rows, "0 functions differ"):
             self.assertIn(row, text)
 
 
