@@ -73,7 +73,10 @@ def outcome(source: Path, request: Request) -> Outcome:
     if request.keep_dumps:
         request = replace(request, keep_dumps=request.keep_dumps / source.stem)
     try:
-        result = compared(checked(source, request))
+        found = checked(source, request)
+        if found.run.errors and not found.bodies:
+            return f"rustc found errors before it checked a body: {found.run.errors[0].message}"
+        result = compared(found)
     except Stopped as fault:
         if fault.status == 3:
             raise

@@ -114,11 +114,13 @@ def marks(them: Sequence[Mark]) -> list[dict[str, object]]:
 
 def tell_others(found: Checked) -> int:
     """Tells on standard error what rustc found beside borrows. Returns the exit status."""
-    others = found.run.other_errors()
+    # (where no body was dumped, an error was in the way, be it one of borrows: that of a crate that is needed before)
+    others = found.run.other_errors() if found.bodies else found.run.errors
     if others:
         first = others[0].rendered.strip() or others[0].message
         count = "an error" if len(others) == 1 else f"{len(others)} errors"
-        print(f"rustc found {count} that nlldb does not look for; the first:\n{first}", file=sys.stderr)
+        told = "that nlldb does not look for" if found.bodies else "before it checked a body"
+        print(f"rustc found {count} {told}; the first:\n{first}", file=sys.stderr)
     if others or any(True for _ in refusals(found)):
         return 2
     return 1 if any(answer.findings for answer in found.answers.values()) else 0

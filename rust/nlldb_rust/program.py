@@ -15,17 +15,19 @@ HERE = Path(__file__).resolve().parent.parent.parent
 
 
 def find_program(named: str | None) -> str:
-    """Returns the path of nlldb: the one that is named, else $NLLDB, else the one that this repository built, else the one on the path."""
-    built = HERE / "crates" / "nlldb" / "out" / "nlldb"
+    """Returns the path of nlldb: the one that is named, else $NLLDB, else the one that this repository built, proved or else unproved, else the one on
+    the path."""
+    folder = HERE / "crates" / "nlldb" / "out"
+    built = [str(path) for path in (folder / "nlldb", folder / "unproved" / "nlldb") if path.is_file() and os.access(path, os.X_OK)]
     for candidate in (named, os.environ.get("NLLDB")):
         if candidate:
             found = shutil.which(candidate)
             if not found:
                 raise Stopped(f"cannot run {candidate}")
             return os.path.abspath(found)
-    found = str(built) if os.access(built, os.X_OK) else shutil.which("nlldb")
+    found = built[0] if built else shutil.which("nlldb")
     if not found:
-        raise Stopped("nlldb is not there: build it (.ci/program), or name it by --nlldb PATH or $NLLDB")
+        raise Stopped("nlldb is not there: build it (.ci/program, or .ci/quick without the proof), or name it by --nlldb PATH or $NLLDB")
     return found
 
 

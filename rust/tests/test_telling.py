@@ -64,6 +64,17 @@ class Telling(unittest.TestCase):
         self.assertEqual(links.function_name("ConstValue(ZeroSized: fn() {Vec::<i32>::push})"), "push")
 
 
+class Pages(unittest.TestCase):
+    def test_the_readme_has_what_is_printed(self):
+        printed = "\n".join(check_command.lines_of(kept_answers("greet")))
+        self.assertIn(f"$ rust/nlldb-rust examples/rust/greet.rs\n{printed}\n```", (HERE.parent.parent / "README.md").read_text())
+
+    def test_each_module_says_that_nothing_is_proved(self):
+        for path in sorted((HERE.parent / "nlldb_rust").glob("*.py")):
+            self.assertRegex(path.read_text().replace("\n", " "), r"[Nn]othing here is proved|proved", path.name)
+            self.assertLess(len(path.read_text().splitlines()), 300, path.name)
+
+
 class Agreement(unittest.TestCase):
     def test_the_functions_agree_with_rustc(self):
         it = agreement.compared(kept_answers("small"))
