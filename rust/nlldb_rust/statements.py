@@ -24,7 +24,7 @@ OPERATIONS = frozenset(
     " ShallowInitBox".split()
 )
 CONSTRUCTOR = re.compile(r"([\w:]*?)(::<.*>)?$", re.S)
-UNIT_CONSTRUCTOR = re.compile(r"[\w:<>', ?&\[\]();{}#@.\-=*+/]+$")
+UNIT_CONSTRUCTOR = re.compile(r"[\w:<>', ?&\[\]();{}#@~^.\-=*+/]+$")
 BORROWS = {None: Borrow.SHARED, "mut ": Borrow.MUTABLE, "fake shallow ": Borrow.FAKE_SHALLOW}
 
 
