@@ -37,6 +37,11 @@ def read_statement(text: str) -> Statement:
 
 
 def statement_of(text: str) -> Statement:
+    if text[0] in "_(":
+        target, end = place_at(text, 0)
+        if not text.startswith(" = ", end):
+            raise Refused("parse: statement")
+        return Assign(target, rvalue_of(text[end + 3 :]))
     if found := STORAGE.match(text):
         return (StorageDead if found[1] == "Dead" else StorageLive)(int(found[2]))
     if found := GUARD_READ.match(text):
@@ -47,12 +52,7 @@ def statement_of(text: str) -> Statement:
         return Ascription()
     if text.startswith(INTRINSIC):
         return Intrinsic(operands_in(text))
-    if text[0] not in "_(":
-        raise Refused("set discriminant" if text.startswith("discriminant(") else f"statement: {text.split('(')[0][:20]}")
-    target, end = place_at(text, 0)
-    if not text.startswith(" = ", end):
-        raise Refused("parse: statement")
-    return Assign(target, rvalue_of(text[end + 3 :]))
+    raise Refused("set discriminant" if text.startswith("discriminant(") else f"statement: {text.split('(')[0][:20]}")
 
 
 def rvalue_of(text: str) -> Rvalue:

@@ -87,8 +87,9 @@ class Surveyor:
     def __init__(self, dump: Dump, locals: dict[int, Type], regions: Regions, reader: TypeReader, fields: Fields, unwind: bool) -> None:
         self.dump, self.locals, self.regions, self.reader, self.fields = dump, locals, regions, reader, fields
         self.found = Survey(reached_blocks(dump, unwind))
+        self.points = list(self._points())
 
-    def points(self) -> Iterable[tuple[Point, Statement | TerminatorKind]]:
+    def _points(self) -> Iterable[tuple[Point, Statement | TerminatorKind]]:
         """Each reached point with what is there."""
         for block in self.found.reached:
             statements = self.dump.blocks[block].statements
@@ -98,7 +99,7 @@ class Surveyor:
 
     def survey(self) -> Survey:
         """Looks at all points. Refuses a body whose fields cannot be told."""
-        for point, it in self.points():
+        for point, it in self.points:
             self._look(point, it)
         self._find_two_phase()
         return self.found
@@ -199,7 +200,7 @@ class Surveyor:
 
     def note_variance(self) -> None:
         """Notes which regions are invariant: of a shape of which an assignment of one value to another ties regions both ways."""
-        for point, it in self.points():
+        for point, it in self.points:
             if isinstance(it, Assign):
                 target, source = self.walk(it.target, point), self._source(it, point)
                 if isinstance(it.value, Ref) and source is not None:
