@@ -22,7 +22,6 @@ REQUIREMENT = re.compile(r"\| where '\?(\d+): '\?(\d+)")
 NAMED = re.compile(r"\s+debug (.*) => (_(\d+)|.*);")
 LET = re.compile(r" +let (?:mut )?_(\d+): (.*); +// (return place )?in scope \d+ at (.*)$")
 BLOCK = re.compile(r"    bb(\d+)( \(cleanup\))?: \{")
-PLACED = re.compile(r"// bb\d+\[\d+\]: scope \d+ at (.*)$")
 USER_TYPE = re.compile(r" as UserTypeProjection \{| as \[?UserType")
 PARAMETER = re.compile(r"_(\d+): (.*)$", re.S)
 CONSTANT_BODY = ("const ", "static ", "promoted")
@@ -140,9 +139,11 @@ def read_local(dump: Dump, line: str) -> None:
 
 
 def read_line(line: str, texts: list[tuple[str, str]]) -> None:
+    """Reads a statement or a terminator: its text, and its place behind `// bb0[1]: scope 0 at`."""
     start = line.rfind("// bb")
-    if found := PLACED.match(line, start):
-        texts.append((line[:start].strip().rstrip(";"), found[1]))
+    span = line.find(" at ", start)
+    if span >= 0:
+        texts.append((line[:start].strip().removesuffix(";"), line[span + 4 :]))
 
 
 def block_of(texts: list[tuple[str, str]], cleanup: bool, unwind: bool) -> Block:

@@ -25,6 +25,7 @@ OPERATIONS = frozenset(
 )
 CONSTRUCTOR = re.compile(r"([\w:]*?)(::<.*>)?$", re.S)
 UNIT_CONSTRUCTOR = re.compile(r"[\w:<>', ?&\[\]();{}#@~^.\-=*+/]+$")
+NOTHING = Nothing()
 BORROWS = {None: Borrow.SHARED, "mut ": Borrow.MUTABLE, "fake shallow ": Borrow.FAKE_SHALLOW}
 
 
@@ -47,7 +48,7 @@ def statement_of(text: str) -> Statement:
     if found := GUARD_READ.match(text):
         return GuardRead(int(found[1]))
     if MEANS_NOTHING.match(text):
-        return Nothing()
+        return NOTHING
     if text.startswith("AscribeUserType"):
         return Ascription()
     if text.startswith(INTRINSIC):

@@ -13,8 +13,8 @@ from .declarations import note_invariance
 from .dump import Dump
 from .fields import Fields, Key, walk
 from .mir import (
-    Access, Aggregate, Assert, Assign, Borrow, Call, Discriminant, Drop, Intrinsic, Made, Operand, Operation, Place, Point, Ref, RawRef, Statement,
-    Switch, TerminatorKind, Use,
+    Access, Aggregate, Assert, Assign, Borrow, Call, Discriminant, Drop, Intrinsic, Made, Nothing, Operand, Operation, Place, Point, RawRef, Ref,
+    Statement, StorageDead, StorageLive, Switch, TerminatorKind, Use,
 )  # fmt: skip
 from .refused import Refused
 from .regions import Regions
@@ -23,6 +23,7 @@ from .statements import operands_read, places_read
 from .types import Kind, Type, TypeReader
 
 MOST_OPERANDS = 16
+SILENT = (Nothing, StorageLive, StorageDead)
 OPERATOR = re.compile(r"::(index_mut|deref_mut)\b")
 
 
@@ -90,11 +91,12 @@ class Surveyor:
         self.points = list(self._points())
 
     def _points(self) -> Iterable[tuple[Point, Statement | TerminatorKind]]:
-        """Each reached point with what is there."""
+        """Each reached point with what is there, but for those that read and write nothing."""
         for block in self.found.reached:
             statements = self.dump.blocks[block].statements
             for index, statement in enumerate(statements):
-                yield Point(block, index), statement
+                if not isinstance(statement, SILENT):
+                    yield Point(block, index), statement
             yield Point(block, len(statements)), self.dump.blocks[block].terminator.kind
 
     def survey(self) -> Survey:
