@@ -13,7 +13,7 @@ from .dump import Dump
 from .fields import Fields
 from .guards import Guards
 from .invokes import Invokes
-from .mir import Assign, Point, Statement
+from .mir import Assign, Nothing, Point, Statement, StorageLive
 from .refused import Refused
 from .regions import Regions
 from .survey import Survey, Surveyor
@@ -189,7 +189,8 @@ class BodyWriter:
             source = writing.dump.blocks[number]
             writing.begin(block(number))
             for index, statement in enumerate(source.statements):
-                self.statement(statement, Point(number, index))
+                if not isinstance(statement, (Nothing, StorageLive)):
+                    self.statement(statement, Point(number, index))
             self.control.terminator(source.terminator, Point(number, len(source.statements)))
         if writing.needs_stop:
             writing.begin(STOP)

@@ -82,8 +82,6 @@ class Calls:
         self.writing.notes[why] += 1
         arguments = [it for operand in operands if (it := self.argument(operand, point)) is not None]
         arguments += more
-        if len(arguments) > MOST_OPERANDS:
-            raise Refused("limit: operands > 16")
         target, kind = self.destination(place, arguments, point)
         self.call(target, kind, arguments, self.writing.regions.demands(point, regions_of(arguments, kind)), point, label)
 
@@ -110,9 +108,9 @@ class Calls:
         return nowhere()
 
     def call(self, target: str, kind: Type, arguments: Sequence[Argument], edges: list[Edge], point: Point, label: Label) -> None:
-        """Writes a call with clauses. One with more regions than a function has is written in pieces: the result, then each operand."""
+        """Writes a call with clauses. One with more regions or operands than a function has is written in pieces: the result, then each operand."""
         regions = regions_of(arguments, kind)
-        if len(regions) > MOST_REGIONS and (len(arguments) > 1 or arguments and kind.regions):
+        if len(arguments) > MOST_OPERANDS or len(regions) > MOST_REGIONS and (len(arguments) > 1 or arguments and kind.regions):
             self.in_pieces(target, kind, arguments, edges, point, label)
             return
         names = {region: f"'r{number}" for number, region in enumerate(regions)}

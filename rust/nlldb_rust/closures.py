@@ -63,6 +63,12 @@ class DirectClosures:
         self.units[direct.local] = unit
 
 
+def calls_closures(dump: Dump) -> bool:
+    """Whether a body has a call that may be one of a closure of its own."""
+    kinds = (block.terminator.kind for block in dump.blocks)
+    return any(isinstance(it, Call) and it.callee.endswith(CALLS) for it in kinds)
+
+
 def direct_closures(dump: Dump, survey: Survey, locals: dict[int, Type]) -> list[Direct]:
     """Returns the closures of a body that are only called."""
     found = (direct_closure(dump, survey, locals, local) for local in sorted(locals) if locals[local].shape.kind is Kind.CLOSURE)

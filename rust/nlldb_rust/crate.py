@@ -5,16 +5,19 @@ exchange what they found, and then each writes its own.
 """
 from __future__ import annotations
 
+import gc
 import os
 import re
 from collections import defaultdict
+from contextlib import contextmanager
 from dataclasses import dataclass, replace
 from multiprocessing import get_context
 from multiprocessing.connection import Connection
 from pathlib import Path
-from typing import Optional, Sequence
+from typing import Iterator, Optional, Sequence
 
-from .body import Options, Text, locals_of, write_body
+from .body import Options, Text, write_body
+from .closures import calls_closures
 from .drops import STANDARD_DROPS, DropFacts, moved_whole, read_facts
 from .dump import Dump, read_dump
 from .groups import Source, write_group
@@ -68,14 +71,14 @@ def facts_folder(facts: Optional[Path], name: str) -> Optional[Path]:
 class Reader:
     """The bodies that one process reads and writes, in three rounds."""
 
-    def __init__(self, paths: Sequence[Path], facts: Optional[Path]) -> None:
+    def __init__(self, paths: Sequence[Path], facts: Optional[Path], unwind: bool) -> None:
         self.bodies: list[Body] = []
         self.facts: dict[str, DropFacts] = {}
         for path in paths:
             body = Body(body_name(path))
             self.bodies.append(body)
             try:
-                body.dump = read_dump(path)
+                body.dump = read_dump(path, unwind)
                 body.mir_points = body.dump.points()
                 self.facts[body.name] = read_facts(facts_folder(facts, body.name))
             except Refused as fault:
@@ -121,8 +124,9 @@ class Reader:
 
     def write_closures(self, creator: Body, reader: TypeReader, drop_names: frozenset[str], options: Options) -> None:
         """Writes a function anew with those of its closures that are only called, where that can be done."""
-        closures = {it.name.split(".", 1)[-1]: it for it in self.bodies if it.name.startswith(f"{creator.name}-{{closure") and it.text and it.dump}
-        if creator.is_closure() or not closures or not creator.text or not creator.dump:
+        begin = f"{creator.name}-{{closure"
+        closures = {it.name.split(".", 1)[-1]: it for it in self.bodies if it.name.startswith(begin) and it.text and it.dump}
+        if creator.is_closure() or not closures or not creator.text or not creator.dump or not calls_closures(creator.dump):
             return
         sources = {name: Source(it.dump, self.facts[it.name]) for name, it in closures.items() if it.dump}
         try:
@@ -173,9 +177,22 @@ def fault_of(fault: BaseException) -> str:
     return f"fault of the writer: {type(fault).__name__} {str(fault)[:60]}"
 
 
+@contextmanager
+def without_collector() -> Iterator[None]:
+    """Keeps Python from looking for cycles, of which nothing here has any: that takes a tenth of the time."""
+    was_on = gc.isenabled()
+    gc.disable()
+    try:
+        yield
+    finally:
+        if was_on:
+            gc.enable()
+
+
 def work(link: Connection, paths: Sequence[Path], facts: Optional[Path], options: Options) -> None:
     """What a process does: it reads its bodies, and tells and hears what they all need."""
-    reader = Reader(paths, facts)
+    gc.disable()
+    reader = Reader(paths, facts, options.unwind)
     link.send(reader.paths())
     full = link.recv()
     link.send(reader.drops(full))
@@ -196,9 +213,10 @@ def write_crate(dumps: Path, facts: Optional[Path], options: Options = Options()
     paths = sorted(path for path in dumps.iterdir() if path.name.endswith(DUMP_SUFFIX))
     jobs = min(jobs or len(os.sched_getaffinity(0)), 1 + len(paths) // 64)
     if jobs == 1:
-        reader = Reader(paths, facts)
-        full = reader.paths()
-        return reader.write(full, drop_names_of([reader.drops(full)]), options)
+        with without_collector():
+            reader = Reader(paths, facts, options.unwind)
+            full = reader.paths()
+            return reader.write(full, drop_names_of([reader.drops(full)]), options)
     return write_by_processes(shares_of(paths, jobs), facts, options)
 
 

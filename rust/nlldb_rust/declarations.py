@@ -2,7 +2,7 @@
 from __future__ import annotations
 
 import re
-from typing import Callable, Iterable, Sequence
+from typing import AbstractSet, Callable, Iterable, Sequence
 
 from .fields import AS_STATIC, HIDDEN_FIELD, Field, Fields, Key
 from .refused import Refused
@@ -125,7 +125,7 @@ class Declarations:
         return any(self.leads_to_reference(field.shape, depth + 1) for field in fields)
 
 
-def note_invariance(fields: Fields, source: Type, target: Type, edges: set[tuple[int, int]]) -> None:
+def note_invariance(fields: Fields, source: Type, target: Type, edges: AbstractSet[tuple[int, int]]) -> None:
     """Notes the regions of a shape that an assignment between two types of it ties both ways, or only against the assignment."""
     while source.is_reference():
         if source.shape.mutable:

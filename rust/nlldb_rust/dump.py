@@ -22,7 +22,6 @@ REQUIREMENT = re.compile(r"\| where '\?(\d+): '\?(\d+)")
 NAMED = re.compile(r"\s+debug (.*) => (_(\d+)|.*);")
 LET = re.compile(r" +let (?:mut )?_(\d+): (.*); +// (return place )?in scope \d+ at (.*)$")
 BLOCK = re.compile(r"    bb(\d+)( \(cleanup\))?: \{")
-PLACED = re.compile(r"// bb\d+\[\d+\]: scope \d+ at (.*)$")
 USER_TYPE = re.compile(r" as UserTypeProjection \{| as \[?UserType")
 PARAMETER = re.compile(r"_(\d+): (.*)$", re.S)
 CONSTANT_BODY = ("const ", "static ", "promoted")
@@ -63,15 +62,15 @@ class Dump:
         return sum(len(block.spans) for block in self.blocks)
 
 
-def read_dump(path: Path) -> Dump:
-    """Returns what a file says. Refuses a coroutine, and what has another form."""
+def read_dump(path: Path, unwind: bool = True) -> Dump:
+    """Returns what a file says. Without `unwind` the blocks of unwinding are left empty. Refuses a coroutine, and what has another form."""
     lines = path.read_text(errors="replace").split("\n")
     dump = Dump()
     start = read_analysis(dump, lines)
     for number in range(start + 1, len(lines)):
         if lines[number].startswith("}"):
             break
-    read_body(dump, lines[start + 1 : number])
+    read_body(dump, lines[start + 1 : number], unwind)
     read_header(dump, "\n".join(lines[start : start + 2]))
     return dump
 
@@ -108,7 +107,7 @@ def read_constraint(dump: Dump, line: str) -> None:
         dump.constraints.append(Constraint(int(longer), int(shorter), category, point, span))
 
 
-def read_body(dump: Dump, lines: list[str]) -> None:
+def read_body(dump: Dump, lines: list[str], unwind: bool) -> None:
     """Reads the locals, and the blocks behind them."""
     texts: list[list[tuple[str, str]]] = []
     cleanup: set[int] = set()
@@ -123,7 +122,7 @@ def read_body(dump: Dump, lines: list[str]) -> None:
                 cleanup.add(int(found[1]))
         elif not texts:
             read_local(dump, line)
-    dump.blocks = [block_of(block, number in cleanup) for number, block in enumerate(texts)]
+    dump.blocks = [block_of(block, number in cleanup, unwind) for number, block in enumerate(texts)]
 
 
 def read_local(dump: Dump, line: str) -> None:
@@ -140,14 +139,18 @@ def read_local(dump: Dump, line: str) -> None:
 
 
 def read_line(line: str, texts: list[tuple[str, str]]) -> None:
+    """Reads a statement or a terminator: its text, and its place behind `// bb0[1]: scope 0 at`."""
     start = line.rfind("// bb")
-    if found := PLACED.match(line, start):
-        texts.append((line[:start].strip().rstrip(";"), found[1]))
+    span = line.find(" at ", start)
+    if span >= 0:
+        texts.append((line[:start].strip().removesuffix(";"), line[span + 4 :]))
 
 
-def block_of(texts: list[tuple[str, str]], cleanup: bool) -> Block:
+def block_of(texts: list[tuple[str, str]], cleanup: bool, unwind: bool) -> Block:
     if not texts:
         return Block([Nothing()], Terminator(Stop()), ["", ""], cleanup)
+    if cleanup and not unwind:
+        return Block([], Terminator(Stop(resume=True)), [span for _, span in texts], cleanup)
     *statements, (last, _) = texts
     return Block([read_statement(text) for text, _ in statements], read_terminator(last), [span for _, span in texts], cleanup)
 

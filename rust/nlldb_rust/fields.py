@@ -7,7 +7,7 @@ from __future__ import annotations
 
 from collections import Counter, defaultdict
 from dataclasses import dataclass, field
-from typing import NamedTuple, Optional
+from typing import AbstractSet, NamedTuple, Optional
 
 from .elements import Piece, groups_of, piece_of
 from .graphs import Edge, leads, successors_of
@@ -111,7 +111,7 @@ class Fields:
         self.shapes.setdefault(shape.key, shape)
         self.of[shape.key][HIDDEN_FIELD] = Field(INT.shape, [])
 
-    def note(self, owner: Type, key: Key, used_as: Optional[Type], edges: set[Edge]) -> Type:
+    def note(self, owner: Type, key: Key, used_as: Optional[Type], edges: AbstractSet[Edge]) -> Type:
         """Notes a use of a field, with its type there and the constraints. Returns its type. Refuses one that has two shapes."""
         shape = owner.shape
         self.shapes.setdefault(shape.key, shape)
@@ -158,7 +158,7 @@ class Fields:
                 self.of[key].update({Key("", number): element for number in pieces.values()})
 
 
-def map_regions(found: Field, owner: Type, used_as: Type, edges: set[Edge]) -> None:
+def map_regions(found: Field, owner: Type, used_as: Type, edges: AbstractSet[Edge]) -> None:
     """Finds for regions of a field which of the struct's they are: the same, or one that the constraints at this use tie to it."""
     successors = None
     for place, region in enumerate(used_as.regions):

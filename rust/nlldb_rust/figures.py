@@ -15,11 +15,9 @@ from pathlib import Path
 from typing import Callable, Sequence, TypeVar
 
 from .agreement import Compared, compared
-from .checking import Checked, Request, is_kept, keep
+from .checking import Checked, Request, asked, is_kept, keep
 from .crate import Body, write_crate
-from .findings import answer_of
 from .mir import Assign, Discriminant, Step
-from .program import ask_all
 from .refused import Stopped
 from .rustc import RustcRun, kept_run, require_tested, run_cargo
 from .tables import tables
@@ -121,10 +119,7 @@ def figures_of(name: str, version: str, project: Path, request: Request, folder:
     crate = Crate(name, version)
     run = dumped(crate, project, request, folder)
     bodies = timed(crate.seconds, "writer", lambda: write_crate(run.dumps, run.facts, request.options, 1))
-    texts = {body.name: body.text for body in bodies if body.text is not None}
-    asked = [(text.types, {"f": text.unit}) for text in texts.values()]
-    said = timed(crate.seconds, "nlldb", lambda: ask_all(request.program, asked) if asked else [])
-    answers = {body.name: answer_of(body, outcome) for body, outcome in zip([it for it in bodies if it.name in texts], said)}
+    answers = timed(crate.seconds, "nlldb", lambda: asked(bodies, request.program))
     return told_of(crate, bodies, compared(Checked(project, run, bodies, answers)))
 
 

@@ -44,6 +44,7 @@ class Regions:
         for region in dump.universal:
             self.seen[region].add("header")
         self.own = OWN_REGIONS
+        self._edges: dict[Point, frozenset[Edge]] = {}
 
     def find(self, region: int) -> int:
         """The region that stands for this one and for all that are equal to it."""
@@ -87,8 +88,12 @@ class Regions:
         for region in kind.regions:
             self.seen[region].add("local")
 
-    def edges_at(self, point: Point) -> set[Edge]:
-        return {(it.longer, it.shorter) for it in self.at.get(point, ())}
+    def edges_at(self, point: Point) -> frozenset[Edge]:
+        """The constraints at a point."""
+        edges = self._edges.get(point)
+        if edges is None:
+            edges = self._edges[point] = frozenset((it.longer, it.shorter) for it in self.at.get(point, ()))
+        return edges
 
     def outlives(self, longer: int, shorter: int) -> bool:
         """Whether one universal region is known to outlive another."""

@@ -24,7 +24,8 @@ OPERATIONS = frozenset(
     " ShallowInitBox".split()
 )
 CONSTRUCTOR = re.compile(r"([\w:]*?)(::<.*>)?$", re.S)
-UNIT_CONSTRUCTOR = re.compile(r"[\w:<>', ?&\[\]();{}#@.\-=*+/]+$")
+UNIT_CONSTRUCTOR = re.compile(r"[\w:<>', ?&\[\]();{}#@~^.\-=*+/]+$")
+NOTHING = Nothing()
 BORROWS = {None: Borrow.SHARED, "mut ": Borrow.MUTABLE, "fake shallow ": Borrow.FAKE_SHALLOW}
 
 
@@ -37,22 +38,22 @@ def read_statement(text: str) -> Statement:
 
 
 def statement_of(text: str) -> Statement:
+    if text[0] in "_(":
+        target, end = place_at(text, 0)
+        if not text.startswith(" = ", end):
+            raise Refused("parse: statement")
+        return Assign(target, rvalue_of(text[end + 3 :]))
     if found := STORAGE.match(text):
         return (StorageDead if found[1] == "Dead" else StorageLive)(int(found[2]))
     if found := GUARD_READ.match(text):
         return GuardRead(int(found[1]))
     if MEANS_NOTHING.match(text):
-        return Nothing()
+        return NOTHING
     if text.startswith("AscribeUserType"):
         return Ascription()
     if text.startswith(INTRINSIC):
         return Intrinsic(operands_in(text))
-    if text[0] not in "_(":
-        raise Refused("set discriminant" if text.startswith("discriminant(") else f"statement: {text.split('(')[0][:20]}")
-    target, end = place_at(text, 0)
-    if not text.startswith(" = ", end):
-        raise Refused("parse: statement")
-    return Assign(target, rvalue_of(text[end + 3 :]))
+    raise Refused("set discriminant" if text.startswith("discriminant(") else f"statement: {text.split('(')[0][:20]}")
 
 
 def rvalue_of(text: str) -> Rvalue:

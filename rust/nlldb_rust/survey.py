@@ -13,8 +13,8 @@ from .declarations import note_invariance
 from .dump import Dump
 from .fields import Fields, Key, walk
 from .mir import (
-    Access, Aggregate, Assert, Assign, Borrow, Call, Discriminant, Drop, Intrinsic, Made, Operand, Operation, Place, Point, Ref, RawRef, Statement,
-    Switch, TerminatorKind, Use,
+    Access, Aggregate, Assert, Assign, Borrow, Call, Discriminant, Drop, Intrinsic, Made, Nothing, Operand, Operation, Place, Point, RawRef, Ref,
+    Statement, StorageDead, StorageLive, Switch, TerminatorKind, Use,
 )  # fmt: skip
 from .refused import Refused
 from .regions import Regions
@@ -23,6 +23,7 @@ from .statements import operands_read, places_read
 from .types import Kind, Type, TypeReader
 
 MOST_OPERANDS = 16
+SILENT = (Nothing, StorageLive, StorageDead)
 OPERATOR = re.compile(r"::(index_mut|deref_mut)\b")
 
 
@@ -87,18 +88,20 @@ class Surveyor:
     def __init__(self, dump: Dump, locals: dict[int, Type], regions: Regions, reader: TypeReader, fields: Fields, unwind: bool) -> None:
         self.dump, self.locals, self.regions, self.reader, self.fields = dump, locals, regions, reader, fields
         self.found = Survey(reached_blocks(dump, unwind))
+        self.points = list(self._points())
 
-    def points(self) -> Iterable[tuple[Point, Statement | TerminatorKind]]:
-        """Each reached point with what is there."""
+    def _points(self) -> Iterable[tuple[Point, Statement | TerminatorKind]]:
+        """Each reached point with what is there, but for those that read and write nothing."""
         for block in self.found.reached:
             statements = self.dump.blocks[block].statements
             for index, statement in enumerate(statements):
-                yield Point(block, index), statement
+                if not isinstance(statement, SILENT):
+                    yield Point(block, index), statement
             yield Point(block, len(statements)), self.dump.blocks[block].terminator.kind
 
     def survey(self) -> Survey:
         """Looks at all points. Refuses a body whose fields cannot be told."""
-        for point, it in self.points():
+        for point, it in self.points:
             self._look(point, it)
         self._find_two_phase()
         return self.found
@@ -199,7 +202,7 @@ class Surveyor:
 
     def note_variance(self) -> None:
         """Notes which regions are invariant: of a shape of which an assignment of one value to another ties regions both ways."""
-        for point, it in self.points():
+        for point, it in self.points:
             if isinstance(it, Assign):
                 target, source = self.walk(it.target, point), self._source(it, point)
                 if isinstance(it.value, Ref) and source is not None:

@@ -19,6 +19,8 @@ SIZES = (
     ("regions", "region variables", MOST_VARIABLES + 1),
     ("loans", "loans", None),
 )
+# What is timed of a crate, in words.
+TIMES = {"rustc": "rustc s", "dumps": "with dumps s", "writer": "writer s", "nlldb": "nlldb s"}
 Crates = Sequence[Mapping[str, Any]]
 
 
@@ -32,20 +34,17 @@ def total(crates: Crates, name: str) -> int:
     return sum(crate["counts"].get(name, 0) for crate in crates)
 
 
-def seconds_of(crate: Mapping[str, Any], name: str) -> str:
-    return f"{crate['seconds'].get(name, 0):.1f}"
-
-
 def crates_table(crates: Crates) -> list[str]:
-    """A row for each crate: its functions, how many are written and agree, and processor seconds."""
-    head = ["Crate", "Functions", "Written", "Agree", "Bodies", "rustc s", "with dumps s", "writer s", "nlldb s"]
+    """A row for each crate: its functions, how many are written and agree, and the processor seconds that were taken."""
+    times = {name: words for name, words in TIMES.items() if any(name in crate["seconds"] for crate in crates)}
     rows = []
     for it in crates:
         counts = [it["counts"].get(name, 0) for name in ("functions", "written", "agree")]
-        rows.append([f"{it['name']} {it['version']}", *counts, it["bodies"], *(seconds_of(it, name) for name in ("rustc", "dumps", "writer", "nlldb"))])
+        rows.append([f"{it['name']} {it['version']}", *counts, it["bodies"], *(f"{it['seconds'].get(name, 0):.1f}" for name in times)])
     sums = [total(crates, name) for name in ("functions", "written", "agree")]
-    spent = [f"{sum(it['seconds'].get(name, 0) for it in crates):.1f}" for name in ("rustc", "dumps", "writer", "nlldb")]
-    return table(head, [*rows, [f"**{len(crates)} crates**", *sums, sum(it["bodies"] for it in crates), *spent]])
+    spent = [f"{sum(it['seconds'].get(name, 0) for it in crates):.1f}" for name in times]
+    rows.append([f"**{len(crates)} crates**", *sums, sum(it["bodies"] for it in crates), *spent])
+    return table(["Crate", "Functions", "Written", "Agree", "Bodies", *times.values()], rows)
 
 
 def refused_table(crates: Crates) -> list[str]:

@@ -237,3 +237,8 @@ pub fn sorted_by_a_key_of_another(values: &mut Vec<usize>, keys: &[u32]) {
 pub fn sorted_by_a_key_of_itself(values: &mut Vec<usize>) {
     values.sort_by_key(|at| values[*at]); //~ E0502
 }
+
+pub fn no_function_of_any_region(text: &str) -> usize {
+    let call: Option<&dyn for<'a> Fn(&'a str) -> &'a str> = None;
+    call.map_or(0, |it| it(text).len())
+}

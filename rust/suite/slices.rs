@@ -173,3 +173,29 @@ pub fn a_written_array_ends_the_loans_of_its_elements(at: usize) -> u32 {
     *both[at] += 1;
     *first
 }
+
+pub fn an_array_of_many(value: u32) -> u32 {
+    let many = [
+        value, value, value, value, value, value, value, value, value, value, value, value, value,
+        value, value, value, value, value,
+    ];
+    many[0]
+}
+
+pub fn an_array_of_many_references<'a>(value: &'a u32, other: &u32) -> [&'a u32; 18] {
+    let many = [
+        value, value, value, value, value, value, value, value, value, value, value, value, value,
+        value, value, value, value, other,
+    ];
+    many //~ E0621
+}
+
+pub fn an_array_of_many_loans() -> u32 {
+    let (mut one, two) = (1, 2);
+    let many = [
+        &two, &two, &two, &two, &two, &two, &two, &two, &two, &two, &two, &two, &two, &two, &two,
+        &two, &two, &one,
+    ];
+    one = 3; //~ E0506
+    *many[0]
+}

@@ -57,7 +57,7 @@ class Telling(unittest.TestCase):
             self.assertTrue((Path(folder) / "small.pair.nll").read_text().startswith("@types\nstruct Pair"))
 
     def test_a_refusal_is_told(self):
-        self.assertIn("`locals` is not written: limit: operands > 16", list(check_command.lines_of(kept_answers("refused"))))
+        self.assertIn("`many` is not written: limit: parameters > 16", list(check_command.lines_of(kept_answers("refused"))))
 
     def test_names_of_functions(self):
         self.assertEqual(links.function_name("ConstValue(ZeroSized: fn() {<Vec<i32> as Index<usize>>::index})"), "index")

@@ -49,7 +49,7 @@ class Texts(unittest.TestCase):
         self.assertGreater(unwound.text.sizes["blocks"], plain.text.sizes["blocks"])
 
     def test_a_refusal_has_its_reason(self):
-        self.assertEqual(written("refused")["refused.locals"].refused, "limit: operands > 16")
+        self.assertEqual(written("refused")["refused.many"].refused, "limit: parameters > 16")
 
 
 class Closures(unittest.TestCase):

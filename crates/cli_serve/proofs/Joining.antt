@@ -23,3 +23,12 @@ both_well (Ok a) (Ok b) (Ok c) P Q R first second p q f = f p q
 both_well (Ok a) (Err b) (Ok c) P Q R first second p q f = let e : false ≡ true = second in absurd cc
 both_well (Err a) now (Ok c) P Q R first second p q f = let e : false ≡ true = first in absurd cc
 both_well before now (Err c) P Q R first second p q f = tt
+
+-- what holds of each place of two lists of one length holds of one more
+pub each_pair_more : {X Y : Type 0} (P : ℕ → X → Y → Type 0) (xs xs' : List X) (ys ys' : List Y) (x : X) (y : Y) → xs' ≡ xs ++ x ∷ [] → ys' ≡ ys ++ y ∷ [] → length ys ≡ length xs
+    → ((k : ℕ) (d : X) (e : Y) → k < length xs → P k (get_or xs k d) (get_or ys k e)) → P (length xs) x y → (k : ℕ) (d : X) (e : Y) → k < length xs' → P k (get_or xs' k d) (get_or ys' k e)
+each_pair_more {X} {Y} P xs xs' ys ys' x y is is' same before here k d e below =
+    each_more (λ (n : ℕ) (a : X). (e : Y) → P n a (get_or ys' n e)) xs xs' x is
+    (λ j a less b. subst (P j (get_or xs j a)) (sym (ap (λ (l : List Y). get_or l j b) is' ∙ get_or_append_left ys (y ∷ []) b j (omega (arith, same, less)))) (before j a b less))
+    (λ b. subst (P (length xs) x) (sym (ap (λ (l : List Y). get_or l (length xs) b) is' ∙ ap (λ (n : ℕ). get_or (ys ++ y ∷ []) n b) (sym same) ∙ get_or-append_seam ys y [] b)) here)
+    k d below e

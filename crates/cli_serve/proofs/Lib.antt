@@ -2,3 +2,6 @@ pub mod Wholes
 pub mod Opening
 pub mod Joining
 pub mod Closing
+pub mod Told
+pub mod Telling
+pub mod Printing

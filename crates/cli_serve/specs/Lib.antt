@@ -1,3 +1,4 @@
 pub mod Stops
 pub mod Talked
 pub mod Served
+pub mod Printed

@@ -1,6 +1,8 @@
 //! The ends of a worker: the queue that its messages come from, and the output that its answers go to.
+ghost use Rattle.std.specs.Prelude.{◌≡◌};
+
 use crate::backlog::Backlog;
-use crate::output::Output;
+use cli_output::{Output, Pen, Sheet};
 use cli_talk::{Closed, Message, Messages, Replies, Talk};
 use crossbeam_channel::Receiver;
 use std::io::Write;
@@ -66,15 +68,48 @@ impl<L: Talk + Drop, R: Wait> Messages<L> for Inbox<'_, L, R> {
     }
 }
 
-/// The output, which others print on too, a line at a time.
+/// The output, which others print on too, a line at a time, and the pen that this one prints by. Its texts are what was given.
 #[derive(Drop)]
-pub(crate) struct Printer<'a, 'b, R: Wait, O: Write + Drop> {
-    pub rt: &'a R,
-    pub out: &'a Mutex<Output<'b, O>>,
+pub(crate) struct Printer<'a, J: Sheet, R: Wait, O: Write + Drop> {
+    rt: &'a R,
+    out: &'a Mutex<Output<J, O>>,
+    pen: Pen<J>,
 }
 
-impl<R: Wait, O: Write + Drop> Replies for Printer<'_, '_, R, O> {
+impl<'a, J: Sheet, R: Wait, O: Write + Drop> Printer<'a, J, R, O> {
+    /// Returns the printer of this pen.
+    pub(crate) fn new(rt: &'a R, out: &'a Mutex<Output<J, O>>, pen: Pen<J>) -> Printer<'a, J, R, O>
+        ensures { result.pen ≡ pen }
+    {
+        Printer { rt, out, pen }
+    }
+}
+
+impl<J: Sheet, R: Wait, O: Write + Drop> Replies for Printer<'_, J, R, O> {
+    ghost use Rattle.std.specs.Prelude.{Some};
+
+    ghost given = { λ p. Some p.pen.texts };
+
     fn reply(&mut self, line: &str) -> Result<(), Closed> {
-        self.out.lock(self.rt).print(line)
+        match self.out.lock(self.rt).print(&mut self.pen, line) {
+            Ok(()) => Ok(()),
+            Err(_) => Err(Closed),
+        }
+    }
+}
+
+/// The end of a worker or of the router that its pen comes back from.
+pub(crate) trait Prints<J: Sheet>: Replies {
+    ghost use Rattle.std.specs.Prelude.{◌≡◌, Some};
+
+    /// Returns the pen, by which just what was given was printed.
+    fn into_pen(self) -> Pen<J>
+        ensures { Self.given self ≡ Some result.texts };
+}
+
+impl<J: Sheet, R: Wait, O: Write + Drop> Prints<J> for Printer<'_, J, R, O> {
+    fn into_pen(self) -> Pen<J> {
+        let Printer { rt: _, out: _, pen } = self;
+        pen
     }
 }

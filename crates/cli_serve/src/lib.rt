@@ -3,9 +3,9 @@
 #![tactic(auto)]
 
 mod backlog;
+mod close;
 mod command;
 mod ends;
-mod output;
 mod stop;
 mod talk;
 mod worker;

@@ -1,19 +1,19 @@
 //! The conversation: the router on this thread, and a worker for each session on a thread of its own.
-ghost use Rattle.std.specs.Prelude.{◌≡◌, ◌≤◌, [], IfErr, IfOk, length, option_map};
+ghost use Rattle.std.specs.Prelude.{◌≡◌, ◌≤◌, [], IfErr, IfOk, OnOk, length, option_map};
 ghost use Rattle.std.specs.List.{All};
 ghost use Rattle.cli_input.specs.Lines.{lines_of};
 ghost use Rattle.bc_share.specs.Sessions.{new_session};
 ghost use Rattle.cli_talk.specs.Counted.{CountsAll};
-ghost use Rattle.cli_serve.specs.Talked.{IsTalk};
+ghost use Rattle.cli_serve.specs.Talked.{AreAllTold, IsTalk};
 
 use crate::backlog::Backlog;
-use crate::ends::{Inbox, Printer};
-use crate::output::Output;
+use crate::ends::{Inbox, Printer, Prints};
 use crate::stop::{ServeStop, both, stop_of};
 use crate::worker::{Worker, join, start, wait};
 use bc_prov::Providers;
 use bc_share::Session;
 use bc_versions::Ending;
+use cli_output::{Authors, Output, Pen, Sheet};
 use cli_talk::{Message, Talk, no_counts, route_line};
 use crossbeam_channel::{Receiver, SendError, Sender, unbounded};
 use std::alloc::Global;
@@ -23,10 +23,13 @@ use std::sync::{Mutex, Wait};
 use std::thread;
 use std::thread::{Scope, Threads};
 
-/// The sessions of a conversation, in their order, and how it ended.
+/// The sessions of a conversation, in their order, with the pens by which their answers were printed, and the router's pen; and how the
+/// conversation ended.
 #[derive(Drop)]
-pub(crate) struct Talked<N: Ending> {
+pub(crate) struct Talked<J: Sheet, N: Ending> {
     pub sessions: Vec<Session<N>>,
+    pub pens: Vec<Pen<J>>,
+    pub router: Pen<J>,
     pub ended: Result<(), ServeStop>,
 }
 
@@ -51,27 +54,29 @@ fn send<L: Talk + Drop, R: Wait>(
     }
 }
 
-// Routes each line of an input to the worker of its session, until the input ends; how many lines each session had.
-fn route_all<'b, L: Talk + Drop, I: BufRead, R: Wait, O: Write + Drop>(
+/// Routes each line of an input to the worker of its session, until the input ends, and returns how many lines each session had. A line
+/// that names no session is answered by the printer, by which nothing was printed before.
+fn route_all<L: Talk + Drop, J: Sheet, I: BufRead, R: Wait, O: Write + Drop>(
     rt: &R,
     alloc: Global,
     input: &mut I,
     sessions: u8,
     backlog: &Backlog,
     queues: &[Sender<Message<L>>],
-    out: &Mutex<Output<'b, O>>,
+    printer: &mut Printer<'_, J, R, O>,
 ) -> Result<Vec<u64>, ServeStop>
     requires sessions { sessions ≡ L.sessions }
     requires lines { L.lines ≡ option_map lines_of (I.remaining input.old) }
-    ensures { IfOk result (λ counts. CountsAll sessions counts.items L.lines) }
+    requires nothing { printer.old.pen.texts ≡ [] }
+    ensures counts { IfOk result (λ counts. CountsAll sessions counts.items L.lines) }
+    ensures told { OnOk result (AreAllTold sessions L.lines printer.new.pen.texts) }
 {
     let mut counts = match no_counts::<L, I>(alloc, input, sessions) {
         Ok(counts) => counts,
         Err(fault) => return Err(stop_of(fault)),
     };
-    let mut printer = Printer { rt, out };
     'lines: for _ in 0..u64::MAX {
-        match route_line::<L, I, _>(alloc, input, sessions, &mut printer, &mut counts) {
+        match route_line::<L, I, _>(alloc, input, sessions, printer, &mut counts) {
             Ok(None) => return Ok(counts),
             Ok(Some(None)) => {}
             Ok(Some(Some(message))) => {
@@ -85,34 +90,36 @@ fn route_all<'b, L: Talk + Drop, I: BufRead, R: Wait, O: Write + Drop>(
     Err(ServeStop::CannotRead)
 }
 
-/// Joins the workers, puts their sessions into `done`, which is empty and has room for them, and returns them with how the conversation
-/// ended: as the first worker that stopped, in the order of the sessions; or, where none did, as the router. Returns `LostLine` where a
-/// worker is missing.
-fn join_all<L: Talk + Drop, N: Ending, R: Threads>(
+/// Joins the workers, puts their sessions into `done` and their pens into `pens`, which are empty and have room for them, and returns them
+/// with the router's pen and with how the conversation ended: as the first worker that stopped, in the order of the sessions; or, where
+/// none did, as the router. Returns `LostLine` where a worker is missing, or the router's pen is another's.
+fn join_all<L: Talk + Drop, J: Sheet, N: Ending, R: Threads>(
     rt: &R,
     sessions: u8,
-    workers: Vec<Worker<L, N>>,
+    workers: Vec<Worker<L, J, N>>,
     mut done: Vec<Session<N>>,
+    mut pens: Vec<Pen<J>>,
+    router: Pen<J>,
     routed: &Result<Vec<u64>, ServeStop>,
-) -> Result<Talked<N>, ServeStop>
+) -> Result<Talked<J, N>, ServeStop>
     requires sessions { sessions ≡ L.sessions }
-    requires none { done.items ≡ [] }
+    requires none { (done.items ≡ []) × (pens.items ≡ []) }
     requires counts { IfOk routed.now (λ counts. CountsAll sessions counts.items L.lines) }
-    ensures { IfOk result (λ talked. IsTalk L.sessions L.lines talked.sessions.items talked.ended) }
+    requires told { OnOk routed.now (AreAllTold sessions L.lines router.texts) }
+    ensures { IfOk result (λ talked. IsTalk L.sessions L.lines talked.sessions.items talked.pens.items talked.router talked.ended) }
 {
     let mut ended = Ok(());
     'workers: for worker in workers {
         let Some(joined) = join(rt, sessions, worker, done.len(), routed) else {
             return Err(ServeStop::LostLine);
         };
-        let (session, told) = joined;
+        let (session, pen, told) = joined;
         ended = both(ended, told);
-        match done.push(session) {
-            Ok(()) => {}
-            Err(_) => return Err(ServeStop::NoMemory),
+        if done.push(session).is_err() || pens.push(pen).is_err() {
+            return Err(ServeStop::NoMemory);
         }
     }
-    if done.len() != usize::from(sessions) {
+    if done.len() != usize::from(sessions) || router.number() != sessions {
         return Err(ServeStop::LostLine);
     }
     let ended = match routed {
@@ -121,12 +128,14 @@ fn join_all<L: Talk + Drop, N: Ending, R: Threads>(
     };
     Ok(Talked {
         sessions: done,
+        pens,
+        router,
         ended,
     })
 }
 
 // Waits for the workers, whatever they did.
-fn end_all<L: Talk + Drop, N: Ending, R: Threads>(rt: &R, workers: Vec<Worker<L, N>>) {
+fn end_all<L: Talk + Drop, J: Sheet, N: Ending, R: Threads>(rt: &R, workers: Vec<Worker<L, J, N>>) {
     for worker in workers {
         wait(rt, worker);
     }
@@ -144,8 +153,8 @@ fn open_queue<L: Talk + Drop>(
     }
 }
 
-// Starts a worker for each session, with its queue.
-fn start_all<'s, 'b, V, L, N, R, O>(
+/// Starts a worker for each session, with its queue, and with a pen of its own.
+fn start_all<'s, V, L, J, N, R, O>(
     scope: &Scope<'s, V>,
     rt: &'s R,
     alloc: Global,
@@ -153,15 +162,17 @@ fn start_all<'s, 'b, V, L, N, R, O>(
     count: u8,
     sessions: Vec<Session<N>>,
     backlog: &'s Backlog,
-    out: &'s Mutex<Output<'b, O>>,
+    out: &'s Mutex<Output<J, O>>,
+    authors: &mut Authors<J>,
     queues: &mut Vec<Sender<Message<L>>>,
-    workers: &mut Vec<Worker<L, N>>,
+    workers: &mut Vec<Worker<L, J, N>>,
 ) -> Result<(), ServeStop>
 where
     L: Talk + Drop + Send + 's,
+    J: Sheet + Send + 's,
     N: Ending + Send + 's,
     R: Wait + Sync,
-    O: Write + Drop + Send,
+    O: Write + Drop + Send + 's,
     requires sessions { count ≡ L.sessions }
     requires are_new { All (λ s. s ≡ new_session 0 s.number) sessions.items }
 {
@@ -171,9 +182,12 @@ where
             Ok(ends) => ends,
             Err(stop) => return Err(stop),
         };
+        let Some(pen) = out.lock(rt).admit(authors, number) else {
+            return Err(ServeStop::LostLine);
+        };
         let inbox = Inbox::new(rt, from, backlog);
-        let printer = Printer { rt, out };
-        let Some(worker) = start::<V, L, N, _, _, R>(
+        let printer = Printer::new(rt, out, pen);
+        let Some(worker) = start::<V, L, J, N, _, _, R>(
             scope, rt, alloc, providers, count, number, inbox, session, printer,
         ) else {
             return Err(ServeStop::NoThread);
@@ -186,7 +200,7 @@ where
 }
 
 // The conversation, in a scope.
-fn converse_in<'s, 'b, V, L, N, R, I, O>(
+fn converse_in<'s, V, L, J, N, R, I, O>(
     scope: &Scope<'s, V>,
     rt: &'s R,
     alloc: Global,
@@ -194,10 +208,12 @@ fn converse_in<'s, 'b, V, L, N, R, I, O>(
     input: &mut I,
     sessions: Vec<Session<N>>,
     backlog: &'s Backlog,
-    out: &'s Mutex<Output<'b, O>>,
-) -> Result<Talked<N>, ServeStop>
+    out: &'s Mutex<Output<J, O>>,
+    authors: &mut Authors<J>,
+) -> Result<Talked<J, N>, ServeStop>
 where
     L: Talk + Drop + Send + 's,
+    J: Sheet + Send + 's,
     N: Ending + Send + 's,
     R: Threads + Wait + Sync,
     I: BufRead,
@@ -206,7 +222,7 @@ where
     requires sessions { length sessions.items ≡ L.sessions }
     requires are_new { All (λ s. s ≡ new_session 0 s.number) sessions.items }
     requires lines { L.lines ≡ option_map lines_of (I.remaining input.old) }
-    ensures { IfOk result (λ talked. IsTalk L.sessions L.lines talked.sessions.items talked.ended) }
+    ensures { IfOk result (λ talked. IsTalk L.sessions L.lines talked.sessions.items talked.pens.items talked.router talked.ended) }
 {
     let count = sessions.len() as u8;
     let mut queues = Vec::new(alloc);
@@ -214,7 +230,10 @@ where
     let Ok(done) = Vec::with_capacity(alloc, sessions.len()) else {
         return Err(ServeStop::NoMemory);
     };
-    if let Err(stop) = start_all::<V, L, N, R, O>(
+    let Ok(pens) = Vec::with_capacity(alloc, sessions.len()) else {
+        return Err(ServeStop::NoMemory);
+    };
+    if let Err(stop) = start_all::<V, L, J, N, R, O>(
         scope,
         rt,
         alloc,
@@ -223,6 +242,7 @@ where
         sessions,
         backlog,
         out,
+        authors,
         &mut queues,
         &mut workers,
     ) {
@@ -230,25 +250,41 @@ where
         end_all(rt, workers);
         return Err(stop);
     }
-    let routed = route_all::<L, I, R, O>(rt, alloc, input, count, backlog, &queues, out);
+    let Some(pen) = out.lock(rt).admit(authors, count) else {
+        drop(queues);
+        end_all(rt, workers);
+        return Err(ServeStop::LostLine);
+    };
+    let mut printer = Printer::new(rt, out, pen);
+    let routed = route_all::<L, J, I, R, O>(
+        rt,
+        alloc,
+        input,
+        count,
+        backlog,
+        &queues,
+        &mut printer,
+    );
     if let Err(ServeStop::CannotWrite) = routed {
         backlog.stop(rt);
     }
     drop(queues);
-    join_all(rt, count, workers, done, &routed)
+    join_all(rt, count, workers, done, pens, printer.into_pen(), &routed)
 }
 
 // The conversation about the lines of an input.
-fn converse_about<'b, L, N, R, I, O>(
+fn converse_about<L, J, N, R, I, O>(
     rt: &R,
     alloc: Global,
     providers: &Providers,
     input: &mut I,
     sessions: Vec<Session<N>>,
-    out: &Mutex<Output<'b, O>>,
-) -> Result<Talked<N>, ServeStop>
+    out: &Mutex<Output<J, O>>,
+    authors: &mut Authors<J>,
+) -> Result<Talked<J, N>, ServeStop>
 where
     L: Talk + Drop + Send + 'static,
+    J: Sheet + Send,
     N: Ending + Send,
     R: Threads + Wait + Sync,
     I: BufRead,
@@ -257,19 +293,19 @@ where
     requires sessions { length sessions.items ≡ L.sessions }
     requires are_new { All (λ s. s ≡ new_session 0 s.number) sessions.items }
     requires lines { L.lines ≡ option_map lines_of (I.remaining input.old) }
-    ensures { IfOk result (λ talked. IsTalk L.sessions L.lines talked.sessions.items talked.ended) }
+    ensures { IfOk result (λ talked. IsTalk L.sessions L.lines talked.sessions.items talked.pens.items talked.router talked.ended) }
 {
     let backlog = Backlog::new();
     let shared = &backlog;
     thread::scope(
         thread::scope_env(),
         rt,
-        |scope| -> Result<Talked<N>, ServeStop>
+        |scope| -> Result<Talked<J, N>, ServeStop>
             requires { (length sessions.items ≤ 16) × (length sessions.items ≡ L.sessions) × All (λ s. s ≡ new_session 0 s.number) sessions.items × (L.lines ≡ option_map lines_of (I.remaining input.now)) }
-            ensures { IfOk result (λ talked. IsTalk L.sessions L.lines talked.sessions.items talked.ended) }
+            ensures { IfOk result (λ talked. IsTalk L.sessions L.lines talked.sessions.items talked.pens.items talked.router talked.ended) }
         {
-            converse_in::<_, L, N, R, I, O>(
-                scope, rt, alloc, providers, input, sessions, shared, out,
+            converse_in::<_, L, J, N, R, I, O>(
+                scope, rt, alloc, providers, input, sessions, shared, out, authors,
             )
         },
     )
@@ -282,22 +318,24 @@ where
 /// The sessions come back also where the input or the output fails, or memory is refused, meanwhile. An error where the workers cannot
 /// all be started: `NoThread` where no thread can be made, `NoMemory` where there is no room; no line was read then. It asks for at most
 /// 16 sessions.
-pub(crate) fn converse<'b, N, R, I, O>(
+pub(crate) fn converse<J, N, R, I, O>(
     rt: &R,
     alloc: Global,
     providers: &Providers,
     input: &mut I,
     sessions: Vec<Session<N>>,
-    out: &Mutex<Output<'b, O>>,
-) -> Result<Talked<N>, ServeStop>
+    out: &Mutex<Output<J, O>>,
+    authors: &mut Authors<J>,
+) -> Result<Talked<J, N>, ServeStop>
 where
+    J: Sheet + Send,
     N: Ending + Send,
     R: Threads + Wait + Sync,
     I: BufRead,
     O: Write + Drop + Send,
     requires few { length sessions.items ≤ 16 }
     requires are_new { All (λ s. s ≡ new_session 0 s.number) sessions.items }
-    ensures { IfOk result (λ talked. IsTalk (length sessions.items) (option_map lines_of (I.remaining input.old)) talked.sessions.items talked.ended) }
+    ensures { IfOk result (λ talked. IsTalk (length sessions.items) (option_map lines_of (I.remaining input.old)) talked.sessions.items talked.pens.items talked.router talked.ended) }
 {
-    converse_about::<Brand, N, R, I, O>(rt, alloc, providers, input, sessions, out)
+    converse_about::<Brand, J, N, R, I, O>(rt, alloc, providers, input, sessions, out, authors)
 }

@@ -1,28 +1,38 @@
 //! Workers: sessions that answer their lines on threads of their own.
-ghost use Rattle.std.specs.Prelude.{◌≡◌, ◌<◌, IfOk, IfSome, OnOk};
+ghost use Rattle.std.specs.Prelude.{◌≡◌, ◌<◌, [], Some, IfOk, IfSome, OnOk};
 ghost use Rattle.bc_share.specs.Sessions.{new_session};
 ghost use Rattle.cli_talk.specs.Counted.{CountsAll};
-ghost use Rattle.cli_serve.specs.Talked.{HasTalked, IsOwn, IsWhole};
+ghost use Rattle.cli_serve.specs.Talked.{HasTalked, IsOwn, IsWholeBy};
 
+use crate::ends::Prints;
 use crate::stop::{ServeStop, stop_of};
 use bc_prov::Providers;
 use bc_share::Session;
 use bc_versions::Ending;
-use cli_talk::{CountedSession, Messages, Replies, Talk, TalkFault, serve_messages};
+use cli_output::{Pen, Sheet};
+use cli_talk::{CountedSession, Messages, Talk, TalkFault, serve_messages};
 use std::alloc::Global;
 use std::marker::PhantomData;
 use std::sync::Wait;
 use std::thread::{Promise, PromisedHandle, Scope, Threads};
 
-/// A session that answered its lines: how many, or why it stopped.
+/// A session that answered its lines, how many or why it stopped, and the pen by which its answers were printed.
 #[derive(Drop)]
-pub(crate) struct Ran<N: Ending> {
+pub(crate) struct Ran<J: Sheet, N: Ending> {
     session: Session<N>,
     ended: Result<u64, TalkFault>,
+    pen: Pen<J>,
 }
 
 // Answers the lines of a new session.
-fn run_worker<L: Talk + Drop, N: Ending, M: Messages<L> + Drop, P: Replies + Drop, R: Wait>(
+fn run_worker<
+    L: Talk + Drop,
+    J: Sheet,
+    N: Ending,
+    M: Messages<L> + Drop,
+    P: Prints<J> + Drop,
+    R: Wait,
+>(
     rt: &R,
     alloc: Global,
     providers: &Providers,
@@ -31,10 +41,11 @@ fn run_worker<L: Talk + Drop, N: Ending, M: Messages<L> + Drop, P: Replies + Dro
     mut inbox: M,
     session: Session<N>,
     mut printer: P,
-) -> Ran<N>
+) -> Ran<J, N>
     requires sessions { sessions ≡ L.sessions }
     requires is_new { session ≡ new_session 0 number }
-    ensures { HasTalked L.sessions number L.lines result.session result.ended }
+    requires nothing { P.given printer ≡ Some [] }
+    ensures { HasTalked L.sessions number L.lines result.session result.pen.texts result.ended }
 {
     let mut session = CountedSession::new(session);
     let ended = serve_messages::<L, _, _, _, _>(
@@ -50,34 +61,35 @@ fn run_worker<L: Talk + Drop, N: Ending, M: Messages<L> + Drop, P: Replies + Dro
     Ran {
         session: session.into_session(),
         ended,
+        pen: printer.into_pen(),
     }
 }
 
 /// What the worker of the session of this number promises: that its new session answered the first lines that name it, in order, as many
-/// as it says, or where it stopped.
+/// as it says, by what was printed by its pen, or where it stopped.
 #[derive(Drop)]
 pub(crate) struct Answering<L: Talk + Drop> {
     number: u8,
     of: PhantomData<L>,
 }
 
-impl<L: Talk + Drop, N: Ending> Promise<Ran<N>> for Answering<L> {
+impl<L: Talk + Drop, J: Sheet, N: Ending> Promise<Ran<J, N>> for Answering<L> {
     ghost use Rattle.cli_serve.specs.Talked.{HasTalked};
 
-    ghost kept_by = { λ p r. HasTalked L.sessions p.number L.lines r.session r.ended };
+    ghost kept_by = { λ p r. HasTalked L.sessions p.number L.lines r.session r.pen.texts r.ended };
 }
 
 /// A worker on a thread of its own.
 #[derive(Drop)]
-pub(crate) struct Worker<L: Talk + Drop, N: Ending> {
+pub(crate) struct Worker<L: Talk + Drop, J: Sheet, N: Ending> {
     number: u8,
-    handle: PromisedHandle<Ran<N>, Answering<L>>,
+    handle: PromisedHandle<Ran<J, N>, Answering<L>>,
     ghost promised: { handle.promise.number ≡ number },
 }
 
 /// Starts the worker of the new session of this number, which answers what comes to its inbox; `None` where no thread can be made. The two
 /// ends are type parameters, so that what goes to the thread is shown to be fit for it without their parts.
-pub(crate) fn start<'s, V, L, N, M, P, R>(
+pub(crate) fn start<'s, V, L, J, N, M, P, R>(
     scope: &Scope<'s, V>,
     rt: &'s R,
     alloc: Global,
@@ -87,15 +99,17 @@ pub(crate) fn start<'s, V, L, N, M, P, R>(
     inbox: M,
     session: Session<N>,
     printer: P,
-) -> Option<Worker<L, N>>
+) -> Option<Worker<L, J, N>>
 where
     L: Talk + Drop + Send + 's,
+    J: Sheet + Send + 's,
     N: Ending + Send + 's,
     M: Messages<L> + Drop + Send + 's,
-    P: Replies + Drop + Send + 's,
+    P: Prints<J> + Drop + Send + 's,
     R: Wait + Sync,
     requires sessions { sessions ≡ L.sessions }
     requires is_new { session ≡ new_session 0 number }
+    requires nothing { P.given printer ≡ Some [] }
 {
     let promise = Answering {
         number,
@@ -103,11 +117,11 @@ where
     };
     let started = scope.spawn_with(
         promise,
-        move || -> Ran<N>
-            requires { (sessions ≡ L.sessions) × (session ≡ new_session 0 number) }
-            ensures { HasTalked L.sessions number L.lines result.session result.ended }
+        move || -> Ran<J, N>
+            requires { (sessions ≡ L.sessions) × (session ≡ new_session 0 number) × (P.given printer ≡ Some []) }
+            ensures { HasTalked L.sessions number L.lines result.session result.pen.texts result.ended }
         {
-            run_worker::<L, N, M, P, R>(
+            run_worker::<L, J, N, M, P, R>(
                 rt, alloc, providers, sessions, number, inbox, session, printer,
             )
         },
@@ -120,18 +134,19 @@ where
 
 /// Returns whether the session of this number answered each line that names it, of which the router counted so many: what stopped its
 /// worker, or `LostLine` where it answered fewer, or the router stopped and did not count them.
-fn find_whole<L: Talk + Drop, N: Ending>(
+fn find_whole<L: Talk + Drop, J: Sheet, N: Ending>(
     sessions: u8,
     number: u8,
     _session: &Session<N>,
+    _pen: &Pen<J>,
     ended: Result<u64, TalkFault>,
     routed: &Result<Vec<u64>, ServeStop>,
 ) -> Result<(), ServeStop>
     requires sessions { sessions ≡ L.sessions }
     requires low { number < sessions }
-    requires talked { HasTalked L.sessions number L.lines _session.now ended }
+    requires talked { HasTalked L.sessions number L.lines _session.now _pen.now.texts ended }
     requires counts { IfOk routed.now (λ counts. CountsAll sessions counts.items L.lines) }
-    ensures { OnOk result (IsWhole L.sessions number L.lines _session.now) }
+    ensures { OnOk result (IsWholeBy L.sessions number L.lines _session.now _pen.now.texts) }
 {
     let count = match ended {
         Ok(count) => count,
@@ -148,34 +163,42 @@ fn find_whole<L: Talk + Drop, N: Ending>(
     Ok(())
 }
 
-/// Joins the worker of the session of this number: the session, and whether it answered each line that names it, of which the router
-/// counted so many. `None` where it is the worker of another session.
-pub(crate) fn join<L: Talk + Drop, N: Ending, R: Threads>(
+/// Joins the worker of the session of this number, and returns the session, its pen, and whether it answered each line that names it, of
+/// which the router counted so many. Returns `None` where it is the worker, or the pen, of another session.
+pub(crate) fn join<L: Talk + Drop, J: Sheet, N: Ending, R: Threads>(
     rt: &R,
     sessions: u8,
-    worker: Worker<L, N>,
+    worker: Worker<L, J, N>,
     number: usize,
     routed: &Result<Vec<u64>, ServeStop>,
-) -> Option<(Session<N>, Result<(), ServeStop>)>
+) -> Option<(Session<N>, Pen<J>, Result<(), ServeStop>)>
     requires sessions { sessions ≡ L.sessions }
     requires counts { IfOk routed.now (λ counts. CountsAll sessions counts.items L.lines) }
     ensures own { IfSome result (λ joined. IsOwn number joined.0) }
-    ensures whole { IfSome result (λ joined. OnOk joined.1 (IsWhole L.sessions number L.lines joined.0)) }
+    ensures pen { IfSome result (λ joined. joined.1.number ≡ number) }
+    ensures whole { IfSome result (λ joined. OnOk joined.2 (IsWholeBy L.sessions number L.lines joined.0 joined.1.texts)) }
 {
     let Worker {
         number: own,
         handle,
     } = worker;
-    let Ran { session, ended } = handle.join(rt);
-    if own >= sessions || usize::from(own) != number {
+    let Ran {
+        session,
+        ended,
+        pen,
+    } = handle.join(rt);
+    if own >= sessions || usize::from(own) != number || pen.number() != own {
         return None;
     }
-    let told = find_whole::<L, N>(sessions, own, &session, ended, routed);
-    Some((session, told))
+    let told = find_whole::<L, J, N>(sessions, own, &session, &pen, ended, routed);
+    Some((session, pen, told))
 }
 
 /// Waits for a worker, whatever it did.
-pub(crate) fn wait<L: Talk + Drop, N: Ending, R: Threads>(rt: &R, worker: Worker<L, N>) {
+pub(crate) fn wait<L: Talk + Drop, J: Sheet, N: Ending, R: Threads>(
+    rt: &R,
+    worker: Worker<L, J, N>,
+) {
     let Worker { number: _, handle } = worker;
     let _ran = handle.join(rt);
 }

@@ -3,15 +3,14 @@ use bc_analyses::{Providers, find_values, providers};
 use bc_cons::Facts;
 use cli_serve::serve_over;
 use std::alloc::Global;
-use std::io;
 use std::io::{BufReader, BufWriter, Read, Write};
 use std::sync::atomic::AtomicU32;
 use std::sync::atomic::Ordering::SeqCst;
 use std::sync::{Arc, Wait};
 use std::test::Fail;
-use std::thread;
 use std::thread::Threads;
 use std::time::{Clock, Duration};
+use std::{io, thread};
 use test_devices::{Output, SOUND};
 
 /// How many turns of a millisecond one waits at most.
@@ -139,9 +138,7 @@ fn converse<R: AllocGlobal + Clock + Threads + Wait + Sync>(
     let taken = Vec::new(alloc);
     let mut out = BufWriter::new(alloc, Counted { meeting, taken })?;
     let mut err = Output::new(alloc, SOUND.tell);
-    let _status = serve_over(
-        rt, alloc, providers, 2, 10, &mut input, &mut out, &mut err,
-    );
+    let _status = serve_over(rt, alloc, providers, 2, 10, &mut input, &mut out, &mut err);
     let (out, _unwritten) = out.into_parts();
     Ok(out.taken)
 }

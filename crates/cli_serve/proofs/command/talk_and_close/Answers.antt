@@ -3,7 +3,7 @@ use Rattle.std.specs.Prelude.{All}
 use Rattle.bc_share.specs.Sessions.{SessionView, new_session}
 use Rattle.cli_serve.proofs.Opening.{are_new, length-new}
 use Rattle.cli_serve.proofs.Closing.{not_foreign}
-use Rattle.cli_serve.proofs.command.serve.Goals as goal
+use Rattle.cli_serve.proofs.command.talk_and_close.Goals as goal
 
 pub converse-requires-clause-few : goal.converse-requires-clause-few
 converse-requires-clause-few g c =

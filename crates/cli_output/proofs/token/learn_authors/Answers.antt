@@ -1,0 +1,10 @@
+use Rattle.std.proofs.Common.{◌∙◌}
+use Rattle.cli_output.proofs.Moves.{takes_maker, learns}
+use Rattle.cli_output.proofs.token.learn_authors.Goals as goal
+
+pub join_seat-requires : goal.join_seat-requires
+join_seat-requires c =
+    (c.requires.tables.0, c.requires.tables.1, c.requires.makes.1, c.requires.words, takes_maker c.args.keeper.now.id c.args.keeper.now.me.0 c.args.maker.id c.args.maker.me.0 c.requires.makes.0)
+
+pub load-requires : goal.load-requires
+load-requires c = (c.join_seat.ensures.0 ∙ c.requires.tables.0, c.requires.words, learns c.args.table.now.shared.table_id.slots c.join_seat.new.seat.id c.join_seat.new.seat.me 0)
