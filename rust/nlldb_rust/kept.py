@@ -21,7 +21,7 @@ from .rustc import DUMP_SUFFIX
 FACTS = ("drop_of_var_derefs_origin.facts", "var_dropped_at.facts")
 LEFT_OUT = re.compile(r"\| '\?\d+ \| U\d|\| '\?\d+ live at |\s+// ")
 # Where the library's own source is, on this machine or in none.
-LIBRARY = re.compile(r"[^\s()]*/library/(?=\w+/src/)")
+LIBRARY = re.compile(r'[^\s()"]*/library/(?=\w+/src/)')
 OF_AN_ERROR = ("message", "level", "code", "spans")
 OF_A_SPAN = ("file_name", "line_start", "column_start", "line_end", "column_end", "is_primary", "label")
 

@@ -35,7 +35,8 @@ class Kept(unittest.TestCase):
         self.assertEqual([(it.code, it.primary) for it in errors_in(text)], [("E0499", (Position("a.rs", 3, 5, 3, 9),))])
 
     def test_a_place_in_a_macro_keeps_where_that_is_called(self):
-        inner = SPAN[:-1] + ',"expansion":{"span":' + SPAN.replace(":3,", ":7,") + "}}"
+        inner = SPAN.replace("a.rs", "/at/library/alloc/src/macros.rs")[:-1] + ',"expansion":{"span":' + SPAN.replace(":3,", ":7,") + "}}"
+        self.assertIn('"/rust/library/alloc/src/macros.rs"', kept.kept_errors(ERROR % inner))
         self.assertEqual(errors_in(kept.kept_errors(ERROR % inner))[0].primary[0].line, 7)
 
     def test_an_archive_has_its_files_and_the_same_bytes_each_time(self):
