@@ -16,7 +16,7 @@ from .invokes import Invokes
 from .mir import Assign, Nothing, Point, Statement, StorageLive
 from .refused import Refused
 from .regions import Regions
-from .survey import Survey, Surveyor
+from .survey import Survey, Surveyor, reached_blocks
 from .types import INT, STATIC, Shape, Type, TypeReader
 from .values import Values
 from .writing import STOP, Label, Names, Writing
@@ -74,9 +74,13 @@ class Prepared:
 
 
 def prepare(dump: Dump, reader: TypeReader, fields: Fields, options: Options) -> Prepared:
-    """Looks at a body, and notes the fields that it takes. Refuses one whose fields cannot be told."""
+    """Looks at a body, and notes the fields that it takes. Refuses one whose fields cannot be told, and one that is too long as rustc has it."""
     if len(dump.universal) - 2 > MOST_DECLARED:
         raise Refused("limit: declared regions > 15")
+    if len(dump.locals) > MOST_LOCALS:
+        raise Refused("limit: locals > 256")
+    if len(reached_blocks(dump, options.unwind)) > MOST_BLOCKS:
+        raise Refused("limit: blocks > 256")
     regions = Regions(dump, options.merge_regions)
     locals = locals_of(dump, regions, reader)
     surveyor = Surveyor(dump, locals, regions, reader, fields, options.unwind)

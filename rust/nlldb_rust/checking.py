@@ -17,7 +17,7 @@ from .dump import trimmed
 from .findings import Answer, answer_of
 from .program import ask_all
 from .refused import Stopped
-from .rustc import DUMP_SUFFIX, RustcRun, kept_run, require_tested, run_cargo, run_rustc
+from .rustc import DUMP_SUFFIX, VERSION_FILE, RustcRun, kept_run, require_tested, run_cargo, run_rustc
 
 
 @dataclass(frozen=True)
@@ -58,7 +58,7 @@ def dumped(source: Path, request: Request) -> Iterator[RustcRun]:
         return
     if not source.is_file():
         raise Stopped(f"cannot read {source}")
-    require_tested(request.rustc)
+    version = require_tested(request.rustc)
     folder = Path(tempfile.mkdtemp(prefix="nlldb-rust-"))
     try:
         if source.name == "Cargo.toml":
@@ -66,6 +66,7 @@ def dumped(source: Path, request: Request) -> Iterator[RustcRun]:
         else:
             run = run_rustc(request.rustc, source, request.edition, request.arguments, folder)
         if request.keep_dumps:
+            (folder / VERSION_FILE).write_text(version + "\n")
             keep(folder, request.keep_dumps)
         yield run
     finally:
@@ -76,7 +77,7 @@ def keep(folder: Path, target: Path) -> None:
     """Copies what is read of what rustc left: its dumps, its facts of drops where there are any, and its errors."""
     try:
         for path in sorted(folder.rglob("*")):
-            if path.name in ("errors.json", *DROP_FACTS) or path.name.endswith(DUMP_SUFFIX):
+            if path.name in ("errors.json", VERSION_FILE, *DROP_FACTS) or path.name.endswith(DUMP_SUFFIX):
                 text = path.read_text(errors="replace")
                 place = target / path.relative_to(folder)
                 if text:

@@ -21,7 +21,7 @@ from .closures import calls_closures
 from .drops import STANDARD_DROPS, DropFacts, moved_whole, read_facts
 from .dump import Dump, read_dump
 from .groups import Source, write_group
-from .refused import Refused
+from .refused import Refused, Stopped
 from .regions import Regions
 from .rustc import DUMP_SUFFIX
 from .types import Paths, TypeReader, merged, note_paths
@@ -240,13 +240,16 @@ def write_by_processes(shares: Sequence[Sequence[Path]], facts: Optional[Path], 
         there.close()
         links.append(here)
         processes.append(process)
-    full = merged([link.recv() for link in links])
-    for link in links:
-        link.send(full)
-    names = drop_names_of([link.recv() for link in links])
-    for link in links:
-        link.send(names)
-    bodies = [body for link in links for body in link.recv()]
+    try:
+        full = merged([link.recv() for link in links])
+        for link in links:
+            link.send(full)
+        names = drop_names_of([link.recv() for link in links])
+        for link in links:
+            link.send(names)
+        bodies = [body for link in links for body in link.recv()]
+    except (EOFError, OSError) as fault:
+        raise Stopped("a process that writes bodies has ended before its end") from fault
     for process in processes:
         process.join()
     return sorted(bodies, key=lambda body: body.name)

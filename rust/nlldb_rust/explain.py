@@ -4,9 +4,10 @@ from __future__ import annotations
 from dataclasses import dataclass, field
 from typing import Optional, Sequence
 
-from .dump import Constraint, Dump
-from .findings import Conflict, Finding, Lifetime, position_of
+from .closures import ENVIRONMENT
 from .crate import Body
+from .dump import Constraint
+from .findings import Conflict, Finding, Lifetime, position_of
 from .links import Constraints, function_name, is_silent, link_text, regions_in
 from .mir import Access, Assign, Borrow, Call, Drop, Place, Point, RawRef, Ref, Return, StorageDead
 from .regions import OWN_REGIONS
@@ -54,9 +55,8 @@ class Teller:
     def conflict(self, it: Conflict) -> Told:
         """What is told of an access that conflicts with a loan."""
         place, mutable = self.borrowed(it.loan)
-        name = f"`{name}`" if (name := place_name(self.dump, place)) else "a temporary value"
         done, label = self.access(it, place)
-        told = Told(f"{name} {done} while it is borrowed{' mutably' if mutable else ''}")
+        told = Told(f"{self.called(place)} {done} while it is borrowed{' mutably' if mutable else ''}")
         self.mark(told, it.at, label)
         self.mark(told, it.loan, f"borrowed{' mutably' if mutable else ''} here")
         for group in self.constraints.chain(it.chain):
@@ -64,6 +64,13 @@ class Teller:
                 self.link(told, group)
         self.end(told, it)
         return told
+
+    def called(self, place: Place) -> str:
+        """How a borrowed place is called in a sentence."""
+        if self.body.within and place == Place(ENVIRONMENT):
+            return "what the closure captures"
+        name = place_name(self.dump, place)
+        return f"`{name}`" if name else "a temporary value"
 
     def borrowed(self, loan: Point) -> tuple[Place, bool]:
         """The place that a loan is of, and whether it is mutable. A call or a discriminant borrows for itself."""

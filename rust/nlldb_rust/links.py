@@ -119,9 +119,11 @@ def assigned_text(dump: Dump, it: Assign) -> str:
         return f"it is borrowed again{into}"
     if isinstance(value, Cast):
         return f"it is cast to another type{into}"
+    if isinstance(value, Aggregate) and value.made is Made.CLOSURE:
+        return f"the closure `{name}` captures it" if name else "a closure captures it"
     if isinstance(value, Aggregate):
-        whole = {Made.CLOSURE: "a closure", Made.TUPLE: "a tuple"}.get(value.made, f"`{value.path}`" if value.path else "a value")
-        return f"a closure captures it{into}" if value.made is Made.CLOSURE else f"it is put into {whole}{into}"
+        whole = "a tuple" if value.made is Made.TUPLE else f"`{last}`" if (last := value.path.rsplit("::", 1)[-1]) else "a value"
+        return f"it is put into `{name}`" if name else f"it is put into {whole}"
     return f"it is assigned to `{name}`" if name and isinstance(value, Use) else "it is passed on"
 
 

@@ -32,7 +32,7 @@ def find_program(named: str | None) -> str:
 
 
 def requests_of(types: str, units: dict[str, str]) -> Iterable[dict]:
-    """The requests for one root: its declarations, each of its units, and the ask. The units of the root before are taken away first."""
+    """The requests for one root: its declarations, each of its units, and the ask. Closures of a root before may stay: nothing names them."""
     yield {"call": "types", "text": types}
     for name, text in units.items():
         yield {"call": "put", "name": name, "text": text}

@@ -18,6 +18,8 @@ from .spans import Position
 # The versions whose dumps the reader was tested with (`rust/tests`).
 TESTED_VERSIONS = ("1.95.0",)
 DUMP_SUFFIX = ".nll.0.mir"
+# The file beside dumps that are kept which names the version that made them.
+VERSION_FILE = "rustc-version"
 # Codes of the errors of rustc's borrow check that are about loans and lifetimes. A lifetime error may have no code at all.
 BORROW_CODES = frozenset(
     "E0373 E0499 E0500 E0501 E0502 E0503 E0505 E0506 E0510 E0515 E0521 E0524 E0597 E0621 E0626 E0700 E0712 E0713 E0716 E0796".split()
@@ -67,7 +69,11 @@ def version_of(rustc: str) -> str:
 
 def require_tested(rustc: str) -> str:
     """Returns rustc's version. Stops where its dumps were not tested."""
-    version = version_of(rustc)
+    return tested(version_of(rustc))
+
+
+def tested(version: str) -> str:
+    """Returns a version whose dumps were tested. Stops for any other."""
     if version not in TESTED_VERSIONS:
         raise Stopped(f"rustc {version} was not tested: its dumps may have another form (tested: {', '.join(TESTED_VERSIONS)})")
     return version
@@ -170,11 +176,14 @@ def message_of(line: str) -> str:
 
 
 def kept_run(folder: Path) -> RustcRun:
-    """Returns what rustc left in a folder before: `dumps`, `facts` and `errors.json`, as `--keep-dumps` leaves them."""
+    """Returns what rustc left in a folder before: `dumps`, `facts` and `errors.json`, as `--keep-dumps` leaves them. Stops where the folder says that a
+    rustc made them whose dumps were not tested."""
     try:
         errors = errors_in((folder / "errors.json").read_text(errors="replace"))
     except OSError:
         errors = []
     if not (folder / "dumps").is_dir():
         raise Stopped(f"cannot read {folder / 'dumps'}")
+    if (folder / VERSION_FILE).is_file():
+        tested((folder / VERSION_FILE).read_text().strip())
     return RustcRun(folder / "dumps", folder / "facts", 1 if errors else 0, Path.cwd(), errors)

@@ -46,7 +46,7 @@ def snippet(marks: list[Mark], sources: Sources, file: str, width: int) -> Itera
     for number in sorted({mark.at.line for mark in here}):
         text = sources.line(file, number)
         if before is not None and number > before + 1:
-            yield "..." if number > before + 2 or sources.line(file, before + 1) is None else f"{before + 1:>{width}} | {sources.line(file, before + 1)}".rstrip()
+            yield between(before, number, sources, file, width)
         before = number
         if text is None:
             yield f"{number:>{width}} | (the source is not there)"
@@ -59,6 +59,12 @@ def snippet(marks: list[Mark], sources: Sources, file: str, width: int) -> Itera
     for mark in marks:
         if mark.at.file != file:
             yield f"{' ' * width} ::: {mark.at.start()}: {mark.text}"
+
+
+def between(before: int, number: int, sources: Sources, file: str, width: int) -> str:
+    """What is printed between two marked lines: the one line between them, or dots."""
+    text = sources.line(file, before + 1) if number == before + 2 else None
+    return "..." if text is None else f"{before + 1:>{width}} | {text}".rstrip()
 
 
 def length_of(at: Position, text: Optional[str]) -> int:

@@ -99,6 +99,12 @@ class Stops(unittest.TestCase):
         with tempfile.TemporaryDirectory() as folder, self.assertRaisesRegex(Stopped, "rustc 1.96.0 was not tested"):
             rustc.require_tested(self.stub(folder, "echo 'rustc 1.96.0 (abc 2027-01-01)'"))
 
+    def test_dumps_of_another_rustc_are_refused(self):
+        with tempfile.TemporaryDirectory() as folder, self.assertRaisesRegex(Stopped, "rustc 1.94.0 was not tested"):
+            (Path(folder) / "dumps").mkdir()
+            (Path(folder) / "rustc-version").write_text("1.94.0\n")
+            rustc.kept_run(Path(folder))
+
     def test_a_program_that_is_not_there(self):
         with self.assertRaisesRegex(Stopped, "cannot run /no/such"):
             program.find_program("/no/such")
