@@ -189,16 +189,32 @@ fn pieces_over(alloc: Global, providers: &Providers, closure: &[u8]) -> Result<P
     Ok(pieces)
 }
 
-/// Whether the report of `CREATES` over the closure that requires nothing is as it has to be, and no provider is asked, where the snapshot
-/// carries the pieces over both closures, in this order.
-fn is_of_either(alloc: Global, providers: &Providers, first: &[u8], second: &[u8]) -> Result<bool> {
+/// A snapshot of `CREATES` over the closure that requires nothing, which carries the pieces over both closures, in this order.
+fn carrying_both(
+    alloc: Global,
+    providers: &Providers,
+    first: &[u8],
+    second: &[u8],
+) -> Result<Snapshot> {
     let mut pieces = pieces_over(alloc, providers, first)?;
     pieces.append(&mut pieces_over(alloc, providers, second)?)?;
     let shelf = creator_over(alloc, REQUIRES_NOTHING)?;
     let snapshot = shelf.part(alloc, &name(b"f")?)?.snapshot;
+    Ok(snapshot.carry_pieces(pieces))
+}
+
+/// Whether the report of a snapshot is that of two bodies without an error, and no provider is asked.
+fn is_clean_by_pieces(alloc: Global, snapshot: &Snapshot) -> Result<bool> {
     let refusing = refusing!(alloc);
-    let outcome = report(alloc, &refusing, &snapshot.carry_pieces(pieces))?;
+    let outcome = report(alloc, &refusing, snapshot)?;
     Ok(Sight::of(&outcome) == Sight::Report(2, 0))
+}
+
+/// Whether that piece is taken which fits of the two that are carried, in whichever order.
+fn is_of_either(alloc: Global, providers: &Providers) -> Result<bool> {
+    let second = carrying_both(alloc, providers, REQUIRES, REQUIRES_NOTHING)?;
+    let first = carrying_both(alloc, providers, REQUIRES_NOTHING, REQUIRES)?;
+    Ok(is_clean_by_pieces(alloc, &second)? && is_clean_by_pieces(alloc, &first)?)
 }
 
 /// A shelf that holds a function and its closure.
@@ -241,7 +257,6 @@ pub(crate) fn is_well<R: AllocGlobal + Wait>(rt: &R, providers: &Providers) -> R
     let is_begun = is_begun(rt, alloc, providers)?;
     let shelf = shelf(alloc)?;
     let is_over = is_over(alloc, providers, &shelf)?;
-    let is_second = is_of_either(alloc, providers, REQUIRES, REQUIRES_NOTHING)?;
-    let is_first = is_of_either(alloc, providers, REQUIRES_NOTHING, REQUIRES)?;
-    Ok(is_typed && is_begun && is_over && is_second && is_first)
+    let is_of_either = is_of_either(alloc, providers)?;
+    Ok(is_typed && is_begun && is_over && is_of_either)
 }
