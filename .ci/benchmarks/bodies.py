@@ -1,4 +1,4 @@
-"""Bodies that are timed: seven shapes of code, each in the language of `docs/LANGUAGE.md` and as Rust, and three bodies with loans that
+"""Bodies that are timed: seven shapes of code, each in the language of `docs/user/language.md` and as Rust, and three bodies with loans that
 live long. `.ci/benchmarks/bench` and `.ci/benchmarks/shapes` write files of them."""
 import typing
 

@@ -1,7 +1,8 @@
 """Times `check` over real bodies, and compares their sizes with those of the shapes of code that are timed (`bodies.py`).
 
-`.ci/benchmarks/bench PROGRAM --rust DIR` uses it. DIR has one file for each body, as `rust/nlldb-rust FILE --keep DIR` leaves them. The bodies of a file
-are over declarations of their own, so `check` is run on each file by itself, and on a conversation of all (`serve`), where the program is started once.
+`.ci/benchmarks/bench PROGRAM --rust DIR` uses it. DIR has files as `rust/nlldb-rust FILE --keep DIR` leaves them: each has a body, and those of its closures
+that are written as closures, over declarations of its own. So `check` is run on each file by itself, and `serve` on a conversation of all, so that the
+program is started once.
 """
 import json, os, re, subprocess, sys, tempfile, time
 
@@ -9,10 +10,13 @@ import bodies
 from timing import millis, ran
 
 VARIABLE = re.compile(r"'\?\d+")
+PUT = re.compile(r"^@put (\S+)\n", re.M)
+# What an answer has if a text is not read, or is not checked.
+FAULTS = ('"fault"', '"kind":"ill"', '"kind":"badtypes"', '"kind":"missing"')
 
 
 class Sizes:
-    """The sizes of a text: its points, its loans, and its region variables."""
+    """The sizes of a unit: its points, its loans, and its region variables."""
 
     def __init__(self, unit):
         blocks = unit[unit.index("bb0") :]
@@ -22,16 +26,17 @@ class Sizes:
 
 
 def parts_of(path):
-    """The declarations and the unit of a file."""
+    """The declarations of a file, and its units by the names that they are put under: the body's first, then those of its closures."""
     with open(path) as it:
-        types, unit = it.read().split("@put f\n", 1)
-    return types.removeprefix("@types\n"), unit
+        types, *puts = PUT.split(it.read())
+    return types.removeprefix("@types\n"), dict(zip(puts[::2], puts[1::2]))
 
 
 def requests(parts):
-    """A conversation that puts each body over its declarations, and asks for it."""
-    for types, unit in parts:
-        for request in ({"call": "types", "text": types}, {"call": "put", "name": "f", "text": unit}, {"call": "ask", "name": "f"}):
+    """A conversation that puts the units of each file over its declarations, each under its own name, and asks for the body (`f`)."""
+    for types, units in parts:
+        puts = ({"call": "put", "name": name, "text": unit} for name, unit in units.items())
+        for request in ({"call": "types", "text": types}, *puts, {"call": "ask", "name": "f"}):
             yield json.dumps(request) + "\n"
 
 
@@ -45,7 +50,7 @@ def conversed(program, lines):
         took = time.perf_counter() - began
         said.seek(0)
         answers = said.readlines()
-    faults = sum('"fault"' in line or '"kind":"ill"' in line or '"kind":"badtypes"' in line for line in answers)
+    faults = sum(any(fault in line for fault in FAULTS) for line in answers)
     return took, faults + (status != 0) + (len(answers) != len(lines))
 
 
@@ -72,10 +77,10 @@ def print_sizes(real):
         print(row(f"the shape `{name}`", [Sizes(shape.text)]))
 
 
-def longest(files, sizes):
-    """The files of the body at the median, at 99 of 100, and of the longest, by points."""
-    ordered = [file for _, file in sorted(zip((it.points for it in sizes), files))]
-    yield from (("median", ordered[len(ordered) // 2]), ("99 of 100", ordered[int(0.99 * len(ordered))]), ("the longest", ordered[-1]))
+def longest(files, points):
+    """The file at the median, the one at 99 of 100, and the longest, by the points of all its units, each with these points."""
+    ordered = sorted(zip(points, files))
+    yield from (("median", *ordered[len(ordered) // 2]), ("99 of 100", *ordered[int(0.99 * len(ordered))]), ("the longest", *ordered[-1]))
 
 
 def main(program, folder, runs=9):
@@ -83,18 +88,19 @@ def main(program, folder, runs=9):
     if not files:
         sys.exit(f"{folder} has no bodies: rust/nlldb-rust FILE --keep {folder} leaves some")
     parts = [parts_of(file) for file in files]
-    sizes, lines = [Sizes(unit) for _, unit in parts], list(requests(parts))
-    points = sum(it.points for it in sizes)
+    by_file, lines = [[Sizes(unit) for unit in units.values()] for _, units in parts], list(requests(parts))
+    sizes = [it for units in by_file for it in units]
+    points = [sum(it.points for it in units) for units in by_file]
     talks = [conversed(program, lines) for _ in range(runs)]
     took = sorted(it for it, _ in talks)
     print(f"{runs} runs; load {os.getloadavg()[0]:.1f}\n\n| Real bodies | Least | Median | Part |\n|---|---|---|---|")
-    each = f"{took[0] / len(files) * 1e6:,.0f} µs a body, {took[0] / points * 1e6:.2f} µs a point"
-    print(f"| one conversation: {len(files):,} bodies, {points:,} points | {millis(took[0])} | {millis(took[len(took) // 2])} | {each} |")
+    each = f"{took[0] / len(sizes) * 1e6:,.0f} µs a body, {took[0] / sum(points) * 1e6:.2f} µs a point"
+    what = f"one conversation: {len(lines):,} requests, {len(files):,} files, {len(sizes):,} bodies, {sum(points):,} points"
+    print(f"| {what} | {millis(took[0])} | {millis(took[len(took) // 2])} | {each} |")
     with tempfile.TemporaryDirectory() as room:
-        for name, file in longest(files, sizes):
+        for name, count, file in longest(files, points):
             clocks = sorted(ran([program, "check", "--jobs", "1", file], f"{room}/out")[1][0] for _ in range(runs))
-            about = f"`check` of one body, {name} by points ({Sizes(parts_of(file)[1]).points:,})"
-            print(f"| {about} | {millis(clocks[0])} | {millis(clocks[len(clocks) // 2])} | |")
+            print(f"| `check` of one file, {name} by points ({count:,}) | {millis(clocks[0])} | {millis(clocks[len(clocks) // 2])} | |")
     print_sizes(sizes)
     faults = max(it for _, it in talks)
     if faults:

@@ -1,4 +1,4 @@
-"""What crates and functions take to prove, in units of what `bc_flow` takes in the same run, and what docs/GATE.md says they may take."""
+"""What crates and functions take to prove, in units of what `bc_flow` takes in the same run, and what docs/dev/testing.md says they may take."""
 import collections
 import os
 import re
@@ -6,7 +6,7 @@ import re
 ROOT = os.path.dirname(os.path.dirname(os.path.dirname(os.path.realpath(__file__))))
 # The crate, and how many seconds its proof takes at least on any machine: where it was taken over, what is seen of it takes less.
 UNIT, LEAST = "bc_flow", 20
-PAGE, WHY, HEADING = "docs/GATE.md", "docs/DECISIONS.md", "## What a crate and a function may cost"
+PAGE, WHY, HEADING = "docs/dev/testing.md", "docs/dev/design-notes.md", "## What a crate and a function may cost"
 # A row of a table there: a crate, or a function by its path from its crate on.
 ROW = re.compile(r"^\| `(\w+(?:::[\w+]+)*)` \| ([\d.]+) \|$", re.M)
 BUDGET = re.compile(r"Budget: (\d+) units")
@@ -60,15 +60,15 @@ def allowed():
 
 
 def explained():
-    """The crates and functions of which a decision says that they take so many units."""
+    """The crates and functions of which a design note says that they take so many units."""
     with open(f"{ROOT}/{WHY}", encoding="utf-8") as it:
         return re.findall(r"`([\w:+]+)`\s+takes\s+[\d.]+\s+units", it.read())
 
 
 def wrong_of(took, listed, unit, why):
-    """What took longer than anything that is listed, of what is not, and of which no decision says why: these do. Seconds by names."""
+    """What took longer than anything that is listed, of what is not, and of which no design note says why: these do. Seconds by names."""
     if not unit or not listed:
         return []
     most = max(listed.values())
     dear = {it: seconds / unit for it, seconds in took.items() if seconds / unit > most and it not in listed and it not in why}
-    return [f"{it} took {units:.2f} units; of what {PAGE} lists the dearest takes {most:.2f}, and no decision says why" for it, units in dear.items()]
+    return [f"{it} took {units:.2f} units; of what {PAGE} lists the dearest takes {most:.2f}, and {WHY} does not say why" for it, units in dear.items()]

@@ -1,4 +1,4 @@
-"""The texts of `docs/LANGUAGE.md` read once more, by a reader that shares nothing with the program: what a text spells, as far as a put
+"""The texts of `docs/user/language.md` read once more, by a reader that shares nothing with the program: what a text spells, as far as a put
 asks for it, or the first fault with its place, and what a chain of regions has to keep to. `.ci/gate/damaged-files` compares the program with it.
 """
 import re, typing

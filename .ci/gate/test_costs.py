@@ -19,7 +19,7 @@ class Costs(unittest.TestCase):
         self.assertEqual(costs.wrong_of({"a": 900.0, "b": 500.0, "c": 300.0}, listed, 100, []), [])
         self.assertEqual(len(costs.wrong_of({"a": 900.0, "c": 301.0}, listed, 100, ["b"])), 1)
 
-    def test_what_a_decision_names_may_take_more(self):
+    def test_what_a_design_note_explains_may_take_more(self):
         self.assertEqual(costs.wrong_of({"c": 301.0}, {"a": 3.0}, 100, ["c"]), [])
 
     def test_without_a_unit_or_a_list_nothing_is_compared(self):

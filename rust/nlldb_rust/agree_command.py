@@ -13,7 +13,7 @@ from .refused import Stopped
 from .words import parser_of, parted, request_of
 
 ABOUT = """Compares nlldb's answers about the bodies of Rust sources with those of rustc, by function and by line. A difference is a bug of the
-writer, unless the table of docs/RUST.md explains it."""
+writer, unless the table of docs/user/rust.md explains it."""
 END = """FILE is a file of Rust, the Cargo.toml of a crate, or a folder: one that --keep-dumps left, or one of files of Rust, each of
 which is compared by itself. What stands behind -- goes to rustc or cargo. The last line has the counts.
 

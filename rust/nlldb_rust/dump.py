@@ -1,6 +1,6 @@
 """Reads a dump of rustc's borrow check of one body (`NAME.-------.nll.0.mir`). Nothing here is proved.
 
-The form is debug output of the versions of rustc that `rustc.py` names. What is read is said in `docs/RUST.md`.
+The form is debug output of the versions of rustc that `rustc.py` names. What is read is said in `docs/user/rust.md`.
 """
 from __future__ import annotations
 

@@ -1,4 +1,4 @@
-"""The command `figures`: published crates through nlldb, and the tables of docs/RUST.md. Nothing here is proved."""
+"""The command `figures`: published crates through nlldb, and the tables of docs/user/rust.md. Nothing here is proved."""
 from __future__ import annotations
 
 import json
@@ -23,7 +23,7 @@ from .rustc import RustcRun, kept_run, require_tested, run_cargo
 from .tables import tables
 from .words import parser_of, parted, request_of
 
-ABOUT = """Checks published crates by nlldb and by rustc, and prints the tables of docs/RUST.md: how many functions agree, what is not written
+ABOUT = """Checks published crates by nlldb and by rustc, and prints the tables of docs/user/rust.md: how many functions agree, what is not written
 and why, sizes beside the limits, what has no form of its own, and processor seconds."""
 END = """CRATE is a crate of the registry, or CRATE:FEATURE,FEATURE for one without its default features. What Debian's packages
 librust-CRATE-dev install is in /usr/share/cargo/registry. Cargo gets nothing from elsewhere. If --keep-dumps names a folder

@@ -1,6 +1,6 @@
 """What stops a body, or the whole work, by name. Nothing here is proved.
 
-A body that cannot be written is refused with a short reason (`union`, `limit: locals > 256`), and the others go on. What stops all the
+A body that cannot be written is refused with a short reason (`coroutine`, `limit: locals > 256`), and the others go on. What stops all the
 work is a `Stopped`, with the line for standard error and the exit status.
 """
 

@@ -13,8 +13,8 @@ from .declarations import note_invariance
 from .dump import Dump
 from .fields import Fields, Key, walk
 from .mir import (
-    Access, Aggregate, Assert, Assign, Borrow, Call, Discriminant, Drop, Intrinsic, Made, Nothing, Operand, Operation, Place, Point, RawRef, Ref,
-    Statement, StorageDead, StorageLive, Switch, TerminatorKind, Use,
+    Access, Aggregate, Assert, Assign, Borrow, Call, Discriminant, Drop, Intrinsic, Made, Nothing, Operand, Place, Point, Ref, Statement,
+    StorageDead, StorageLive, Switch, TerminatorKind, Use,
 )  # fmt: skip
 from .refused import Refused
 from .regions import Regions

@@ -1,4 +1,4 @@
-"""The tables of docs/RUST.md, printed of what `figures` counts. Nothing here is proved."""
+"""The tables of docs/user/rust.md, printed of what `figures` counts. Nothing here is proved."""
 from __future__ import annotations
 
 from collections import Counter

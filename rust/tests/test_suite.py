@@ -3,7 +3,7 @@ import tempfile
 import unittest
 from pathlib import Path
 
-import support  # noqa: F401
+import support
 from nlldb_rust import kept, suite, tables
 from nlldb_rust.rustc import Diagnostic, errors_in
 from nlldb_rust.spans import Position
@@ -56,6 +56,15 @@ class Marks(unittest.TestCase):
     def test_a_mark_is_of_its_line_or_of_one_above(self):
         source = "first //~ E0499\nif second {\n    //~^ E0503\n}\nthird //~ lifetime\n// E0505\n"
         self.assertEqual(suite.marks_of(source), {(1, "E0499"), (2, "E0503"), (5, "lifetime")})
+
+    def test_each_mark_of_the_suite_is_an_error_that_is_compared(self):
+        sources = sorted((support.HERE.parent / "suite").glob("*.rs"))
+        marks = [(path.name, line, code) for path in sources for line, code in sorted(suite.marks_of(path.read_text()))]
+        self.assertTrue(marks)
+        self.assertEqual([it for it in marks if it[2] != "lifetime" and not Diagnostic(it[2], "", (), "").is_of_borrows()], [])
+
+    def test_a_hidden_lifetime_that_is_captured_is_not_compared(self):
+        self.assertFalse(Diagnostic("E0700", "hidden type captures lifetime", (), "").is_of_borrows())
 
     def test_errors_are_told_by_line_and_code(self):
         errors = [Diagnostic("E0499", "", (Position("a.rs", 3, 5, 3, 9),), ""), Diagnostic("", "", (Position("a.rs", 8, 1, 8, 2),), "")]

@@ -1,3 +1,3 @@
 pub mod Ledgers
 pub mod Memory
-pub mod Asked
+pub mod Operations

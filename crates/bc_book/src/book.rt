@@ -11,11 +11,11 @@ ghost use Rattle.bc_versions.specs.Tables.{pressed};
 ghost use Rattle.bc_names.specs.Names.{NameParts};
 ghost use Rattle.bc_prov.specs.State.{at_name};
 ghost use Rattle.bc_calls.specs.declared.call.Event.TheVariants as events;
-ghost use Rattle.bc_book.specs.Asked.{IsCallOf, NeedsWork};
 ghost use Rattle.bc_book.specs.Ledgers.{Appends, AreRows, HasPlace, IsFull, Keeps, KeepsOthers, KeepsUnasked, Remembers, RemembersEach, empty_book, kept_rows, remembering};
+ghost use Rattle.bc_book.specs.Operations.{IsCallOf, NeedsWork};
 
-use crate::asked::Asked;
 use crate::ledger::{Ledger, MOST_SESSIONS, Refusal};
+use crate::operation::Operation;
 use crate::roots::{FoundAll, count_pieces, push_row};
 use bc_calls::{Begun, Entry, Event, PutReply, RemoveReply, Told, Work, no_declarations};
 use bc_memo::Remembered;
@@ -51,7 +51,7 @@ impl Findings {
     }
 
     /// Outcomes that are to be remembered, and pieces that are to be kept and published, if there are any. Returns `AllocError` only
-    /// where memory was refused.
+    /// if memory was refused.
     fn of(
         alloc: Global,
         rows: Vec<(Name, Remembered)>,
@@ -70,7 +70,7 @@ impl Findings {
     }
 }
 
-/// One more owner of each piece of a set, if there is one. Returns `AllocError` only where memory was refused.
+/// One more owner of each piece of a set, if there is one. Returns `AllocError` only if memory was refused.
 fn copy_of(alloc: Global, pieces: &Option<PieceSet>) -> Result<Option<PieceSet>, AllocError>
     ensures { IfOk result (λ copy. copy ≡ pieces.now) }
 {
@@ -83,8 +83,8 @@ fn copy_of(alloc: Global, pieces: &Option<PieceSet>) -> Result<Option<PieceSet>,
     }
 }
 
-// Publishes one more owner of the entry that comes next, as `Press::add` says. Returns `AllocError` only where memory was refused, and then
-// nothing is published.
+/// Publishes one more owner of the entry that comes next, as `Press::add` says. Returns `AllocError` only if memory was refused, and then
+/// nothing is published.
 fn publish<E: Ending, R: Wait>(
     rt: &R,
     press: &mut Press<E>,
@@ -100,9 +100,9 @@ fn publish<E: Ending, R: Wait>(
     press.add(rt, copy, revision, pieces)
 }
 
-/// The state under the lock: the append-only history of all calls, what is held after it, the remembered outcomes, and the writer of
-/// the published table. Contracts see how many entries it may have, those that it has, what is held, what is remembered, and the pieces that
-/// are kept. The type keeps that the entries that it has are those that were published, and so is what is held, with its revisions and its
+/// The state under the lock: the append-only history of all calls, what is stored after it, the remembered outcomes, and the writer of
+/// the published table. Contracts see how many entries it may have, those that it has, what is stored, what is remembered, and the pieces that
+/// are kept. The type keeps that the entries that it has are those that were published, and so is what is stored, with its revisions and its
 /// answers.
 pub struct Book<E: Ending> {
     ledger: Ledger,
@@ -125,14 +125,20 @@ impl<E: Ending> Model for Book<E> {
 
     ghost Value = { BookView };
 
-    ghost view = { λ b. record { capacity = b.ledger.capacity; entries = b.ledger.entries; shelf = b.ledger.shelf; answers = b.ledger.answers; pieces = b.ledger.pieces } };
+    ghost view = { λ b. record {
+      capacity = b.ledger.capacity;
+      entries = b.ledger.entries;
+      shelf = b.ledger.shelf;
+      answers = b.ledger.answers;
+      pieces = b.ledger.pieces;
+    } };
 
     ghost invariant = { λ b. b.press ≡ record { entries = b.ledger.entries; shelf = b.ledger.shelf } };
 }
 
 impl<E: Ending> Book<E> {
     /// Opens a book without entries, which may have so many, with no declaration and no body. It may have so many readers of what
-    /// it publishes; what ends its writer is handed in. Returns `AllocError` only where memory was refused.
+    /// it publishes; what ends its writer is handed in. Returns `AllocError` only if memory was refused.
     pub fn new(
         alloc: Global,
         ending: E,
@@ -151,42 +157,44 @@ impl<E: Ending> Book<E> {
         })
     }
 
-    /// Returns the maker of the readers of what is published. Returns `AllocError` only where one more owner of it was refused.
+    /// Returns the maker of the readers of what is published. Returns `AllocError` only if one more owner of it was refused.
     pub fn fronts(&self) -> Result<Fronts, AllocError> {
         self.press.fronts()
     }
 
-    /// Enters a call, and returns two owners of the call with its reply: one for the session's own list and one for its caller. It asks for
-    /// providers where an outcome is asked for. Published and refused as the method of that call says.
+    /// Enters what a session does as a call, and returns two owners of the call with its reply: one for the session's own list and one for
+    /// its caller. It asks for providers if an outcome is asked for. Published and refused as the method of that call says.
     pub fn enter<R: Wait>(
         &mut self,
         rt: &R,
         alloc: Global,
         session: u8,
-        asked: Asked,
+        operation: Operation,
         providers: Option<&Providers>,
     ) -> Result<Told, Refusal>
         requires session { session < MOST_SESSIONS }
-        requires providers { NeedsWork asked → IsSome providers }
-        ensures step { IfOk result (λ told. IsCallOf asked told × Appends session told self.old self.new) }
+        requires providers { NeedsWork operation → IsSome providers }
+        ensures step { IfOk result (λ told. IsCallOf operation told × Appends session told self.old self.new) }
         ensures refused { OnErr result (self.new ≡ self.old) }
         ensures full { IfErr result (IsFull self.old) }
         ensures below { OnOk result (length self.old.entries < self.old.capacity) }
     {
-        match asked {
-            Asked::Types(types) => self.put_types(rt, alloc, session, types),
-            Asked::Put(name, unit) => self.put(rt, alloc, session, name, unit),
-            Asked::Remove(name) => self.remove(rt, alloc, session, name),
-            Asked::Settle(work) => self.settle(rt, alloc, session, work, providers.unwrap()),
-            Asked::All(works) => self.settle_all(rt, alloc, session, works, providers.unwrap()),
+        match operation {
+            Operation::Types(types) => self.put_types(rt, alloc, session, types),
+            Operation::Put(name, unit) => self.put(rt, alloc, session, name, unit),
+            Operation::Remove(name) => self.remove(rt, alloc, session, name),
+            Operation::Settle(work) => self.settle(rt, alloc, session, work, providers.unwrap()),
+            Operation::All(works) => {
+                self.settle_all(rt, alloc, session, works, providers.unwrap())
+            }
         }
     }
 
     /// Stores a session's declarations in place of those before. They were checked before, since that takes memory and time. What
     /// is entered is published; it waits for those who still read what was published before.
     ///
-    /// Refused with `HistoryFull` exactly where the history has as many entries as it may have, which is tested first, and with
-    /// `NoMemory` only where memory was refused. Then nothing has changed.
+    /// Refused with `HistoryFull` exactly if the history has as many entries as it may have, which is tested first, and with
+    /// `NoMemory` only if memory was refused. Then nothing has changed.
     pub fn put_types<R: Wait>(
         &mut self,
         rt: &R,
@@ -204,9 +212,9 @@ impl<E: Ending> Book<E> {
         self.append(rt, session, Event::Types(types), Findings::none(alloc))
     }
 
-    /// Stores a session's unit under a name, where the reply says so: `WrongKind` where the name is not one for such a unit (a
-    /// function's a root, a closure's any other, and a name of seven segments is none for a unit with a child), else `Full` where the
-    /// name is new and `MOST_BODIES` are held, else `Replaced` or `Added`. Published and refused as `put_types` is.
+    /// Stores a session's unit under a name, where the reply says so: `WrongKind` if the name is not one for such a unit (a
+    /// function's a root, a closure's any other, and a name of seven segments is none for a unit with a child), else `Full` if the
+    /// name is new and `MOST_BODIES` are stored, else `Replaced` or `Added`. Published and refused as `put_types` is.
     pub fn put<R: Wait>(
         &mut self,
         rt: &R,
@@ -232,7 +240,7 @@ impl<E: Ending> Book<E> {
         )
     }
 
-    /// Takes the unit of a name away, and replies `Removed`, or `Absent` where none is held. Published and refused as `put_types` is.
+    /// Takes the unit of a name away, and replies `Removed`, or `Absent` if none is stored. Published and refused as `put_types` is.
     pub fn remove<R: Wait>(
         &mut self,
         rt: &R,
@@ -256,9 +264,9 @@ impl<E: Ending> Book<E> {
         )
     }
 
-    /// Returns the part of what is held that the outcome of a name rests on: the declarations, and the units at the name and at all
+    /// Returns the part of what is stored that the outcome of a name rests on: the declarations, and the units at the name and at all
     /// names that begin with it and `/`, with their revisions. It carries the outcome that is remembered for the name and still
-    /// valid, if there is one, which is the name's outcome in what is held. Nothing is entered. Returns `AllocError` only where
+    /// valid, if there is one, which is the name's outcome in what is stored. Nothing is entered. Returns `AllocError` only if
     /// memory was refused.
     pub fn snapshot(&self, alloc: Global, name: &Name) -> Result<Begun, AllocError>
         ensures part { IfOk result (λ begun. IsPartOf begun name.now (after self.now.entries)) }
@@ -269,11 +277,11 @@ impl<E: Ending> Book<E> {
         self.ledger.begin(alloc, name)
     }
 
-    /// Enters a session's Ask of the name of a work, and replies with the name's outcome: the work's own where its revisions, declarations and
-    /// units are those held; else the one that is remembered and still valid; else the one that the pieces that the work made and those that
+    /// Enters a session's Ask of the name of a work, and replies with the name's outcome: the work's own if its revisions, declarations and
+    /// units are those stored; else the one that is remembered and still valid; else the one that the pieces that the work made and those that
     /// are kept give, as far as they are still valid, with the other bodies worked on by the providers. Where the work made no pieces, what is
-    /// remembered comes first: it is the same outcome. The outcome of a name that is held is remembered, and published with the entry, and so
-    /// are the pieces; that of an absent name is remembered nowhere. Published and refused as `put_types` is, and with `NoMemory` where a
+    /// remembered comes first: it is the same outcome. The outcome of a name that is stored is remembered, and published with the entry, and so
+    /// are the pieces; that of an absent name is remembered nowhere. Published and refused as `put_types` is, and with `NoMemory` if a
     /// provider runs out of memory.
     pub fn settle<R: Wait>(
         &mut self,
@@ -284,7 +292,8 @@ impl<E: Ending> Book<E> {
         providers: &Providers,
     ) -> Result<Told, Refusal>
         requires session { session < MOST_SESSIONS }
-        ensures step { IfOk result (λ told. (outcome : Outcome) × (told ≡ Event.Ask work.snapshot.root outcome) × Appends session told self.old self.new × Remembers work.snapshot.root outcome self.new) }
+        ensures step { IfOk result (λ told. (outcome : Outcome) × (told ≡ Event.Ask work.snapshot.root outcome) ×
+            Appends session told self.old self.new × Remembers work.snapshot.root outcome self.new) }
         ensures others { OnOk result (KeepsOthers work.snapshot.root self.old self.new) }
         ensures absent { OnOk result (at_name self.old.shelf.places work.snapshot.root ≡ None → self.new.answers ≡ self.old.answers) }
         ensures refused { OnErr result (self.new ≡ self.old) }
@@ -301,9 +310,9 @@ impl<E: Ending> Book<E> {
         self.append(rt, session, Event::Ask(name, outcome), findings)
     }
 
-    /// Enters a session's Ask for all, and replies with the outcome of each held root, in the order of their names. Each is the one that
-    /// `settle` would reply to an Ask of that name, with a session's work on it where one is handed in. Works may be handed in in any
-    /// order, and may be of names that are no held roots, or of another database. Of several of one name one is taken, and the others are
+    /// Enters a session's Ask for all, and replies with the outcome of each stored root, in the order of their names. Each is the one that
+    /// `settle` would reply to an Ask of that name, with a session's work on it if one is handed in. Works may be handed in in any
+    /// order, and may be of names that are no stored roots, or of another database. Of several of one name one is taken, and the others are
     /// dropped. All outcomes are remembered, and published with the one entry, and so are the pieces. Published and refused as `settle` is.
     pub fn settle_all<R: Wait>(
         &mut self,
@@ -314,7 +323,8 @@ impl<E: Ending> Book<E> {
         providers: &Providers,
     ) -> Result<Told, Refusal>
         requires session { session < MOST_SESSIONS }
-        ensures step { IfOk result (λ told. (listing : List (NameParts × Outcome)) × (told ≡ events.All listing) × Appends session told self.old self.new × RemembersEach self.new.shelf self.new.answers listing) }
+        ensures step { IfOk result (λ told. (listing : List (NameParts × Outcome)) × (told ≡ events.All listing) ×
+            Appends session told self.old self.new × RemembersEach self.new.shelf self.new.answers listing) }
         ensures others { IfOk result (λ told. KeepsUnasked told self.old self.new) }
         ensures refused { OnErr result (self.new ≡ self.old) }
         ensures full { IfErr result (IsFull self.old) }
@@ -331,10 +341,10 @@ impl<E: Ending> Book<E> {
         self.append(rt, session, Event::All(listing), findings)
     }
 
-    // Adds a session's event, whose reply is the one that what is held gives it, publishes it, and remembers outcomes and keeps pieces,
-    // where there are any: the pieces that are kept fit what is held, and those that are published fit what the event leaves of it. The
-    // capacity is tested first, all that may be refused comes next, and of that the writer's own room is the
-    // last: a refused event leaves what is remembered and what is kept. Answers two more owners of the event.
+    /// Adds a session's event, whose reply is the one that what is stored gives it, publishes it, and remembers outcomes and keeps pieces,
+    /// if there are any: the pieces that are kept fit what is stored, and those that are published fit what the event leaves of it. The
+    /// capacity is tested first, all that may be refused comes next, and of that the writer's own room is the
+    /// last: a refused event leaves what is remembered and what is kept. Answers two more owners of the event.
     fn append<R: Wait>(
         &mut self,
         rt: &R,
@@ -347,7 +357,8 @@ impl<E: Ending> Book<E> {
         requires place { HasPlace (length self.old.shelf.places) event }
         requires rows { AreRows self.old.shelf self.old.entries findings.rows.items }
         requires fit { AreFitting self.old.shelf (rows_of findings.kept) }
-        requires published { AreFitting (changed self.old.shelf (change_of event) (writes_after (writes_of self.old.entries) event)) (rows_of findings.published) }
+        requires published { AreFitting (changed self.old.shelf (change_of event) (writes_after (writes_of self.old.entries) event))
+            (rows_of findings.published) }
         ensures told { IfOk result (λ told. told ≡ event) }
         ensures step { OnOk result (Appends session event self.old self.new) }
         ensures answers { OnOk result (self.new.answers ≡ kept_rows (change_of event) (remembering findings.rows.items self.old.answers)) }
@@ -371,6 +382,7 @@ impl<E: Ending> Book<E> {
             number,
             event,
         };
+        // Published before it is stored. Nobody sees the order: both happen under the lock.
         publish(rt, &mut self.press, &entry, revision, published)?;
         self.ledger.keep(kept);
         self.ledger.remember(rows);

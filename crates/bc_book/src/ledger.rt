@@ -49,8 +49,8 @@ impl From<AllocError> for Refusal {
     }
 }
 
-/// The append-only history, of at most so many entries, with what is held after it, the pieces that are kept of that, and the remembered
-/// outcomes. It is legal. There is memory for a piece of each body that may be held, and one to spare.
+/// The append-only history, of at most so many entries, with what is stored after it, the pieces that are kept of that, and the remembered
+/// outcomes. It is legal. There is memory for a piece of each body that may be stored, and one to spare.
 pub(crate) struct Ledger {
     capacity: u32,
     history: Vec<Entry>,
@@ -83,15 +83,28 @@ impl Model for Ledger {
 
     ghost Value = { LedgerView };
 
-    ghost view = { λ l. record { capacity = l.capacity; entries = l.history.items; shelf = l.shelf.held; answers = l.memo.rows; pieces = l.pieces.rows; room = vec_capacity l.history - l.history.len; places = l.shelf.room; rows = l.memo.room; piece_room = l.pieces.room; ready = l.shelf.ready } };
+    ghost view = { λ l. record {
+      capacity = l.capacity;
+      entries = l.history.items;
+      shelf = l.shelf.held;
+      answers = l.memo.rows;
+      pieces = l.pieces.rows;
+      room = vec_capacity l.history - l.history.len;
+      places = l.shelf.room;
+      rows = l.memo.room;
+      piece_room = l.pieces.room;
+      ready = l.shelf.ready;
+    } };
 
-    ghost invariant = { λ l. IsLedger l.capacity l.history.items l.counts l.writes l.shelf.held l.memo.rows × AreKeptPieces l.shelf.held l.pieces.rows × (most_bodies < most_rows l.pieces) };
+    ghost invariant = { λ l. IsLedger l.capacity l.history.items l.counts l.writes l.shelf.held l.memo.rows ×
+        AreKeptPieces l.shelf.held l.pieces.rows × (most_bodies < most_rows l.pieces) };
 }
 
 impl Ledger {
-    /// An empty history, with no declaration and no body, and memory for all bodies. Returns `AllocError` only where memory was refused.
+    /// An empty history, with no declaration and no body, and memory for all bodies. Returns `AllocError` only if memory was refused.
     pub(crate) fn new(alloc: Global, capacity: u32) -> Result<Ledger, AllocError>
-        ensures same { IfOk result (λ ledger. (ledger.capacity ≡ capacity) × (ledger.entries ≡ []) × (ledger.shelf ≡ empty_shelf []) × (ledger.answers ≡ []) × (ledger.pieces ≡ [])) }
+        ensures same { IfOk result (λ ledger. (ledger.capacity ≡ capacity) × (ledger.entries ≡ []) × (ledger.shelf ≡ empty_shelf []) ×
+            (ledger.answers ≡ []) × (ledger.pieces ≡ [])) }
         ensures places { IfOk result (λ ledger. most_bodies < ledger.places) }
     {
         let types = no_declarations(alloc)?;
@@ -106,7 +119,7 @@ impl Ledger {
         })
     }
 
-    /// Whether one more entry may come: refused with `HistoryFull` exactly where the history is as long as it may be. It takes no memory.
+    /// Returns whether one more entry may come: refused with `HistoryFull` exactly if the history is as long as it may be. It takes no memory.
     pub(crate) fn has_room(&self) -> Result<(), Refusal>
         ensures below { OnOk result (length self.now.entries < self.now.capacity) }
         ensures full { IfErr result (λ r. (r ≡ Refusal.HistoryFull) × (length self.now.entries ≡ self.now.capacity)) }
@@ -117,8 +130,8 @@ impl Ledger {
         Ok(())
     }
 
-    /// Makes room for one entry, one body, so many answers and so many pieces. The capacity is tested first: `HistoryFull` exactly where the
-    /// history is as long as it may be, and `NoMemory` only where memory was refused. What is kept is as it was in each case.
+    /// Makes room for one entry, one body, so many answers and so many pieces. The capacity is tested first: `HistoryFull` exactly if the
+    /// history is as long as it may be, and `NoMemory` only if memory was refused. What is kept is as it was in each case.
     pub(crate) fn reserve(&mut self, answers: usize, pieces: usize) -> Result<(), Refusal>
         ensures same { SameLedger self.old self.new }
         ensures room { OnOk result ((0 < self.new.room) × (0 < self.new.places) × (answers ≤ self.new.rows) × (pieces ≤ self.new.piece_room)) }
@@ -133,7 +146,7 @@ impl Ledger {
         Ok(())
     }
 
-    /// The reply to a put. Returns `AllocError` only where memory was refused.
+    /// The reply to a put. Returns `AllocError` only if memory was refused.
     pub(crate) fn put_reply(
         &self,
         alloc: Global,
@@ -146,14 +159,14 @@ impl Ledger {
         put_reply(alloc, &self.shelf, name, unit)
     }
 
-    /// The reply to a removal. It takes no memory.
+    /// Returns the reply to a removal. It takes no memory.
     pub(crate) fn remove_reply(&self, name: &Name) -> RemoveReply
         ensures { IsRemoveReply (after self.now.entries).bodies name.now result }
     {
         remove_reply(&self.shelf, name)
     }
 
-    /// What is remembered for a name, where all that it was found from is as it was: the name's outcome. It takes no memory.
+    /// Returns what is remembered for a name, where all that it was found from is as it was: the name's outcome. It takes no memory.
     pub(crate) fn answer(&self, name: &Name) -> Option<&Shared<Outcome>>
         ensures right { IfSome result (λ outcome. IsOutcomeIn (after self.now.entries) name.now outcome.now) }
         ensures remembered { IsRemembered self.now.shelf self.now.answers name.now (option_copied result) }
@@ -161,7 +174,7 @@ impl Ledger {
         self.memo.lookup(&self.shelf, name)
     }
 
-    // One more owner of what is remembered for a name and stands.
+    /// Returns one more owner of what is remembered for a name and stands.
     fn shared_answer(&self, name: &Name) -> Result<Option<Shared<Outcome>>, AllocError>
         ensures right { IfOk result (λ answer. IfSome answer (IsOutcomeIn (after self.now.entries) name.now)) }
         ensures remembered { IfOk result (IsRemembered self.now.shelf self.now.answers name.now) }
@@ -175,10 +188,11 @@ impl Ledger {
         }
     }
 
-    // A name's part of what is held, with the pieces that are kept of its bodies.
+    /// Returns a name's part of what is stored, with the pieces that are kept of its bodies.
     fn part(&self, alloc: Global, name: &Name) -> Result<Part, AllocError>
         ensures part { IfOk result (λ part. IsPartOf part.snapshot name.now (after self.now.entries)) }
-        ensures held { IfOk result (λ part. (part.snapshot.types ≡ self.now.shelf.types) × (part.snapshot.root ≡ name.now) × (part.snapshot.units ≡ units_in name.now self.now.shelf.places)) }
+        ensures held { IfOk result (λ part. (part.snapshot.types ≡ self.now.shelf.types) × (part.snapshot.root ≡ name.now) ×
+            (part.snapshot.units ≡ units_in name.now self.now.shelf.places)) }
         ensures bare { IfOk result (λ part. part.snapshot.carried ≡ None) }
         ensures legal { OnOk result (IsLegal self.now.entries) }
     {
@@ -195,8 +209,8 @@ impl Ledger {
         })
     }
 
-    /// A name's part of what is held, with the pieces that are kept of its bodies, and with its outcome if it is remembered. Returns
-    /// `AllocError` only where memory was refused.
+    /// A name's part of what is stored, with the pieces that are kept of its bodies, and with its outcome if it is remembered. Returns
+    /// `AllocError` only if memory was refused.
     pub(crate) fn begin(&self, alloc: Global, name: &Name) -> Result<Begun, AllocError>
         ensures part { IfOk result (λ begun. IsPartOf begun name.now (after self.now.entries)) }
         ensures remembered { IfOk result (λ begun. IsRemembered self.now.shelf self.now.answers name.now begun.carried) }
@@ -209,10 +223,10 @@ impl Ledger {
         Ok(Begun::carrying(part, answer))
     }
 
-    /// The outcome of a name, of which a session may have worked on a part: the work's own where the work stands; else what is remembered for
+    /// The outcome of a name, of which a session may have worked on a part: the work's own if the work stands; else what is remembered for
     /// the name; else what the pieces of the work and those that are kept give, as far as they stand, with the other bodies worked on. What is
-    /// remembered comes first where no pieces were made for the work: it is the same outcome, for which nothing is compared. With it come the
-    /// pieces that are not kept yet, each found from what is held. Returns `AllocError` only where memory was refused, as a provider may
+    /// remembered comes first if no pieces were made for the work: it is the same outcome, for which nothing is compared. With it come the
+    /// pieces that are not kept yet, each found from what is stored. Returns `AllocError` only if memory was refused, as a provider may
     /// answer too.
     pub(crate) fn outcome(
         &self,
@@ -240,8 +254,8 @@ impl Ledger {
         }
     }
 
-    // The outcome of a name: what is remembered for it, else what is worked out, but for the bodies of which a piece is handed in or kept
-    // that stands.
+    /// Returns the outcome of a name: what is remembered for it, else what is worked out, but for the bodies of which a piece is handed in or kept
+    /// that stands.
     fn found_anew(
         &self,
         alloc: Global,
@@ -258,9 +272,9 @@ impl Ledger {
         with_pieces.find(alloc, providers)
     }
 
-    /// The outcome of each held root, in the order of their names, with what is to be remembered and the pieces that are not kept yet. The
+    /// The outcome of each stored root, in the order of their names, with what is to be remembered and the pieces that are not kept yet. The
     /// works are taken as `outcome` takes one, in whatever order they come: for each root one work of its name. Any other is let go. Returns
-    /// `AllocError` only where memory was refused, as a provider may answer too.
+    /// `AllocError` only if memory was refused, as a provider may answer too.
     pub(crate) fn outcomes(
         &self,
         alloc: Global,
@@ -282,7 +296,7 @@ impl Ledger {
         Ok(found)
     }
 
-    // Adds the outcome of a held name, what is to be remembered of it, and the pieces that are not kept yet.
+    /// Adds the outcome of a stored name, what is to be remembered of it, and the pieces that are not kept yet.
     fn push_outcome(
         &self,
         alloc: Global,
@@ -309,8 +323,8 @@ impl Ledger {
         Ok(())
     }
 
-    /// What is to be remembered of an outcome of a name, where the name is held and nothing that stands is remembered for it.
-    /// Returns `AllocError` only where memory was refused.
+    /// What is to be remembered of an outcome of a name, if the name is stored and nothing that stands is remembered for it.
+    /// Returns `AllocError` only if memory was refused.
     pub(crate) fn row(
         &self,
         alloc: Global,
@@ -333,7 +347,7 @@ impl Ledger {
         }
     }
 
-    // An outcome of a name that is held, with the revisions of all that it rests on.
+    /// Returns an outcome of a name that is stored, with the revisions of all that it rests on.
     fn remembered(
         &self,
         alloc: Global,
@@ -352,7 +366,7 @@ impl Ledger {
         Ok(row)
     }
 
-    /// How many entries a session has.
+    /// Returns how many entries a session has.
     pub(crate) fn number(&self, session: u8) -> u32
         requires { session < MOST_SESSIONS }
         ensures { result ≡ count_of session self.now.entries }
@@ -360,7 +374,7 @@ impl Ledger {
         self.counts[usize::from(session)]
     }
 
-    /// The revision that an event gives to what it writes, as the next one: the count of accepted writes with it.
+    /// Returns the revision that an event gives to what it writes, as the next one: the count of accepted writes with it.
     pub(crate) fn revision(&self, event: &Event) -> u32
         requires { length self.now.entries < self.now.capacity }
         ensures { result ≡ writes_after (writes_of self.now.entries) event.now }
@@ -368,7 +382,7 @@ impl Ledger {
         writes_with(self.writes, event)
     }
 
-    /// Remembers outcomes of names that are held. It takes no memory.
+    /// Remembers outcomes of names that are stored. It takes no memory.
     pub(crate) fn remember(&mut self, rows: Vec<(Name, Remembered)>)
         requires room { length rows.items ≤ self.old.rows }
         requires rows { AreRows self.old.shelf self.old.entries rows.items }
@@ -380,7 +394,7 @@ impl Ledger {
         }
     }
 
-    // Remembers an outcome of a name that is held.
+    /// Remembers an outcome of a name that is stored.
     fn remember_one(&mut self, name: Name, row: Remembered)
         requires room { 0 < self.old.rows }
         requires row { IsRow self.old.shelf self.old.entries name row }
@@ -392,7 +406,7 @@ impl Ledger {
     }
 
     /// Keeps these pieces, if there are any, each in the place of one that was kept for its name. It asks that each was found from what is
-    /// held, which it does not compare, and for room for them. It takes no memory.
+    /// stored, which it does not compare, and for room for them. It takes no memory.
     pub(crate) fn keep(&mut self, pieces: Option<PieceSet>)
         requires fit { AreFitting self.old.shelf (rows_of pieces) }
         requires room { length (rows_of pieces) ≤ self.old.piece_room }
@@ -404,19 +418,20 @@ impl Ledger {
         }
     }
 
-    /// Makes the owners that a change brings for many names. Returns `AllocError` only where memory or an owner was refused. What is kept
+    /// Makes the owners that a change brings for many names. Returns `AllocError` only if memory or an owner was refused. What is kept
     /// is as it was in each case.
     pub(crate) fn prepare(&mut self, change: &Change) -> Result<(), AllocError>
         ensures same { SameLedger self.old self.new }
-        ensures room { (self.new.room ≡ self.old.room) × (self.new.places ≡ self.old.places) × (self.new.rows ≡ self.old.rows) × (self.new.piece_room ≡ self.old.piece_room) }
+        ensures room { (self.new.room ≡ self.old.room) × (self.new.places ≡ self.old.places) ×
+            (self.new.rows ≡ self.old.rows) × (self.new.piece_room ≡ self.old.piece_room) }
         ensures ready { OnOk result (IsReady change.now self.new.ready) }
     {
         self.shelf.prepare(change)
     }
 
     /// Makes ready for an event: makes room for its entry, for one body, for so many answers and for so many pieces, and makes the owners that
-    /// its change brings. Returns the change. The capacity is tested first: `HistoryFull` exactly where the history is as long as it may be,
-    /// and `NoMemory` only where memory was refused. What is kept is as it was in each case.
+    /// its change brings. Returns the change. The capacity is tested first: `HistoryFull` exactly if the history is as long as it may be,
+    /// and `NoMemory` only if memory was refused. What is kept is as it was in each case.
     pub(crate) fn make_ready(
         &mut self,
         event: &Event,
@@ -462,7 +477,7 @@ impl Ledger {
         self.history.push_reserved(entry);
     }
 
-    /// The history, taken out: all entries, in their order.
+    /// Returns the history, taken out: all entries, in their order.
     pub(crate) fn into_history(self) -> Vec<Entry>
         ensures entries { result.items ≡ self.entries }
         ensures legal { IsLegal self.entries }
@@ -480,7 +495,7 @@ impl Ledger {
     }
 }
 
-// The count of accepted writes, with one event more.
+/// Returns the count of accepted writes, with one event more.
 fn writes_with(count: u32, event: &Event) -> u32
     requires { count + 1 < 2 ^ 32 }
     ensures { result ≡ writes_after count event.now }
@@ -488,7 +503,7 @@ fn writes_with(count: u32, event: &Event) -> u32
     if event.writes() { count + 1 } else { count }
 }
 
-// Forgets what is remembered for a name whose body is taken away.
+/// Forgets what is remembered for a name whose body is taken away.
 fn forget_removed(memo: &mut Memo, change: &Change)
     ensures { memo.new.rows ≡ kept_rows change.now memo.old.rows }
 {

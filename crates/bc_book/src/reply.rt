@@ -10,7 +10,7 @@ use bc_names::Name;
 use bc_syntax::Unit;
 use std::alloc::{AllocError, Global};
 
-// The reply to a put of a unit that may be held at the name.
+/// Returns the reply to a put of a unit that may be stored at the name.
 fn stored_reply(shelf: &Shelf, name: &Name, unit: &Unit) -> PutReply
     requires few { length shelf.now.held.places ≤ MOST_BODIES }
     requires suits { Suits unit.now name.now }
@@ -27,9 +27,9 @@ fn stored_reply(shelf: &Shelf, name: &Name, unit: &Unit) -> PutReply
     }
 }
 
-/// The reply to a put: `WrongKind` where the name is not one for such a unit (a function's a root, a closure's any other, and a name
-/// of seven segments is none for a unit with a child), else `Full` where the name is new and `MOST_BODIES` are held, else `Replaced`
-/// or `Added`. Returns `AllocError` only where memory was refused.
+/// The reply to a put: `WrongKind` if the name is not one for such a unit (a function's a root, a closure's any other, and a name
+/// of seven segments is none for a unit with a child), else `Full` if the name is new and `MOST_BODIES` are stored, else `Replaced`
+/// or `Added`. Returns `AllocError` only if memory was refused.
 pub(crate) fn put_reply(
     alloc: Global,
     shelf: &Shelf,
@@ -47,7 +47,7 @@ pub(crate) fn put_reply(
     }
 }
 
-/// The reply to a removal. It takes no memory.
+/// Returns the reply to a removal. It takes no memory.
 pub(crate) fn remove_reply(shelf: &Shelf, name: &Name) -> RemoveReply
     ensures { IsRemoveReply (bodies_of shelf.now.held) name.now result }
 {

@@ -1,4 +1,4 @@
-//! What is found for all held roots.
+//! What is found for all stored roots.
 ghost use Rattle.std.specs.Prelude.{◌≡◌, ◌++◌, [], length, IfSome, OnOk};
 ghost use Rattle.bc_prov.specs.Pieces.{rows_of};
 ghost use Rattle.bc_book.specs.Ledgers.{row_list};
@@ -10,7 +10,7 @@ use bc_prov::{Declared, Outcome, PieceSet, Shared};
 use std::alloc::{AllocError, Global};
 use std::cmp::Ordering;
 
-/// The outcomes of held roots, in the order of their names, with those that are to be remembered, and the pieces that are not kept yet.
+/// The outcomes of stored roots, in the order of their names, with those that are to be remembered, and the pieces that are not kept yet.
 #[derive(Drop)]
 pub(crate) struct FoundAll {
     pub(crate) listing: Vec<(Name, Shared<Outcome>)>,
@@ -33,7 +33,7 @@ impl FoundAll {
     }
 }
 
-/// Puts a row, if there is one, behind others. Returns `AllocError` only where memory was refused.
+/// Puts a row, if there is one, behind others. Returns `AllocError` only if memory was refused.
 pub(crate) fn push_row(
     rows: &mut Vec<(Name, Remembered)>,
     row: Option<(Name, Remembered)>,
@@ -49,7 +49,7 @@ pub(crate) fn push_row(
     }
 }
 
-/// Puts the pieces of a set over the same declarations, if there is one, behind others. Returns `AllocError` only where memory was refused.
+/// Puts the pieces of a set over the same declarations, if there is one, behind others. Returns `AllocError` only if memory was refused.
 pub(crate) fn push_pieces(pieces: &mut PieceSet, more: Option<PieceSet>) -> Result<(), AllocError>
     requires { IfSome more (λ set. set.types ≡ pieces.old.types) }
     ensures types { pieces.new.types ≡ pieces.old.types }
@@ -61,7 +61,7 @@ pub(crate) fn push_pieces(pieces: &mut PieceSet, more: Option<PieceSet>) -> Resu
     }
 }
 
-/// Whether there is work for which pieces were made. It takes no memory.
+/// Returns whether there is work for which pieces were made. It takes no memory.
 pub(crate) fn brings_pieces(work: &Option<Work>) -> bool {
     match work {
         Some(work) => work.has_pieces(),
@@ -69,7 +69,7 @@ pub(crate) fn brings_pieces(work: &Option<Work>) -> bool {
     }
 }
 
-/// How many pieces a set has, if there is one. It takes no memory.
+/// Returns how many pieces a set has, if there is one. It takes no memory.
 pub(crate) fn count_pieces(pieces: &Option<PieceSet>) -> usize
     ensures { result ≡ length (rows_of pieces.now) }
 {
@@ -86,7 +86,7 @@ pub(crate) fn in_reverse(works: Vec<Work>) -> Vec<Work> {
     works
 }
 
-/// The work of a name among works that lie in reverse, if it is the next of them; those before it, of lesser names, are let go.
+/// Returns the work of a name among works that lie in reverse, if it is the next of them; those before it, of lesser names, are let go.
 pub(crate) fn take_work(works: &mut Vec<Work>, name: &Name) -> Option<Work>
     ensures { IfSome result (λ work. work.snapshot.root ≡ name.now) }
 {

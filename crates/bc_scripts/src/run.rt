@@ -74,15 +74,14 @@ pub enum End {
     Stopped { number: usize, refusal: Refusal },
 }
 
-/// Has each session make the calls of its script, on a thread of its own, or one session after another where no thread can be made.
+/// Has each session make the calls of its script, on a thread of its own, or one session after another if no thread can be made.
 /// It returns the sessions in their order, each with how its script ended. It asks for as many scripts as sessions, and that the
 /// database, which these are sessions of, is open meanwhile.
 ///
-/// Room for the result is made first: where memory for it is refused, no call was made, and the sessions come back as the `Err`. A
+/// Room for the result is made first: if memory for it is refused, no call was made, and the sessions come back as the `Err`. A
 /// call that is refused ends its own script alone.
-pub fn run_sessions<R: Threads + Wait + Sync, E: Ending + Send, G: Gate + Sync>(
+pub fn run_sessions<R: AllocGlobal + Threads + Wait + Sync, E: Ending + Send, G: Gate + Sync>(
     rt: &R,
-    alloc: Global,
     _db: &Db<E>,
     sessions: Vec<Session<E>>,
     scripts: Vec<Script>,
@@ -93,6 +92,7 @@ pub fn run_sessions<R: Threads + Wait + Sync, E: Ending + Send, G: Gate + Sync>(
     ensures run { IfOk result (λ ran. AreRuns sessions.items scripts.items ran.items) }
     ensures kept { IfErr result (λ back. back.items ≡ sessions.items) }
 {
+    let alloc = rt.alloc();
     let Ok(mut ran) = Vec::with_capacity(alloc, sessions.len()) else {
         return Err(sessions);
     };
@@ -101,7 +101,7 @@ pub fn run_sessions<R: Threads + Wait + Sync, E: Ending + Send, G: Gate + Sync>(
     Ok(ran)
 }
 
-// Moves the sessions to places where they run.
+/// Moves the sessions to places where they run.
 fn seat_all<E: Ending>(sessions: Vec<Session<E>>, ran: &mut Vec<(Session<E>, End)>)
     requires empty { ran.old.items ≡ [] }
     requires room { length sessions.items ≤ vec_capacity ran.old }
@@ -112,7 +112,7 @@ fn seat_all<E: Ending>(sessions: Vec<Session<E>>, ran: &mut Vec<(Session<E>, End
     }
 }
 
-// Has each session make the calls of its script.
+/// Has each session make the calls of its script.
 fn run_all<R: Threads + Wait + Sync, E: Ending + Send, G: Gate + Sync>(
     rt: &R,
     alloc: Global,
@@ -145,7 +145,7 @@ fn run_all<R: Threads + Wait + Sync, E: Ending + Send, G: Gate + Sync>(
     );
 }
 
-// Makes the calls of a script in their order, until one is refused.
+/// Makes the calls of a script in their order, until one is refused.
 fn run_script<R: Wait, E: Ending, G: Gate>(
     rt: &R,
     alloc: Global,
@@ -164,7 +164,7 @@ fn run_script<R: Wait, E: Ending, G: Gate>(
     End::Done
 }
 
-// Makes a call.
+/// Makes a call.
 fn make_call<R: Wait, E: Ending, G: Gate>(
     rt: &R,
     alloc: Global,
@@ -192,7 +192,7 @@ fn make_call<R: Wait, E: Ending, G: Gate>(
     Ok(())
 }
 
-// Asks a name, and pauses once it has begun, and once the work is done.
+/// Asks a name, and pauses once it has begun, and once the work is done.
 fn ask_pausing<R: Wait, E: Ending, G: Gate>(
     rt: &R,
     alloc: Global,
@@ -212,7 +212,7 @@ fn ask_pausing<R: Wait, E: Ending, G: Gate>(
     Ok(())
 }
 
-// Asks for all, and pauses once all are begun, and once the work on all is done.
+/// Asks for all, and pauses once all are begun, and once the work on all is done.
 fn ask_all_pausing<R: Wait, E: Ending, G: Gate>(
     rt: &R,
     alloc: Global,

@@ -8,7 +8,7 @@ use crate::session::Session;
 use bc_calls::{Entry, Event};
 use bc_versions::Ending;
 
-// What follows this event, where it is the first.
+/// Returns what follows this event, if it is the first.
 fn after_first<'a>(events: &'a [Event], event: &Event) -> Option<&'a [Event]>
     ensures { MatchOption result ((tail : _) → events.now ≢ event.now ∷ tail) (λ tail. events.now ≡ event.now ∷ tail.now) }
 {
@@ -16,7 +16,7 @@ fn after_first<'a>(events: &'a [Event], event: &Event) -> Option<&'a [Event]>
     if first.is(event) { Some(tail) } else { None }
 }
 
-/// Whether these are a session's events in a history.
+/// Returns whether these are a session's events in a history.
 pub(crate) fn is_own(own: &[Event], number: u8, entries: &[Entry]) -> bool
     ensures { IsTrue result ↔ (own.now ≡ calls number entries.now) }
 {
@@ -32,7 +32,7 @@ pub(crate) fn is_own(own: &[Event], number: u8, entries: &[Entry]) -> bool
     rest.is_empty()
 }
 
-// Whether a session has this number.
+/// Returns whether a session has this number.
 fn has_number<E: Ending>(sessions: &[Session<E>], number: u8) -> bool
     ensures { IsTrue result ↔ Contains (numbers sessions.now) number }
 {
@@ -44,7 +44,7 @@ fn has_number<E: Ending>(sessions: &[Session<E>], number: u8) -> bool
     false
 }
 
-// Whether each number below this one is a session's.
+/// Returns whether each number below this one is a session's.
 fn have_numbers<E: Ending>(sessions: &[Session<E>], count: u8) -> bool
     ensures { IsTrue result ↔ ((number : ℕ) → number < count → Contains (numbers sessions.now) number) }
 {
@@ -56,28 +56,28 @@ fn have_numbers<E: Ending>(sessions: &[Session<E>], count: u8) -> bool
     true
 }
 
-// Whether all sessions have this tag.
+/// Returns whether all sessions have this tag.
 fn have_tag<E: Ending>(sessions: &[Session<E>], tag: u64) -> bool
     ensures { IsTrue result ↔ All (λ s. s.tag ≡ tag) sessions.now }
 {
     sessions.iter().all(|session| session.tag() == tag)
 }
 
-/// Whether these are the sessions of a database with this tag, so many, each once.
+/// Returns whether these are the sessions of a database with this tag, so many, each once.
 pub(crate) fn are_sessions<E: Ending>(tag: u64, count: u8, sessions: &[Session<E>]) -> bool
     ensures { IsTrue result ↔ AreSessionsOf tag count sessions.now }
 {
     sessions.len() == usize::from(count) && have_tag(sessions, tag) && have_numbers(sessions, count)
 }
 
-// Whether each session's own list is what a history has of it.
+/// Returns whether each session's own list is what a history has of it.
 fn each_agrees<E: Ending>(sessions: &[Session<E>], entries: &[Entry]) -> bool
     ensures { IsTrue result ↔ All (λ s. s.own ≡ calls s.number entries.now) sessions.now }
 {
     sessions.iter().all(|session| session.agrees(entries))
 }
 
-// Whether each entry of a history is of one of the sessions.
+/// Returns whether each entry of a history is of one of the sessions.
 fn each_is_theirs<E: Ending>(sessions: &[Session<E>], entries: &[Entry]) -> bool
     ensures { IsTrue result ↔ All (λ e. Contains (numbers sessions.now) e.session) entries.now }
 {
@@ -89,7 +89,7 @@ fn each_is_theirs<E: Ending>(sessions: &[Session<E>], entries: &[Entry]) -> bool
     true
 }
 
-/// Whether a history agrees with these sessions: each one's own list is what the history has of it, and each entry is of one of them.
+/// Returns whether a history agrees with these sessions: each one's own list is what the history has of it, and each entry is of one of them.
 pub(crate) fn agree<E: Ending>(sessions: &[Session<E>], entries: &[Entry]) -> bool
     ensures { IsTrue result ↔ Agrees sessions.now entries.now }
 {

@@ -104,9 +104,9 @@ impl<E: Ending> Model for Db<E> {
 
 impl<E: Ending> Db<E> {
     /// Opens a database of this tag, whose history may have so many entries, with so many sessions, which are numbered from 0. What
-    /// ends it is handed in, and ends what was opened also where this is refused; it may wait, though nobody reads then.
+    /// ends it is handed in, and ends what was opened also if this is refused; it may wait, though nobody reads then.
     ///
-    /// Returns `Range` exactly where the capacity is not 1 to 1,000,000 or the sessions are not 1 to 16, and `NoMemory` only where
+    /// Returns `Range` exactly if the capacity is not 1 to 1,000,000 or the sessions are not 1 to 16, and `NoMemory` only if
     /// memory was refused.
     pub fn open(
         alloc: Global,
@@ -131,8 +131,8 @@ impl<E: Ending> Db<E> {
     /// Ends the sessions, and returns the history. It takes no memory. But for `Foreign`, which leaves the book in its place, sessions
     /// that it was not given find a full history from then on, and nothing to read.
     ///
-    /// Returns `Foreign` exactly where these are not as many as the database has, of its tag, each number once; and `Audit`, with the
-    /// history, exactly where they are, and a session's own list is not what the history has of it or an entry is of none of them. The
+    /// Returns `Foreign` exactly if these are not as many as the database has, of its tag, each number once; and `Audit`, with the
+    /// history, exactly if they are, and a session's own list is not what the history has of it or an entry is of none of them. The
     /// database is gone in each case.
     pub fn close<R: Wait>(self, rt: &R, sessions: Vec<Session<E>>) -> Result<History, CloseFault>
         ensures one_history { IfOk result (λ h. IsOneHistory sessions.items h) }
@@ -159,7 +159,7 @@ impl<E: Ending> Db<E> {
     }
 }
 
-// Whether a history may have so many entries and a database so many sessions.
+/// Returns whether a history may have so many entries and a database so many sessions.
 fn is_in_range(capacity: u32, sessions: u8) -> bool
     ensures { IsTrue result ↔ IsInRange capacity sessions }
 {
@@ -169,7 +169,7 @@ fn is_in_range(capacity: u32, sessions: u8) -> bool
         && usize::from(sessions) <= MOST_SESSIONS
 }
 
-// A database with its sessions, where the numbers are in range. `AllocError` only where memory was refused.
+/// Returns a database with its sessions, where the numbers are in range. `AllocError` only if memory was refused.
 fn opened<E: Ending>(
     alloc: Global,
     ending: E,
@@ -196,7 +196,7 @@ fn opened<E: Ending>(
     Ok((db, sessions))
 }
 
-// So many new sessions at a desk, numbered from 0, each with a front. `AllocError` only where memory was refused.
+/// Returns so many new sessions at a desk, numbered from 0, each with a front. `AllocError` only if memory was refused.
 fn seated<E: Ending>(
     alloc: Global,
     desk: &Arc<Desk<E>, Global>,

@@ -1,12 +1,12 @@
 //! What the sessions of a database share: its book, under a lock.
 ghost use Rattle.std.specs.Prelude.{◌≡◌, ◌<◌, IfErr, IfOk, IsSome, OnErr};
-ghost use Rattle.bc_book.specs.Asked.{IsCallOf, NeedsWork};
 ghost use Rattle.bc_book.specs.Ledgers.{Appends, IsFull};
+ghost use Rattle.bc_book.specs.Operations.{IsCallOf, NeedsWork};
 ghost use Rattle.bc_calls.specs.Calls.{IsLegal};
 ghost use Rattle.bc_share.specs.Sessions.{IsAnswered};
 
 use crate::notes::Notes;
-use bc_book::{Asked, Book, Refusal};
+use bc_book::{Book, Operation, Refusal};
 use bc_calls::{Entry, Event};
 use bc_prov::Providers;
 use bc_versions::Ending;
@@ -21,35 +21,35 @@ pub(crate) struct Desk<E: Ending> {
 }
 
 impl<E: Ending> Desk<E> {
-    /// A desk with this book.
+    /// Returns a desk with this book.
     pub(crate) fn new(book: Book<E>) -> Desk<E> {
         Desk {
             book: Mutex::new(Some(book)),
         }
     }
 
-    /// Enters what a session asks for, and answers the call with its reply. Refused with `HistoryFull` only where the history has as many
-    /// entries as it may have, or the book was taken out, and with `NoMemory` only where memory was refused.
+    /// Enters what a session does, and returns the call with its reply. Refused with `HistoryFull` only if the history has as many
+    /// entries as it may have, or the book was taken out, and with `NoMemory` only if memory was refused.
     pub(crate) fn enter<R: Wait>(
         &self,
         rt: &R,
         alloc: Global,
         notes: &mut Notes,
-        asked: Asked,
+        operation: Operation,
         providers: Option<&Providers>,
     ) -> Result<Event, Refusal>
         requires room { 0 < notes.old.room }
-        requires providers { NeedsWork asked → IsSome providers }
-        ensures told { IfOk result (λ event. IsCallOf asked event × IsAnswered event notes.old.session notes.new.session) }
+        requires providers { NeedsWork operation → IsSome providers }
+        ensures told { IfOk result (λ event. IsCallOf operation event × IsAnswered event notes.old.session notes.new.session) }
         ensures refused { OnErr result (notes.new ≡ notes.old) }
     {
         match &mut *self.book.lock(rt) {
-            Some(book) => enter(rt, alloc, book, notes, asked, providers),
+            Some(book) => enter(rt, alloc, book, notes, operation, providers),
             None => Err(Refusal::HistoryFull),
         }
     }
 
-    /// Takes the book out, and its history, which is empty where that was done before. It takes no memory.
+    /// Takes the book out, and its history, which is empty if that was done before. It takes no memory.
     pub(crate) fn take_history<R: Wait>(&self, rt: &R, alloc: Global) -> Vec<Entry>
         ensures { IsLegal result.items }
     {
@@ -61,24 +61,24 @@ impl<E: Ending> Desk<E> {
     }
 }
 
-// Enters what a session asks for as one entry of the book, and notes it once it is read.
+/// Enters what a session does as one entry of the book, notes it once it is read, and returns the call with its reply.
 fn enter<R: Wait, E: Ending>(
     rt: &R,
     alloc: Global,
     book: &mut Book<E>,
     notes: &mut Notes,
-    asked: Asked,
+    operation: Operation,
     providers: Option<&Providers>,
 ) -> Result<Event, Refusal>
     requires room { 0 < notes.old.room }
-    requires providers { NeedsWork asked → IsSome providers }
-    ensures told { IfOk result (λ event. IsCallOf asked event × IsAnswered event notes.old.session notes.new.session) }
+    requires providers { NeedsWork operation → IsSome providers }
+    ensures told { IfOk result (λ event. IsCallOf operation event × IsAnswered event notes.old.session notes.new.session) }
     ensures entered { IfOk result (λ event. Appends notes.old.session.number event book.old book.new) }
     ensures kept { OnErr result (book.new ≡ book.old) }
     ensures refused { OnErr result (notes.new ≡ notes.old) }
     ensures full { IfErr result (IsFull book.old) }
 {
-    let told = book.enter(rt, alloc, notes.number(), asked, providers)?;
+    let told = book.enter(rt, alloc, notes.number(), operation, providers)?;
     let (listed, answered) = told.into_owners();
     notes.note(rt, listed);
     Ok(answered)

@@ -1,5 +1,5 @@
 //! What a session notes: its own list, and what it has seen of what is published.
-ghost use Rattle.std.specs.Prelude.{◌≡◌, ◌↔◌, ◌<◌, IfOk, IsTrue, OnOk, []};
+ghost use Rattle.std.specs.Prelude.{◌≡◌, ◌↔◌, ◌<◌, IfOk, IsTrue, OnOk, [], length};
 ghost use Rattle.bc_book.specs.declared.ledger.TheConstants.{MOST_SESSIONS};
 ghost use Rattle.bc_prov.specs.Snapshots.{IsPartOf};
 ghost use Rattle.bc_calls.specs.Answers.{IsAnswer};
@@ -42,13 +42,16 @@ impl Model for Notes {
 
     ghost Value = { NotesView };
 
-    ghost view = { λ n. record { session = record { tag = n.tag; number = n.number; own = n.own.items; seen = n.front }; room = vec_capacity n.own - n.own.len } };
+    ghost view = { λ n. record {
+      session = record { tag = n.tag; number = n.number; own = n.own.items; seen = n.front };
+      room = vec_capacity n.own - n.own.len;
+    } };
 
     ghost invariant = { λ n. IsNoted n.number n.own.items n.front };
 }
 
 impl Notes {
-    /// The notes of a session that has made no call and seen nothing. It takes no memory.
+    /// Returns the notes of a session that has made no call and seen nothing. It takes no memory.
     pub(crate) fn new(alloc: Global, tag: u64, number: u8, front: Front) -> Notes
         requires range { number < MOST_SESSIONS }
         requires nothing { front ≡ [] }
@@ -62,7 +65,14 @@ impl Notes {
         }
     }
 
-    /// Makes room for one call in the session's own list. Returns `AllocError` only where memory was refused.
+    /// Returns how many calls the session has made.
+    pub(crate) fn count(&self) -> usize
+        ensures { result ≡ length self.now.session.own }
+    {
+        self.own.len()
+    }
+
+    /// Makes room for one call in the session's own list. Returns `AllocError` only if memory was refused.
     pub(crate) fn reserve(&mut self) -> Result<(), AllocError>
         ensures kept { Stays self.old.session self.new.session }
         ensures room { OnOk result (0 < self.new.room) }
@@ -79,7 +89,7 @@ impl Notes {
         self.own.push_reserved(event);
     }
 
-    /// A name's part of what is published. Returns `AllocError` only where memory or the reading was refused.
+    /// A name's part of what is published. Returns `AllocError` only if memory or the reading was refused.
     pub(crate) fn begin(&mut self, alloc: Global, name: &Name) -> Result<Begun, AllocError>
         ensures kept { Stays self.old.session self.new.session }
         ensures part { IfOk result (λ begun. IsPartOf begun name.now (after self.new.session.seen)) }
@@ -88,8 +98,8 @@ impl Notes {
         self.front.begin(alloc, name)
     }
 
-    /// The parts of all held names without segments, in the order of the names, as one reading finds them. Returns `AllocError` only
-    /// where memory or the reading was refused.
+    /// The parts of all stored names without segments, in the order of the names, as one reading finds them. Returns `AllocError` only
+    /// if memory or the reading was refused.
     pub(crate) fn begin_all(&mut self, alloc: Global) -> Result<Vec<Begun>, AllocError>
         ensures kept { Stays self.old.session self.new.session }
         ensures parts { IfOk result (λ begun. AreAllBegun self.new.session.seen begun.items) }
@@ -97,7 +107,7 @@ impl Notes {
         self.front.begin_all(alloc)
     }
 
-    /// The answer that is published for a name. Returns `AllocError` only where an owner or the reading was refused.
+    /// The answer that is published for a name. Returns `AllocError` only if an owner or the reading was refused.
     pub(crate) fn glance(&mut self, name: &Name) -> Result<Option<Shared<Outcome>>, AllocError>
         ensures kept { Stays self.old.session self.new.session }
         ensures answer { IfOk result (IsAnswer self.new.session.seen name.now) }
@@ -105,14 +115,14 @@ impl Notes {
         self.front.glance(name)
     }
 
-    /// The tag of the session's database.
+    /// Returns the tag of the session's database.
     pub(crate) fn tag(&self) -> u64
         ensures { result ≡ self.now.session.tag }
     {
         self.tag
     }
 
-    /// The session's number among those of its database.
+    /// Returns the session's number among those of its database.
     pub(crate) fn number(&self) -> u8
         ensures value { result ≡ self.now.session.number }
         ensures range { self.now.session.number < MOST_SESSIONS }
@@ -120,7 +130,7 @@ impl Notes {
         self.number
     }
 
-    /// Whether the session's own list is what a history has of it.
+    /// Returns whether the session's own list is what a history has of it.
     pub(crate) fn agrees(&self, entries: &[Entry]) -> bool
         ensures { IsTrue result ↔ (self.now.session.own ≡ calls self.now.session.number entries.now) }
     {

@@ -1,5 +1,5 @@
 //! What one session does, and its own list of that.
-ghost use Rattle.std.specs.Prelude.{◌≡◌, ◌↔◌, ◌<◌, [], IfOk, IsSome, IsTrue, OnOk, OnErr};
+ghost use Rattle.std.specs.Prelude.{◌≡◌, ◌↔◌, ◌<◌, [], IfOk, IsSome, IsTrue, OnOk, OnErr, length};
 ghost use Rattle.std.specs.Arc.{arc_value};
 ghost use Rattle.std.specs.Option.{option_map};
 ghost use Rattle.bc_prov.specs.Snapshots.{IsPartOf};
@@ -8,13 +8,13 @@ ghost use Rattle.bc_calls.specs.Answers.{IsAnswer};
 ghost use Rattle.bc_calls.specs.Beginnings.{AreAllBegun};
 ghost use Rattle.bc_calls.specs.Calls.{after, calls};
 ghost use Rattle.bc_book.specs.declared.ledger.TheConstants.{MOST_SESSIONS};
-ghost use Rattle.bc_book.specs.Asked.{IsCallOf, NeedsWork};
+ghost use Rattle.bc_book.specs.Operations.{IsCallOf, NeedsWork};
 ghost use Rattle.bc_share.specs.Sessions.{IsAnswered, Stays, new_session};
 
 use crate::desk::Desk;
 use crate::notes::Notes;
 use crate::works::work_all;
-use bc_book::{Asked, Refusal};
+use bc_book::{Operation, Refusal};
 use bc_calls::{Begun, Entry, Event, PutReply, RemoveReply, Work, checked};
 use bc_names::Name;
 use bc_prov::{Listing, Outcome, Providers, Shared};
@@ -53,7 +53,7 @@ impl<E: Ending> Model for Session<E> {
 }
 
 impl<E: Ending> Session<E> {
-    /// A session that has made no call and seen nothing. It takes no memory.
+    /// Returns a session that has made no call and seen nothing. It takes no memory.
     pub(crate) fn new(
         alloc: Global,
         desk: Arc<Desk<E>, Global>,
@@ -75,8 +75,8 @@ impl<E: Ending> Session<E> {
     /// Stores declarations in place of those before; each Ask from now on is answered under them. They may be bad: an Ask reports it.
     ///
     /// The declarations are checked, and room in the session's own list is made, before the lock is taken. It returns once the
-    /// session has read its own entry. Refused with `HistoryFull` only where the history has as many entries as it may have, where no
-    /// call is taken, or the database is closed, and with `NoMemory` only where memory was refused; the session's own list and the
+    /// session has read its own entry. Refused with `HistoryFull` only if the history has as many entries as it may have, where no
+    /// call is taken, or the database is closed, and with `NoMemory` only if memory was refused; the session's own list and the
     /// history are then as they were.
     pub fn put_types<R: Wait>(&mut self, rt: &R, types: Arc<Types, Global>) -> Result<(), Refusal>
         ensures told { OnOk result (IsAnswered (events.Types (arc_value types)) self.old self.new) }
@@ -84,14 +84,14 @@ impl<E: Ending> Session<E> {
     {
         self.notes.reserve()?;
         let types = checked(self.alloc, Shared::new(types))?;
-        self.enter(rt, Asked::Types(types), None)?;
+        self.make(rt, Operation::Types(types), None)?;
         Ok(())
     }
 
     /// Stores a unit under a name.
     ///
-    /// Replies `WrongKind` where the name is not one for such a unit, else `Full` where the name is new and
-    /// `MOST_BODIES` are held, else `Replaced` or `Added`. Room in the session's own list is made first. Refused as
+    /// Replies `WrongKind` if the name is not one for such a unit, else `Full` if the name is new and
+    /// `MOST_BODIES` are stored, else `Replaced` or `Added`. Room in the session's own list is made first. Refused as
     /// `put_types` is.
     pub fn put<R: Wait>(
         &mut self,
@@ -102,20 +102,22 @@ impl<E: Ending> Session<E> {
         ensures told { IfOk result (λ reply. IsAnswered (events.Put name (arc_value unit) reply) self.old self.new) }
         ensures refused { OnErr result (Stays self.old self.new) }
     {
-        match self.enter(rt, Asked::Put(name, Shared::new(unit)), None)? {
+        let (_, event) = self.make(rt, Operation::Put(name, Shared::new(unit)), None)?;
+        match event {
             Event::Put(_, _, reply) => Ok(reply),
             Event::Types(_) | Event::Remove(_, _) | Event::Ask(_, _) | Event::All(_) =>
                 unreachable!(),
         }
     }
 
-    /// Takes the unit of a name away, and replies `Removed`, or `Absent` where none is held. Room in the session's own list is
+    /// Takes the unit of a name away, and replies `Removed`, or `Absent` if none is stored. Room in the session's own list is
     /// made first. Refused as `put_types` is.
     pub fn remove<R: Wait>(&mut self, rt: &R, name: Name) -> Result<RemoveReply, Refusal>
         ensures told { IfOk result (λ reply. IsAnswered (events.Remove name reply) self.old self.new) }
         ensures refused { OnErr result (Stays self.old self.new) }
     {
-        match self.enter(rt, Asked::Remove(name), None)? {
+        let (_, event) = self.make(rt, Operation::Remove(name), None)?;
+        match event {
             Event::Remove(_, reply) => Ok(reply),
             Event::Types(_) | Event::Put(_, _, _) | Event::Ask(_, _) | Event::All(_) =>
                 unreachable!(),
@@ -124,7 +126,7 @@ impl<E: Ending> Session<E> {
 
     /// Returns the part of what is published that the outcome of a name rests on, to be worked on and settled later; it carries the
     /// name's answer if one is published. It is no call: the session's own list is unchanged. It waits for nobody. Returns
-    /// `AllocError` only where memory or the reading was refused, as it is once the database is closed.
+    /// `AllocError` only if memory or the reading was refused, as it is once the database is closed.
     pub fn begin(&mut self, name: &Name) -> Result<Begun, AllocError>
         ensures kept { Stays self.old self.new }
         ensures part { IfOk result (λ begun. IsPartOf begun name.now (after self.new.seen)) }
@@ -133,9 +135,9 @@ impl<E: Ending> Session<E> {
         self.notes.begin(self.alloc, name)
     }
 
-    /// Returns the part of each name without segments that is held in what is published, in the order of the names, to be worked on and
+    /// Returns the part of each name without segments that is stored in what is published, in the order of the names, to be worked on and
     /// settled later; each carries its name's answer if one is published. All are parts of what one reading found. It is no call: the
-    /// session's own list is unchanged. It waits for nobody. Returns `AllocError` only where memory or the reading was refused, as it
+    /// session's own list is unchanged. It waits for nobody. Returns `AllocError` only if memory or the reading was refused, as it
     /// is once the database is closed.
     pub fn begin_all(&mut self) -> Result<Vec<Begun>, AllocError>
         ensures kept { Stays self.old self.new }
@@ -144,9 +146,9 @@ impl<E: Ending> Session<E> {
         self.notes.begin_all(self.alloc)
     }
 
-    /// Returns the answer that is published for a name: the outcome of what is held, where the name is held and was asked for since
+    /// Returns the answer that is published for a name: the outcome of what is stored, if the name is stored and was asked for since
     /// declarations were stored last and it or a name that begins with it and `/` was written last; else none. It is no call: the
-    /// session's own list is unchanged. It waits for nobody. Returns `AllocError` only where an owner or the reading was refused,
+    /// session's own list is unchanged. It waits for nobody. Returns `AllocError` only if an owner or the reading was refused,
     /// as it is once the database is closed.
     pub fn glance(&mut self, name: &Name) -> Result<Option<Arc<Outcome, Global>>, AllocError>
         ensures kept { Stays self.old self.new }
@@ -158,11 +160,11 @@ impl<E: Ending> Session<E> {
         }
     }
 
-    /// Asks for the name of a work, and returns its outcome: what the work found or what is remembered for the name, where that is
-    /// still so, else it is worked out again from what is held now (its errors by RFC 2094, "Borrow checker phase 2" and "Named
+    /// Asks for the name of a work, and returns its outcome: what the work found or what is remembered for the name, if that is
+    /// still so, else it is worked out again from what is stored now (its errors by RFC 2094, "Borrow checker phase 2" and "Named
     /// lifetimes"). The work may be another database's.
     ///
-    /// Room in the session's own list is made first. Refused as `put_types` is, and with `NoMemory` where a provider runs out of
+    /// Room in the session's own list is made first. Refused as `put_types` is, and with `NoMemory` if a provider runs out of
     /// memory; the work is then gone.
     pub fn settle<R: Wait>(
         &mut self,
@@ -173,7 +175,8 @@ impl<E: Ending> Session<E> {
         ensures told { IfOk result (λ outcome. IsAnswered (events.Ask work.snapshot.root (arc_value outcome)) self.old self.new) }
         ensures refused { OnErr result (Stays self.old self.new) }
     {
-        match self.enter(rt, Asked::Settle(work), Some(providers))? {
+        let (_, event) = self.make(rt, Operation::Settle(work), Some(providers))?;
+        match event {
             Event::Ask(_, outcome) => Ok(outcome.into_arc()),
             Event::Types(_) | Event::Put(_, _, _) | Event::Remove(_, _) | Event::All(_) =>
                 unreachable!(),
@@ -181,11 +184,11 @@ impl<E: Ending> Session<E> {
     }
 
     /// Asks whether the body under a name is borrow-correct now, and returns the outcome of what the name holds, under the
-    /// declarations that are held: their first bad one, `NoBody`, `Missing`, `Ill`, or the errors of the body and of its closures
+    /// declarations that are stored: their first bad one, `NoBody`, `Missing`, `Ill`, or the errors of the body and of its closures
     /// (RFC 2094, "Borrow checker phase 2" and "Named lifetimes"). What is published is begun and worked on with no lock held,
     /// and settled then.
     ///
-    /// Refused as `settle` is, and with `NoMemory` where the reading is refused, as it is once the database is closed.
+    /// Refused as `settle` is, and with `NoMemory` if the reading is refused, as it is once the database is closed.
     pub fn ask<R: Wait>(
         &mut self,
         rt: &R,
@@ -200,8 +203,8 @@ impl<E: Ending> Session<E> {
         self.settle(rt, work, providers)
     }
 
-    /// Asks for all, with works of a session, and returns the outcome of each name without segments that is held, in the order of the
-    /// names. Each is the one that `settle` would give to an Ask of that name, with the work on it where there is one (its errors by RFC
+    /// Asks for all, with works of a session, and returns the outcome of each name without segments that is stored, in the order of the
+    /// names. Each is the one that `settle` would give to an Ask of that name, with the work on it if there is one (its errors by RFC
     /// 2094, "Borrow checker phase 2" and "Named lifetimes"). The works may come in any order, and may be another database's. Of several of
     /// one name one is taken; the others, and those of names that are not listed, are dropped.
     ///
@@ -216,18 +219,19 @@ impl<E: Ending> Session<E> {
         ensures told { IfOk result (λ listing. IsAnswered (events.All (arc_value listing)) self.old self.new) }
         ensures refused { OnErr result (Stays self.old self.new) }
     {
-        match self.enter(rt, Asked::All(works), Some(providers))? {
+        let (_, event) = self.make(rt, Operation::All(works), Some(providers))?;
+        match event {
             Event::All(listing) => Ok(listing.into_arc()),
             Event::Types(_) | Event::Put(_, _, _) | Event::Remove(_, _) | Event::Ask(_, _) =>
                 unreachable!(),
         }
     }
 
-    /// Asks which bodies are borrow-correct now, and returns the outcome of each name without segments that is held, in the order of the
+    /// Asks which bodies are borrow-correct now, and returns the outcome of each name without segments that is stored, in the order of the
     /// names, each as `ask` returns it. What is published is begun by one reading and worked on with no lock held, and settled then; roots
     /// that were written meanwhile, and new ones, are worked on under the lock.
     ///
-    /// Refused as `settle_all` is, and with `NoMemory` where the reading is refused, as it is once the database is closed.
+    /// Refused as `settle_all` is, and with `NoMemory` if the reading is refused, as it is once the database is closed.
     pub fn ask_all<R: Wait>(
         &mut self,
         rt: &R,
@@ -241,21 +245,31 @@ impl<E: Ending> Session<E> {
         self.settle_all(rt, works, providers)
     }
 
-    // Enters what is asked for, once there is room for it in the session's own list, and answers the call with its reply. It asks for
-    // providers where an outcome is asked for.
-    fn enter<R: Wait>(
+    /// Makes a call: returns how many calls the session had made before, which is the number of its entry, and the call with its reply. The
+    /// other calls are this one with one kind of operation each. Work for an Ask is done before, with no lock held (`begin`, `begin_all`); an
+    /// Ask asks for providers too.
+    ///
+    /// Room in the session's own list is made first. Refused with `HistoryFull` only if the history has as many entries as it may have, or
+    /// the database is closed, and with `NoMemory` only if memory was refused, as a provider may report too; the session's own list and
+    /// the history are then as they were, and the work is gone.
+    pub fn make<R: Wait>(
         &mut self,
         rt: &R,
-        asked: Asked,
+        operation: Operation,
         providers: Option<&Providers>,
-    ) -> Result<Event, Refusal>
-        requires { NeedsWork asked → IsSome providers }
-        ensures told { IfOk result (λ event. IsCallOf asked event × IsAnswered event self.old self.new) }
+    ) -> Result<(usize, Event), Refusal>
+        requires providers { NeedsWork operation → IsSome providers }
+        ensures made { IfOk result (λ made. IsCallOf operation made.1 × IsAnswered made.1 self.old self.new) }
+        ensures number { IfOk result (λ made. made.0 ≡ length self.old.own) }
         ensures refused { OnErr result (Stays self.old self.new) }
     {
+        // Before the lock is taken. So a call without room is `NoMemory` even if the history is full.
         self.notes.reserve()?;
-        self.desk
-            .enter(rt, self.alloc, &mut self.notes, asked, providers)
+        let number = self.notes.count();
+        let event = self
+            .desk
+            .enter(rt, self.alloc, &mut self.notes, operation, providers)?;
+        Ok((number, event))
     }
 
     /// Returns the tag of the session's database.
@@ -273,7 +287,7 @@ impl<E: Ending> Session<E> {
         self.notes.number()
     }
 
-    /// Whether its own list is what a history has of it.
+    /// Returns whether its own list is what a history has of it.
     pub(crate) fn agrees(&self, entries: &[Entry]) -> bool
         ensures { IsTrue result ↔ (self.now.own ≡ calls self.now.number entries.now) }
     {

@@ -8,7 +8,7 @@ use bc_prov::Providers;
 use std::alloc::{AllocError, Global};
 
 /// Works on each of what was begun, in order, and returns one work for each, with the outcome of its name. No lock is held meanwhile,
-/// and nobody is waited for. Returns `AllocError` only where memory was refused, as a provider may too.
+/// and nobody is waited for. Returns `AllocError` only if memory was refused, as a provider may too.
 pub fn work_all(
     alloc: Global,
     begun: Vec<Begun>,

@@ -9,7 +9,7 @@ use cli_requests::Id;
 use serde_json::{Map, Value, put};
 use std::alloc::{AllocError, Global};
 
-/// The value of a session.
+/// Returns the value of a session.
 fn session_value(session: Option<u8>) -> Value
     ensures { data_of result ≡ session_data session }
 {
@@ -19,7 +19,7 @@ fn session_value(session: Option<u8>) -> Value
     }
 }
 
-/// The members that each answer has: the id of its request, and the session that the request names.
+/// Returns the members that each answer has: the id of its request, and the session that the request names.
 pub(crate) fn new_members(
     alloc: Global,
     id: &Id,

@@ -5,7 +5,7 @@ ghost use Rattle.cli_answers.specs.Words.{kind_word, refusal_word};
 use bc_book::Refusal;
 use cli_requests::TextFaultKind;
 
-/// The words of a refusal.
+/// Returns the words of a refusal.
 pub(crate) fn refusal_name(refusal: Refusal) -> &'static str
     ensures { result.now ≡ refusal_word refusal }
 {
@@ -15,7 +15,7 @@ pub(crate) fn refusal_name(refusal: Refusal) -> &'static str
     }
 }
 
-/// The words of a kind of fault that a text has.
+/// Returns the words of a kind of fault that a text has.
 pub(crate) fn kind_name(kind: TextFaultKind) -> &'static str
     ensures { result.now ≡ kind_word kind }
 {

@@ -51,9 +51,9 @@ fn work_each<R: Threads + Sync>(
 
 /// Begins an Ask of each name in a session and works on all of them, side by side. Returns an Ask for each name, in the order of the names, which
 /// is still to be settled. None is a call yet: the session's own list stays as it is. There are so many threads at most, one at least, and fewer
-/// where no more can be made. They hold no lock meanwhile.
+/// if no more can be made. They hold no lock meanwhile.
 ///
-/// `AllocError` only where there is no room for the list of Asks. Where memory is refused to one of them, `PendingAsk::settle` reports it for that
+/// `AllocError` only if there is no room for the list of Asks. Where memory is refused to one of them, `PendingAsk::settle` reports it for that
 /// one, so that those before it can be answered.
 pub fn work_ahead<R: Threads + Sync, N: Ending>(
     rt: &R,

@@ -27,7 +27,7 @@ pub(crate) enum Stage {
     Refused,
 }
 
-/// Works on what was begun. It is refused where memory is, or where a provider says that memory is.
+/// Works on what was begun. It is refused if memory is, or if a provider says that memory is.
 fn worked(alloc: Global, providers: &Providers, begun: Begun) -> Stage
     ensures { IsStageOf begun.root result }
 {
@@ -75,14 +75,14 @@ impl PendingAsk {
         PendingAsk { name: *name, stage }
     }
 
-    /// The name that is asked.
+    /// Returns the name that is asked.
     pub fn name(&self) -> Name
         ensures { result ≡ self.now }
     {
         self.name
     }
 
-    /// This Ask with the work on it done, where it has begun.
+    /// Returns this Ask with the work on it done, if it has begun.
     fn into_worked(self, alloc: Global, providers: &Providers) -> PendingAsk
         ensures { result ≡ self }
     {
@@ -95,7 +95,7 @@ impl PendingAsk {
         PendingAsk { name, stage }
     }
 
-    /// Works on the Ask, where it has begun and was not worked on yet. It holds no lock and waits for nobody. Where memory is refused, or a
+    /// Works on the Ask, if it has begun and was not worked on yet. It holds no lock and waits for nobody. Where memory is refused, or a
     /// provider says that it is, `settle` reports it.
     pub fn work(&mut self, alloc: Global, providers: &Providers)
         ensures { self.new ≡ self.old }
@@ -106,7 +106,7 @@ impl PendingAsk {
         *self = pending.into_worked(alloc, providers);
     }
 
-    /// The work on the Ask, which is done now where it was not done yet. `AllocError` where memory is refused, or was.
+    /// Returns the work on the Ask, which is done now if it was not done yet. `AllocError` if memory is refused, or was.
     fn into_work(self, alloc: Global, providers: &Providers) -> Result<Work, AllocError>
         ensures { IfOk result (λ work. work.snapshot.root ≡ self) }
     {
@@ -121,7 +121,7 @@ impl PendingAsk {
     /// Settles the Ask in a session, and returns the outcome of its name by what is stored now, as `Session::settle` does (its errors by RFC 2094,
     /// "Borrow checker phase 2" and "Named lifetimes"). This is the call; before it none was made.
     ///
-    /// Refused as `Session::settle` is, and with `NoMemory`, with no call made, where memory was refused when it began or was worked on.
+    /// Refused as `Session::settle` is, and with `NoMemory`, with no call made, if memory was refused when it began or was worked on.
     pub fn settle<R: Wait, N: Ending>(
         self,
         rt: &R,

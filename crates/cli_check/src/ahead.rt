@@ -1,27 +1,24 @@
 //! Names that are asked with the work on them side by side.
 ghost use Rattle.std.specs.Prelude.{◌≡◌, ◌≤◌, ◌⊎◌, true, IfOk, IfErr, IfSome, IsErrOf, map};
-ghost use Rattle.std.specs.Io.KnownBytes.{Keeps};
 ghost use Rattle.bc_calls.specs.declared.call.Call.TheVariants as calls;
 ghost use Rattle.bc_share.specs.Sessions.{Makes};
 ghost use Rattle.cli_file.specs.Stops.{is_refused};
 ghost use Rattle.cli_file.specs.Still.{IsStill};
 ghost use Rattle.cli_check.specs.Run.{shown};
-ghost use Rattle.cli_check.specs.Served.{Serves, Served, ServedPart, IsAtMostOneMore};
+ghost use Rattle.cli_check.specs.Served.{Served, ServedPart};
+ghost use Rattle.cli_check.specs.Asks.{AsksAll, AsksOne, AsksSome, RefusesOne};
 
 use crate::command::{Asking, write_answer};
-use crate::form::Form;
-use bc_prov::Providers;
 use bc_share::Session;
 use bc_versions::Ending;
 use cli_asks::{PendingAsk, work_ahead};
 use cli_file::{Stop, outcome_status};
-use std::alloc::Global;
 use std::io::Write;
 use std::sync::Wait;
 use std::thread;
 use std::thread::Threads;
 
-/// How many threads share the work: as many as are asked for, or else as many as there are processors, or one where the runtime cannot say.
+/// Returns how many threads share the work: as many as are asked for, or else as many as there are processors, or one if the runtime cannot say.
 pub(crate) fn find_threads<R: Threads>(rt: &R, jobs: Option<u8>) -> usize
     ensures { IfSome jobs (λ count. result ≡ count) }
 {
@@ -34,47 +31,46 @@ pub(crate) fn find_threads<R: Threads>(rt: &R, jobs: Option<u8>) -> usize
     }
 }
 
-/// Settles an Ask, and prints its report in this form. Returns the status of the outcome.
-fn settle_ask<R: Wait, N: Ending, O: Write>(
+/// Settles an Ask, and prints its report. Returns the status of the outcome.
+fn settle_ask<R: AllocGlobal + Wait, N: Ending, O: Write>(
     rt: &R,
-    alloc: Global,
     session: &mut Session<N>,
-    providers: &Providers,
-    form: &Form<'_>,
+    asking: &Asking<'_, '_>,
     ask: PendingAsk,
     out: &mut O,
 ) -> Result<u8, Stop>
     ensures still { IsStill session.old session.new }
-    ensures refused { IfErr result (λ stop. is_refused stop ≡ true → IsAtMostOneMore session.old session.new × Keeps (O.contents out.old) (O.contents out.new)) }
+    ensures refused { RefusesOne result session.old session.new (O.contents out.old) (O.contents out.new) }
     ensures unwritten { IsErrOf result Stop.CannotWrite → Makes session.old session.new (calls.Ask ask) }
-    ensures served { IfOk result (λ status. Serves (calls.Ask ask) (shown form.now) status session.old session.new (O.contents out.old) (O.contents out.new)) }
+    ensures served { AsksOne asking.now.form.now ask result session.old session.new (O.contents out.old) (O.contents out.new) }
     ensures range { IfOk result (λ status. status ≤ 2) }
     ensures stop { IfErr result (λ stop. (stop ≡ Stop.CannotWrite) ⊎ (stop ≡ Stop.NoMemory) ⊎ (stop ≡ Stop.HistoryFull)) }
 {
     let name = ask.name();
-    let outcome = ask.settle(rt, alloc, session, providers)?;
-    write_answer(alloc, form, &name, &outcome, out)?;
+    let outcome = ask.settle(rt, rt.alloc(), session, asking.providers)?;
+    write_answer(rt.alloc(), asking.form, &name, &outcome, out)?;
     Ok(outcome_status(&outcome))
 }
 
 /// Settles the Asks in order, and prints their reports. Returns the greatest status of the outcomes.
-fn settle_asks<R: Wait, N: Ending, O: Write>(
+fn settle_asks<R: AllocGlobal + Wait, N: Ending, O: Write>(
     rt: &R,
-    alloc: Global,
     session: &mut Session<N>,
     asking: &Asking<'_, '_>,
     asks: Vec<PendingAsk>,
     out: &mut O,
 ) -> Result<u8, Stop>
-    ensures served { IfOk result (λ status. Served (map calls.Ask asks.items) (shown asking.now.form.now) status session.old session.new (O.contents out.old) (O.contents out.new)) }
+    ensures served { IfOk result (λ status. Served (map calls.Ask asks.items) (shown asking.now.form.now) status
+        session.old session.new (O.contents out.old) (O.contents out.new)) }
     ensures still { IsStill session.old session.new }
-    ensures refused { IfErr result (λ stop. is_refused stop ≡ true → ServedPart (map calls.Ask asks.items) (shown asking.now.form.now) session.old session.new (O.contents out.old) (O.contents out.new)) }
+    ensures refused { IfErr result (λ stop. is_refused stop ≡ true → ServedPart (map calls.Ask asks.items) (shown asking.now.form.now)
+        session.old session.new (O.contents out.old) (O.contents out.new)) }
     ensures range { IfOk result (λ status. status ≤ 2) }
     ensures stop { IfErr result (λ stop. (stop ≡ Stop.CannotWrite) ⊎ (stop ≡ Stop.NoMemory) ⊎ (stop ≡ Stop.HistoryFull)) }
 {
     let mut status: u8 = 0;
     for ask in asks {
-        let asked = settle_ask(rt, alloc, session, asking.providers, asking.form, ask, out)?;
+        let asked = settle_ask(rt, session, asking, ask, out)?;
         status = status.max(asked);
     }
     Ok(status)
@@ -83,26 +79,25 @@ fn settle_asks<R: Wait, N: Ending, O: Write>(
 /// Asks the names in order, and prints their reports: all are begun first, then so many threads share the work on them, and then each is settled
 /// and printed. Where memory is refused to one of them, those before it are settled and printed all the same. Returns the greatest status of the
 /// outcomes.
-pub(crate) fn ask_ahead<R: Threads + Wait + Sync, N: Ending, O: Write>(
+pub(crate) fn ask_ahead<R: AllocGlobal + Threads + Wait + Sync, N: Ending, O: Write>(
     rt: &R,
-    alloc: Global,
     session: &mut Session<N>,
     asking: &Asking<'_, '_>,
     out: &mut O,
 ) -> Result<u8, Stop>
-    ensures served { IfOk result (λ status. Served (map calls.Ask asking.now.names.now.keys) (shown asking.now.form.now) status session.old session.new (O.contents out.old) (O.contents out.new)) }
+    ensures served { AsksAll asking.now.form.now asking.now.names.now.keys result session.old session.new (O.contents out.old) (O.contents out.new) }
     ensures still { IsStill session.old session.new }
-    ensures refused { IfErr result (λ stop. is_refused stop ≡ true → ServedPart (map calls.Ask asking.now.names.now.keys) (shown asking.now.form.now) session.old session.new (O.contents out.old) (O.contents out.new)) }
+    ensures refused { AsksSome asking.now.form.now asking.now.names.now.keys result session.old session.new (O.contents out.old) (O.contents out.new) }
     ensures range { IfOk result (λ status. status ≤ 2) }
     ensures stop { IfErr result (λ stop. (stop ≡ Stop.CannotWrite) ⊎ (stop ≡ Stop.NoMemory) ⊎ (stop ≡ Stop.HistoryFull)) }
 {
     let asks = work_ahead(
         rt,
-        alloc,
+        rt.alloc(),
         session,
         asking.providers,
         asking.names,
         asking.threads,
     )?;
-    settle_asks(rt, alloc, session, asking, asks, out)
+    settle_asks(rt, session, asking, asks, out)
 }

@@ -13,8 +13,9 @@ ghost use Rattle.cli_file.specs.Stops.{is_of_calls, is_refused};
 ghost use Rattle.cli_file.specs.Ends.{OfFile};
 ghost use Rattle.cli_file.specs.Still.{IsStill};
 ghost use Rattle.cli_check.specs.Ends.{Checked, IsEnd, IsEndOf, Leaves};
-ghost use Rattle.cli_check.specs.Run.{refused_line, answer_lines, told, shown, AreLegal, AreReplied};
-ghost use Rattle.cli_check.specs.Served.{Serves, Served, ServedPart, ServedAll, ServedFirst, ServedThen, Adds, Owes, OwesLast, Runs, Begins, Prints, IsAtMostOneMore};
+ghost use Rattle.cli_check.specs.Run.{refused_line, answer_lines, told, AreLegal, AreReplied};
+ghost use Rattle.cli_check.specs.Served.{Serves, Served, ServedPart, ServedAll, ServedFirst, ServedThen, Adds, Owes, OwesLast, Runs, Begins, Prints};
+ghost use Rattle.cli_check.specs.Asks.{AsksAll, AsksOne, AsksSome, RefusesOne};
 ghost use Rattle.cli_line.specs.Lines.{is_check};
 
 use crate::ahead::{ask_ahead, find_threads};
@@ -39,7 +40,7 @@ use std::io::{BufWriter, Read, Write};
 use std::sync::Wait;
 use std::thread::Threads;
 
-/// Writes the line of a put that stored nothing. It fails only where there is such a line.
+/// Writes the line of a put that stored nothing. It fails only if there is such a line.
 fn write_refusal<E: Write>(name: &Name, reply: PutReply, err: &mut E) -> io::Result<()>
     ensures written { OnOk result (Appends (E.contents err.old) (E.contents err.new) (refused_line name.now reply)) }
     ensures owed { OnErr result (refused_line name.now reply ≢ []) }
@@ -66,13 +67,14 @@ fn write_sourced_text<O: Write>(
     bodies: &[SourcedBody<'_>],
     out: &mut O,
 ) -> io::Result<()>
-    ensures { OnOk result (Appends (O.contents out.old) (O.contents out.new) (ended (codes "ask " ++ name_text name.now) ++ report_with bodies.now outcome.now)) }
+    ensures { OnOk result (Appends (O.contents out.old) (O.contents out.new)
+        (ended (codes "ask " ++ name_text name.now) ++ report_with bodies.now outcome.now)) }
 {
     writeln!(out, "ask {name}")?;
     Ok(write_sourced_report(outcome, bodies, out)?)
 }
 
-/// Writes the line of an Ask, and its report with the texts that explain its errors. `NoMemory`, with nothing written, where there is no
+/// Writes the line of an Ask, and its report with the texts that explain its errors. `NoMemory`, with nothing written, if there is no
 /// room for what they are found by.
 fn write_sourced<O: Write>(
     alloc: Global,
@@ -94,7 +96,7 @@ fn write_sourced<O: Write>(
     Ok(())
 }
 
-/// Writes the JSON line of an Ask. `NoMemory`, with nothing written, where there is no room for it.
+/// Writes the JSON line of an Ask. `NoMemory`, with nothing written, if there is no room for it.
 fn write_json<O: Write>(
     alloc: Global,
     name: &Name,
@@ -114,7 +116,7 @@ fn write_json<O: Write>(
     Ok(())
 }
 
-/// Writes an Ask with its outcome, in this form. `NoMemory`, with nothing written, where there is no room for it.
+/// Writes an Ask with its outcome, in this form. `NoMemory`, with nothing written, if there is no room for it.
 pub(crate) fn write_answer<O: Write>(
     alloc: Global,
     form: &Form<'_>,
@@ -138,7 +140,7 @@ pub(crate) fn write_answer<O: Write>(
     }
 }
 
-/// Makes a change in a session, and writes a line where its body is not stored. Returns the status of the call.
+/// Makes a change in a session, and writes a line if its body is not stored. Returns the status of the call.
 fn make_change<R: Wait, N: Ending, E: Write>(
     rt: &R,
     session: &mut Session<N>,
@@ -146,7 +148,7 @@ fn make_change<R: Wait, N: Ending, E: Write>(
     err: &mut E,
 ) -> Result<u8, Stop>
     ensures still { IsStill session.old session.new }
-    ensures refused { IfErr result (λ stop. is_refused stop ≡ true → IsAtMostOneMore session.old session.new × Keeps (E.contents err.old) (E.contents err.new)) }
+    ensures refused { RefusesOne result session.old session.new (E.contents err.old) (E.contents err.new) }
     ensures untold { IsErrOf result Stop.CannotTell → Owes (seen change) session.old session.new }
     ensures served { IfOk result (λ status. Serves (seen change) told status session.old session.new (E.contents err.old) (E.contents err.new)) }
     ensures range { IfOk result (λ status. status ≤ 2) }
@@ -167,25 +169,34 @@ fn make_change<R: Wait, N: Ending, E: Write>(
     }
 }
 
-/// Asks a name, and prints its report in this form. Returns the status of the outcome.
-fn make_ask<R: Wait, N: Ending, O: Write>(
+/// How the names of a file are asked: by which providers, in which form each answer is printed, which names, in their order, and how many threads
+/// share the work.
+// The changes are not in it: they are used up before a name is asked.
+#[derive(Drop)]
+pub(crate) struct Asking<'a, 'b> {
+    pub providers: &'a Providers,
+    pub form: &'a Form<'b>,
+    pub names: &'a BTreeSet<Name>,
+    pub threads: usize,
+}
+
+/// Asks a name, and prints its report. Returns the status of the outcome.
+fn make_ask<R: AllocGlobal + Wait, N: Ending, O: Write>(
     rt: &R,
-    alloc: Global,
     session: &mut Session<N>,
-    providers: &Providers,
-    form: &Form<'_>,
+    asking: &Asking<'_, '_>,
     name: &Name,
     out: &mut O,
 ) -> Result<u8, Stop>
     ensures still { IsStill session.old session.new }
-    ensures refused { IfErr result (λ stop. is_refused stop ≡ true → IsAtMostOneMore session.old session.new × Keeps (O.contents out.old) (O.contents out.new)) }
+    ensures refused { RefusesOne result session.old session.new (O.contents out.old) (O.contents out.new) }
     ensures unwritten { IsErrOf result Stop.CannotWrite → Makes session.old session.new (calls.Ask name.now) }
-    ensures served { IfOk result (λ status. Serves (calls.Ask name.now) (shown form.now) status session.old session.new (O.contents out.old) (O.contents out.new)) }
+    ensures served { AsksOne asking.now.form.now name.now result session.old session.new (O.contents out.old) (O.contents out.new) }
     ensures range { IfOk result (λ status. status ≤ 2) }
     ensures stop { IfErr result (λ stop. (stop ≡ Stop.CannotWrite) ⊎ (stop ≡ Stop.NoMemory) ⊎ (stop ≡ Stop.HistoryFull)) }
 {
-    let outcome = session.ask(rt, name, providers)?;
-    write_answer(alloc, form, name, &outcome, out)?;
+    let outcome = session.ask(rt, name, asking.providers)?;
+    write_answer(rt.alloc(), asking.form, name, &outcome, out)?;
     Ok(outcome_status(&outcome))
 }
 
@@ -196,9 +207,11 @@ fn make_changes<R: Wait, N: Ending, E: Write>(
     changes: Vec<Change>,
     err: &mut E,
 ) -> Result<u8, Stop>
-    ensures served { IfOk result (λ status. Served (map seen changes.items) told status session.old session.new (E.contents err.old) (E.contents err.new)) }
+    ensures served { IfOk result (λ status.
+        Served (map seen changes.items) told status session.old session.new (E.contents err.old) (E.contents err.new)) }
     ensures still { IsStill session.old session.new }
-    ensures refused { IfErr result (λ stop. is_refused stop ≡ true → ServedPart (map seen changes.items) told session.old session.new (E.contents err.old) (E.contents err.new)) }
+    ensures refused { IfErr result (λ stop. is_refused stop ≡ true →
+        ServedPart (map seen changes.items) told session.old session.new (E.contents err.old) (E.contents err.new)) }
     ensures untold { IsErrOf result Stop.CannotTell → OwesLast (λ events. Adds events session.old session.new) (map seen changes.items) }
     ensures range { IfOk result (λ status. status ≤ 2) }
     ensures stop { IfErr result (λ stop. (stop ≡ Stop.CannotTell) ⊎ (stop ≡ Stop.NoMemory) ⊎ (stop ≡ Stop.HistoryFull)) }
@@ -210,61 +223,49 @@ fn make_changes<R: Wait, N: Ending, E: Write>(
     Ok(status)
 }
 
-/// How the names of a file are asked: by which providers, in which form each answer is printed, which names, in their order, and how many threads
-/// share the work.
-#[derive(Drop)]
-pub(crate) struct Asking<'a, 'b> {
-    pub providers: &'a Providers,
-    pub form: &'a Form<'b>,
-    pub names: &'a BTreeSet<Name>,
-    pub threads: usize,
-}
-
 /// Asks the names in order, and prints their reports. Returns the greatest status of the outcomes.
-fn make_asks<R: Wait, N: Ending, O: Write>(
+fn make_asks<R: AllocGlobal + Wait, N: Ending, O: Write>(
     rt: &R,
-    alloc: Global,
     session: &mut Session<N>,
     asking: &Asking<'_, '_>,
     out: &mut O,
 ) -> Result<u8, Stop>
-    ensures served { IfOk result (λ status. Served (map calls.Ask asking.now.names.now.keys) (shown asking.now.form.now) status session.old session.new (O.contents out.old) (O.contents out.new)) }
+    ensures served { AsksAll asking.now.form.now asking.now.names.now.keys result session.old session.new (O.contents out.old) (O.contents out.new) }
     ensures still { IsStill session.old session.new }
-    ensures refused { IfErr result (λ stop. is_refused stop ≡ true → ServedPart (map calls.Ask asking.now.names.now.keys) (shown asking.now.form.now) session.old session.new (O.contents out.old) (O.contents out.new)) }
+    ensures refused { AsksSome asking.now.form.now asking.now.names.now.keys result session.old session.new (O.contents out.old) (O.contents out.new) }
     ensures range { IfOk result (λ status. status ≤ 2) }
     ensures stop { IfErr result (λ stop. (stop ≡ Stop.CannotWrite) ⊎ (stop ≡ Stop.NoMemory) ⊎ (stop ≡ Stop.HistoryFull)) }
 {
     let mut status: u8 = 0;
     for name in asking.names {
-        let asked = make_ask(rt, alloc, session, asking.providers, asking.form, name, out)?;
+        let asked = make_ask(rt, session, asking, name, out)?;
         status = status.max(asked);
     }
     Ok(status)
 }
 
-/// Asks the names in order, and prints their reports. Several threads share the work where there are several threads and several names. Returns the
+/// Asks the names in order, and prints their reports. Several threads share the work if there are several threads and several names. Returns the
 /// greatest status of the outcomes.
-fn ask_names<R: Threads + Wait + Sync, N: Ending, O: Write>(
+fn ask_names<R: AllocGlobal + Threads + Wait + Sync, N: Ending, O: Write>(
     rt: &R,
-    alloc: Global,
     session: &mut Session<N>,
     asking: &Asking<'_, '_>,
     out: &mut O,
 ) -> Result<u8, Stop>
-    ensures served { IfOk result (λ status. Served (map calls.Ask asking.now.names.now.keys) (shown asking.now.form.now) status session.old session.new (O.contents out.old) (O.contents out.new)) }
+    ensures served { AsksAll asking.now.form.now asking.now.names.now.keys result session.old session.new (O.contents out.old) (O.contents out.new) }
     ensures still { IsStill session.old session.new }
-    ensures refused { IfErr result (λ stop. is_refused stop ≡ true → ServedPart (map calls.Ask asking.now.names.now.keys) (shown asking.now.form.now) session.old session.new (O.contents out.old) (O.contents out.new)) }
+    ensures refused { AsksSome asking.now.form.now asking.now.names.now.keys result session.old session.new (O.contents out.old) (O.contents out.new) }
     ensures range { IfOk result (λ status. status ≤ 2) }
     ensures stop { IfErr result (λ stop. (stop ≡ Stop.CannotWrite) ⊎ (stop ≡ Stop.NoMemory) ⊎ (stop ≡ Stop.HistoryFull)) }
 {
     if asking.threads <= 1 || asking.names.len() <= 1 {
-        make_asks(rt, alloc, session, asking, out)
+        make_asks(rt, session, asking, out)
     } else {
-        ask_ahead(rt, alloc, session, asking, out)
+        ask_ahead(rt, session, asking, out)
     }
 }
 
-/// Whether standard output failed.
+/// Returns whether standard output failed.
 fn is_unwritten(made: &Result<u8, Stop>) -> bool
     ensures { IsTrue result ↔ (made.now ≡ Err Stop.CannotWrite) }
 {
@@ -285,7 +286,7 @@ fn is_unwritten(made: &Result<u8, Stop>) -> bool
     }
 }
 
-/// Flushes the reports that the buffer holds, unless the writer behind it failed already. Returns what the Asks returned, or `CannotWrite` where
+/// Flushes the reports that the buffer holds, unless the writer behind it failed already. Returns what the Asks returned, or `CannotWrite` if
 /// the writer fails here.
 fn hand_on<O: Write + Drop>(asked: Result<u8, Stop>, out: &mut BufWriter<O>) -> Result<u8, Stop>
     ensures asked { (result ≡ asked) ⊎ (result ≡ Err Stop.CannotWrite) }
@@ -301,39 +302,42 @@ fn hand_on<O: Write + Drop>(asked: Result<u8, Stop>, out: &mut BufWriter<O>) -> 
     }
 }
 
-/// Asks the names in order, prints their reports and flushes them, also where this stops before its end. Returns the greatest status of the
+/// Asks the names in order, prints their reports and flushes them, also if this stops before its end. Returns the greatest status of the
 /// outcomes.
-fn answer_all<R: Threads + Wait + Sync, N: Ending, O: Write + Drop>(
+fn answer_all<R: AllocGlobal + Threads + Wait + Sync, N: Ending, O: Write + Drop>(
     rt: &R,
-    alloc: Global,
     session: &mut Session<N>,
     asking: &Asking<'_, '_>,
     out: &mut BufWriter<O>,
 ) -> Result<u8, Stop>
-    ensures served { IfOk result (λ status. Served (map calls.Ask asking.now.names.now.keys) (shown asking.now.form.now) status session.old session.new (writer_contents O.contents out.old) (writer_contents O.contents out.new)) }
+    ensures served { AsksAll asking.now.form.now asking.now.names.now.keys result session.old session.new
+        (writer_contents O.contents out.old) (writer_contents O.contents out.new) }
     ensures still { IsStill session.old session.new }
-    ensures refused { IfErr result (λ stop. is_refused stop ≡ true → ServedPart (map calls.Ask asking.now.names.now.keys) (shown asking.now.form.now) session.old session.new (writer_contents O.contents out.old) (writer_contents O.contents out.new)) }
+    ensures refused { AsksSome asking.now.form.now asking.now.names.now.keys result session.old session.new
+        (writer_contents O.contents out.old) (writer_contents O.contents out.new) }
     ensures range { IfOk result (λ status. status ≤ 2) }
     ensures stop { IfErr result (λ stop. (stop ≡ Stop.CannotWrite) ⊎ (stop ≡ Stop.NoMemory) ⊎ (stop ≡ Stop.HistoryFull)) }
     ensures handed_on { (result ≡ Err Stop.CannotWrite) ⊎ (writer_buffer out.new ≡ []) }
 {
-    let asked = ask_names(rt, alloc, session, asking, out);
+    let asked = ask_names(rt, session, asking, out);
     hand_on(asked, out)
 }
 
 /// Makes the changes in order, then asks the names in order, and flushes what is printed. Returns the greatest status of the calls.
-fn make_all<R: Threads + Wait + Sync, N: Ending, O: Write + Drop, E: Write>(
+fn make_all<R: AllocGlobal + Threads + Wait + Sync, N: Ending, O: Write + Drop, E: Write>(
     rt: &R,
-    alloc: Global,
     session: &mut Session<N>,
     changes: Vec<Change>,
     asking: &Asking<'_, '_>,
     out: &mut BufWriter<O>,
     err: &mut E,
 ) -> Result<u8, Stop>
-    ensures served { IfOk result (λ status. ServedAll asking.now.form.now (map seen changes.items) asking.now.names.now.keys status session.old session.new (writer_contents O.contents out.old) (writer_contents O.contents out.new) (E.contents err.old) (E.contents err.new)) }
+    ensures served { IfOk result (λ status. ServedAll asking.now.form.now (map seen changes.items) asking.now.names.now.keys status session.old session.new
+        (writer_contents O.contents out.old) (writer_contents O.contents out.new) (E.contents err.old) (E.contents err.new)) }
     ensures still { IsStill session.old session.new }
-    ensures refused { IfErr result (λ stop. is_refused stop ≡ true → ServedFirst asking.now.form.now (map seen changes.items) asking.now.names.now.keys session.old session.new (writer_contents O.contents out.old) (writer_contents O.contents out.new) (E.contents err.old) (E.contents err.new)) }
+    ensures refused { IfErr result (λ stop. is_refused stop ≡ true →
+        ServedFirst asking.now.form.now (map seen changes.items) asking.now.names.now.keys session.old session.new
+        (writer_contents O.contents out.old) (writer_contents O.contents out.new) (E.contents err.old) (E.contents err.new)) }
     ensures untold { IsErrOf result Stop.CannotTell → OwesLast (λ events. Adds events session.old session.new) (map seen changes.items) }
     ensures silent { IsErrOf result Stop.CannotTell → Keeps (writer_contents O.contents out.old) (writer_contents O.contents out.new) }
     ensures unwritten { IsErrOf result Stop.CannotWrite → ServedThen (map seen changes.items) told session.old (E.contents err.old) (E.contents err.new) }
@@ -342,41 +346,47 @@ fn make_all<R: Threads + Wait + Sync, N: Ending, O: Write + Drop, E: Write>(
     ensures handed_on { writer_buffer out.old ≡ [] → (result ≡ Err Stop.CannotWrite) ⊎ (writer_buffer out.new ≡ []) }
 {
     let changed = make_changes(rt, session, changes, err)?;
-    let asked = answer_all(rt, alloc, session, asking, out)?;
+    let asked = answer_all(rt, session, asking, out)?;
     Ok(changed.max(asked))
 }
 
-/// Opens a database, makes the changes in order, asks the names in order, and closes the database, also where a call is refused or a writer fails.
-/// Returns the greatest status of the calls, whose reports the writer behind `out` then has. `TooManyCalls` exactly where there are more than
+/// Opens a database, makes the changes in order, asks the names in order, and closes the database, also if a call is refused or a writer fails.
+/// Returns the greatest status of the calls, whose reports the writer behind `out` then has. `TooManyCalls` exactly if there are more than
 /// `MOST_ENTRIES` of them.
 ///
 /// A failure of `out` is reported first, then a fault of the close, then a refused call or a line that was not written.
-fn serve<R: Threads + Wait + Sync, O: Write + Drop, E: Write>(
+fn call_and_close<R: AllocGlobal + Threads + Wait + Sync, O: Write + Drop, E: Write>(
     rt: &R,
-    alloc: Global,
     changes: Vec<Change>,
     asking: &Asking<'_, '_>,
     out: &mut BufWriter<O>,
     err: &mut E,
 ) -> Result<u8, Stop>
-    ensures done { IfOk result (λ status. Runs asking.now.form.now (map seen changes.items) asking.now.names.now.keys status (writer_contents O.contents out.old) (writer_contents O.contents out.new) (E.contents err.old) (E.contents err.new)) }
+    ensures done { IfOk result (λ status. Runs asking.now.form.now (map seen changes.items) asking.now.names.now.keys status
+        (writer_contents O.contents out.old) (writer_contents O.contents out.new) (E.contents err.old) (E.contents err.new)) }
     ensures range { IfOk result (λ status. status ≤ 2) }
-    ensures too_many { IsErrOf result Stop.TooManyCalls → (MOST_ENTRIES < length changes.items + length asking.now.names.now.keys) × Keeps (writer_contents O.contents out.old) (writer_contents O.contents out.new) × Keeps (E.contents err.old) (E.contents err.new) }
+    ensures too_many { IsErrOf result Stop.TooManyCalls → (MOST_ENTRIES < length changes.items + length asking.now.names.now.keys) ×
+        Keeps (writer_contents O.contents out.old) (writer_contents O.contents out.new) × Keeps (E.contents err.old) (E.contents err.new) }
     ensures few { (result ≡ Err Stop.TooManyCalls) ⊎ (length changes.items + length asking.now.names.now.keys ≤ MOST_ENTRIES) }
-    ensures refused { IfErr result (λ stop. is_refused stop ≡ true → Begins AreLegal asking.now.form.now (map seen changes.items) asking.now.names.now.keys (writer_contents O.contents out.old) (writer_contents O.contents out.new) (E.contents err.old) (E.contents err.new)) }
+    ensures refused { IfErr result (λ stop. is_refused stop ≡ true →
+        Begins AreLegal asking.now.form.now (map seen changes.items) asking.now.names.now.keys
+        (writer_contents O.contents out.old) (writer_contents O.contents out.new) (E.contents err.old) (E.contents err.new)) }
     ensures untold { IsErrOf result Stop.CannotTell → OwesLast AreLegal (map seen changes.items) }
     ensures silent { IsErrOf result Stop.CannotTell → Keeps (writer_contents O.contents out.old) (writer_contents O.contents out.new) }
     ensures unwritten { IsErrOf result Stop.CannotWrite → Prints (map seen changes.items) told (E.contents err.old) (E.contents err.new) }
-    ensures audited { IsErrOf result Stop.Audit → Begins AreReplied asking.now.form.now (map seen changes.items) asking.now.names.now.keys (writer_contents O.contents out.old) (writer_contents O.contents out.new) (E.contents err.old) (E.contents err.new) ⊎ (OwesLast AreReplied (map seen changes.items) × Keeps (writer_contents O.contents out.old) (writer_contents O.contents out.new)) }
+    ensures audited { IsErrOf result Stop.Audit →
+        Begins AreReplied asking.now.form.now (map seen changes.items) asking.now.names.now.keys
+        (writer_contents O.contents out.old) (writer_contents O.contents out.new) (E.contents err.old) (E.contents err.new) ⊎
+        (OwesLast AreReplied (map seen changes.items) × Keeps (writer_contents O.contents out.old) (writer_contents O.contents out.new)) }
     ensures other { IfErr result (λ stop. is_of_calls stop ≡ true) }
     ensures handed_on { writer_buffer out.old ≡ [] → (result ≡ Err Stop.CannotWrite) ⊎ (writer_buffer out.new ≡ []) }
 {
     let capacity = find_capacity(changes.len(), asking.names.len())?;
-    let (db, mut sessions) = Db::open(alloc, Waiting::new(rt), 0, capacity, 1)?;
+    let (db, mut sessions) = Db::open(rt.alloc(), Waiting::new(rt), 0, capacity, 1)?;
     let Some(mut session) = sessions.pop() else {
         unreachable!()
     };
-    let made = make_all(rt, alloc, &mut session, changes, asking, out, err);
+    let made = make_all(rt, &mut session, changes, asking, out, err);
     sessions.push_reserved(session);
     let closed = db.close(rt, sessions);
     if is_unwritten(&made) {
@@ -387,29 +397,36 @@ fn serve<R: Threads + Wait + Sync, O: Write + Drop, E: Write>(
 }
 
 /// Reads the whole input, makes the changes of its sections, asks each root name under which one puts a body, and prints what belongs to each call:
-/// of an Ask its line and its report, or one line that has both where the line of the command asks for JSON. Returns the greatest status of the
+/// of an Ask its line and its report, or one line that has both if the line of the command asks for JSON. Returns the greatest status of the
 /// calls. If `out` held nothing before, it holds nothing afterwards, unless the writer behind it failed.
 ///
 /// As many threads share the reading of the sections and the work on the Asks as the line says with `--jobs`, or as there are processors where it
-/// has no `--jobs`, or fewer where no more can be made. What is printed does not depend on how many.
+/// has no `--jobs`, or fewer if no more can be made. What is printed does not depend on how many.
 ///
-/// Stops with `CannotRead` where the input cannot be read or is over 16 MiB; with `File` at its first fault; with `TooManyCalls` where it makes
-/// more than 1,000,000 calls; with `CannotWrite` or `CannotTell` where a writer fails; with `NoMemory` where there is no room; with `HistoryFull`
-/// where a call finds a full history, and with `Audit` where the history does not agree with the session at the close.
-pub fn check<R: Threads + Wait + Sync, I: Read, O: Write + Drop, E: Write>(
+/// Stops with `CannotRead` if the input cannot be read or is over 16 MiB; with `File` at its first fault; with `TooManyCalls` if it makes
+/// more than 1,000,000 calls; with `CannotWrite` or `CannotTell` if a writer fails; with `NoMemory` if there is no room; with `HistoryFull`
+/// if a call finds a full history, and with `Audit` if the history does not agree with the session at the close.
+pub fn check<R, I, O, E>(
     rt: &R,
-    alloc: Global,
     providers: &Providers,
     line: &CheckLine,
     input: &mut I,
     out: &mut BufWriter<O>,
     err: &mut E,
 ) -> Result<u8, Stop>
-    ensures done { IfOk result (λ status. OfFile (I.remaining input.old) (λ file. Checked line.now file status (writer_contents O.contents out.old) (writer_contents O.contents out.new) (E.contents err.old) (E.contents err.new))) }
+where
+    R: AllocGlobal + Threads + Wait + Sync,
+    I: Read,
+    O: Write + Drop,
+    E: Write,
+    ensures done { IfOk result (λ status. OfFile (I.remaining input.old) (λ file. Checked line.now file status
+        (writer_contents O.contents out.old) (writer_contents O.contents out.new) (E.contents err.old) (E.contents err.new))) }
     ensures range { IfOk result (λ status. status ≤ 2) }
-    ensures stopped { IfErr result (λ stop. Leaves line.now stop (I.remaining input.old) (writer_contents O.contents out.old) (writer_contents O.contents out.new) (E.contents err.old) (E.contents err.new)) }
+    ensures stopped { IfErr result (λ stop. Leaves line.now stop (I.remaining input.old)
+        (writer_contents O.contents out.old) (writer_contents O.contents out.new) (E.contents err.old) (E.contents err.new)) }
     ensures handed_on { writer_buffer out.old ≡ [] → (result ≡ Err Stop.CannotWrite) ⊎ (writer_buffer out.new ≡ []) }
 {
+    let alloc = rt.alloc();
     let file = read_whole(alloc, input)?;
     let threads = find_threads(rt, line.jobs());
     let changes = read_changes_by(rt, alloc, threads, line.positions(), &file)?;
@@ -421,57 +438,67 @@ pub fn check<R: Threads + Wait + Sync, I: Read, O: Write + Drop, E: Write>(
         names: &names,
         threads,
     };
-    serve(rt, alloc, changes, &asking, out, err)
+    call_and_close(rt, changes, &asking, out, err)
 }
 
 /// Runs the whole command `check` on the input of the file that the line names: writes reports to `out` and faults to `err`, and returns the exit
 /// status, the greatest that applies. Before a line on `err` says why the command stops, `out` was flushed; after `cannot write` it still holds
 /// what the writer behind it did not take.
 ///
-/// 0 where no report has an error; 1 where one has; 2 where the file has a fault, a put stores nothing or an outcome is no report; 3 where the
-/// command stops for another reason, which is the last line on `err`. The fault of `err` where that line cannot be written: then nothing more can
+/// 0 if no report has an error; 1 if one has; 2 where the file has a fault, a put stores nothing or an outcome is no report; 3 where the
+/// command stops for another reason, which is the last line on `err`. The fault of `err` if that line cannot be written: then nothing more can
 /// be said.
-pub fn check_and_tell<R: Threads + Wait + Sync, I: Read, O: Write + Drop, E: Write>(
+pub fn check_and_tell<R, I, O, E>(
     rt: &R,
-    alloc: Global,
     providers: &Providers,
     line: &CheckLine,
     input: &mut I,
     out: &mut BufWriter<O>,
     err: &mut E,
 ) -> io::Result<u8>
+where
+    R: AllocGlobal + Threads + Wait + Sync,
+    I: Read,
+    O: Write + Drop,
+    E: Write,
     ensures range { IfOk result (λ status. status ≤ 3) }
-    ensures ended { IfOk result (λ status. IsEnd line.now (I.remaining input.old) status (writer_contents O.contents out.old) (writer_contents O.contents out.new) (E.contents err.old) (E.contents err.new)) }
+    ensures ended { IfOk result (λ status. IsEnd line.now (I.remaining input.old) status
+        (writer_contents O.contents out.old) (writer_contents O.contents out.new) (E.contents err.old) (E.contents err.new)) }
     ensures handed_on { writer_buffer out.old ≡ [] → IfOk result (λ status. status < 3 → writer_buffer out.new ≡ []) }
 {
-    match check(rt, alloc, providers, line, input, out, err) {
+    match check(rt, providers, line, input, out, err) {
         Ok(status) => Ok(status),
         Err(stop) => stop_with(line.file(), &stop, err),
     }
 }
 
 /// Runs the whole command `check` on the input of the file that the line names, and returns the exit status, the greatest that applies: 0 where no
-/// report has an error; 1 where one has; 2 where the file has a fault, a put stores nothing or an outcome is no report; 3 where the command stops
-/// for another reason, which is the last line on `err`, or where standard error fails. Reports go to `out` and faults to `err`. The line has to be
+/// report has an error; 1 if one has; 2 where the file has a fault, a put stores nothing or an outcome is no report; 3 where the command stops
+/// for another reason, which is the last line on `err`, or if standard error fails. Reports go to `out` and faults to `err`. The line has to be
 /// one of `check`.
-pub fn check_over<R: Threads + Wait + Sync, I: Read, O: Write + Drop, E: Write>(
+pub fn check_over<R, I, O, E>(
     rt: &R,
-    alloc: Global,
     providers: &Providers,
     line: &Line,
     input: &mut I,
     out: &mut BufWriter<O>,
     err: &mut E,
 ) -> u8
+where
+    R: AllocGlobal + Threads + Wait + Sync,
+    I: Read,
+    O: Write + Drop,
+    E: Write,
     requires { is_check line.now ≡ true }
     ensures range { result ≤ 3 }
-    ensures ended { result < 3 → IsEndOf line.now (I.remaining input.old) result (writer_contents O.contents out.old) (writer_contents O.contents out.new) (E.contents err.old) (E.contents err.new) }
+    ensures ended { result < 3 → IsEndOf line.now (I.remaining input.old) result
+        (writer_contents O.contents out.old) (writer_contents O.contents out.new) (E.contents err.old) (E.contents err.new) }
     ensures handed_on { writer_buffer out.old ≡ [] → result < 3 → writer_buffer out.new ≡ [] }
 {
     let Line::Check(line) = line else {
         unreachable!()
     };
-    match check_and_tell(rt, alloc, providers, line, input, out, err) {
+    match check_and_tell(rt, providers, line, input, out, err) {
         Ok(status) => status,
         Err(_) => 3,
     }

@@ -39,7 +39,7 @@ fn push_source<'a>(
     }
 }
 
-/// The texts of the sections of a file that makes these changes, of those that put units that suit their names.
+/// Returns the texts of the sections of a file that makes these changes, of those that put units that suit their names.
 fn find_sources<'a>(
     alloc: Global,
     file: &'a [u8],
@@ -58,7 +58,7 @@ fn find_sources<'a>(
     Ok(sources)
 }
 
-/// The form that a line asks for, of the answers to a file that makes these changes. `NoMemory` where there is no room for the texts.
+/// Returns the form that a line asks for, of the answers to a file that makes these changes. `NoMemory` if there is no room for the texts.
 pub(crate) fn find_form<'a>(
     alloc: Global,
     line: &CheckLine,

@@ -12,7 +12,7 @@ use std::alloc::{AllocError, Global};
 
 /// Puts a call with its reply into an object: `number`, how many calls its session had made before it, and the reply. The reply is
 /// `reply` with its word for declarations, a put and a removal, `outcome` for an Ask, and `roots`, a list of objects with `name` and
-/// `outcome`, for an Ask for all. Returns `AllocError` only where memory was refused. (RFC 8259 for the text of JSON.)
+/// `outcome`, for an Ask for all. Returns `AllocError` only if memory was refused. (RFC 8259 for the text of JSON.)
 pub fn put_entry(
     members: &mut Map<String, Value>,
     alloc: Global,
@@ -26,7 +26,7 @@ pub fn put_entry(
     put(members, alloc, reply_key(event), reply)
 }
 
-/// The value of an entry.
+/// Returns the value of an entry.
 fn entry_value(alloc: Global, entry: &Entry) -> Result<Value, AllocError>
     ensures { IfOk result (λ value. HasText value (entry_json entry.now)) }
 {
@@ -37,7 +37,7 @@ fn entry_value(alloc: Global, entry: &Entry) -> Result<Value, AllocError>
 }
 
 /// Returns the line of an entry, without its line feed: one object of JSON, compact, its keys in byte order, and exactly these bytes. It
-/// says which session made the call, from 0, and else what `put_entry` says. Returns `AllocError` only where memory was refused. (RFC
+/// says which session made the call, from 0, and else what `put_entry` says. Returns `AllocError` only if memory was refused. (RFC
 /// 8259 for the text of JSON.)
 pub fn entry_line(alloc: Global, entry: &Entry) -> Result<String, AllocError>
     ensures { IfOk result (λ line. string_bytes line ≡ entry_json entry.now) }

@@ -13,7 +13,7 @@ use bc_prov::{Outcome, Shared};
 use serde_json::{Map, ToValue, Value, put};
 use std::alloc::{AllocError, Global};
 
-/// The value of a root's name and its outcome.
+/// Returns the value of a root's name and its outcome.
 fn root_value(alloc: Global, name: &Name, outcome: &Outcome) -> Result<Value, AllocError>
     ensures { IfOk result (λ value. IsRoot (name.now, outcome.now) (data_of value)) }
 {
@@ -24,7 +24,7 @@ fn root_value(alloc: Global, name: &Name, outcome: &Outcome) -> Result<Value, Al
     Ok(Value::Object(members))
 }
 
-/// The array of roots with their outcomes, in order.
+/// Returns the array of roots with their outcomes, in order.
 fn roots_value(alloc: Global, rows: &[(Name, Shared<Outcome>)]) -> Result<Value, AllocError>
     ensures { IfOk result (λ value. (roots : List Data) × AllZip IsRoot rows.now roots × (data_of value ≡ array (items_of roots))) }
 {
@@ -35,7 +35,7 @@ fn roots_value(alloc: Global, rows: &[(Name, Shared<Outcome>)]) -> Result<Value,
     Ok(Value::Array(values))
 }
 
-/// The key of what a call was answered.
+/// Returns the key of what a call was answered.
 pub(crate) fn reply_key(event: &Event) -> &'static str
     ensures { result.now ≡ reply_key event.now }
 {
@@ -46,7 +46,7 @@ pub(crate) fn reply_key(event: &Event) -> &'static str
     }
 }
 
-/// The value of what a call was answered.
+/// Returns the value of what a call was answered.
 pub(crate) fn reply_value(alloc: Global, event: &Event) -> Result<Value, AllocError>
     ensures { IfOk result (λ value. IsReplyData event.now (data_of value)) }
 {

@@ -4,8 +4,8 @@ ghost use Rattle.std.specs.Prelude.{◌≡◌, ◌≤◌, ◌<◌, ◌+◌, IfOk
 use crate::stop::Stop;
 use bc_share::MOST_ENTRIES;
 
-/// How many entries a history needs for so many changes and so many Asks of names: one for each, and at least one. `TooManyCalls` exactly where
-/// there are more than `MOST_ENTRIES` of them.
+/// Returns how many entries a history needs for so many changes and so many Asks of names: one for each, and at least one. `TooManyCalls` exactly
+/// if there are more than `MOST_ENTRIES` of them.
 pub fn find_capacity(changes: usize, names: usize) -> Result<u32, Stop>
     ensures fits { IfOk result (λ capacity. (capacity ≡ max 1 (changes + names)) × (changes + names ≤ MOST_ENTRIES)) }
     ensures stop { IfErr result (λ stop. (stop ≡ Stop.TooManyCalls) × (MOST_ENTRIES < changes + names)) }

@@ -27,7 +27,7 @@ pub enum Change {
     Put(Name, Shared<Unit>),
 }
 
-/// The declarations that a text spells, in a pointer that can be shared; or the text's fault, or `NoMemory` where there is no room.
+/// Returns the declarations that a text spells, in a pointer that can be shared; or the text's fault, or `NoMemory` if there is no room.
 pub fn read_declarations(alloc: Global, text: &[u8]) -> Result<Shared<Types>, ReadFault>
     ensures read { IfOk result (λ types. read_types text.now ≡ Ok types) }
     ensures unread { IfErr result (λ fault. fault ≢ ReadFault.NoMemory → read_types text.now ≡ Err fault) }
@@ -39,7 +39,7 @@ pub fn read_declarations(alloc: Global, text: &[u8]) -> Result<Shared<Types>, Re
     }
 }
 
-/// The body that a text spells, in a pointer that can be shared; or the text's fault, or `NoMemory` where there is no room.
+/// Returns the body that a text spells, in a pointer that can be shared; or the text's fault, or `NoMemory` if there is no room.
 pub fn read_body(alloc: Global, text: &[u8]) -> Result<Shared<Unit>, ReadFault>
     ensures read { IfOk result (λ unit. read text.now ≡ Ok unit) }
     ensures unread { IfErr result (λ fault. fault ≢ ReadFault.NoMemory → read text.now ≡ Err fault) }
@@ -51,7 +51,7 @@ pub fn read_body(alloc: Global, text: &[u8]) -> Result<Shared<Unit>, ReadFault>
     }
 }
 
-/// The stop of a command at a section whose text cannot be read: the fault of the file at the line of the section's header, or `NoMemory`.
+/// Returns the stop of a command at a section whose text cannot be read: the fault of the file at the line of the section's header, or `NoMemory`.
 pub fn text_stop(line: usize, fault: ReadFault) -> Stop
     ensures { result ≡ stop_of line fault }
 {
@@ -70,7 +70,7 @@ pub fn text_stop(line: usize, fault: ReadFault) -> Stop
     })
 }
 
-/// The stop of a command at a section that has this fault: the fault of the file at the line of the section's header.
+/// Returns the stop of a command at a section that has this fault: the fault of the file at the line of the section's header.
 pub fn stop_at(section: &Section<'_>, kind: FaultKind) -> Stop
     ensures { result ≡ Stop.File (record { line = section.now.line; kind = kind; position = None }) }
 {
@@ -82,7 +82,7 @@ pub fn stop_at(section: &Section<'_>, kind: FaultKind) -> Stop
     })
 }
 
-/// What a header line asks for that names no session, or `None` exactly where it asks for nothing.
+/// Returns what a header line asks for that names no session, or `None` exactly if it asks for nothing.
 fn read_header(header: &[u8]) -> Option<Heading>
     ensures found { IfSome result (λ heading. IsHeader None heading header.now) }
     ensures none { IfNone result ((heading : Heading) → ¬ IsHeader None heading header.now) }
@@ -90,7 +90,7 @@ fn read_header(header: &[u8]) -> Option<Heading>
     read_heading(behind(header, b"@")?)
 }
 
-/// The change of a section with the header line `@types`.
+/// Returns the change of a section with the header line `@types`.
 fn read_stored(alloc: Global, section: &Section<'_>) -> Result<Change, Stop>
     requires { IsHeader None Heading.Types section.now.header.now }
     ensures { GivesChange (part_of section.now) result }
@@ -101,7 +101,7 @@ fn read_stored(alloc: Global, section: &Section<'_>) -> Result<Change, Stop>
     }
 }
 
-/// The change of a section with the header line `@put` and this name.
+/// Returns the change of a section with the header line `@put` and this name.
 fn read_put(alloc: Global, section: &Section<'_>, name: Name) -> Result<Change, Stop>
     requires { IsHeader None (Heading.Put name) section.now.header.now }
     ensures { GivesChange (part_of section.now) result }
@@ -112,7 +112,7 @@ fn read_put(alloc: Global, section: &Section<'_>, name: Name) -> Result<Change, 
     }
 }
 
-/// The change of a section whose header line asks for this.
+/// Returns the change of a section whose header line asks for this.
 fn read_asked(alloc: Global, section: &Section<'_>, heading: Heading) -> Result<Change, Stop>
     requires { IsHeader None heading section.now.header.now }
     ensures { GivesChange (part_of section.now) result }
@@ -126,7 +126,7 @@ fn read_asked(alloc: Global, section: &Section<'_>, heading: Heading) -> Result<
     }
 }
 
-/// The change that a section makes.
+/// Returns the change that a section makes.
 pub(crate) fn read_change(alloc: Global, section: &Section<'_>) -> Result<Change, Stop>
     ensures { GivesChange (part_of section.now) result }
 {
@@ -136,8 +136,8 @@ pub(crate) fn read_change(alloc: Global, section: &Section<'_>) -> Result<Change
     }
 }
 
-/// The changes that a file makes, in the order of its sections. `File` with the file's first fault where it has one, `NoMemory` where there is no
-/// room.
+/// Returns the changes that a file makes, in the order of its sections. `File` with the file's first fault if it has one, `NoMemory` if there
+/// is no room.
 pub fn read_changes(alloc: Global, file: &[u8]) -> Result<Vec<Change>, Stop>
     ensures { GivesChanges (sections_of file.now) result }
 {
@@ -148,8 +148,8 @@ pub fn read_changes(alloc: Global, file: &[u8]) -> Result<Vec<Change>, Stop>
     Ok(changes)
 }
 
-/// The changes that a file makes, in the order of its sections. `File` with the file's first fault where it has one, with its position in the file
-/// where positions are asked for; `NoMemory` where there is no room.
+/// Returns the changes that a file makes, in the order of its sections. `File` with the file's first fault if it has one, with its position in the
+/// file if positions are asked for; `NoMemory` if there is no room.
 pub fn read_told_changes(alloc: Global, positions: bool, file: &[u8]) -> Result<Vec<Change>, Stop>
     ensures { GivesTold positions file.now result }
 {

@@ -17,7 +17,7 @@ pub enum Heading {
     All,
 }
 
-/// The rest of a text behind this beginning, or `None` exactly where the text does not begin so.
+/// Returns the rest of a text behind this beginning, or `None` exactly if the text does not begin so.
 pub fn behind<'a>(text: &'a [u8], beginning: &[u8]) -> Option<&'a [u8]>
     ensures found { IfSome result (λ rest. text.now ≡ beginning.now ++ rest.now) }
     ensures none { IfNone result ((rest : List ℕ) → ¬ (text.now ≡ beginning.now ++ rest)) }
@@ -25,7 +25,7 @@ pub fn behind<'a>(text: &'a [u8], beginning: &[u8]) -> Option<&'a [u8]>
     text.strip_prefix(beginning)
 }
 
-/// The name behind a verb, or `None` exactly where the words are not the verb and a name.
+/// Returns the name behind a verb, or `None` exactly if the words are not the verb and a name.
 fn read_named(words: &[u8], verb: &[u8]) -> Option<Name>
     ensures found { IfSome result (λ name. IsName name × (words.now ≡ verb.now ++ name_text name)) }
     ensures none { IfNone result ((name : NameParts) → IsName name → ¬ (words.now ≡ verb.now ++ name_text name)) }
@@ -33,8 +33,8 @@ fn read_named(words: &[u8], verb: &[u8]) -> Option<Name>
     Name::read(behind(words, verb)?)
 }
 
-/// What the words of a header line ask for, behind its `@` and the number of a session where there is one: `types` or `askall`, or `put`, `remove`
-/// or `ask`, one blank and a name. `None` exactly where they ask for nothing.
+/// Returns what the words of a header line ask for, behind its `@` and the number of a session if there is one: `types` or `askall`, or `put`,
+/// `remove` or `ask`, one blank and a name. `None` exactly if they ask for nothing.
 pub fn read_heading(words: &[u8]) -> Option<Heading>
     ensures found { IfSome result (λ heading. IsHeading heading words.now) }
     ensures none { IfNone result ((heading : Heading) → ¬ IsHeading heading words.now) }

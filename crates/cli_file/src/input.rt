@@ -10,7 +10,7 @@ use std::io::{ErrorKind, Read};
 /// The longest file that is read, in bytes: 16 MiB.
 pub const LIMIT: usize = 16_777_216;
 
-/// A reader that never answers `OutOfMemory`: where that is what reading it comes to, memory of our own was refused.
+/// A reader that never answers `OutOfMemory`: if that is what reading it comes to, memory of our own was refused.
 #[derive(Drop)]
 struct Foreign<R> {
     reader: R,
@@ -30,7 +30,7 @@ impl<R: Read> Read for Foreign<R> {
     }
 }
 
-/// Reads the whole of the input: its bytes, at most 16 MiB. `CannotRead` where a read fails or the input is longer; `NoMemory` where there is no
+/// Reads the whole of the input: its bytes, at most 16 MiB. `CannotRead` if a read fails or the input is longer; `NoMemory` if there is no
 /// room for it.
 pub fn read_whole<I: Read>(alloc: Global, input: &mut I) -> Result<Vec<u8>, Stop>
     ensures whole { IfOk result (λ file. IfSome (I.remaining input.old) (λ bytes. file.items ≡ bytes)) }

@@ -6,7 +6,7 @@ use crate::fault::{FaultKind, FileFault};
 use crate::stop::Stop;
 use bc_position::{Position, position_below};
 
-/// The byte that a fault tells of, by how many bytes of the section's text are in front of it; `None` where it tells of no byte.
+/// Returns the byte that a fault tells of, by how many bytes of the section's text are in front of it; `None` if it tells of no byte.
 fn byte_of(kind: FaultKind) -> Option<usize>
     ensures { result ≡ byte_of kind }
 {
@@ -19,7 +19,7 @@ fn byte_of(kind: FaultKind) -> Option<usize>
     }
 }
 
-/// Where in the file the byte is that its fault tells of.
+/// Returns where in the file the byte is that its fault tells of.
 fn byte_position(file: &[u8], fault: FileFault) -> Option<Position>
     ensures { result ≡ byte_position file.now fault }
 {
@@ -27,7 +27,7 @@ fn byte_position(file: &[u8], fault: FileFault) -> Option<Position>
     Some(position_below(file, fault.line, at))
 }
 
-/// A fault of the file with its position, where positions are asked for, and else with none.
+/// Returns a fault of the file with its position, if positions are asked for, and else with none.
 fn locate_fault(positions: bool, file: &[u8], fault: FileFault) -> FileFault
     ensures { result ≡ located positions file.now fault }
 {
@@ -43,8 +43,8 @@ fn locate_fault(positions: bool, file: &[u8], fault: FileFault) -> FileFault
     }
 }
 
-/// The stop of a command on this file, with the line and column of its byte where it is a fault of the file that has a byte and positions are asked
-/// for. Any other stop is as it was.
+/// Returns the stop of a command on this file, with the line and column of its byte if it is a fault of the file that has a byte and positions are
+/// asked for. Any other stop is as it was.
 pub fn locate(positions: bool, file: &[u8], stop: Stop) -> Stop
     ensures { result ≡ located_stop positions file.now stop }
 {

@@ -22,7 +22,7 @@ pub struct Sections<'a> {
     ghost numbered: { line + length rest.now < 2 ^ 64 },
 }
 
-/// The first line without its line feed, and what follows it.
+/// Returns the first line without its line feed, and what follows it.
 fn cut_line(text: &[u8]) -> (&[u8], &[u8])
     ensures line { result.0.now ≡ without_end text.now }
     ensures rest { result.1.now ≡ drop_through 10 text.now }
@@ -35,8 +35,7 @@ fn cut_line(text: &[u8]) -> (&[u8], &[u8])
     }
 }
 
-/// How long the text is up to the next header line, and the number of that line, where the text begins with
-/// the line `first`.
+/// Returns how long the text is up to the next header line, and the number of that line, if the text begins with the line `first`.
 fn find_header(text: &[u8], first: usize) -> (usize, usize)
     requires { first + length text.now < 2 ^ 64 }
     ensures within { result.0 ≤ length text.now }
@@ -46,6 +45,7 @@ fn find_header(text: &[u8], first: usize) -> (usize, usize)
 {
     let mut at = 0;
     let mut number = first;
+    // Only the first byte of a line can begin a header, so `memchr` skips from line feed to line feed.
     while at < text.len() {
         if text[at] == b'@' {
             return (at, number);
@@ -62,7 +62,7 @@ fn find_header(text: &[u8], first: usize) -> (usize, usize)
 impl<'a> Sections<'a> {
     ghost use Rattle.cli_file.specs.Left.{left};
 
-    /// The sections of this file, from the front.
+    /// Returns the sections of this file, from the front.
     pub fn of(file: &'a [u8]) -> Self
         ensures { left result ≡ sections_of file.now }
     {
@@ -83,7 +83,7 @@ impl<'a> Iterator for Sections<'a> {
 
     ghost remaining = { item_count left };
 
-    /// The next section, or `None` where there is no more.
+    /// Returns the next section, or `None` if there is no more.
     fn next(&mut self) -> Option<Section<'a>> {
         if self.rest.is_empty() {
             return None;

@@ -35,7 +35,7 @@ impl<'a> Model for PendingSection<'a> {
 }
 
 impl<'a> PendingSection<'a> {
-    /// A section that was not read yet.
+    /// Returns a section that was not read yet.
     fn new(section: Section<'a>) -> PendingSection<'a>
         ensures { result ≡ part_of section.entry }
     {
@@ -53,7 +53,7 @@ impl<'a> PendingSection<'a> {
         self.read = Some(read);
     }
 
-    /// The change that the section makes. It is read now where it was not read yet.
+    /// Returns the change that the section makes. It is read now if it was not read yet.
     fn into_change(self, alloc: Global) -> Result<Change, Stop>
         ensures { GivesChange self.entry result }
     {
@@ -64,7 +64,7 @@ impl<'a> PendingSection<'a> {
     }
 }
 
-/// The sections of a file, none of them read yet.
+/// Returns the sections of a file, none of them read yet.
 fn list_sections<'a>(alloc: Global, file: &'a [u8]) -> Result<Vec<PendingSection<'a>>, AllocError>
     ensures { IfOk result (λ sections. sections.items ≡ sections_of file.now) }
 {
@@ -95,7 +95,7 @@ fn read_each<R: Threads + Sync>(
     );
 }
 
-/// The sections of a file, all of them read, in so many threads at most.
+/// Returns the sections of a file, all of them read, in so many threads at most.
 fn read_sections<'a, R: Threads + Sync>(
     rt: &R,
     alloc: Global,
@@ -109,12 +109,13 @@ fn read_sections<'a, R: Threads + Sync>(
     Ok(sections)
 }
 
-/// The changes that these sections make, in their order. `File` with the first fault of them where one has a fault, `NoMemory` where there is no
-/// room.
+/// Returns the changes that these sections make, in their order. `File` with the first fault of them if one has a fault, `NoMemory` if there is
+/// no room.
 fn gather(alloc: Global, sections: Vec<PendingSection<'_>>) -> Result<Vec<Change>, Stop>
     ensures { GivesChanges sections.entry.items result }
 {
     let mut changes = Vec::new(alloc);
+    // Sections after a fault were read too. Gathered in order, the first fault still comes first.
     for section in sections {
         changes.push(section.into_change(alloc)?)?;
     }
@@ -134,9 +135,9 @@ fn read_changes_ahead<R: Threads + Sync>(
     gather(alloc, sections)
 }
 
-/// The changes that a file makes, in the order of its sections. Where there are several threads, they share the reading of the sections. `File`
-/// with the first fault of the file where it has one, with its position in the file where positions are asked for; `NoMemory` where there is no
-/// room.
+/// Returns the changes that a file makes, in the order of its sections. Where there are several threads, they share the reading of the sections.
+/// `File` with the first fault of the file if it has one, with its position in the file if positions are asked for; `NoMemory` if there is
+/// no room.
 pub fn read_changes_by<R: Threads + Sync>(
     rt: &R,
     alloc: Global,

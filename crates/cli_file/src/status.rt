@@ -6,7 +6,7 @@ use bc_calls::{Event, PutReply};
 use bc_names::Name;
 use bc_prov::{BodyErrors, Outcome, Shared};
 
-/// The status of a put with this reply.
+/// Returns the status of a put with this reply.
 pub fn put_status(reply: PutReply) -> u8
     ensures value { result ≡ put_status reply }
     ensures range { result ≤ 2 }
@@ -17,14 +17,14 @@ pub fn put_status(reply: PutReply) -> u8
     }
 }
 
-/// Whether no body has an error.
+/// Returns whether no body has an error.
 fn are_clean(bodies: &[BodyErrors]) -> bool
     ensures { result ≡ are_clean bodies.now }
 {
     bodies.iter().all(|body| body.errors.get().len() == 0)
 }
 
-/// The status of an Ask with this outcome.
+/// Returns the status of an Ask with this outcome.
 pub fn outcome_status(outcome: &Outcome) -> u8
     ensures value { result ≡ outcome_status outcome.now }
     ensures range { result ≤ 2 }
@@ -35,7 +35,7 @@ pub fn outcome_status(outcome: &Outcome) -> u8
     }
 }
 
-/// The greatest status of the outcomes of some names.
+/// Returns the greatest status of the outcomes of some names.
 fn rows_status(rows: &[(Name, Shared<Outcome>)]) -> u8
     ensures value { result ≡ rows_status rows.now }
     ensures range { result ≤ 2 }
@@ -47,8 +47,8 @@ fn rows_status(rows: &[(Name, Shared<Outcome>)]) -> u8
     status
 }
 
-/// The status of a call by its reply: 0; 1 for a report with an error; 2 for a put that stored nothing, and for an Ask that found no report; the
-/// greatest of those of its outcomes for an Ask for all.
+/// Returns the status of a call by its reply: 0; 1 for a report with an error; 2 for a put that stored nothing, and for an Ask that found no report;
+/// the greatest of those of its outcomes for an Ask for all.
 pub fn event_status(event: &Event) -> u8
     ensures value { result ≡ event_status event.now }
     ensures range { result ≤ 2 }

@@ -89,7 +89,7 @@ impl From<CloseFault> for Stop {
     }
 }
 
-/// The status of a command that stops: 2 for a fault of the file, 3 for all else.
+/// Returns the status of a command that stops: 2 for a fault of the file, 3 for all else.
 fn exit_status(stop: &Stop) -> u8
     ensures value { result ≡ stop_status stop.now }
     ensures range { result ≤ 3 }
@@ -117,7 +117,7 @@ fn write_unread<E: Write>(file: &str, err: &mut E) -> io::Result<()>
     err.write_all(b"\n")
 }
 
-/// Writes why a command on the file of this name stops: one line, and none where standard error failed already.
+/// Writes why a command on the file of this name stops: one line, and none if standard error failed already.
 fn write_last_line<E: Write>(file: &str, stop: &Stop, err: &mut E) -> io::Result<()>
     ensures { OnOk result (Appends (E.contents err.old) (E.contents err.new) (last_line file.now stop.now)) }
 {
@@ -136,7 +136,7 @@ fn write_last_line<E: Write>(file: &str, stop: &Stop, err: &mut E) -> io::Result
 }
 
 /// Writes why a command on the file of this name stops, and returns its exit status: 2 where the file has a fault, 3 for all else. A control
-/// character of the name is written as `?`, so that this is one line. The writer's fault where this cannot be written.
+/// character of the name is written as `?`, so that this is one line. The writer's fault if this cannot be written.
 pub fn stop_with<E: Write>(file: &str, stop: &Stop, err: &mut E) -> io::Result<u8>
     ensures range { IfOk result (λ status. status ≤ 3) }
     ensures status { IfOk result (λ status. status ≡ stop_status stop.now) }

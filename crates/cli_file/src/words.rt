@@ -10,7 +10,8 @@ use std::io::Write;
 /// Prints the text of help about a topic, or says that standard output failed.
 fn help<O: Write, E: Write>(topic: Topic, out: &mut O, err: &mut E) -> io::Result<u8>
     ensures range { IfOk result (λ status. status ≤ 3) }
-    ensures answered { IfOk result (λ status. Answers (LineFault.Help topic) status (O.contents out.old) (O.contents out.new) (E.contents err.old) (E.contents err.new)) }
+    ensures answered { IfOk result (λ status. Answers (LineFault.Help topic) status
+        (O.contents out.old) (O.contents out.new) (E.contents err.old) (E.contents err.new)) }
 {
     match write_usage(topic, out) {
         Ok(()) => Ok(0),
@@ -21,7 +22,8 @@ fn help<O: Write, E: Write>(topic: Topic, out: &mut O, err: &mut E) -> io::Resul
 /// Prints the line of the version, or says that standard output failed.
 fn version<O: Write, E: Write>(out: &mut O, err: &mut E) -> io::Result<u8>
     ensures range { IfOk result (λ status. status ≤ 3) }
-    ensures answered { IfOk result (λ status. Answers LineFault.Version status (O.contents out.old) (O.contents out.new) (E.contents err.old) (E.contents err.new)) }
+    ensures answered { IfOk result (λ status. Answers LineFault.Version status
+        (O.contents out.old) (O.contents out.new) (E.contents err.old) (E.contents err.new)) }
 {
     match write_version(out) {
         Ok(()) => Ok(0),
@@ -30,7 +32,7 @@ fn version<O: Write, E: Write>(out: &mut O, err: &mut E) -> io::Result<u8>
 }
 
 /// Answers words that write no line, and returns the exit status: 0 with the text of help about a topic or the line of the version on `out`; else 3
-/// with one line on `err` that says why, which is `cannot write` where `out` failed. The fault of `err` where that cannot be written. It allocates
+/// with one line on `err` that says why, which is `cannot write` if `out` failed. The fault of `err` if that cannot be written. It allocates
 /// nothing.
 pub fn answer_words<O: Write, E: Write>(
     fault: LineFault,

@@ -7,14 +7,14 @@ use std::alloc::Global;
 use std::io;
 use std::io::{BufRead, ErrorKind};
 
-/// A line of an input: its bytes without the line feed, or `TooLong` where it has more bytes than the reader's limit.
+/// A line of an input: its bytes without the line feed, or `TooLong` if it has more bytes than the reader's limit.
 #[derive(Drop)]
 pub enum InputLine {
     Text(Vec<u8>),
     TooLong,
 }
 
-/// The line of which at most `limit + 1` bytes were kept.
+/// Returns the line of which at most `limit + 1` bytes were kept.
 fn finish(line: Vec<u8>, limit: usize) -> InputLine
     requires { limit < 2 ^ 64 - 1 }
     ensures { (bytes : List ℕ) → line.items ≡ take (limit + 1) bytes → IsLine limit bytes result }
@@ -30,7 +30,7 @@ fn finish(line: Vec<u8>, limit: usize) -> InputLine
 /// is read to its end and is `TooLong`.
 ///
 /// Returns an error of the input as it is, but for `ErrorKind::Interrupted`, after which reading goes on, and
-/// `ErrorKind::OutOfMemory`, in place of which it is `ErrorKind::Other`; and `ErrorKind::OutOfMemory` only where memory was
+/// `ErrorKind::OutOfMemory`, in place of which it is `ErrorKind::Other`; and `ErrorKind::OutOfMemory` only if memory was
 /// refused. Behind an error nothing is known of what was read.
 pub fn read_input_line<I: BufRead>(
     alloc: Global,

@@ -21,7 +21,7 @@ struct Cut {
     met: Met,
 }
 
-/// The piece in front of the first line feed; all of the bytes, where they have no line feed.
+/// Returns the piece in front of the first line feed; all of the bytes, where they have no line feed.
 fn find_cut(bytes: &[u8]) -> Cut
     ensures { IsCut bytes.now result.piece result.through result.met }
 {
@@ -43,7 +43,7 @@ fn find_cut(bytes: &[u8]) -> Cut
 
 /// Takes from the input as much of its first line as one read gives, with the line feed, and appends it to what was read of that line
 /// before, of which at most `most` bytes are kept. An interrupted read takes nothing. An error of the input is returned as it is, but of
-/// the kind `Other` where it was `OutOfMemory`, which is refused memory alone. Behind an error nothing is known of what was taken.
+/// the kind `Other` if it was `OutOfMemory`, which is refused memory alone. Behind an error nothing is known of what was taken.
 pub(crate) fn take_piece<I: BufRead>(
     input: &mut I,
     most: usize,

@@ -9,7 +9,7 @@ use crate::usage::VERSION;
 use clap::{Arg, ArgAction, Command};
 use std::alloc::{AllocError, Global};
 
-// FILE, which must stand.
+/// FILE, which must stand.
 fn file_argument<'a>(alloc: Global) -> Arg<'a>
     ensures rule { rule_of result ≡ file_rule }
     ensures local { result.global ≡ false }
@@ -17,7 +17,7 @@ fn file_argument<'a>(alloc: Global) -> Arg<'a>
     Arg::new(alloc, "FILE").required(true)
 }
 
-// `--json`.
+/// `--json`.
 fn json_option<'a>(alloc: Global) -> Arg<'a>
     ensures rule { rule_of result ≡ json_rule }
     ensures local { result.global ≡ false }
@@ -27,7 +27,7 @@ fn json_option<'a>(alloc: Global) -> Arg<'a>
         .action(ArgAction::SetTrue)
 }
 
-// `--source`.
+/// `--source`.
 fn source_option<'a>(alloc: Global) -> Arg<'a>
     ensures rule { rule_of result ≡ source_rule }
     ensures local { result.global ≡ false }
@@ -37,7 +37,7 @@ fn source_option<'a>(alloc: Global) -> Arg<'a>
         .action(ArgAction::SetTrue)
 }
 
-// `--positions`.
+/// `--positions`.
 fn positions_option<'a>(alloc: Global) -> Arg<'a>
     ensures rule { rule_of result ≡ positions_rule }
     ensures local { result.global ≡ false }
@@ -47,7 +47,7 @@ fn positions_option<'a>(alloc: Global) -> Arg<'a>
         .action(ArgAction::SetTrue)
 }
 
-// `--sessions N`.
+/// `--sessions N`.
 fn sessions_option<'a>(alloc: Global) -> Arg<'a>
     ensures rule { rule_of result ≡ sessions_rule }
     ensures local { result.global ≡ false }
@@ -57,7 +57,7 @@ fn sessions_option<'a>(alloc: Global) -> Arg<'a>
         .default_value("1")
 }
 
-// `--solver S`.
+/// `--solver S`.
 fn solver_option<'a>(alloc: Global) -> Arg<'a>
     ensures rule { rule_of result ≡ solver_rule }
     ensures local { result.global ≡ false }
@@ -67,7 +67,7 @@ fn solver_option<'a>(alloc: Global) -> Arg<'a>
         .default_value("components")
 }
 
-// `--jobs N`.
+/// `--jobs N`.
 fn jobs_option<'a>(alloc: Global) -> Arg<'a>
     ensures rule { rule_of result ≡ jobs_rule }
     ensures local { result.global ≡ false }
@@ -75,7 +75,7 @@ fn jobs_option<'a>(alloc: Global) -> Arg<'a>
     Arg::new(alloc, "jobs").long("jobs")
 }
 
-// `--capacity C`.
+/// `--capacity C`.
 fn capacity_option<'a>(alloc: Global) -> Arg<'a>
     ensures rule { rule_of result ≡ capacity_rule }
     ensures local { result.global ≡ false }
@@ -85,7 +85,7 @@ fn capacity_option<'a>(alloc: Global) -> Arg<'a>
         .default_value("1000000")
 }
 
-// `NAME FILE [--json]`, to which a command adds what else it takes.
+/// `NAME FILE [--json]`, to which a command adds what else it takes.
 fn file_command<'a>(alloc: Global, name: &'a str) -> Result<Command<'a>, AllocError>
     ensures { IfOk result (IsCommand (with_rule (with_rule (new_app name.now) file_rule) json_rule)) }
 {
@@ -94,7 +94,7 @@ fn file_command<'a>(alloc: Global, name: &'a str) -> Result<Command<'a>, AllocEr
         .arg(json_option(alloc))
 }
 
-// `check FILE [--json] [--source] [--positions] [--jobs N] [--solver S]`. That `--json` and `--source` do not both stand is looked at behind the parser.
+/// `check FILE [--json] [--source] [--positions] [--jobs N] [--solver S]`. That `--json` and `--source` do not both stand is looked at behind the parser.
 fn check_command<'a>(alloc: Global) -> Result<Command<'a>, AllocError>
     ensures { IfOk result (IsCommand check_app) }
 {
@@ -105,7 +105,7 @@ fn check_command<'a>(alloc: Global) -> Result<Command<'a>, AllocError>
         .arg(solver_option(alloc))
 }
 
-// `run FILE [--json] [--positions] [--sessions N] [--solver S]`.
+/// `run FILE [--json] [--positions] [--sessions N] [--solver S]`.
 fn run_command<'a>(alloc: Global) -> Result<Command<'a>, AllocError>
     ensures { IfOk result (IsCommand run_app) }
 {
@@ -115,7 +115,7 @@ fn run_command<'a>(alloc: Global) -> Result<Command<'a>, AllocError>
         .arg(solver_option(alloc))
 }
 
-// `serve [--sessions N] [--capacity C] [--solver S]`.
+/// `serve [--sessions N] [--capacity C] [--solver S]`.
 fn serve_command<'a>(alloc: Global) -> Result<Command<'a>, AllocError>
     ensures { IfOk result (IsCommand serve_app) }
 {
@@ -125,7 +125,7 @@ fn serve_command<'a>(alloc: Global) -> Result<Command<'a>, AllocError>
         .arg(solver_option(alloc))
 }
 
-// `print FILE [--positions]`.
+/// `print FILE [--positions]`.
 fn print_command<'a>(alloc: Global) -> Result<Command<'a>, AllocError>
     ensures { IfOk result (IsCommand print_app) }
 {
@@ -134,7 +134,7 @@ fn print_command<'a>(alloc: Global) -> Result<Command<'a>, AllocError>
         .arg(positions_option(alloc))
 }
 
-// The program, before it has its commands.
+/// Returns the program, before it has its commands.
 fn program<'a>(alloc: Global) -> Command<'a>
     ensures { IsCommand program result }
 {
@@ -145,7 +145,7 @@ fn program<'a>(alloc: Global) -> Command<'a>
         .version(VERSION)
 }
 
-// A program with one more command, where that could be made.
+/// Returns a program with one more command, where that could be made.
 fn with_command<'a>(
     program: Command<'a>,
     command: Result<Command<'a>, AllocError>,
@@ -158,7 +158,7 @@ fn with_command<'a>(
     }
 }
 
-/// What the parser is told of the whole program: its commands, their options and their values. `AllocError` only where memory was refused.
+/// Returns what the parser is told of the whole program: its commands, their options and their values. `AllocError` only if memory was refused.
 pub(crate) fn nlldb_command<'a>(alloc: Global) -> Result<Command<'a>, AllocError>
     ensures { IfOk result (IsCommand nlldb) }
 {

@@ -42,8 +42,8 @@ impl<T: Drop> From<AllocFailed<T>> for LineFault {
 }
 
 impl LineFault {
-    /// The fault for a refusal of the parser, of words that would ask for help on this topic: `Help` of the topic or `Version` where they are asked
-    /// for, `NoMemory` where memory was refused, and else `WrongUse`.
+    /// Returns the fault for a refusal of the parser, of words that would ask for help on this topic: `Help` of the topic or `Version` if they are
+    /// asked for, `NoMemory` if memory was refused, and else `WrongUse`.
     pub(crate) fn of_refusal(topic: Topic, error: &clap::Error) -> Self
         ensures { result ≡ fault_of_kind topic (kind_of error.now) }
     {

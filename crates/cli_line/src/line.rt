@@ -54,7 +54,7 @@ impl Model for CheckLine {
 }
 
 impl CheckLine {
-    /// The line of these parts.
+    /// Returns the line of these parts.
     pub(crate) fn new(
         file: String,
         json: bool,
@@ -76,14 +76,14 @@ impl CheckLine {
         }
     }
 
-    /// The name of the file, which may be any text. The name `-` means standard input.
+    /// Returns the name of the file, which may be any text. The name `-` means standard input.
     pub fn file(&self) -> &str
         ensures { result.now ≡ self.now.file }
     {
         self.file.as_str()
     }
 
-    /// Whether the line has `--json`. Then it has no `--source`.
+    /// Returns whether the line has `--json`. Then it has no `--source`.
     pub fn json(&self) -> bool
         ensures value { result ≡ self.now.json }
         ensures alone { (result && self.now.source) ≡ false }
@@ -91,7 +91,7 @@ impl CheckLine {
         self.json
     }
 
-    /// Whether the line has `--source`. Then it has no `--json`.
+    /// Returns whether the line has `--source`. Then it has no `--json`.
     pub fn source(&self) -> bool
         ensures value { result ≡ self.now.source }
         ensures alone { (self.now.json && result) ≡ false }
@@ -99,21 +99,21 @@ impl CheckLine {
         self.source
     }
 
-    /// Whether the line has `--positions`.
+    /// Returns whether the line has `--positions`.
     pub fn positions(&self) -> bool
         ensures { result ≡ self.now.positions }
     {
         self.positions
     }
 
-    /// How many threads are to share the work, 1 to 255: as many as `--jobs` says, or `None` where the line has no `--jobs`.
+    /// Returns how many threads are to share the work, 1 to 255: as many as `--jobs` says, or `None` if the line has no `--jobs`.
     pub fn jobs(&self) -> Option<u8>
         ensures { result ≡ self.now.jobs }
     {
         self.jobs
     }
 
-    /// The solver that `--solver` names, or the one by components where the line has no `--solver`.
+    /// Returns the solver that `--solver` names, or the one by components if the line has no `--solver`.
     pub fn solver(&self) -> Solver
         ensures { result ≡ self.now.solver }
     {
@@ -161,7 +161,7 @@ impl Model for RunLine {
 }
 
 impl RunLine {
-    /// The line of these parts.
+    /// Returns the line of these parts.
     pub(crate) fn new(
         file: String,
         json: bool,
@@ -182,28 +182,28 @@ impl RunLine {
         }
     }
 
-    /// The name of the file, which may be any text. The name `-` means standard input.
+    /// Returns the name of the file, which may be any text. The name `-` means standard input.
     pub fn file(&self) -> &str
         ensures { result.now ≡ self.now.file }
     {
         self.file.as_str()
     }
 
-    /// Whether the line has `--json`.
+    /// Returns whether the line has `--json`.
     pub fn json(&self) -> bool
         ensures { result ≡ self.now.json }
     {
         self.json
     }
 
-    /// Whether the line has `--positions`.
+    /// Returns whether the line has `--positions`.
     pub fn positions(&self) -> bool
         ensures { result ≡ self.now.positions }
     {
         self.positions
     }
 
-    /// How many sessions there are, 1 to 16: as many as `--sessions` says, or 1 where the line has no `--sessions`.
+    /// Returns how many sessions there are, 1 to 16: as many as `--sessions` says, or 1 if the line has no `--sessions`.
     pub fn sessions(&self) -> u8
         ensures value { result ≡ self.now.sessions }
         ensures least { 1 ≤ result }
@@ -212,7 +212,7 @@ impl RunLine {
         self.sessions
     }
 
-    /// The solver that `--solver` names, or the one by components where the line has no `--solver`.
+    /// Returns the solver that `--solver` names, or the one by components if the line has no `--solver`.
     pub fn solver(&self) -> Solver
         ensures { result ≡ self.now.solver }
     {
@@ -245,7 +245,7 @@ impl Model for ServeLine {
 }
 
 impl ServeLine {
-    /// The line of these parts.
+    /// Returns the line of these parts.
     pub(crate) fn new(sessions: u8, capacity: u32, solver: Solver) -> Self
         requires least { 1 ≤ sessions }
         requires most { sessions ≤ 16 }
@@ -260,7 +260,7 @@ impl ServeLine {
         }
     }
 
-    /// How many sessions there are, 1 to 16: as many as `--sessions` says, or 1 where the line has no `--sessions`.
+    /// Returns how many sessions there are, 1 to 16: as many as `--sessions` says, or 1 if the line has no `--sessions`.
     pub fn sessions(&self) -> u8
         ensures value { result ≡ self.now.sessions }
         ensures least { 1 ≤ result }
@@ -269,7 +269,7 @@ impl ServeLine {
         self.sessions
     }
 
-    /// How many entries the history may have, 1 to 1,000,000: as many as `--capacity` says, or 1,000,000 where the line has no `--capacity`.
+    /// Returns how many entries the history may have, 1 to 1,000,000: as many as `--capacity` says, or 1,000,000 if the line has no `--capacity`.
     pub fn capacity(&self) -> u32
         ensures value { result ≡ self.now.capacity }
         ensures least { 1 ≤ result }
@@ -278,7 +278,7 @@ impl ServeLine {
         self.capacity
     }
 
-    /// The solver that `--solver` names, or the one by components where the line has no `--solver`.
+    /// Returns the solver that `--solver` names, or the one by components if the line has no `--solver`.
     pub fn solver(&self) -> Solver
         ensures { result ≡ self.now.solver }
     {
@@ -315,21 +315,21 @@ impl Model for PrintLine {
 }
 
 impl PrintLine {
-    /// The line of these parts.
+    /// Returns the line of these parts.
     pub(crate) fn new(file: String, positions: bool) -> Self
         ensures { result ≡ record { file = string_bytes file; positions = positions } }
     {
         PrintLine { file, positions }
     }
 
-    /// The name of the file, which may be any text. The name `-` means standard input.
+    /// Returns the name of the file, which may be any text. The name `-` means standard input.
     pub fn file(&self) -> &str
         ensures { result.now ≡ self.now.file }
     {
         self.file.as_str()
     }
 
-    /// Whether the line has `--positions`.
+    /// Returns whether the line has `--positions`.
     pub fn positions(&self) -> bool
         ensures { result ≡ self.now.positions }
     {
@@ -362,7 +362,7 @@ impl Drop for Line {
 }
 
 impl Line {
-    /// The solver of the line. For a line of `print`, which solves nothing, it is the one by components.
+    /// Returns the solver of the line. For a line of `print`, which solves nothing, it is the one by components.
     pub fn solver(&self) -> Solver
         ensures { result ≡ solver_of self.now }
     {

@@ -15,14 +15,14 @@ use crate::{
 use clap::ArgMatches;
 use std::alloc::Global;
 
-// The first value of an argument.
+/// Returns the first value of an argument.
 fn value_of<'a>(matches: &ArgMatches<'a>, id: &str) -> Option<&'a str>
     ensures { option_map (λ text. text.now) result ≡ first_of id.now (rows_of (found_of matches.now)) }
 {
     matches.get_str(id)
 }
 
-// Whether a flag stands: its value is then `true`, and else `false`.
+/// Returns whether a flag stands: its value is then `true`, and else `false`.
 fn is_set(matches: &ArgMatches<'_>, id: &str) -> bool
     ensures { result ≡ is_set id.now (rows_of (found_of matches.now)) }
 {
@@ -32,14 +32,14 @@ fn is_set(matches: &ArgMatches<'_>, id: &str) -> bool
     }
 }
 
-// Whether there may be so many sessions.
+/// Returns whether there may be so many sessions.
 fn is_session_count(count: u8) -> bool
     ensures { result ≡ is_session_count count }
 {
     1 <= count && count <= MOST_SESSIONS
 }
 
-// The number that a word writes, where there may be so many sessions. A word that writes no number counts as 0.
+/// Returns the number that a word writes, where there may be so many sessions. A word that writes no number counts as 0.
 fn sessions_named(word: &str) -> Option<u8>
     ensures { result ≡ sessions_named word.now }
 {
@@ -51,14 +51,14 @@ fn sessions_named(word: &str) -> Option<u8>
     }
 }
 
-// Whether there may be so many jobs.
+/// Returns whether there may be so many jobs.
 fn is_job_count(count: u8) -> bool
     ensures { result ≡ is_job_count count }
 {
     count >= 1
 }
 
-// The number that a word writes, where there may be so many jobs. A word that writes no number counts as 0.
+/// Returns the number that a word writes, where there may be so many jobs. A word that writes no number counts as 0.
 fn jobs_named(word: &str) -> Option<u8>
     ensures { result ≡ jobs_named word.now }
 {
@@ -66,14 +66,14 @@ fn jobs_named(word: &str) -> Option<u8>
     if is_job_count(jobs) { Some(jobs) } else { None }
 }
 
-// Whether a history may have so many entries.
+/// Returns whether a history may have so many entries.
 fn is_capacity(count: u32) -> bool
     ensures { result ≡ is_capacity count }
 {
     1 <= count && count <= MOST_CAPACITY
 }
 
-// The number that a word writes, where a history may have so many entries. A word that writes no number counts as 0.
+/// Returns the number that a word writes, where a history may have so many entries. A word that writes no number counts as 0.
 fn capacity_named(word: &str) -> Option<u32>
     ensures { result ≡ capacity_named word.now }
 {
@@ -85,28 +85,28 @@ fn capacity_named(word: &str) -> Option<u32>
     }
 }
 
-// The solver that the arguments name.
+/// Returns the solver that the arguments name.
 fn solver_given(matches: &ArgMatches<'_>) -> Option<Solver>
     ensures { result ≡ solver_given (rows_of (found_of matches.now)) }
 {
     solver_named(value_of(matches, "solver")?)
 }
 
-// The number of sessions that the arguments name.
+/// Returns the number of sessions that the arguments name.
 fn sessions_given(matches: &ArgMatches<'_>) -> Option<u8>
     ensures { result ≡ sessions_given (rows_of (found_of matches.now)) }
 {
     sessions_named(value_of(matches, "sessions")?)
 }
 
-// The capacity that the arguments name.
+/// Returns the capacity that the arguments name.
 fn capacity_given(matches: &ArgMatches<'_>) -> Option<u32>
     ensures { result ≡ capacity_given (rows_of (found_of matches.now)) }
 {
     capacity_named(value_of(matches, "capacity")?)
 }
 
-// The number of jobs that the arguments name, where they name one.
+/// Returns the number of jobs that the arguments name, where they name one.
 fn jobs_given(matches: &ArgMatches<'_>) -> Option<Option<u8>>
     ensures { result ≡ jobs_given (rows_of (found_of matches.now)) }
 {
@@ -119,14 +119,14 @@ fn jobs_given(matches: &ArgMatches<'_>) -> Option<Option<u8>>
     }
 }
 
-// Whether the arguments ask for JSON and for sources.
+/// Returns whether the arguments ask for JSON and for sources.
 fn asks_for_both(matches: &ArgMatches<'_>) -> bool
     ensures { result ≡ asks_for_both (rows_of (found_of matches.now)) }
 {
     is_set(matches, "json") && is_set(matches, "source")
 }
 
-// The line of `check` with these arguments.
+/// Returns the line of `check` with these arguments.
 fn read_check(alloc: Global, matches: &ArgMatches<'_>) -> Result<CheckLine, LineFault>
     ensures { GivesParts (check_given (rows_of (found_of matches.now))) result }
 {
@@ -149,7 +149,7 @@ fn read_check(alloc: Global, matches: &ArgMatches<'_>) -> Result<CheckLine, Line
     Ok(CheckLine::new(file, json, source, positions, jobs, solver))
 }
 
-// The line of `run` with these arguments.
+/// Returns the line of `run` with these arguments.
 fn read_run(alloc: Global, matches: &ArgMatches<'_>) -> Result<RunLine, LineFault>
     ensures { GivesParts (run_given (rows_of (found_of matches.now))) result }
 {
@@ -168,7 +168,7 @@ fn read_run(alloc: Global, matches: &ArgMatches<'_>) -> Result<RunLine, LineFaul
     Ok(RunLine::new(file, json, positions, sessions, solver))
 }
 
-// The line of `serve` with these arguments.
+/// Returns the line of `serve` with these arguments.
 fn read_serve(matches: &ArgMatches<'_>) -> Result<ServeLine, LineFault>
     ensures { GivesParts (serve_given (rows_of (found_of matches.now))) result }
 {
@@ -184,7 +184,7 @@ fn read_serve(matches: &ArgMatches<'_>) -> Result<ServeLine, LineFault>
     Ok(ServeLine::new(sessions, capacity, solver))
 }
 
-// The line of `print` with these arguments.
+/// Returns the line of `print` with these arguments.
 fn read_print(alloc: Global, matches: &ArgMatches<'_>) -> Result<PrintLine, LineFault>
     ensures { GivesParts (print_given (rows_of (found_of matches.now))) result }
 {
@@ -196,7 +196,7 @@ fn read_print(alloc: Global, matches: &ArgMatches<'_>) -> Result<PrintLine, Line
     Ok(PrintLine::new(file, positions))
 }
 
-// The line of the command of this name.
+/// Returns the line of the command of this name.
 fn read_command(alloc: Global, name: &str, matches: &ArgMatches<'_>) -> Result<Line, LineFault>
     ensures line { GivesParts (line_given (name.now, rows_of (found_of matches.now))) result }
     ensures range { IfOk result IsInRange }
@@ -221,9 +221,9 @@ fn read_command(alloc: Global, name: &str, matches: &ArgMatches<'_>) -> Result<L
 /// a `=`. J, N and C are written in decimal digits, with leading zeros or none and a `+` before them or none. Behind a word `--` each word is FILE,
 /// so that its name may begin with `-`. How words are split into options and values is the rule of the crate `clap`.
 ///
-/// `Help` where the words ask for it by `--help` or `-h`, also behind a command, before a word that has no place in the line, whatever the values of
-/// options say: on the command that the first word names, or else on the program. `Version` where they ask for it by `--version` or `-V`, which stands before a command. `NoMemory` only where
-/// memory was refused. `WrongUse` where the words write no line: no words, another command, no FILE or one too many, `--json` beside `--source`, an
+/// `Help` if the words ask for it by `--help` or `-h`, also behind a command, before a word that has no place in the line, whatever the values of
+/// options say: on the command that the first word names, or else on the program. `Version` if they ask for it by `--version` or `-V`, which stands before a command. `NoMemory` only if
+/// memory was refused. `WrongUse` if the words write no line: no words, another command, no FILE or one too many, `--json` beside `--source`, an
 /// option that the command does not have, that stands twice, or whose value is missing or none of those above.
 pub fn read_line<'a>(alloc: Global, words: &'a [&'a str]) -> Result<Line, LineFault>
     ensures line { GivesLine (map (λ word. word.now) words.now) result }

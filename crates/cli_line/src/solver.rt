@@ -11,7 +11,7 @@ pub enum Solver {
     Components,
 }
 
-/// The solver that a word names, or `None` where it names none.
+/// Returns the solver that a word names, or `None` if it names none.
 pub(crate) fn solver_named(word: &str) -> Option<Solver>
     ensures { result ≡ solver_named word.now }
 {

@@ -17,7 +17,7 @@ pub enum Topic {
     Print,
 }
 
-// The command of this name, or the program where it is no command's.
+/// Returns the command of this name, or the program if it is no command's.
 fn topic_named(word: &str) -> Topic
     ensures { result ≡ topic_named word.now }
 {
@@ -34,7 +34,7 @@ fn topic_named(word: &str) -> Topic
     }
 }
 
-/// What help is about where these words ask for it: the command that the first of them names, or else the program.
+/// Returns what help is about where these words ask for it: the command that the first of them names, or else the program.
 pub(crate) fn topic_of(words: &[&str]) -> Topic
     ensures { result ≡ topic_of (map (λ word. word.now) words.now) }
 {

@@ -34,8 +34,8 @@ Commands:
            JSON object, and so is its reply. A request has the members 'call'
            ('types', 'put', 'remove', 'ask', 'askall' or 'glance'), 'name' and
            'text' where the call needs them, 'session' (from 0; default: 0)
-           and 'id' (any value, which the reply repeats). docs/LANGUAGE.md has
-           all requests and replies.
+           and 'id' (any value, which the reply repeats).
+           docs/user/conversation.md has all requests and replies.
   print    Prints each section of FILE, a file of 'check', with its text in its
            one spelling.
 
@@ -165,8 +165,8 @@ Usage:
 Each request is one line with a JSON object, and so is its reply. A request has
 the members 'call' ('types', 'put', 'remove', 'ask', 'askall' or 'glance'),
 'name' and 'text' where the call needs them, 'session' (from 0; default: 0) and
-'id' (any value, which the reply repeats). docs/LANGUAGE.md has all requests and
-replies.
+'id' (any value, which the reply repeats). docs/user/conversation.md has all
+requests and replies.
 
 Options:
   --sessions N   How many sessions there are, 1 to 16. Default: 1.
@@ -204,7 +204,7 @@ Exit status, the greatest that applies:
   3   Wrong use, a file that cannot be read, a failed output, or out of memory.
 ";
 
-/// What `--help` prints about this topic: about the program, or about one of its commands.
+/// Returns what `--help` prints about this topic: about the program, or about one of its commands.
 fn usage_of(topic: Topic) -> &'static str
     ensures { result.now ≡ usage_of topic }
 {

@@ -29,7 +29,7 @@ pub struct Opening {
 }
 
 impl Opening {
-    /// Returns an empty log. Returns `AllocError` only where memory was refused.
+    /// Returns an empty log. Returns `AllocError` only if memory was refused.
     pub fn new(alloc: Global) -> Result<Opening, AllocError> {
         let (table, first) = new_table(alloc)?;
         Ok(Opening { table, first })
@@ -74,7 +74,7 @@ pub struct Output<J: Sheet, O: Write + Drop> {
 }
 
 impl<J: Sheet, O: Write + Drop> Output<J, O> {
-    /// Lets in the author of this number, and returns its pen, by which it has printed nothing. Returns `None` where it is not its turn: the
+    /// Lets in the author of this number, and returns its pen, by which it has printed nothing. Returns `None` if it is not its turn: the
     /// numbers go up from 0, to 254.
     pub fn admit(&self, authors: &mut Authors<J>, number: u8) -> Option<Pen<J>>
         ensures { IfSome result (λ pen. pen ≡ record { number = number; texts = [] }) }
@@ -91,7 +91,7 @@ impl<J: Sheet, O: Write + Drop> Output<J, O> {
         })
     }
 
-    /// Prints a line of an author, which has its line feed, and hands it on. Returns `Failed` where that fails, or failed before.
+    /// Prints a line of an author, which has its line feed, and hands it on. Returns `Failed` if that fails, or failed before.
     pub fn print(&mut self, pen: &mut Pen<J>, line: &str) -> Result<(), Failed>
         ensures printed { OnOk result (Appends (writer_contents O.contents self.old.out) (writer_contents O.contents self.new.out) line.now) }
         ensures handed_on { OnOk result (writer_buffer self.new.out ≡ []) }
@@ -142,7 +142,7 @@ impl<J: Sheet, O: Write + Drop> Output<J, O> {
     }
 
     /// Ends the output: returns its writer, and how many authors were let in. Just the log was written, and the log has no others than these
-    /// authors. Returns `Failed` where the writer failed.
+    /// authors. Returns `Failed` if the writer failed.
     pub fn close(self, authors: Authors<J>) -> (BufWriter<O>, Result<u8, Failed>)
         ensures authors { IfOk result.1 (λ count. AreBelow count (known self.keeper).log) }
         ensures printed { OnOk result.1 (Appends J.before (writer_contents O.contents result.0) (bytes_of (known self.keeper).log)) }

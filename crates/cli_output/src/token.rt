@@ -126,7 +126,7 @@ impl Play<u8, Known> for Check {
     ghost then = { Learns };
 }
 
-/// The table of a log in which nothing is written, and its first token. Returns `AllocError` where memory was refused.
+/// The table of a log in which nothing is written, and its first token. Returns `AllocError` if memory was refused.
 pub(crate) fn new_table(alloc: Global) -> Result<(LogTable, Token), AllocError>
     ensures { IfOk result (λ t. (t.1.table_id ≡ t.0.shared.table_id) × (0 < t.0.shared.table_id.words) × (t.1.me ≡ (first, []))) }
 {

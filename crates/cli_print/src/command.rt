@@ -15,16 +15,18 @@ use std::io::{BufWriter, Read, Write};
 /// tokens with one space between two and a line feed behind the last. A buffer that held nothing holds nothing then, but where the
 /// writer behind it failed. Nothing is printed before the whole file is read.
 ///
-/// Stops with `CannotRead` where the input cannot be read or is over 16 MiB; with `File` at its first fault, which is that of `check`;
-/// with `NoMemory` where there is no room, and with `CannotWrite` where the writer fails.
+/// Stops with `CannotRead` if the input cannot be read or is over 16 MiB; with `File` at its first fault, which is that of `check`;
+/// with `NoMemory` if there is no room, and with `CannotWrite` if the writer fails.
 pub fn print<I: Read, O: Write + Drop>(
     alloc: Global,
     line: &PrintLine,
     input: &mut I,
     out: &mut BufWriter<O>,
 ) -> Result<(), Stop>
-    ensures done { OnOk result (OfFile (I.remaining input.old) (λ file. Printed file (writer_contents O.contents out.old) (writer_contents O.contents out.new))) }
-    ensures stopped { IfErr result (λ stop. Leaves line.now stop (I.remaining input.old) (writer_contents O.contents out.old) (writer_contents O.contents out.new)) }
+    ensures done { OnOk result (OfFile (I.remaining input.old) (λ file. Printed file
+        (writer_contents O.contents out.old) (writer_contents O.contents out.new))) }
+    ensures stopped { IfErr result (λ stop. Leaves line.now stop (I.remaining input.old)
+        (writer_contents O.contents out.old) (writer_contents O.contents out.new)) }
     ensures handed_on { writer_buffer out.old ≡ [] → (result ≡ Err Stop.CannotWrite) ⊎ (writer_buffer out.new ≡ []) }
 {
     let file = read_whole(alloc, input)?;
@@ -43,7 +45,7 @@ pub fn print<I: Read, O: Write + Drop>(
 /// writer behind it did not take.
 ///
 /// The status is 0 where the sections are printed; 2 where the file has a fault; 3 where the command stops for another reason. Why it stops
-/// is one line on `err`, and its fault where that line cannot be written: then nothing more can be said.
+/// is one line on `err`, and its fault if that line cannot be written: then nothing more can be said.
 pub fn print_and_tell<I: Read, O: Write + Drop, E: Write>(
     alloc: Global,
     line: &PrintLine,
@@ -52,7 +54,8 @@ pub fn print_and_tell<I: Read, O: Write + Drop, E: Write>(
     err: &mut E,
 ) -> io::Result<u8>
     ensures range { IfOk result (λ status. status ≤ 3) }
-    ensures ended { IfOk result (λ status. IsEnd line.now (I.remaining input.old) status (writer_contents O.contents out.old) (writer_contents O.contents out.new) (E.contents err.old) (E.contents err.new)) }
+    ensures ended { IfOk result (λ status. IsEnd line.now (I.remaining input.old) status
+        (writer_contents O.contents out.old) (writer_contents O.contents out.new) (E.contents err.old) (E.contents err.new)) }
     ensures handed_on { writer_buffer out.old ≡ [] → IfOk result (λ status. status < 3 → writer_buffer out.new ≡ []) }
 {
     match print(alloc, line, input, out) {
@@ -71,7 +74,8 @@ pub fn print_over<I: Read, O: Write + Drop, E: Write>(
     err: &mut E,
 ) -> u8
     ensures range { result ≤ 3 }
-    ensures ended { result < 3 → IsEnd line.now (I.remaining input.old) result (writer_contents O.contents out.old) (writer_contents O.contents out.new) (E.contents err.old) (E.contents err.new) }
+    ensures ended { result < 3 → IsEnd line.now (I.remaining input.old) result
+        (writer_contents O.contents out.old) (writer_contents O.contents out.new) (E.contents err.old) (E.contents err.new) }
     ensures handed_on { writer_buffer out.old ≡ [] → result < 3 → writer_buffer out.new ≡ [] }
 {
     match print_and_tell(alloc, line, input, out, err) {

@@ -3,7 +3,7 @@ ghost use Rattle.cli_print_laws.specs.Laws.{PrintedFilesAreRead, PrintedFilesAre
 
 use bc_text_laws::{printed_types_are_read, printed_units_are_read};
 
-/// Guarantees that a printed file makes the calls of the file that it was printed of, in their order, where none of its texts is
+/// Guarantees that a printed file makes the calls of the file that it was printed of, in their order, if none of its texts is
 /// longer than a text may be; and that it is printed as itself.
 pub fn printed_files_are_read()
     ensures again { PrintedFilesAreRead }

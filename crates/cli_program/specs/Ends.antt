@@ -1,8 +1,7 @@
 -- How the program ends.
-use Rattle.std.specs.Prelude.{◌≡◌, ◌⊎◌, ◌<◌, ℕ, Bool, List, Option, Result, MatchResult, codes, option_map, if◌then◌else◌}
+use Rattle.std.specs.Prelude.{◌≡◌, ◌⊎◌, ◌<◌, ℕ, Bool, List, Option, Result, MatchResult, codes, if◌then◌else◌}
 use Rattle.std.specs.Str.{bytes_eq}
 use Rattle.std.specs.Io.KnownBytes.{Keeps}
-use Rattle.cli_input.specs.Lines.{lines_of}
 use Rattle.cli_line.specs.declared.fault.LineFault.{LineFault}
 use Rattle.cli_line.specs.declared.line.Line.{Line}
 use Rattle.cli_line.specs.declared.line.Line.TheVariants.{Check, Run, Serve, Print}
@@ -13,6 +12,7 @@ use Rattle.cli_check.specs.Ends.{IsEnd as IsEndOfCheck}
 use Rattle.cli_run.specs.Ends.{IsEnd as IsEndOfRun}
 use Rattle.cli_print.specs.Ends.{IsEnd as IsEndOfPrint}
 use Rattle.cli_serve.specs.Served.{IsEnd as IsEndOfServe}
+use Rattle.cli_serve.specs.Talked.{lines_left}
 
 -- the name stands for standard input
 abbrev pub is_standard_input : List ℕ → Bool
@@ -26,7 +26,7 @@ input_of files standard name = if is_standard_input name then standard else file
 abbrev pub IsEndOfLine : (List ℕ → Option (List ℕ)) → Option (List ℕ) → Line → ℕ → Option (List ℕ) → Option (List ℕ) → Option (List ℕ) → Option (List ℕ) → Type 0
 IsEndOfLine files standard (Check line) exit out out' err err' = IsEndOfCheck line (input_of files standard line.file) exit out out' err err'
 IsEndOfLine files standard (Run line) exit out out' err err' = IsEndOfRun line (input_of files standard line.file) exit out out' err err'
-IsEndOfLine files standard (Serve line) exit out out' err err' = IsEndOfServe line.sessions (option_map lines_of standard) exit err err'
+IsEndOfLine files standard (Serve line) exit out out' err err' = IsEndOfServe line.sessions (lines_left standard) exit err err'
 IsEndOfLine files standard (Print line) exit out out' err err' = IsEndOfPrint line (input_of files standard line.file) exit out out' err err'
 
 -- the words were read as a line that was obeyed, or as none, which was answered

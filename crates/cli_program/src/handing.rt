@@ -8,7 +8,7 @@ use cli_file::{Stop, stop_with};
 use std::io;
 use std::io::{BufWriter, Write};
 
-/// Flushes what the buffer holds, where nothing has failed yet, and writes that standard output failed where it does here.
+/// Flushes what the buffer holds, if nothing has failed yet, and writes that standard output failed if it does here.
 pub(crate) fn hand_on<O: Write + Drop, E: Write>(
     status: u8,
     out: &mut BufWriter<O>,
@@ -27,7 +27,7 @@ pub(crate) fn hand_on<O: Write + Drop, E: Write>(
     }
 }
 
-/// Flushes standard error, and returns the status that the command ended with. Returns the fault of standard error where the flush fails.
+/// Flushes standard error, and returns the status that the command ended with. Returns the fault of standard error if the flush fails.
 pub(crate) fn hand_on_told<E: Write>(status: u8, err: &mut E) -> io::Result<u8>
     ensures same { IfOk result (λ exit. exit ≡ status) }
     ensures kept { Keeps (E.contents err.old) (E.contents err.new) }

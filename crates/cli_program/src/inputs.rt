@@ -9,7 +9,7 @@ use std::io::Read;
 /// The name that means standard input. A file of that name is `./-`. (POSIX.1-2017, Utility Syntax Guidelines, Guideline 13.)
 pub const STANDARD_INPUT: &str = "-";
 
-/// Whether a file's name means standard input.
+/// Returns whether a file's name means standard input.
 pub(crate) fn is_standard_input(name: &str) -> bool
     ensures { result ≡ is_standard_input name.now }
 {
@@ -21,10 +21,10 @@ pub trait Inputs {
     /// An open file.
     type Input: Read + Drop;
 
-    /// The bytes of the file of each name, where they are known.
+    /// The bytes of the file of each name, if they are known.
     ghost bytes_of: { Self → List ℕ → Option (List ℕ) } = { λ _ _. None };
 
-    /// Opens the file of this name, to be read from its start. Fails where it cannot be opened.
+    /// Opens the file of this name, to be read from its start. Fails if it cannot be opened.
     fn open(&self, name: &str) -> io::Result<Self::Input>
         ensures { IfOk result (λ input. IfSome (bytes_of self.now name.now) (λ bytes. Self.Input.remaining input ≡ Some bytes)) };
 }
@@ -36,7 +36,7 @@ pub struct SystemFiles<'a, R> {
 }
 
 impl<'a, R> SystemFiles<'a, R> {
-    /// The files that this runtime opens.
+    /// Returns the files that this runtime opens.
     pub fn new(files: &'a R) -> Self {
         SystemFiles { files }
     }

@@ -9,6 +9,6 @@ mod program;
 mod system;
 
 pub use inputs::{Inputs, STANDARD_INPUT, SystemFiles};
-pub use obeying::obey_line;
+pub use obeying::{Engine, obey_line};
 pub use program::run_program;
 pub use system::run_on_system;

@@ -1,10 +1,10 @@
 //! What a line says is done on its input.
-ghost use Rattle.std.specs.Prelude.{◌≡◌, ◌≤◌, ◌<◌, [], IfOk, option_map};
+ghost use Rattle.std.specs.Prelude.{◌≡◌, ◌≤◌, ◌<◌, [], IfOk};
 ghost use Rattle.std.specs.Io.Buffered.{writer_buffer, writer_contents};
-ghost use Rattle.cli_input.specs.Lines.{lines_of};
 ghost use Rattle.cli_check.specs.Ends.{IsEnd as IsEndOfCheck};
 ghost use Rattle.cli_run.specs.Ends.{IsEnd as IsEndOfRun};
 ghost use Rattle.cli_serve.specs.Served.{IsEnd as IsEndOfServe};
+ghost use Rattle.cli_serve.specs.Talked.{lines_left};
 ghost use Rattle.cli_program.specs.Ends.{IsEndOfLine, input_of};
 
 use crate::Inputs;
@@ -16,32 +16,39 @@ use cli_check::check_and_tell;
 use cli_file::{Stop, stop_with};
 use cli_line::{CheckLine, Line, RunLine, ServeLine};
 use cli_run::run_and_tell;
-use cli_serve::serve_and_tell;
+use cli_serve::{Service, serve_and_tell};
 use std::io;
 use std::io::{BufRead, BufWriter, Write};
 use std::sync::Wait;
 use std::thread::Threads;
 
-/// The command `check` on the file that its line names.
+/// What commands run on: the runtime, and the providers by which bodies are analysed.
+#[derive(Drop)]
+pub struct Engine<'a, R> {
+    pub rt: &'a R,
+    pub providers: &'a Providers,
+}
+
+/// Runs the command `check` on the file that its line names.
 fn check_file<R: AllocGlobal + Threads + Wait + Sync, S: Inputs, O: Write + Drop, E: Write>(
-    rt: &R,
-    providers: &Providers,
+    engine: &Engine<'_, R>,
     check: &CheckLine,
     inputs: &S,
     out: &mut BufWriter<O>,
     err: &mut E,
 ) -> io::Result<u8>
     ensures range { IfOk result (λ status. status ≤ 3) }
-    ensures ended { IfOk result (λ status. IsEndOfCheck check.now (S.bytes_of inputs.now check.now.file) status (writer_contents O.contents out.old) (writer_contents O.contents out.new) (E.contents err.old) (E.contents err.new)) }
+    ensures ended { IfOk result (λ status. IsEndOfCheck check.now (S.bytes_of inputs.now check.now.file) status
+        (writer_contents O.contents out.old) (writer_contents O.contents out.new) (E.contents err.old) (E.contents err.new)) }
     ensures handed_on { writer_buffer out.old ≡ [] → IfOk result (λ status. status < 3 → writer_buffer out.new ≡ []) }
 {
     match inputs.open(check.file()) {
-        Ok(mut input) => check_and_tell(rt, rt.alloc(), providers, check, &mut input, out, err),
+        Ok(mut input) => check_and_tell(engine.rt, engine.providers, check, &mut input, out, err),
         Err(_) => stop_with(check.file(), &Stop::CannotRead, err),
     }
 }
 
-/// The command `check` on the input that its line names.
+/// Runs the command `check` on the input that its line names.
 fn obey_check<
     R: AllocGlobal + Threads + Wait + Sync,
     S: Inputs,
@@ -49,8 +56,7 @@ fn obey_check<
     O: Write + Drop,
     E: Write,
 >(
-    rt: &R,
-    providers: &Providers,
+    engine: &Engine<'_, R>,
     check: &CheckLine,
     inputs: &S,
     standard: &mut I,
@@ -58,36 +64,37 @@ fn obey_check<
     err: &mut E,
 ) -> io::Result<u8>
     ensures range { IfOk result (λ status. status ≤ 3) }
-    ensures ended { IfOk result (λ status. IsEndOfCheck check.now (input_of (S.bytes_of inputs.now) (I.remaining standard.old) check.now.file) status (writer_contents O.contents out.old) (writer_contents O.contents out.new) (E.contents err.old) (E.contents err.new)) }
+    ensures ended { IfOk result (λ status. IsEndOfCheck check.now (input_of (S.bytes_of inputs.now) (I.remaining standard.old) check.now.file) status
+        (writer_contents O.contents out.old) (writer_contents O.contents out.new) (E.contents err.old) (E.contents err.new)) }
     ensures handed_on { writer_buffer out.old ≡ [] → IfOk result (λ status. status < 3 → writer_buffer out.new ≡ []) }
 {
     if is_standard_input(check.file()) {
-        check_and_tell(rt, rt.alloc(), providers, check, standard, out, err)
+        check_and_tell(engine.rt, engine.providers, check, standard, out, err)
     } else {
-        check_file(rt, providers, check, inputs, out, err)
+        check_file(engine, check, inputs, out, err)
     }
 }
 
-/// The command `run` on the file that its line names.
+/// Runs the command `run` on the file that its line names.
 fn run_file<R: AllocGlobal + Threads + Wait + Sync, S: Inputs, O: Write + Drop, E: Write>(
-    rt: &R,
-    providers: &Providers,
+    engine: &Engine<'_, R>,
     run: &RunLine,
     inputs: &S,
     out: &mut BufWriter<O>,
     err: &mut E,
 ) -> io::Result<u8>
     ensures range { IfOk result (λ status. status ≤ 3) }
-    ensures ended { IfOk result (λ status. IsEndOfRun run.now (S.bytes_of inputs.now run.now.file) status (writer_contents O.contents out.old) (writer_contents O.contents out.new) (E.contents err.old) (E.contents err.new)) }
+    ensures ended { IfOk result (λ status. IsEndOfRun run.now (S.bytes_of inputs.now run.now.file) status
+        (writer_contents O.contents out.old) (writer_contents O.contents out.new) (E.contents err.old) (E.contents err.new)) }
     ensures handed_on { writer_buffer out.old ≡ [] → IfOk result (λ status. status < 3 → writer_buffer out.new ≡ []) }
 {
     match inputs.open(run.file()) {
-        Ok(mut input) => run_and_tell(rt, rt.alloc(), providers, run, &mut input, out, err),
+        Ok(mut input) => run_and_tell(engine.rt, engine.providers, run, &mut input, out, err),
         Err(_) => stop_with(run.file(), &Stop::CannotRead, err),
     }
 }
 
-/// The command `run` on the input that its line names.
+/// Runs the command `run` on the input that its line names.
 fn obey_run<
     R: AllocGlobal + Threads + Wait + Sync,
     S: Inputs,
@@ -95,8 +102,7 @@ fn obey_run<
     O: Write + Drop,
     E: Write,
 >(
-    rt: &R,
-    providers: &Providers,
+    engine: &Engine<'_, R>,
     run: &RunLine,
     inputs: &S,
     standard: &mut I,
@@ -104,40 +110,32 @@ fn obey_run<
     err: &mut E,
 ) -> io::Result<u8>
     ensures range { IfOk result (λ status. status ≤ 3) }
-    ensures ended { IfOk result (λ status. IsEndOfRun run.now (input_of (S.bytes_of inputs.now) (I.remaining standard.old) run.now.file) status (writer_contents O.contents out.old) (writer_contents O.contents out.new) (E.contents err.old) (E.contents err.new)) }
+    ensures ended { IfOk result (λ status. IsEndOfRun run.now (input_of (S.bytes_of inputs.now) (I.remaining standard.old) run.now.file) status
+        (writer_contents O.contents out.old) (writer_contents O.contents out.new) (E.contents err.old) (E.contents err.new)) }
     ensures handed_on { writer_buffer out.old ≡ [] → IfOk result (λ status. status < 3 → writer_buffer out.new ≡ []) }
 {
     if is_standard_input(run.file()) {
-        run_and_tell(rt, rt.alloc(), providers, run, standard, out, err)
+        run_and_tell(engine.rt, engine.providers, run, standard, out, err)
     } else {
-        run_file(rt, providers, run, inputs, out, err)
+        run_file(engine, run, inputs, out, err)
     }
 }
 
-/// The command `serve` over standard input.
+/// Runs the command `serve` over standard input.
 fn obey_serve<R: AllocGlobal + Threads + Wait + Sync, I: BufRead, O: Write + Drop + Send, E: Write>(
-    rt: &R,
-    providers: &Providers,
+    engine: &Engine<'_, R>,
     serve: &ServeLine,
     standard: &mut I,
     out: &mut BufWriter<O>,
     err: &mut E,
 ) -> io::Result<u8>
     ensures range { IfOk result (λ status. status ≤ 3) }
-    ensures ended { IfOk result (λ status. IsEndOfServe serve.now.sessions (option_map lines_of (I.remaining standard.old)) status (E.contents err.old) (E.contents err.new)) }
+    ensures ended { IfOk result (λ status. IsEndOfServe serve.now.sessions (lines_left (I.remaining standard.old)) status
+        (E.contents err.old) (E.contents err.new)) }
     ensures handed_on { IfOk result (λ status. status < 3 → writer_buffer out.new ≡ []) }
 {
-    let (sessions, capacity) = (serve.sessions(), serve.capacity());
-    match serve_and_tell(
-        rt,
-        rt.alloc(),
-        providers,
-        sessions,
-        capacity,
-        standard,
-        out,
-        err,
-    ) {
+    let service = Service::new(engine.providers, serve.sessions(), serve.capacity());
+    match serve_and_tell(engine.rt, &service, standard, out, err) {
         Ok(status) => hand_on(status, out, err),
         Err(failed) => Err(failed),
     }
@@ -151,8 +149,7 @@ pub(crate) fn obey_command<
     O: Write + Drop + Send,
     E: Write,
 >(
-    rt: &R,
-    providers: &Providers,
+    engine: &Engine<'_, R>,
     line: &Line,
     inputs: &S,
     standard: &mut I,
@@ -160,22 +157,23 @@ pub(crate) fn obey_command<
     err: &mut E,
 ) -> io::Result<u8>
     ensures range { IfOk result (λ status. status ≤ 3) }
-    ensures ended { IfOk result (λ status. IsEndOfLine (S.bytes_of inputs.now) (I.remaining standard.old) line.now status (writer_contents O.contents out.old) (writer_contents O.contents out.new) (E.contents err.old) (E.contents err.new)) }
+    ensures ended { IfOk result (λ status. IsEndOfLine (S.bytes_of inputs.now) (I.remaining standard.old) line.now status
+        (writer_contents O.contents out.old) (writer_contents O.contents out.new) (E.contents err.old) (E.contents err.new)) }
     ensures handed_on { writer_buffer out.old ≡ [] → IfOk result (λ status. status < 3 → writer_buffer out.new ≡ []) }
 {
     match line {
-        Line::Check(check) => obey_check(rt, providers, check, inputs, standard, out, err),
-        Line::Run(run) => obey_run(rt, providers, run, inputs, standard, out, err),
-        Line::Serve(serve) => obey_serve(rt, providers, serve, standard, out, err),
-        Line::Print(print) => obey_print(rt, print, inputs, standard, out, err),
+        Line::Check(check) => obey_check(engine, check, inputs, standard, out, err),
+        Line::Run(run) => obey_run(engine, run, inputs, standard, out, err),
+        Line::Serve(serve) => obey_serve(engine, serve, standard, out, err),
+        Line::Print(print) => obey_print(engine.rt, print, inputs, standard, out, err),
     }
 }
 
-/// Does what a line says, with these providers, and returns the exit status of its command: `check`, `run` and `print` read the file that the line
-/// names, or standard input where it names `-`, and `serve` reads standard input. What is printed goes to `out`, which is flushed where the status
+/// Does what a line says, and returns the exit status of its command: `check`, `run` and `print` read the file that the line
+/// names, or standard input if it names `-`, and `serve` reads standard input. What is printed goes to `out`, which is flushed if the status
 /// is below 3, and faults go to `err`, which is flushed in the end.
 ///
-/// A file that cannot be opened is reported as one that cannot be read. The fault of `err` where the last line there cannot be written, or the
+/// A file that cannot be opened is reported as one that cannot be read. The fault of `err` if the last line there cannot be written, or the
 /// flush fails: then nothing more can be said.
 pub fn obey_line<
     R: AllocGlobal + Threads + Wait + Sync,
@@ -184,8 +182,7 @@ pub fn obey_line<
     O: Write + Drop + Send,
     E: Write,
 >(
-    rt: &R,
-    providers: &Providers,
+    engine: &Engine<'_, R>,
     line: &Line,
     inputs: &S,
     standard: &mut I,
@@ -193,9 +190,10 @@ pub fn obey_line<
     err: &mut E,
 ) -> io::Result<u8>
     ensures range { IfOk result (λ status. status ≤ 3) }
-    ensures ended { IfOk result (λ status. IsEndOfLine (S.bytes_of inputs.now) (I.remaining standard.old) line.now status (writer_contents O.contents out.old) (writer_contents O.contents out.new) (E.contents err.old) (E.contents err.new)) }
+    ensures ended { IfOk result (λ status. IsEndOfLine (S.bytes_of inputs.now) (I.remaining standard.old) line.now status
+        (writer_contents O.contents out.old) (writer_contents O.contents out.new) (E.contents err.old) (E.contents err.new)) }
     ensures handed_on { writer_buffer out.old ≡ [] → IfOk result (λ status. status < 3 → writer_buffer out.new ≡ []) }
 {
-    let status = obey_command(rt, providers, line, inputs, standard, out, err)?;
+    let status = obey_command(engine, line, inputs, standard, out, err)?;
     hand_on_told(status, err)
 }

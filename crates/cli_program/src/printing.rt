@@ -12,7 +12,7 @@ use cli_print::print_and_tell;
 use std::io;
 use std::io::{BufRead, BufWriter, Write};
 
-/// The command `print` on the file that its line names.
+/// Runs the command `print` on the file that its line names.
 fn print_file<R: AllocGlobal, S: Inputs, O: Write + Drop, E: Write>(
     rt: &R,
     print: &PrintLine,
@@ -21,7 +21,8 @@ fn print_file<R: AllocGlobal, S: Inputs, O: Write + Drop, E: Write>(
     err: &mut E,
 ) -> io::Result<u8>
     ensures range { IfOk result (λ status. status ≤ 3) }
-    ensures ended { IfOk result (λ status. IsEnd print.now (S.bytes_of inputs.now print.now.file) status (writer_contents O.contents out.old) (writer_contents O.contents out.new) (E.contents err.old) (E.contents err.new)) }
+    ensures ended { IfOk result (λ status. IsEnd print.now (S.bytes_of inputs.now print.now.file) status
+        (writer_contents O.contents out.old) (writer_contents O.contents out.new) (E.contents err.old) (E.contents err.new)) }
     ensures handed_on { writer_buffer out.old ≡ [] → IfOk result (λ status. status < 3 → writer_buffer out.new ≡ []) }
 {
     match inputs.open(print.file()) {
@@ -30,7 +31,7 @@ fn print_file<R: AllocGlobal, S: Inputs, O: Write + Drop, E: Write>(
     }
 }
 
-/// The command `print` on the input that its line names.
+/// Runs the command `print` on the input that its line names.
 pub(crate) fn obey_print<R: AllocGlobal, S: Inputs, I: BufRead, O: Write + Drop, E: Write>(
     rt: &R,
     print: &PrintLine,
@@ -40,7 +41,8 @@ pub(crate) fn obey_print<R: AllocGlobal, S: Inputs, I: BufRead, O: Write + Drop,
     err: &mut E,
 ) -> io::Result<u8>
     ensures range { IfOk result (λ status. status ≤ 3) }
-    ensures ended { IfOk result (λ status. IsEnd print.now (input_of (S.bytes_of inputs.now) (I.remaining standard.old) print.now.file) status (writer_contents O.contents out.old) (writer_contents O.contents out.new) (E.contents err.old) (E.contents err.new)) }
+    ensures ended { IfOk result (λ status. IsEnd print.now (input_of (S.bytes_of inputs.now) (I.remaining standard.old) print.now.file) status
+        (writer_contents O.contents out.old) (writer_contents O.contents out.new) (E.contents err.old) (E.contents err.new)) }
     ensures handed_on { writer_buffer out.old ≡ [] → IfOk result (λ status. status < 3 → writer_buffer out.new ≡ []) }
 {
     if is_standard_input(print.file()) {

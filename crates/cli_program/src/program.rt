@@ -6,7 +6,7 @@ ghost use Rattle.cli_program.specs.Ends.{IsEndOfLine, IsEndOfWords};
 
 use crate::Inputs;
 use crate::handing::{hand_on, hand_on_told};
-use crate::obeying::obey_command;
+use crate::obeying::{Engine, obey_command};
 use bc_analyses::{find_plain_values, providers};
 use cli_file::{Stop, answer_words, stop_with};
 use cli_line::{Line, LineFault, Solver, read_line};
@@ -23,7 +23,7 @@ fn keep_memory<R: AllocGlobal>(rt: &R) {
     drop(block);
 }
 
-/// Does what a line says with the solver by components. `AllocError`, with nothing done, where there is no room for the providers.
+/// Does what a line says with the solver by components. `AllocError`, with nothing done, if there is no room for the providers.
 fn obey_by_components<
     R: AllocGlobal + Threads + Wait + Sync,
     S: Inputs,
@@ -39,15 +39,20 @@ fn obey_by_components<
     err: &mut E,
 ) -> Result<io::Result<u8>, AllocError>
     ensures range { IfOk result (λ ended. IfOk ended (λ status. status ≤ 3)) }
-    ensures ended { IfOk result (λ ended. IfOk ended (λ status. IsEndOfLine (S.bytes_of inputs.now) (I.remaining standard.old) line.now status (writer_contents O.contents out.old) (writer_contents O.contents out.new) (E.contents err.old) (E.contents err.new))) }
+    ensures ended { IfOk result (λ ended. IfOk ended (λ status. IsEndOfLine (S.bytes_of inputs.now) (I.remaining standard.old) line.now status
+        (writer_contents O.contents out.old) (writer_contents O.contents out.new) (E.contents err.old) (E.contents err.new))) }
     ensures handed_on { writer_buffer out.old ≡ [] → IfOk result (λ ended. IfOk ended (λ status. status < 3 → writer_buffer out.new ≡ [])) }
     ensures nothing { OnErr result ((out.new ≡ out.old) × (err.new ≡ err.old)) }
 {
     let providers = providers!(rt.alloc());
-    Ok(obey_command(rt, &providers, line, inputs, standard, out, err))
+    let engine = Engine {
+        rt,
+        providers: &providers,
+    };
+    Ok(obey_command(&engine, line, inputs, standard, out, err))
 }
 
-/// Does what a line says with the plain solver. `AllocError`, with nothing done, where there is no room for the providers.
+/// Does what a line says with the plain solver. `AllocError`, with nothing done, if there is no room for the providers.
 fn obey_plainly<
     R: AllocGlobal + Threads + Wait + Sync,
     S: Inputs,
@@ -63,15 +68,20 @@ fn obey_plainly<
     err: &mut E,
 ) -> Result<io::Result<u8>, AllocError>
     ensures range { IfOk result (λ ended. IfOk ended (λ status. status ≤ 3)) }
-    ensures ended { IfOk result (λ ended. IfOk ended (λ status. IsEndOfLine (S.bytes_of inputs.now) (I.remaining standard.old) line.now status (writer_contents O.contents out.old) (writer_contents O.contents out.new) (E.contents err.old) (E.contents err.new))) }
+    ensures ended { IfOk result (λ ended. IfOk ended (λ status. IsEndOfLine (S.bytes_of inputs.now) (I.remaining standard.old) line.now status
+        (writer_contents O.contents out.old) (writer_contents O.contents out.new) (E.contents err.old) (E.contents err.new))) }
     ensures handed_on { writer_buffer out.old ≡ [] → IfOk result (λ ended. IfOk ended (λ status. status < 3 → writer_buffer out.new ≡ [])) }
     ensures nothing { OnErr result ((out.new ≡ out.old) × (err.new ≡ err.old)) }
 {
     let providers = providers!(rt.alloc(), find_plain_values);
-    Ok(obey_command(rt, &providers, line, inputs, standard, out, err))
+    let engine = Engine {
+        rt,
+        providers: &providers,
+    };
+    Ok(obey_command(&engine, line, inputs, standard, out, err))
 }
 
-/// Does what a line says with the solver that it names. `AllocError`, with nothing done, where there is no room for the providers.
+/// Does what a line says with the solver that it names. `AllocError`, with nothing done, if there is no room for the providers.
 fn obey_by_its_solver<
     R: AllocGlobal + Threads + Wait + Sync,
     S: Inputs,
@@ -87,7 +97,8 @@ fn obey_by_its_solver<
     err: &mut E,
 ) -> Result<io::Result<u8>, AllocError>
     ensures range { IfOk result (λ ended. IfOk ended (λ status. status ≤ 3)) }
-    ensures ended { IfOk result (λ ended. IfOk ended (λ status. IsEndOfLine (S.bytes_of inputs.now) (I.remaining standard.old) line.now status (writer_contents O.contents out.old) (writer_contents O.contents out.new) (E.contents err.old) (E.contents err.new))) }
+    ensures ended { IfOk result (λ ended. IfOk ended (λ status. IsEndOfLine (S.bytes_of inputs.now) (I.remaining standard.old) line.now status
+        (writer_contents O.contents out.old) (writer_contents O.contents out.new) (E.contents err.old) (E.contents err.new))) }
     ensures handed_on { writer_buffer out.old ≡ [] → IfOk result (λ ended. IfOk ended (λ status. status < 3 → writer_buffer out.new ≡ [])) }
     ensures nothing { OnErr result ((out.new ≡ out.old) × (err.new ≡ err.old)) }
 {
@@ -113,7 +124,8 @@ fn obey<
     err: &mut E,
 ) -> io::Result<u8>
     ensures range { IfOk result (λ status. status ≤ 3) }
-    ensures ended { IfOk result (λ status. IsEndOfLine (S.bytes_of inputs.now) (I.remaining standard.old) line.now status (writer_contents O.contents out.old) (writer_contents O.contents out.new) (E.contents err.old) (E.contents err.new)) }
+    ensures ended { IfOk result (λ status. IsEndOfLine (S.bytes_of inputs.now) (I.remaining standard.old) line.now status
+        (writer_contents O.contents out.old) (writer_contents O.contents out.new) (E.contents err.old) (E.contents err.new)) }
     ensures handed_on { writer_buffer out.old ≡ [] → IfOk result (λ status. status < 3 → writer_buffer out.new ≡ []) }
 {
     keep_memory(rt);
@@ -130,7 +142,8 @@ fn answer<O: Write + Drop, E: Write>(
     err: &mut E,
 ) -> io::Result<u8>
     ensures range { IfOk result (λ status. status ≤ 3) }
-    ensures answered { IfOk result (λ status. Answers fault status (writer_contents O.contents out.old) (writer_contents O.contents out.new) (E.contents err.old) (E.contents err.new)) }
+    ensures answered { IfOk result (λ status. Answers fault status
+        (writer_contents O.contents out.old) (writer_contents O.contents out.new) (E.contents err.old) (E.contents err.new)) }
     ensures handed_on { IfOk result (λ status. status < 3 → writer_buffer out.new ≡ []) }
 {
     match answer_words(fault, out, err) {
@@ -155,7 +168,8 @@ pub(crate) fn obey_words<
     err: &mut E,
 ) -> io::Result<u8>
     ensures range { IfOk result (λ status. status ≤ 3) }
-    ensures ended { IfOk result (λ status. IsEndOfWords (S.bytes_of inputs.now) (I.remaining standard.old) (map (λ word. word.now) words.now) status (writer_contents O.contents out.old) (writer_contents O.contents out.new) (E.contents err.old) (E.contents err.new)) }
+    ensures ended { IfOk result (λ status. IsEndOfWords (S.bytes_of inputs.now) (I.remaining standard.old) (map (λ word. word.now) words.now) status
+        (writer_contents O.contents out.old) (writer_contents O.contents out.new) (E.contents err.old) (E.contents err.new)) }
     ensures handed_on { writer_buffer out.old ≡ [] → IfOk result (λ status. status < 3 → writer_buffer out.new ≡ []) }
 {
     match read_line(rt.alloc(), words) {
@@ -165,12 +179,12 @@ pub(crate) fn obey_words<
 }
 
 /// Runs the whole program for the words behind its own name, over any inputs and outputs: obeys the line that they write, or answers words that
-/// write none, and returns the exit status. What is printed goes to `out`, which is flushed where the status is below 3, and faults go to `err`,
+/// write none, and returns the exit status. What is printed goes to `out`, which is flushed if the status is below 3, and faults go to `err`,
 /// which is flushed in the end; `inputs` opens the file that a line names, and `standard` is standard input.
 ///
-/// 0 where no report has an error, and for help and the version; 1 where a report has one; 2 where the file has a fault, a put stores nothing or an
+/// 0 if no report has an error, and for help and the version; 1 where a report has one; 2 where the file has a fault, a put stores nothing or an
 /// outcome is no report; 3 for wrong use, a file that cannot be opened or read, memory that is refused, a failed output, and the other stops of the
-/// commands. The fault of `err` where the last line there cannot be written, or the flush fails: then nothing more can be said.
+/// commands. The fault of `err` if the last line there cannot be written, or the flush fails: then nothing more can be said.
 pub fn run_program<
     R: AllocGlobal + Threads + Wait + Sync,
     S: Inputs,
@@ -186,7 +200,8 @@ pub fn run_program<
     err: &mut E,
 ) -> io::Result<u8>
     ensures range { IfOk result (λ status. status ≤ 3) }
-    ensures ended { IfOk result (λ status. IsEndOfWords (S.bytes_of inputs.now) (I.remaining standard.old) (map (λ word. word.now) words.now) status (writer_contents O.contents out.old) (writer_contents O.contents out.new) (E.contents err.old) (E.contents err.new)) }
+    ensures ended { IfOk result (λ status. IsEndOfWords (S.bytes_of inputs.now) (I.remaining standard.old) (map (λ word. word.now) words.now) status
+        (writer_contents O.contents out.old) (writer_contents O.contents out.new) (E.contents err.old) (E.contents err.new)) }
     ensures handed_on { writer_buffer out.old ≡ [] → IfOk result (λ status. status < 3 → writer_buffer out.new ≡ []) }
 {
     let status = obey_words(rt, words, inputs, standard, out, err)?;

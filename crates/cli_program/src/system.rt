@@ -13,7 +13,7 @@ use std::sync::Wait;
 use std::thread::Threads;
 use std::{env, io};
 
-/// The words of the command line, behind the program's own name. `NoMemory` where there is no room for them, and `WrongUse` where one is no
+/// Returns the words of the command line, behind the program's own name. `NoMemory` if there is no room for them, and `WrongUse` if one is no
 /// UTF-8.
 fn read_words<R: Env + AllocGlobal>(rt: &R) -> Result<Vec<String>, LineFault> {
     let own = match env::args(rt) {
@@ -28,7 +28,7 @@ fn read_words<R: Env + AllocGlobal>(rt: &R) -> Result<Vec<String>, LineFault> {
     Ok(words)
 }
 
-/// Runs the program for these words, with the files of the system. `NoMemory`, with nothing done, where there is no room for a list of them.
+/// Runs the program for these words, with the files of the system. `NoMemory`, with nothing done, if there is no room for a list of them.
 fn run_words<
     R: Files + AllocGlobal + Threads + Wait + Sync,
     I: BufRead,
@@ -91,7 +91,7 @@ fn run_over_buffers<
 }
 
 /// Runs the program as the system starts it: reads the words of its command line, does what `run_program` says with the files of the system, and
-/// returns the exit status, which is 3 also where standard error fails, so that nothing more can be said. Standard error is flushed in the end.
+/// returns the exit status, which is 3 also if standard error fails, so that nothing more can be said. Standard error is flushed in the end.
 pub fn run_on_system<
     R: Env + Files + AllocGlobal + Threads + Wait + Sync,
     I: Read + Drop,

@@ -26,7 +26,7 @@ impl Id {
         Id { value: Value::Null }
     }
 
-    /// The member `id` of a request, or `null` where it has none. Returns `AllocError` only where memory was refused.
+    /// The member `id` of a request, or `null` if it has none. Returns `AllocError` only if memory was refused.
     pub(crate) fn of(value: &Value) -> Result<Id, AllocError>
         ensures { IfOk result (λ id. told id ≡ id_of (data_of value.now)) }
     {

@@ -9,7 +9,7 @@ use crate::request::MOST_REQUEST_BYTES;
 use serde_json::Value;
 use std::alloc::Global;
 
-/// The value of a line. The fault is `TooLong` where the line has more than `MOST_REQUEST_BYTES` bytes, and else `NotJson` where it is no
+/// Returns the value of a line. The fault is `TooLong` if the line has more than `MOST_REQUEST_BYTES` bytes, and else `NotJson` if it is no
 /// JSON.
 #[tactic(auto, using(crate::proofs::Values::too_long, crate::proofs::Values::has_value, crate::proofs::Values::has_no_value))]
 pub(crate) fn read_line(alloc: Global, line: &[u8]) -> Result<Value, Stop>

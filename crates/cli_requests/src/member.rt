@@ -7,14 +7,14 @@ ghost use Rattle.cli_requests.specs.Asking.{HasName, word};
 use bc_names::Name;
 use serde_json::Value;
 
-/// The member of this name, where it is a string.
+/// Returns the member of this name, if it is a string.
 pub(crate) fn find_word<'a>(value: &'a Value, key: &str) -> Option<&'a str>
     ensures { option_map (λ text. text.now) result ≡ word key.now (data_of value.now) }
 {
     value.get(key).and_then(Value::as_str)
 }
 
-/// The name in the member `name`, or `None` exactly where that is no string or spells no name.
+/// Returns the name in the member `name`, or `None` exactly if that is no string or spells no name.
 pub(crate) fn find_name(value: &Value) -> Option<Name>
     ensures found { IfSome result (HasName (data_of value.now)) }
     ensures none { IfNone result ((name : NameParts) → ¬ HasName (data_of value.now) name) }

@@ -15,7 +15,7 @@ pub enum Wanted {
 }
 
 /// A request as it is read from a line: its id, the number of its session, and what is wanted of that; or its id, the number of its
-/// session where it names one, and why it asks for nothing.
+/// session if it names one, and why it asks for nothing.
 #[derive(Drop)]
 pub enum Request {
     Good(Id, u8, Wanted),

@@ -11,7 +11,7 @@ use bc_syntax::{Types, Unit};
 use bc_text::{ReadFault, read_types, read_unit};
 use std::alloc::Global;
 
-/// The fault of this kind behind so many bytes of a text.
+/// Returns the fault of this kind behind so many bytes of a text.
 fn text_fault(kind: TextFaultKind, text: &[u8], at: usize) -> Stop
     ensures { result ≡ Stop.Fault (text_fault kind text.now at) }
 {
@@ -19,7 +19,7 @@ fn text_fault(kind: TextFaultKind, text: &[u8], at: usize) -> Stop
     Stop::Fault(RequestFault::Text(TextFault { kind, at, position }))
 }
 
-/// What a request is told where its text cannot be read for this cause.
+/// Returns what a request is told if its text cannot be read for this cause.
 fn stop_of(text: &[u8], cause: ReadFault) -> Stop
     ensures { Stops (Tells text.now cause) result }
 {
@@ -33,7 +33,7 @@ fn stop_of(text: &[u8], cause: ReadFault) -> Stop
     }
 }
 
-/// The declarations of a text.
+/// Returns the declarations of a text.
 pub(crate) fn read_declarations(alloc: Global, text: &[u8]) -> Result<Shared<Types>, Stop>
     ensures read { IfOk result (λ types. read_types text.now ≡ Ok types) }
     ensures unread { IfErr result (Stops (IsTextFault Verb.Types text.now)) }
@@ -47,7 +47,7 @@ pub(crate) fn read_declarations(alloc: Global, text: &[u8]) -> Result<Shared<Typ
     }
 }
 
-/// The body of a text.
+/// Returns the body of a text.
 pub(crate) fn read_body(alloc: Global, text: &[u8]) -> Result<Shared<Unit>, Stop>
     ensures read { IfOk result (λ unit. read text.now ≡ Ok unit) }
     ensures unread { IfErr result (Stops (IsTextFault Verb.Put text.now)) }

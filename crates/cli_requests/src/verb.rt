@@ -18,7 +18,7 @@ pub enum Verb {
     Glance,
 }
 
-/// The call that a value names in its member `call`, or `None` exactly where it names none.
+/// Returns the call that a value names in its member `call`, or `None` exactly if it names none.
 pub(crate) fn find_verb(value: &Value) -> Option<Verb>
     ensures found { IfSome result (Calls (data_of value.now)) }
     ensures none { IfNone result ((verb : Verb) → ¬ Calls (data_of value.now) verb) }

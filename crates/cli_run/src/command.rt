@@ -25,15 +25,17 @@ use std::io::{BufWriter, Read, Write};
 use std::sync::Wait;
 use std::thread::Threads;
 
-/// Prints a history, as text or as JSON, and flushes what the buffer holds of it, also where there is no room for the JSON of an entry.
+/// Prints a history, as text or as JSON, and flushes what the buffer holds of it, also if there is no room for the JSON of an entry.
 fn show<O: Write + Drop>(
     alloc: Global,
     json: bool,
     history: &History,
     out: &mut BufWriter<O>,
 ) -> Result<(), Stop>
-    ensures shown { OnOk result (Appends (writer_contents O.contents out.old) (writer_contents O.contents out.new) (flat_map (entry_lines json) history.now)) }
-    ensures no_memory { IsErrOf result Stop.NoMemory → (json ≡ true) × PrintsPart history.now (writer_contents O.contents out.old) (writer_contents O.contents out.new) }
+    ensures shown { OnOk result (Appends (writer_contents O.contents out.old) (writer_contents O.contents out.new)
+        (flat_map (entry_lines json) history.now)) }
+    ensures no_memory { IsErrOf result Stop.NoMemory → (json ≡ true) ×
+        PrintsPart history.now (writer_contents O.contents out.old) (writer_contents O.contents out.new) }
     ensures handed_on { (result ≡ Err Stop.CannotWrite) ⊎ (writer_buffer out.new ≡ []) }
     ensures stop { IfErr result (λ stop. (stop ≡ Stop.CannotWrite) ⊎ (stop ≡ Stop.NoMemory)) }
 {
@@ -62,7 +64,7 @@ fn tell<E: Write>(ends: &[End], err: &mut E) -> Result<(), Stop>
     Ok(())
 }
 
-/// The greatest status of the calls of a history.
+/// Returns the greatest status of the calls of a history.
 fn history_status(entries: &[Entry]) -> u8
     ensures value { result ≡ greatest (events_of entries.now) }
     ensures range { result ≤ 2 }
@@ -74,7 +76,7 @@ fn history_status(entries: &[Entry]) -> u8
     status
 }
 
-/// The status of a session by how it ended.
+/// Returns the status of a session by how it ended.
 fn end_status(end: &End) -> u8
     ensures value { result ≡ end_status end.now }
     ensures range { result ≤ 3 }
@@ -88,7 +90,7 @@ fn end_status(end: &End) -> u8
     }
 }
 
-/// The greatest status of some sessions.
+/// Returns the greatest status of some sessions.
 fn ends_status(ends: &[End]) -> u8
     ensures value { result ≡ greatest_end ends.now }
     ensures range { result ≤ 3 }
@@ -102,31 +104,38 @@ fn ends_status(ends: &[End]) -> u8
 
 /// Reads the whole input, has each of the line's sessions make its calls on a thread of its own, and prints the history: a line for each entry, the
 /// report behind the line of an Ask, and each root with its report behind that of an Ask for all; or as JSON one object a line for each entry. Then
-/// it writes a line for each session that did not end. Returns the greatest status of the calls, and 3 where a session did not end. If `out` held
+/// it writes a line for each session that did not end. Returns the greatest status of the calls, and 3 if a session did not end. If `out` held
 /// nothing before, it holds nothing afterwards, unless the writer behind it failed.
 ///
-/// Stops with `CannotRead` where the input cannot be read or is over 16 MiB; with `File` at its first fault; with `TooManyCalls` where it has more
-/// than 1,000,000 calls; with `CannotWrite` or `CannotTell` where a writer fails; with `NoMemory` where there is no room, and with `Audit` where
+/// Stops with `CannotRead` if the input cannot be read or is over 16 MiB; with `File` at its first fault; with `TooManyCalls` if it has more
+/// than 1,000,000 calls; with `CannotWrite` or `CannotTell` if a writer fails; with `NoMemory` if there is no room, and with `Audit` if
 /// the history does not agree with the sessions at the close, both before anything is printed, but that as JSON a beginning of the history is
-/// printed where there is no room for the line of the next entry.
-pub fn run<R: Threads + Wait + Sync, I: Read, O: Write + Drop, E: Write>(
+/// printed if there is no room for the line of the next entry.
+pub fn run<R, I, O, E>(
     rt: &R,
-    alloc: Global,
     providers: &Providers,
     line: &RunLine,
     input: &mut I,
     out: &mut BufWriter<O>,
     err: &mut E,
 ) -> Result<u8, Stop>
-    ensures done { IfOk result (λ status. OfFile (I.remaining input.old) (λ file. Ran line.now.json line.now.sessions file status (writer_contents O.contents out.old) (writer_contents O.contents out.new) (E.contents err.old) (E.contents err.new))) }
+where
+    R: AllocGlobal + Threads + Wait + Sync,
+    I: Read,
+    O: Write + Drop,
+    E: Write,
+    ensures done { IfOk result (λ status. OfFile (I.remaining input.old) (λ file. Ran line.now.json line.now.sessions file status
+        (writer_contents O.contents out.old) (writer_contents O.contents out.new) (E.contents err.old) (E.contents err.new))) }
     ensures range { IfOk result (λ status. status ≤ 3) }
-    ensures stopped { IfErr result (λ stop. Leaves line.now stop (I.remaining input.old) (writer_contents O.contents out.old) (writer_contents O.contents out.new) (E.contents err.old) (E.contents err.new)) }
+    ensures stopped { IfErr result (λ stop. Leaves line.now stop (I.remaining input.old)
+        (writer_contents O.contents out.old) (writer_contents O.contents out.new) (E.contents err.old) (E.contents err.new)) }
     ensures handed_on { writer_buffer out.old ≡ [] → (result ≡ Err Stop.CannotWrite) ⊎ (writer_buffer out.new ≡ []) }
 {
+    let alloc = rt.alloc();
     let file = read_whole(alloc, input)?;
     let sessions = line.sessions();
     let calls = read_told_calls(alloc, sessions, line.positions(), &file)?;
-    let made = make_calls(rt, alloc, providers, &calls, sessions)?;
+    let made = make_calls(rt, providers, &calls, sessions)?;
     show(alloc, line.json(), &made.history, out)?;
     tell(&made.ends, err)?;
     Ok(history_status(made.history.entries()).max(ends_status(&made.ends)))
@@ -136,50 +145,60 @@ pub fn run<R: Threads + Wait + Sync, I: Read, O: Write + Drop, E: Write>(
 /// status, the greatest that applies. Before a line on `err` says why the command stops, `out` was flushed; after `cannot write` it still holds
 /// what the writer behind it did not take.
 ///
-/// 0 where no report has an error; 1 where one has; 2 where the file has a fault, a put stored nothing or an outcome is no report; 3 where a
-/// session did not end, or the command stops for another reason, which is the last line on `err`. The fault of `err` where that line cannot be
+/// 0 if no report has an error; 1 if one has; 2 where the file has a fault, a put stored nothing or an outcome is no report; 3 where a
+/// session did not end, or the command stops for another reason, which is the last line on `err`. The fault of `err` if that line cannot be
 /// written: then nothing more can be said.
-pub fn run_and_tell<R: Threads + Wait + Sync, I: Read, O: Write + Drop, E: Write>(
+pub fn run_and_tell<R, I, O, E>(
     rt: &R,
-    alloc: Global,
     providers: &Providers,
     line: &RunLine,
     input: &mut I,
     out: &mut BufWriter<O>,
     err: &mut E,
 ) -> io::Result<u8>
+where
+    R: AllocGlobal + Threads + Wait + Sync,
+    I: Read,
+    O: Write + Drop,
+    E: Write,
     ensures range { IfOk result (λ status. status ≤ 3) }
-    ensures ended { IfOk result (λ status. IsEnd line.now (I.remaining input.old) status (writer_contents O.contents out.old) (writer_contents O.contents out.new) (E.contents err.old) (E.contents err.new)) }
+    ensures ended { IfOk result (λ status. IsEnd line.now (I.remaining input.old) status
+        (writer_contents O.contents out.old) (writer_contents O.contents out.new) (E.contents err.old) (E.contents err.new)) }
     ensures handed_on { writer_buffer out.old ≡ [] → IfOk result (λ status. status < 3 → writer_buffer out.new ≡ []) }
 {
-    match run(rt, alloc, providers, line, input, out, err) {
+    match run(rt, providers, line, input, out, err) {
         Ok(status) => Ok(status),
         Err(stop) => stop_with(line.file(), &stop, err),
     }
 }
 
 /// Runs the whole command `run` on the input of the file that the line names, and returns the exit status, the greatest that applies: 0 where no
-/// report has an error; 1 where one has; 2 where the file has a fault, a put stored nothing or an outcome is no report; 3 where a session did not
-/// end, where the command stops for another reason, which is the last line on `err`, or where standard error fails. The history goes to `out` and
+/// report has an error; 1 if one has; 2 where the file has a fault, a put stored nothing or an outcome is no report; 3 if a session did not
+/// end, where the command stops for another reason, which is the last line on `err`, or if standard error fails. The history goes to `out` and
 /// faults to `err`. The line has to be one of `run`.
-pub fn run_over<R: Threads + Wait + Sync, I: Read, O: Write + Drop, E: Write>(
+pub fn run_over<R, I, O, E>(
     rt: &R,
-    alloc: Global,
     providers: &Providers,
     line: &Line,
     input: &mut I,
     out: &mut BufWriter<O>,
     err: &mut E,
 ) -> u8
+where
+    R: AllocGlobal + Threads + Wait + Sync,
+    I: Read,
+    O: Write + Drop,
+    E: Write,
     requires { is_run line.now ≡ true }
     ensures range { result ≤ 3 }
-    ensures ended { result < 3 → IsEndOf line.now (I.remaining input.old) result (writer_contents O.contents out.old) (writer_contents O.contents out.new) (E.contents err.old) (E.contents err.new) }
+    ensures ended { result < 3 → IsEndOf line.now (I.remaining input.old) result
+        (writer_contents O.contents out.old) (writer_contents O.contents out.new) (E.contents err.old) (E.contents err.new) }
     ensures handed_on { writer_buffer out.old ≡ [] → result < 3 → writer_buffer out.new ≡ [] }
 {
     let Line::Run(line) = line else {
         unreachable!()
     };
-    match run_and_tell(rt, alloc, providers, line, input, out, err) {
+    match run_and_tell(rt, providers, line, input, out, err) {
         Ok(status) => status,
         Err(_) => 3,
     }

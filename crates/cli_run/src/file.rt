@@ -21,21 +21,21 @@ pub struct SessionCall {
     pub call: Call,
 }
 
-/// Whether a byte is a space or a line feed.
+/// Returns whether a byte is a space or a line feed.
 fn is_blank_byte(byte: u8) -> bool
     ensures { result ≡ (byte == 32 || byte == 10) }
 {
     byte == b' ' || byte == b'\n'
 }
 
-/// Whether a text has only spaces and line feeds.
+/// Returns whether a text has only spaces and line feeds.
 fn is_blank(text: &[u8]) -> bool
     ensures { result ≡ list_all (λ b. b == 32 || b == 10) text.now }
 {
     text.iter().all(|byte| is_blank_byte(*byte))
 }
 
-/// The call that stores the declarations of a section.
+/// Returns the call that stores the declarations of a section.
 fn read_stored(alloc: Global, section: &Section<'_>) -> Result<Call, Stop>
     ensures { GivesText Heading.Types (part_of section.now) result }
 {
@@ -45,7 +45,7 @@ fn read_stored(alloc: Global, section: &Section<'_>) -> Result<Call, Stop>
     }
 }
 
-/// The call that puts the body of a section under a name.
+/// Returns the call that puts the body of a section under a name.
 fn read_put(alloc: Global, section: &Section<'_>, name: Name) -> Result<Call, Stop>
     ensures { GivesText (Heading.Put name) (part_of section.now) result }
 {
@@ -55,7 +55,7 @@ fn read_put(alloc: Global, section: &Section<'_>, name: Name) -> Result<Call, St
     }
 }
 
-/// The call that takes the body of a name away, of a section without a text.
+/// Returns the call that takes the body of a name away, of a section without a text.
 fn read_remove(section: &Section<'_>, name: Name) -> Result<Call, Stop>
     ensures { GivesText (Heading.Remove name) (part_of section.now) result }
 {
@@ -65,7 +65,7 @@ fn read_remove(section: &Section<'_>, name: Name) -> Result<Call, Stop>
     Ok(Call::Remove(name))
 }
 
-/// The call that asks a name, of a section without a text.
+/// Returns the call that asks a name, of a section without a text.
 fn read_ask(section: &Section<'_>, name: Name) -> Result<Call, Stop>
     ensures { GivesText (Heading.Ask name) (part_of section.now) result }
 {
@@ -75,7 +75,7 @@ fn read_ask(section: &Section<'_>, name: Name) -> Result<Call, Stop>
     Ok(Call::Ask(name))
 }
 
-/// The call that asks for all, of a section without a text.
+/// Returns the call that asks for all, of a section without a text.
 fn read_all(section: &Section<'_>) -> Result<Call, Stop>
     ensures { GivesText Heading.All (part_of section.now) result }
 {
@@ -85,7 +85,7 @@ fn read_all(section: &Section<'_>) -> Result<Call, Stop>
     Ok(Call::All)
 }
 
-/// The call that the text of a section gives behind this heading.
+/// Returns the call that the text of a section gives behind this heading.
 fn read_text(alloc: Global, section: &Section<'_>, heading: Heading) -> Result<Call, Stop>
     ensures { GivesText heading (part_of section.now) result }
 {
@@ -98,7 +98,7 @@ fn read_text(alloc: Global, section: &Section<'_>, heading: Heading) -> Result<C
     }
 }
 
-/// The call of a section, and which of so many sessions is to make it.
+/// Returns the call of a section, and which of so many sessions is to make it.
 fn read_call(alloc: Global, section: &Section<'_>, sessions: u8) -> Result<SessionCall, Stop>
     requires { sessions ≤ 16 }
     ensures { GivesOne sessions (part_of section.now) result }
@@ -110,8 +110,8 @@ fn read_call(alloc: Global, section: &Section<'_>, sessions: u8) -> Result<Sessi
     Ok(SessionCall { session, call })
 }
 
-/// The calls of a file of so many sessions, in the order of its sections. `File` with the file's first fault where it has one, `NoMemory` where
-/// there is no room.
+/// Returns the calls of a file of so many sessions, in the order of its sections. `File` with the file's first fault if it has one, `NoMemory`
+/// if there is no room.
 pub fn read_calls(alloc: Global, file: &[u8], sessions: u8) -> Result<Vec<SessionCall>, Stop>
     requires { sessions ≤ 16 }
     ensures { GivesAll sessions (sections_of file.now) result }
@@ -123,8 +123,8 @@ pub fn read_calls(alloc: Global, file: &[u8], sessions: u8) -> Result<Vec<Sessio
     Ok(calls)
 }
 
-/// The calls of a file of so many sessions, in the order of its sections. `File` with the file's first fault where it has one, with its position in
-/// the file where positions are asked for; `NoMemory` where there is no room.
+/// Returns the calls of a file of so many sessions, in the order of its sections. `File` with the file's first fault if it has one, with its
+/// position in the file if positions are asked for; `NoMemory` if there is no room.
 pub fn read_told_calls(
     alloc: Global,
     sessions: u8,

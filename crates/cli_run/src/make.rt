@@ -52,10 +52,9 @@ fn part<N: Ending>(ran: Vec<(Session<N>, End)>, sessions: &mut Vec<Session<N>>, 
 }
 
 /// Opens a database, has each of so many sessions make its calls on a thread of its own, and closes it. Returns the history and how each session
-/// ended. `TooManyCalls` exactly where there are more than 1,000,000 calls; `NoMemory` only where memory was refused.
-pub fn make_calls<R: Threads + Wait + Sync>(
+/// ended. `TooManyCalls` exactly if there are more than 1,000,000 calls; `NoMemory` only if memory was refused.
+pub fn make_calls<R: AllocGlobal + Threads + Wait + Sync>(
     rt: &R,
-    alloc: Global,
     providers: &Providers,
     calls: &[SessionCall],
     sessions: u8,
@@ -68,12 +67,13 @@ pub fn make_calls<R: Threads + Wait + Sync>(
     ensures stop { IfErr result (λ stop. (stop ≡ Stop.NoMemory) ⊎ (stop ≡ Stop.TooManyCalls) ⊎ (stop ≡ Stop.Audit)) }
     ensures too_many { IsErrOf result Stop.TooManyCalls → MOST_ENTRIES < length calls.now }
 {
+    let alloc = rt.alloc();
     let capacity = find_capacity(calls.len(), 0)?;
     let scripts = scripts_of(alloc, calls, sessions)?;
     let mut back = Vec::with_capacity(alloc, usize::from(sessions))?;
     let mut ends = Vec::with_capacity(alloc, usize::from(sessions))?;
     let (db, opened) = Db::open(alloc, Waiting::new(rt), 0, capacity, sessions)?;
-    match run_sessions(rt, alloc, &db, opened, scripts, providers, &Open) {
+    match run_sessions(rt, &db, opened, scripts, providers, &Open) {
         Ok(ran) => {
             part(ran, &mut back, &mut ends);
             let history = db.close(rt, back)?;

@@ -87,7 +87,7 @@ fn write_text<O: Write>(entry: &Entry, out: &mut O) -> io::Result<()>
     write_outcome(&entry.event, out)
 }
 
-/// Writes the JSON line of an entry. `AllocError`, with nothing written, where there is no room for it.
+/// Writes the JSON line of an entry. `AllocError`, with nothing written, if there is no room for it.
 fn write_json<O: Write>(
     alloc: Global,
     entry: &Entry,
@@ -105,7 +105,7 @@ fn write_json<O: Write>(
     }
 }
 
-/// Writes an entry as text, or as JSON. `AllocError`, with nothing written, where there is no room for its JSON.
+/// Writes an entry as text, or as JSON. `AllocError`, with nothing written, if there is no room for its JSON.
 fn write_entry<O: Write>(
     alloc: Global,
     json: bool,
@@ -142,7 +142,7 @@ pub fn write_history<O: Write>(
     Ok(Ok(()))
 }
 
-/// Why a call was refused.
+/// Returns why a call was refused.
 fn refusal_word(refusal: Refusal) -> &'static str
     ensures { result.now ≡ refusal_text refusal }
 {
@@ -166,7 +166,7 @@ fn write_stopped<E: Write>(session: u8, end: &End, err: &mut E) -> io::Result<()
     }
 }
 
-/// Writes which sessions did not end, in the order of the sessions, which are at most 16. Returns the writer's fault, and only where a session did
+/// Writes which sessions did not end, in the order of the sessions, which are at most 16. Returns the writer's fault, and only if a session did
 /// not end.
 pub fn write_all_stopped<E: Write>(ends: &[End], err: &mut E) -> io::Result<()>
     requires { length ends.now ≤ 16 }

@@ -1,7 +1,6 @@
 -- What a conversation printed, from what its pens printed and what the log has of them.
 use Rattle.std.proofs.Common.{◌≡◌, ℕ, ◌<◌, List, length, get_or, Option, ap, sym, ◌∙◌, subst, arith}
 use Rattle.bc_calls.specs.declared.call.Entry.{Entry}
-use Rattle.bc_share.specs.Sessions.{SessionView}
 use Rattle.cli_output.specs.Logs.{texts_of}
 use Rattle.cli_output.specs.Pens.{PenView}
 use Rattle.cli_serve.specs.Talked.{AreAllTold, IsWholeBy}

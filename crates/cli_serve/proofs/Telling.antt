@@ -4,7 +4,7 @@ use Rattle.std.specs.Prelude.{option_map, IfOk}
 use Rattle.cli_input.specs.Lines.{lines_of}
 use Rattle.cli_talk.specs.Routed.{GoesTo, RoutesNext}
 use Rattle.cli_serve.specs.Talked.{AreAllTold, AreTold}
-use Rattle.cli_serve.proofs.Told.{HasTold, HasToldSoFar}
+use Rattle.cli_serve.proofs.Told.{HasToldSoFar}
 
 -- one line more
 told_one : (sessions : ℕ) (front : List (List ℕ)) (texts : List (List ℕ)) (line : List ℕ) (message : Option (ℕ × List ℕ)) (now : List (List ℕ)) → AreTold sessions front texts → GoesTo sessions line message now → AreTold sessions (front ++ line ∷ []) (texts ++ now)

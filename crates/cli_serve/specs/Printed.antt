@@ -1,11 +1,12 @@
 -- What a conversation printed.
-use Rattle.std.specs.Prelude.{◌≡◌, ℕ, ◌+◌, ◌<◌, List, length, slice_index_or, Option, All}
+use Rattle.std.specs.Prelude.{◌≡◌, ℕ, ◌+◌, ◌<◌, List, length, slice_index_or, Option, Result, IfOk, All}
 use Rattle.std.specs.Io.KnownBytes.{Appends}
 use Rattle.bc_calls.specs.declared.call.Entry.{Entry}
 use Rattle.bc_share.specs.Sessions.{SessionView}
 use Rattle.bc_share.specs.Closings.{IsOneHistory}
 use Rattle.cli_output.specs.Logs.{AreBelow, bytes_of, texts_of}
 use Rattle.cli_output.specs.Pens.{IsLogged, PenView}
+use Rattle.cli_serve.specs.declared.stop.ServeStop.{ServeStop}
 use Rattle.cli_serve.specs.Talked.{AreAllTold, AreNumbered, AreWholeBy, IsWholeBy}
 
 -- So many sessions of a new database answered the lines of an input that name them, and the router the others, by these pens. This is the
@@ -39,3 +40,7 @@ pub record IsPrinted (sessions : ℕ) (known : Option (List (List ℕ))) (histor
   pub told : AreAllTold sessions known (texts_of sessions log)
   pub only : AreBelow (sessions + 1) log
   pub written : Appends before after (bytes_of log)
+
+-- a conversation that ended well printed its answers, and nothing else
+abbrev pub HasPrinted : ℕ → Option (List (List ℕ)) → Result (List Entry) ServeStop → Option (List ℕ) → Option (List ℕ) → Type 0
+HasPrinted sessions known ended before after = IfOk ended (λ history. IsPrinted sessions known history before after)

@@ -1,6 +1,8 @@
 -- What workers left of their sessions.
-use Rattle.std.specs.Prelude.{◌≡◌, ℕ, ◌<◌, false, List, [], ◌∷◌, ◌++◌, length, slice_index_or, Option, Some, None, Result, IfOk, OnOk, OnErr, ⊤}
+use Rattle.std.specs.Prelude.{◌≡◌, ℕ, ◌<◌, ◌≤◌, false, List, [], ◌∷◌, ◌++◌, length, slice_index_or, Option, Some, None, Result, IfOk, OnOk, OnErr, option_map, ⊤}
+use Rattle.std.specs.List.{All}
 use Rattle.bc_share.specs.Sessions.{SessionView, new_session}
+use Rattle.cli_input.specs.Lines.{lines_of}
 use Rattle.cli_output.specs.Pens.{PenView}
 use Rattle.cli_requests.specs.Sessions.{lines_for}
 use Rattle.cli_talk.specs.declared.fault.TalkFault.{TalkFault}
@@ -8,6 +10,16 @@ use Rattle.cli_talk.specs.Turns.{Turns}
 use Rattle.cli_talk.specs.Talks.{HasAnswered, HasStopped}
 use Rattle.cli_talk.specs.Routed.{GoesTo}
 use Rattle.cli_serve.specs.declared.stop.ServeStop.{ServeStop}
+
+-- the lines of an input that has these bytes left, where they are known
+abbrev pub lines_left : Option (List ℕ) → Option (List (List ℕ))
+lines_left known = option_map lines_of known
+
+-- new sessions of a conversation, as many as it has
+pub record AreNew (sessions : ℕ) (all : List SessionView) : Type 0 where
+  pub few : sessions ≤ 16
+  pub sized : length all ≡ sessions
+  pub each : All (λ (s : SessionView). s ≡ new_session 0 s.number) all
 
 -- it is the session of this number of a database of the tag 0
 abbrev pub IsOwn : ℕ → SessionView → Type 0

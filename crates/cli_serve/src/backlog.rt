@@ -34,7 +34,7 @@ impl Size {
         }
     }
 
-    /// Adds a line of so many bytes where that is within the bound, and returns whether it is.
+    /// Adds a line of so many bytes if that is within the bound, and returns whether it is.
     fn add(&mut self, bytes: usize) -> bool
         ensures fits { IsTrue result ↔ ((self.old.lines < MOST_LINES) × (self.old.bytes + bytes ≤ MOST_BYTES)) }
         ensures added { IsTrue result → (self.new.lines ≡ self.old.lines + 1) × (self.new.bytes ≡ self.old.bytes + bytes) }

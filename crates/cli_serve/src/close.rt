@@ -21,7 +21,7 @@ fn take_all<J: Sheet, O: Write + Drop>(output: &mut Output<J, O>, pens: Vec<Pen<
 }
 
 /// Ends the output on which so many sessions and the router printed by these pens, and returns its writer. Just what was printed by them
-/// was written, and it was handed on. Returns `CannotWrite` where the writer failed, and `LostLine` where others were let in.
+/// was written, and it was handed on. Returns `CannotWrite` if the writer failed, and `LostLine` if others were let in.
 pub(crate) fn close<J: Sheet, O: Write + Drop>(
     output: Output<J, O>,
     authors: Authors<J>,

@@ -6,9 +6,11 @@ mod backlog;
 mod close;
 mod command;
 mod ends;
+mod service;
 mod stop;
 mod talk;
 mod worker;
 
 pub use command::{serve, serve_and_tell, serve_over};
+pub use service::Service;
 pub use stop::ServeStop;

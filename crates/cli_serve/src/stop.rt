@@ -24,7 +24,7 @@ pub enum ServeStop {
     Audit,
 }
 
-/// Why the command stops, where a conversation does.
+/// Returns why the command stops, where a conversation does.
 pub(crate) fn stop_of(fault: TalkFault) -> ServeStop
     ensures { result ≡ stop_of fault }
 {
@@ -36,7 +36,7 @@ pub(crate) fn stop_of(fault: TalkFault) -> ServeStop
     }
 }
 
-/// Returns how two parts of a conversation ended: well where both did, and else as the first that did not; but with `LostLine` only where
+/// Returns how two parts of a conversation ended: well if both did, and else as the first that did not; but with `LostLine` only if
 /// nothing else was wrong.
 pub(crate) fn both(
     before: Result<(), ServeStop>,

@@ -1,10 +1,8 @@
 //! The conversation: the router on this thread, and a worker for each session on a thread of its own.
-ghost use Rattle.std.specs.Prelude.{◌≡◌, ◌≤◌, [], IfErr, IfOk, OnOk, length, option_map};
-ghost use Rattle.std.specs.List.{All};
-ghost use Rattle.cli_input.specs.Lines.{lines_of};
+ghost use Rattle.std.specs.Prelude.{◌≡◌, [], IfErr, IfOk, OnOk, length};
 ghost use Rattle.bc_share.specs.Sessions.{new_session};
 ghost use Rattle.cli_talk.specs.Counted.{CountsAll};
-ghost use Rattle.cli_serve.specs.Talked.{AreAllTold, IsTalk};
+ghost use Rattle.cli_serve.specs.Talked.{AreAllTold, AreNew, IsTalk, lines_left};
 
 use crate::backlog::Backlog;
 use crate::ends::{Inbox, Printer, Prints};
@@ -14,9 +12,9 @@ use bc_prov::Providers;
 use bc_share::Session;
 use bc_versions::Ending;
 use cli_output::{Authors, Output, Pen, Sheet};
-use cli_talk::{Message, Talk, no_counts, route_line};
+use cli_talk::{Message, Post, Talk, no_counts, route_line};
 use crossbeam_channel::{Receiver, SendError, Sender, unbounded};
-use std::alloc::Global;
+use std::alloc::{AllocError, Global};
 use std::io::{BufRead, Write};
 use std::marker::Brand;
 use std::sync::{Mutex, Wait};
@@ -33,8 +31,42 @@ pub(crate) struct Talked<J: Sheet, N: Ending> {
     pub ended: Result<(), ServeStop>,
 }
 
+/// What the router and the workers of a conversation share: the runtime, how many sessions there are, the backlog of lines, and the output.
+#[derive(Drop)]
+struct Conversation<'s, J: Sheet, R, O: Write + Drop> {
+    rt: &'s R,
+    sessions: u8,
+    backlog: &'s Backlog,
+    out: &'s Mutex<Output<J, O>>,
+}
+
+/// The workers of a conversation, in the order of their sessions, with the ends of their queues.
+#[derive(Drop)]
+struct Staff<L: Talk + Drop, J: Sheet, N: Ending> {
+    queues: Vec<Sender<Message<L>>>,
+    workers: Vec<Worker<L, J, N>>,
+}
+
+/// Room for the sessions and the pens that come back.
+#[derive(Drop)]
+struct Room<J: Sheet, N: Ending> {
+    sessions: Vec<Session<N>>,
+    pens: Vec<Pen<J>>,
+    ghost empty: { (sessions.items ≡ []) × (pens.items ≡ []) },
+}
+
+impl<J: Sheet, N: Ending> Room<J, N> {
+    /// Returns room for so many sessions. Returns `AllocError` only if memory was refused.
+    fn new(alloc: Global, count: usize) -> Result<Room<J, N>, AllocError> {
+        Ok(Room {
+            sessions: Vec::with_capacity(alloc, count)?,
+            pens: Vec::with_capacity(alloc, count)?,
+        })
+    }
+}
+
 /// Puts a message into the queue of its session, once the backlog has room for its line. Returns `LostLine` once a worker stopped, which
-/// knows why, and `NoMemory` only where memory was refused.
+/// knows why, and `NoMemory` only if memory was refused.
 fn send<L: Talk + Drop, R: Wait>(
     rt: &R,
     backlog: &Backlog,
@@ -56,31 +88,29 @@ fn send<L: Talk + Drop, R: Wait>(
 
 /// Routes each line of an input to the worker of its session, until the input ends, and returns how many lines each session had. A line
 /// that names no session is answered by the printer, by which nothing was printed before.
-fn route_all<L: Talk + Drop, J: Sheet, I: BufRead, R: Wait, O: Write + Drop>(
-    rt: &R,
-    alloc: Global,
+fn route_all<L: Talk + Drop, J: Sheet, I: BufRead, R: AllocGlobal + Wait, O: Write + Drop>(
+    talk: &Conversation<'_, J, R, O>,
     input: &mut I,
-    sessions: u8,
-    backlog: &Backlog,
     queues: &[Sender<Message<L>>],
     printer: &mut Printer<'_, J, R, O>,
 ) -> Result<Vec<u64>, ServeStop>
-    requires sessions { sessions ≡ L.sessions }
-    requires lines { L.lines ≡ option_map lines_of (I.remaining input.old) }
+    requires sessions { talk.now.sessions ≡ L.sessions }
+    requires lines { L.lines ≡ lines_left (I.remaining input.old) }
     requires nothing { printer.old.pen.texts ≡ [] }
-    ensures counts { IfOk result (λ counts. CountsAll sessions counts.items L.lines) }
-    ensures told { OnOk result (AreAllTold sessions L.lines printer.new.pen.texts) }
+    ensures counts { IfOk result (λ counts. CountsAll talk.now.sessions counts.items L.lines) }
+    ensures told { OnOk result (AreAllTold talk.now.sessions L.lines printer.new.pen.texts) }
 {
-    let mut counts = match no_counts::<L, I>(alloc, input, sessions) {
+    let alloc = talk.rt.alloc();
+    let mut counts = match no_counts::<L, I>(alloc, input, talk.sessions) {
         Ok(counts) => counts,
         Err(fault) => return Err(stop_of(fault)),
     };
     'lines: for _ in 0..u64::MAX {
-        match route_line::<L, I, _>(alloc, input, sessions, printer, &mut counts) {
+        match route_line::<L, I, _>(alloc, input, talk.sessions, printer, &mut counts) {
             Ok(None) => return Ok(counts),
             Ok(Some(None)) => {}
             Ok(Some(Some(message))) => {
-                if let Err(stop) = send(rt, backlog, queues, message) {
+                if let Err(stop) = send(talk.rt, talk.backlog, queues, message) {
                     return Err(stop);
                 }
             }
@@ -90,27 +120,27 @@ fn route_all<L: Talk + Drop, J: Sheet, I: BufRead, R: Wait, O: Write + Drop>(
     Err(ServeStop::CannotRead)
 }
 
-/// Joins the workers, puts their sessions into `done` and their pens into `pens`, which are empty and have room for them, and returns them
-/// with the router's pen and with how the conversation ended: as the first worker that stopped, in the order of the sessions; or, where
-/// none did, as the router. Returns `LostLine` where a worker is missing, or the router's pen is another's.
+/// Joins the workers, and returns their sessions and pens with the router's pen and with how the conversation ended: as the first worker
+/// that stopped, in the order of the sessions; or, if none did, as the router. Returns `LostLine` if a worker is missing, or the router's
+/// pen is another's.
 fn join_all<L: Talk + Drop, J: Sheet, N: Ending, R: Threads>(
     rt: &R,
-    sessions: u8,
+    count: u8,
     workers: Vec<Worker<L, J, N>>,
-    mut done: Vec<Session<N>>,
-    mut pens: Vec<Pen<J>>,
+    room: Room<J, N>,
     router: Pen<J>,
     routed: &Result<Vec<u64>, ServeStop>,
 ) -> Result<Talked<J, N>, ServeStop>
-    requires sessions { sessions ≡ L.sessions }
-    requires none { (done.items ≡ []) × (pens.items ≡ []) }
-    requires counts { IfOk routed.now (λ counts. CountsAll sessions counts.items L.lines) }
-    requires told { OnOk routed.now (AreAllTold sessions L.lines router.texts) }
+    requires sessions { count ≡ L.sessions }
+    requires counts { IfOk routed.now (λ counts. CountsAll count counts.items L.lines) }
+    requires told { OnOk routed.now (AreAllTold count L.lines router.texts) }
     ensures { IfOk result (λ talked. IsTalk L.sessions L.lines talked.sessions.items talked.pens.items talked.router talked.ended) }
 {
+    let Room { sessions, pens } = room;
+    let (mut done, mut pens) = (sessions, pens);
     let mut ended = Ok(());
     'workers: for worker in workers {
-        let Some(joined) = join(rt, sessions, worker, done.len(), routed) else {
+        let Some(joined) = join(rt, count, worker, done.len(), routed) else {
             return Err(ServeStop::LostLine);
         };
         let (session, pen, told) = joined;
@@ -119,7 +149,7 @@ fn join_all<L: Talk + Drop, J: Sheet, N: Ending, R: Threads>(
             return Err(ServeStop::NoMemory);
         }
     }
-    if done.len() != usize::from(sessions) || router.number() != sessions {
+    if done.len() != usize::from(count) || router.number() != count {
         return Err(ServeStop::LostLine);
     }
     let ended = match routed {
@@ -134,14 +164,16 @@ fn join_all<L: Talk + Drop, J: Sheet, N: Ending, R: Threads>(
     })
 }
 
-// Waits for the workers, whatever they did.
-fn end_all<L: Talk + Drop, J: Sheet, N: Ending, R: Threads>(rt: &R, workers: Vec<Worker<L, J, N>>) {
+/// Ends the queues of some workers, and waits for these, whatever they did.
+fn dismiss<L: Talk + Drop, J: Sheet, N: Ending, R: Threads>(rt: &R, staff: Staff<L, J, N>) {
+    let Staff { queues, workers } = staff;
+    drop(queues);
     for worker in workers {
         wait(rt, worker);
     }
 }
 
-/// Returns both ends of a new queue, and `NoMemory` only where memory was refused.
+/// Returns both ends of a new queue, and `NoMemory` only if memory was refused.
 fn open_queue<L: Talk + Drop>(
     alloc: Global,
 ) -> Result<(Sender<Message<L>>, Receiver<Message<L>>), ServeStop>
@@ -153,129 +185,134 @@ fn open_queue<L: Talk + Drop>(
     }
 }
 
-/// Starts a worker for each session, with its queue, and with a pen of its own.
-fn start_all<'s, V, L, J, N, R, O>(
+/// Starts the worker of a new session, with a queue and a pen of its own.
+fn start_one<'s, V, L, J, N, R, O>(
     scope: &Scope<'s, V>,
-    rt: &'s R,
-    alloc: Global,
+    talk: &Conversation<'s, J, R, O>,
     providers: &'s Providers,
-    count: u8,
-    sessions: Vec<Session<N>>,
-    backlog: &'s Backlog,
-    out: &'s Mutex<Output<J, O>>,
+    session: Session<N>,
     authors: &mut Authors<J>,
-    queues: &mut Vec<Sender<Message<L>>>,
-    workers: &mut Vec<Worker<L, J, N>>,
+    staff: &mut Staff<L, J, N>,
 ) -> Result<(), ServeStop>
 where
     L: Talk + Drop + Send + 's,
     J: Sheet + Send + 's,
     N: Ending + Send + 's,
-    R: Wait + Sync,
+    R: AllocGlobal + Wait + Sync,
     O: Write + Drop + Send + 's,
-    requires sessions { count ≡ L.sessions }
-    requires are_new { All (λ s. s ≡ new_session 0 s.number) sessions.items }
+    requires sessions { talk.now.sessions ≡ L.sessions }
+    requires is_new { session ≡ new_session 0 session.number }
 {
-    'sessions: for session in sessions {
-        let number = session.number();
-        let (to, from) = match open_queue(alloc) {
-            Ok(ends) => ends,
-            Err(stop) => return Err(stop),
-        };
-        let Some(pen) = out.lock(rt).admit(authors, number) else {
-            return Err(ServeStop::LostLine);
-        };
-        let inbox = Inbox::new(rt, from, backlog);
-        let printer = Printer::new(rt, out, pen);
-        let Some(worker) = start::<V, L, J, N, _, _, R>(
-            scope, rt, alloc, providers, count, number, inbox, session, printer,
-        ) else {
-            return Err(ServeStop::NoThread);
-        };
-        if queues.push(to).is_err() || workers.push(worker).is_err() {
-            return Err(ServeStop::NoMemory);
-        }
+    let number = session.number();
+    let (to, from) = match open_queue(talk.rt.alloc()) {
+        Ok(ends) => ends,
+        Err(stop) => return Err(stop),
+    };
+    let Some(pen) = talk.out.lock(talk.rt).admit(authors, number) else {
+        return Err(ServeStop::LostLine);
+    };
+    let inbox = Inbox::new(talk.rt, from, talk.backlog);
+    let printer = Printer::new(talk.rt, talk.out, pen);
+    let post = Post {
+        providers,
+        sessions: talk.sessions,
+        number,
+    };
+    let Some(worker) = start::<V, L, J, N, _, _, R>(scope, talk.rt, post, inbox, session, printer)
+    else {
+        return Err(ServeStop::NoThread);
+    };
+    if staff.queues.push(to).is_err() || staff.workers.push(worker).is_err() {
+        return Err(ServeStop::NoMemory);
     }
     Ok(())
 }
 
-// The conversation, in a scope.
+/// Starts a worker for each session. If one cannot be started, those before it are dismissed.
+fn start_all<'s, V, L, J, N, R, O>(
+    scope: &Scope<'s, V>,
+    talk: &Conversation<'s, J, R, O>,
+    providers: &'s Providers,
+    sessions: Vec<Session<N>>,
+    authors: &mut Authors<J>,
+) -> Result<Staff<L, J, N>, ServeStop>
+where
+    L: Talk + Drop + Send + 's,
+    J: Sheet + Send + 's,
+    N: Ending + Send + 's,
+    R: AllocGlobal + Threads + Wait + Sync,
+    O: Write + Drop + Send + 's,
+    requires sessions { talk.now.sessions ≡ L.sessions }
+    requires are_new { AreNew L.sessions sessions.items }
+{
+    let alloc = talk.rt.alloc();
+    let mut staff = Staff {
+        queues: Vec::new(alloc),
+        workers: Vec::new(alloc),
+    };
+    'sessions: for session in sessions {
+        if let Err(stop) = start_one::<V, L, J, N, R, O>(
+            scope, talk, providers, session, authors, &mut staff,
+        ) {
+            dismiss(talk.rt, staff);
+            return Err(stop);
+        }
+    }
+    Ok(staff)
+}
+
+/// Holds the conversation of some new sessions about the lines of an input, in a scope of threads.
 fn converse_in<'s, V, L, J, N, R, I, O>(
     scope: &Scope<'s, V>,
-    rt: &'s R,
-    alloc: Global,
+    talk: &Conversation<'s, J, R, O>,
     providers: &'s Providers,
     input: &mut I,
     sessions: Vec<Session<N>>,
-    backlog: &'s Backlog,
-    out: &'s Mutex<Output<J, O>>,
     authors: &mut Authors<J>,
 ) -> Result<Talked<J, N>, ServeStop>
 where
     L: Talk + Drop + Send + 's,
     J: Sheet + Send + 's,
     N: Ending + Send + 's,
-    R: Threads + Wait + Sync,
+    R: AllocGlobal + Threads + Wait + Sync,
     I: BufRead,
     O: Write + Drop + Send,
-    requires few { length sessions.items ≤ 16 }
-    requires sessions { length sessions.items ≡ L.sessions }
-    requires are_new { All (λ s. s ≡ new_session 0 s.number) sessions.items }
-    requires lines { L.lines ≡ option_map lines_of (I.remaining input.old) }
+    requires sessions { talk.now.sessions ≡ L.sessions }
+    requires are_new { AreNew L.sessions sessions.items }
+    requires lines { L.lines ≡ lines_left (I.remaining input.old) }
     ensures { IfOk result (λ talked. IsTalk L.sessions L.lines talked.sessions.items talked.pens.items talked.router talked.ended) }
 {
-    let count = sessions.len() as u8;
-    let mut queues = Vec::new(alloc);
-    let mut workers = Vec::new(alloc);
-    let Ok(done) = Vec::with_capacity(alloc, sessions.len()) else {
+    let Ok(room) = Room::new(talk.rt.alloc(), sessions.len()) else {
         return Err(ServeStop::NoMemory);
     };
-    let Ok(pens) = Vec::with_capacity(alloc, sessions.len()) else {
-        return Err(ServeStop::NoMemory);
+    let staff = match start_all::<V, L, J, N, R, O>(scope, talk, providers, sessions, authors) {
+        Ok(staff) => staff,
+        Err(stop) => return Err(stop),
     };
-    if let Err(stop) = start_all::<V, L, J, N, R, O>(
-        scope,
-        rt,
-        alloc,
-        providers,
-        count,
-        sessions,
-        backlog,
-        out,
-        authors,
-        &mut queues,
-        &mut workers,
-    ) {
-        drop(queues);
-        end_all(rt, workers);
-        return Err(stop);
-    }
-    let Some(pen) = out.lock(rt).admit(authors, count) else {
-        drop(queues);
-        end_all(rt, workers);
+    let Some(pen) = talk.out.lock(talk.rt).admit(authors, talk.sessions) else {
+        dismiss(talk.rt, staff);
         return Err(ServeStop::LostLine);
     };
-    let mut printer = Printer::new(rt, out, pen);
-    let routed = route_all::<L, J, I, R, O>(
-        rt,
-        alloc,
-        input,
-        count,
-        backlog,
-        &queues,
-        &mut printer,
-    );
+    let Staff { queues, workers } = staff;
+    let mut printer = Printer::new(talk.rt, talk.out, pen);
+    let routed = route_all::<L, J, I, R, O>(talk, input, &queues, &mut printer);
     if let Err(ServeStop::CannotWrite) = routed {
-        backlog.stop(rt);
+        talk.backlog.stop(talk.rt);
     }
     drop(queues);
-    join_all(rt, count, workers, done, pens, printer.into_pen(), &routed)
+    join_all(
+        talk.rt,
+        talk.sessions,
+        workers,
+        room,
+        printer.into_pen(),
+        &routed,
+    )
 }
 
-// The conversation about the lines of an input.
+/// Holds the conversation of some new sessions about the lines of an input.
 fn converse_about<L, J, N, R, I, O>(
     rt: &R,
-    alloc: Global,
     providers: &Providers,
     input: &mut I,
     sessions: Vec<Session<N>>,
@@ -286,41 +323,40 @@ where
     L: Talk + Drop + Send + 'static,
     J: Sheet + Send,
     N: Ending + Send,
-    R: Threads + Wait + Sync,
+    R: AllocGlobal + Threads + Wait + Sync,
     I: BufRead,
     O: Write + Drop + Send,
-    requires few { length sessions.items ≤ 16 }
-    requires sessions { length sessions.items ≡ L.sessions }
-    requires are_new { All (λ s. s ≡ new_session 0 s.number) sessions.items }
-    requires lines { L.lines ≡ option_map lines_of (I.remaining input.old) }
+    requires are_new { AreNew L.sessions sessions.items }
+    requires lines { L.lines ≡ lines_left (I.remaining input.old) }
     ensures { IfOk result (λ talked. IsTalk L.sessions L.lines talked.sessions.items talked.pens.items talked.router talked.ended) }
 {
     let backlog = Backlog::new();
-    let shared = &backlog;
+    let talk = Conversation {
+        rt,
+        sessions: sessions.len() as u8,
+        backlog: &backlog,
+        out,
+    };
+    let shared = &talk;
     thread::scope(
         thread::scope_env(),
         rt,
         |scope| -> Result<Talked<J, N>, ServeStop>
-            requires { (length sessions.items ≤ 16) × (length sessions.items ≡ L.sessions) × All (λ s. s ≡ new_session 0 s.number) sessions.items × (L.lines ≡ option_map lines_of (I.remaining input.now)) }
+            requires { (shared.now.sessions ≡ L.sessions) × AreNew L.sessions sessions.items × (L.lines ≡ lines_left (I.remaining input.now)) }
             ensures { IfOk result (λ talked. IsTalk L.sessions L.lines talked.sessions.items talked.pens.items talked.router talked.ended) }
-        {
-            converse_in::<_, L, J, N, R, I, O>(
-                scope, rt, alloc, providers, input, sessions, shared, out, authors,
-            )
-        },
+        { converse_in::<_, L, J, N, R, I, O>(scope, shared, providers, input, sessions, authors) },
     )
 }
 
 /// Has each of some new sessions of a database of the tag 0 answer the lines of an input that name it, on a thread of its own, until the
-/// input ends: the sessions, in their order, and how the conversation ended. The answers are printed on the output, a line each, and each
-/// is handed on.
+/// input ends. Returns the sessions, in their order, and how the conversation ended. The answers are printed on the output, a line each,
+/// and each is handed on.
 ///
-/// The sessions come back also where the input or the output fails, or memory is refused, meanwhile. An error where the workers cannot
-/// all be started: `NoThread` where no thread can be made, `NoMemory` where there is no room; no line was read then. It asks for at most
-/// 16 sessions.
+/// The sessions come back also if the input or the output fails, or memory is refused, meanwhile. Fails if the workers cannot all be
+/// started: with `NoThread` if no thread can be made, with `NoMemory` if there is no room; no line was read then. It asks for at most 16
+/// sessions.
 pub(crate) fn converse<J, N, R, I, O>(
     rt: &R,
-    alloc: Global,
     providers: &Providers,
     input: &mut I,
     sessions: Vec<Session<N>>,
@@ -330,12 +366,12 @@ pub(crate) fn converse<J, N, R, I, O>(
 where
     J: Sheet + Send,
     N: Ending + Send,
-    R: Threads + Wait + Sync,
+    R: AllocGlobal + Threads + Wait + Sync,
     I: BufRead,
     O: Write + Drop + Send,
-    requires few { length sessions.items ≤ 16 }
-    requires are_new { All (λ s. s ≡ new_session 0 s.number) sessions.items }
-    ensures { IfOk result (λ talked. IsTalk (length sessions.items) (option_map lines_of (I.remaining input.old)) talked.sessions.items talked.pens.items talked.router talked.ended) }
+    requires are_new { AreNew (length sessions.items) sessions.items }
+    ensures { IfOk result (λ talked. IsTalk (length sessions.items) (lines_left (I.remaining input.old))
+        talked.sessions.items talked.pens.items talked.router talked.ended) }
 {
-    converse_about::<Brand, J, N, R, I, O>(rt, alloc, providers, input, sessions, out, authors)
+    converse_about::<Brand, J, N, R, I, O>(rt, providers, input, sessions, out, authors)
 }

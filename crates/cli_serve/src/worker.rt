@@ -6,12 +6,10 @@ ghost use Rattle.cli_serve.specs.Talked.{HasTalked, IsOwn, IsWholeBy};
 
 use crate::ends::Prints;
 use crate::stop::{ServeStop, stop_of};
-use bc_prov::Providers;
 use bc_share::Session;
 use bc_versions::Ending;
 use cli_output::{Pen, Sheet};
-use cli_talk::{CountedSession, Messages, Talk, TalkFault, serve_messages};
-use std::alloc::Global;
+use cli_talk::{Messages, Post, Talk, TalkFault, serve_messages};
 use std::marker::PhantomData;
 use std::sync::Wait;
 use std::thread::{Promise, PromisedHandle, Scope, Threads};
@@ -24,42 +22,24 @@ pub(crate) struct Ran<J: Sheet, N: Ending> {
     pen: Pen<J>,
 }
 
-// Answers the lines of a new session.
+/// Answers the lines of the new session of a post.
 fn run_worker<
     L: Talk + Drop,
     J: Sheet,
     N: Ending,
     M: Messages<L> + Drop,
     P: Prints<J> + Drop,
-    R: Wait,
->(
-    rt: &R,
-    alloc: Global,
-    providers: &Providers,
-    sessions: u8,
-    number: u8,
-    mut inbox: M,
-    session: Session<N>,
-    mut printer: P,
-) -> Ran<J, N>
-    requires sessions { sessions ≡ L.sessions }
-    requires is_new { session ≡ new_session 0 number }
+    R: AllocGlobal + Wait,
+>(rt: &R, post: &Post<'_>, mut inbox: M, session: Session<N>, mut printer: P) -> Ran<J, N>
+    requires sessions { post.now.sessions ≡ L.sessions }
+    requires is_new { session ≡ new_session 0 post.now.number }
     requires nothing { P.given printer ≡ Some [] }
-    ensures { HasTalked L.sessions number L.lines result.session result.pen.texts result.ended }
+    ensures { HasTalked L.sessions post.now.number L.lines result.session result.pen.texts result.ended }
 {
-    let mut session = CountedSession::new(session);
-    let ended = serve_messages::<L, _, _, _, _>(
-        rt,
-        alloc,
-        providers,
-        sessions,
-        number,
-        &mut inbox,
-        &mut session,
-        &mut printer,
-    );
+    let mut session = session;
+    let ended = serve_messages::<L, _, _, _, _>(rt, post, &mut inbox, &mut session, &mut printer);
     Ran {
-        session: session.into_session(),
+        session,
         ended,
         pen: printer.into_pen(),
     }
@@ -87,15 +67,12 @@ pub(crate) struct Worker<L: Talk + Drop, J: Sheet, N: Ending> {
     ghost promised: { handle.promise.number ≡ number },
 }
 
-/// Starts the worker of the new session of this number, which answers what comes to its inbox; `None` where no thread can be made. The two
-/// ends are type parameters, so that what goes to the thread is shown to be fit for it without their parts.
+/// Starts the worker of the new session of a post, which answers what comes to its inbox; `None` if no thread can be made. The two ends are
+/// type parameters, so that what goes to the thread is shown to be fit for it without their parts.
 pub(crate) fn start<'s, V, L, J, N, M, P, R>(
     scope: &Scope<'s, V>,
     rt: &'s R,
-    alloc: Global,
-    providers: &'s Providers,
-    sessions: u8,
-    number: u8,
+    post: Post<'s>,
     inbox: M,
     session: Session<N>,
     printer: P,
@@ -106,11 +83,17 @@ where
     N: Ending + Send + 's,
     M: Messages<L> + Drop + Send + 's,
     P: Prints<J> + Drop + Send + 's,
-    R: Wait + Sync,
-    requires sessions { sessions ≡ L.sessions }
-    requires is_new { session ≡ new_session 0 number }
+    R: AllocGlobal + Wait + Sync,
+    requires sessions { post.sessions ≡ L.sessions }
+    requires is_new { session ≡ new_session 0 post.number }
     requires nothing { P.given printer ≡ Some [] }
 {
+    // (taken apart, so that what goes to the thread is shown to be fit for it part by part)
+    let Post {
+        providers,
+        sessions,
+        number,
+    } = post;
     let promise = Answering {
         number,
         of: PhantomData,
@@ -121,9 +104,12 @@ where
             requires { (sessions ≡ L.sessions) × (session ≡ new_session 0 number) × (P.given printer ≡ Some []) }
             ensures { HasTalked L.sessions number L.lines result.session result.pen.texts result.ended }
         {
-            run_worker::<L, J, N, M, P, R>(
-                rt, alloc, providers, sessions, number, inbox, session, printer,
-            )
+            let post = Post {
+                providers,
+                sessions,
+                number,
+            };
+            run_worker::<L, J, N, M, P, R>(rt, &post, inbox, session, printer)
         },
     );
     match started {
@@ -133,7 +119,7 @@ where
 }
 
 /// Returns whether the session of this number answered each line that names it, of which the router counted so many: what stopped its
-/// worker, or `LostLine` where it answered fewer, or the router stopped and did not count them.
+/// worker, or `LostLine` if it answered fewer, or the router stopped and did not count them.
 fn find_whole<L: Talk + Drop, J: Sheet, N: Ending>(
     sessions: u8,
     number: u8,
@@ -164,7 +150,7 @@ fn find_whole<L: Talk + Drop, J: Sheet, N: Ending>(
 }
 
 /// Joins the worker of the session of this number, and returns the session, its pen, and whether it answered each line that names it, of
-/// which the router counted so many. Returns `None` where it is the worker, or the pen, of another session.
+/// which the router counted so many. Returns `None` if it is the worker, or the pen, of another session.
 pub(crate) fn join<L: Talk + Drop, J: Sheet, N: Ending, R: Threads>(
     rt: &R,
     sessions: u8,

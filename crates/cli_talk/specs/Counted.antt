@@ -1,5 +1,5 @@
 -- How many lines each session has.
-use Rattle.std.specs.Prelude.{◌≡◌, ℕ, ◌<◌, List, ◌++◌, length, slice_index, Option, Some, None, ⊤}
+use Rattle.std.specs.Prelude.{◌≡◌, ℕ, ◌<◌, List, ◌++◌, length, slice_index, Option, Some, None, MatchOption, ⊤}
 use Rattle.cli_input.specs.Lines.{lines_of}
 use Rattle.cli_requests.specs.Sessions.{lines_for}
 
@@ -18,7 +18,12 @@ pub record HasCounted (sessions : ℕ) (counts : List ℕ) (lines left : List (L
   pub cut : lines ≡ front ++ left
   pub counted : Counts sessions counts front
 
+-- the lines before those that are left were counted, where the lines are known
 abbrev pub CountsSoFar : ℕ → List ℕ → Option (List (List ℕ)) → Option (List ℕ) → Type 0
 CountsSoFar sessions counts None left = ⊤
 CountsSoFar sessions counts (Some lines) None = ⊥
 CountsSoFar sessions counts (Some lines) (Some left) = HasCounted sessions counts lines (lines_of left)
+
+-- the counts once the next line was looked at: of all lines if there was none left, and else of those before what is left
+abbrev pub CountsWith : {M : Type 0} → ℕ → List ℕ → Option (List (List ℕ)) → Option (List ℕ) → Option M → Type 0
+CountsWith sessions counts known left next = MatchOption next (CountsAll sessions counts known) (λ _. CountsSoFar sessions counts known left)

@@ -3,3 +3,4 @@ pub mod Turns
 pub mod Talks
 pub mod Counted
 pub mod Routed
+pub mod Posts

@@ -1,17 +1,15 @@
 //! Answers to requests.
-ghost use Rattle.std.specs.Prelude.{◌≡◌, IfOk, OnErr, string_bytes};
+ghost use Rattle.std.specs.Prelude.{◌≡◌, IfOk, OnErr, length, string_bytes};
 ghost use Rattle.bc_calls.specs.Calls.{call_of};
-ghost use Rattle.bc_calls.specs.declared.call.Call.TheVariants as calls;
+ghost use Rattle.bc_calls.specs.declared.call.Event.{Event};
+ghost use Rattle.bc_book.specs.Operations.{IsCallOf};
 ghost use Rattle.bc_share.specs.Sessions.{IsAnswered, IsSame};
 ghost use Rattle.cli_talk.specs.Turns.{IsAnswerTo, IsReplyTo, IsWholeLine};
 
-use crate::counted::CountedSession;
-use bc_book::Refusal;
+use bc_book::{Operation, Refusal};
 use bc_calls::{Call, Event, checked};
-use bc_names::Name;
-use bc_prov::{Providers, Shared};
-use bc_share::Session;
-use bc_syntax::{Types, Unit};
+use bc_prov::Providers;
+use bc_share::{Session, work_all};
 use bc_versions::Ending;
 use cli_answers::{Answer, answer_line};
 use cli_requests::{Id, Request, Wanted};
@@ -36,88 +34,59 @@ impl Drop for Answered {
     }
 }
 
-// Stores declarations.
-fn put_types<R: Wait, E: Ending>(
-    rt: &R,
-    alloc: Global,
-    session: &mut Session<E>,
-    types: Shared<Types>,
-) -> Result<Event, Refusal>
-    ensures made { IfOk result (λ event. (call_of event ≡ calls.Types types) × IsAnswered event session.old session.new) }
-    ensures refused { OnErr result (IsSame session.old session.new) }
-{
-    let Ok(kept) = types.clone() else {
-        return Err(Refusal::NoMemory);
-    };
-    let Ok(kept) = checked(alloc, kept) else {
-        return Err(Refusal::NoMemory);
-    };
-    match session.put_types(rt, types.into_arc()) {
-        Ok(()) => Ok(Event::Types(kept)),
-        Err(refusal) => Err(refusal),
-    }
-}
-
-// Stores a unit under a name.
-fn put_unit<R: Wait, E: Ending>(
-    rt: &R,
-    session: &mut Session<E>,
-    name: Name,
-    unit: Shared<Unit>,
-) -> Result<Event, Refusal>
-    ensures made { IfOk result (λ event. (call_of event ≡ calls.Put name unit) × IsAnswered event session.old session.new) }
-    ensures refused { OnErr result (IsSame session.old session.new) }
-{
-    let Ok(kept) = unit.clone() else {
-        return Err(Refusal::NoMemory);
-    };
-    match session.put(rt, name, unit.into_arc()) {
-        Ok(reply) => Ok(Event::Put(name, kept, reply)),
-        Err(refusal) => Err(refusal),
-    }
-}
-
-/// Makes a call. Refused as the session refuses it, and with `NoMemory` where there is no room for what the answer repeats of the call.
-pub(crate) fn make_call<R: Wait, E: Ending>(
-    rt: &R,
+/// Prepares a call for a session: checks declarations, and works on what is asked for, with no lock held. It is no call yet: the session's
+/// own list stays as it is. Returns `AllocError` only if memory or the reading was refused, as a provider may report too.
+fn prepare<E: Ending>(
     alloc: Global,
     session: &mut Session<E>,
     call: Call,
     providers: &Providers,
-) -> Result<Event, Refusal>
-    ensures made { IfOk result (λ event. (call_of event ≡ call) × IsAnswered event session.old session.new) }
-    ensures refused { OnErr result (IsSame session.old session.new) }
+) -> Result<Operation, AllocError>
+    ensures prepared { IfOk result (λ operation. (event : Event) → IsCallOf operation event → call_of event ≡ call) }
+    ensures kept { IsSame session.old session.new }
 {
     match call {
-        Call::Types(types) => put_types(rt, alloc, session, types),
-        Call::Put(name, unit) => put_unit(rt, session, name, unit),
-        Call::Remove(name) => match session.remove(rt, name) {
-            Ok(reply) => Ok(Event::Remove(name, reply)),
-            Err(refusal) => Err(refusal),
-        },
-        Call::Ask(name) => match session.ask(rt, &name, providers) {
-            Ok(outcome) => Ok(Event::Ask(name, Shared::new(outcome))),
-            Err(refusal) => Err(refusal),
-        },
-        Call::All => match session.ask_all(rt, providers) {
-            Ok(listing) => Ok(Event::All(Shared::new(listing))),
-            Err(refusal) => Err(refusal),
-        },
+        Call::Types(types) => Ok(Operation::Types(checked(alloc, types)?)),
+        Call::Put(name, unit) => Ok(Operation::Put(name, unit)),
+        Call::Remove(name) => Ok(Operation::Remove(name)),
+        Call::Ask(name) => {
+            let begun = session.begin(&name)?;
+            Ok(Operation::Settle(begun.work(alloc, providers)?))
+        }
+        Call::All => {
+            let begun = session.begin_all()?;
+            Ok(Operation::All(work_all(alloc, begun, providers)?))
+        }
     }
 }
 
-// Does what is wanted of a session, and answers.
-fn answer_wanted<R: Wait, E: Ending>(
+/// Makes a call: returns how many calls the session had made before, and the call with its reply. Refused as `Session::make` is, and with
+/// `NoMemory` if it cannot be prepared.
+fn make<R: AllocGlobal + Wait, E: Ending>(
     rt: &R,
-    alloc: Global,
-    session: &mut CountedSession<E>,
+    session: &mut Session<E>,
+    call: Call,
+    providers: &Providers,
+) -> Result<(usize, Event), Refusal>
+    ensures made { IfOk result (λ made. (call_of made.1 ≡ call) × IsAnswered made.1 session.old session.new) }
+    ensures number { IfOk result (λ made. made.0 ≡ length session.old.own) }
+    ensures refused { OnErr result (IsSame session.old session.new) }
+{
+    let operation = prepare(rt.alloc(), session, call, providers)?;
+    session.make(rt, operation, Some(providers))
+}
+
+/// Does what is wanted of a session, and returns the answer.
+fn answer_wanted<R: AllocGlobal + Wait, E: Ending>(
+    rt: &R,
+    session: &mut Session<E>,
     wanted: Wanted,
     providers: &Providers,
 ) -> Answer
     ensures { IsAnswerTo wanted result session.old session.new }
 {
     match wanted {
-        Wanted::Call(call) => match session.make(rt, alloc, call, providers) {
+        Wanted::Call(call) => match make(rt, session, call, providers) {
             Ok((number, event)) => Answer::Entered { number, event },
             Err(refusal) => Answer::Refused(refusal),
         },
@@ -129,10 +98,9 @@ fn answer_wanted<R: Wait, E: Ending>(
 }
 
 /// Answers a request: does what is wanted of the session, or says what is wrong with the request.
-pub(crate) fn answer_request<R: Wait, E: Ending>(
+pub(crate) fn answer_request<R: AllocGlobal + Wait, E: Ending>(
     rt: &R,
-    alloc: Global,
-    session: &mut CountedSession<E>,
+    session: &mut Session<E>,
     request: Request,
     providers: &Providers,
 ) -> Answered
@@ -142,7 +110,7 @@ pub(crate) fn answer_request<R: Wait, E: Ending>(
         Request::Good(id, number, wanted) => Answered {
             id,
             session: Some(number),
-            answer: answer_wanted(rt, alloc, session, wanted, providers),
+            answer: answer_wanted(rt, session, wanted, providers),
         },
         Request::Bad(id, session, fault) => Answered {
             id,
@@ -152,7 +120,7 @@ pub(crate) fn answer_request<R: Wait, E: Ending>(
     }
 }
 
-/// The line of an answer, with its line feed. Returns `AllocError` only where memory was refused.
+/// The line of an answer, with its line feed. Returns `AllocError` only if memory was refused.
 pub(crate) fn whole_line(alloc: Global, answered: &Answered) -> Result<String, AllocError>
     ensures { IfOk result (λ line. IsWholeLine answered.now (string_bytes line)) }
 {

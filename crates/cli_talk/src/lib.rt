@@ -3,7 +3,6 @@
 #![tactic(auto)]
 
 mod answer;
-mod counted;
 mod fault;
 mod lost;
 mod message;
@@ -11,9 +10,8 @@ mod replies;
 mod router;
 mod worker;
 
-pub use counted::CountedSession;
 pub use fault::TalkFault;
 pub use message::{Message, Messages, Talk};
 pub use replies::{Closed, Replies};
 pub use router::{no_counts, route_line};
-pub use worker::serve_messages;
+pub use worker::{Post, serve_messages};

@@ -10,7 +10,7 @@ use itoa::Buffer;
 /// How many bytes such a line has at most.
 const LINE: usize = 64;
 
-/// The line that tells, of the session of this number, that there was no memory, in these words.
+/// Returns the line that tells, of the session of this number, that there was no memory, in these words.
 fn lost_line(words: &str, session: u8) -> ArrayString<LINE>
     requires { length words.now ≤ 24 }
     ensures { result.bytes ≡ lost_line words.now session }

@@ -5,7 +5,7 @@ ghost use Rattle.cli_talk.specs.Talks.{IsLineOf};
 
 use std::marker::{Brand, PhantomData};
 
-/// The parameters of a conversation, for contracts: how many sessions there are, and the lines of the input, where these are known.
+/// The parameters of a conversation, for contracts: how many sessions there are, and the lines of the input, if these are known.
 /// The call that begins a conversation picks both.
 pub trait Talk {
     ghost use Rattle.std.specs.Prelude.{ℕ, List, Option};
@@ -37,6 +37,6 @@ pub struct Message<L: Talk> {
 
 /// A source of the messages of a session. Nothing is asked of it: a message that is not the next of its session is found by its number.
 pub trait Messages<L: Talk> {
-    /// Returns the next message, or `None` where no more will come.
+    /// Returns the next message, or `None` if no more will come.
     fn next(&mut self) -> Option<Message<L>>;
 }

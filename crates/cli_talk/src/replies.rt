@@ -8,10 +8,10 @@ pub struct Closed;
 
 /// A sink for the lines of answers.
 pub trait Replies {
-    /// The lines that were given, where that is known.
+    /// The lines that were given, if that is known.
     ghost given: { Self → Option (List (List ℕ)) } = { λ _. None };
 
-    /// Writes a line, which has its line feed, and hands it on at once. Returns `Closed` where that fails.
+    /// Writes a line, which has its line feed, and hands it on at once. Returns `Closed` if that fails.
     fn reply(&mut self, line: &str) -> Result<(), Closed>
         ensures { OnOk result (Takes (given self.old) (given self.new) line.now) };
 }

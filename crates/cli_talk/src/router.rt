@@ -1,13 +1,12 @@
 //! The router, which numbers lines for their sessions.
-ghost use Rattle.std.specs.Prelude.{◌≡◌, ◌≤◌, ◌<◌, IfOk, IfSome, List, OnOk, MatchOption, None, Some, length, option_map, ℕ};
-ghost use Rattle.cli_input.specs.Lines.{IsLine, ReadsNext, lines_of};
+ghost use Rattle.std.specs.Prelude.{◌≡◌, ◌≤◌, ◌<◌, IfOk, IfSome, List, OnOk, length, option_map, ℕ};
+ghost use Rattle.cli_input.specs.Lines.{ReadsNext, lines_of};
 ghost use Rattle.cli_requests.specs.declared.request.TheConstants.{MOST_REQUEST_BYTES};
-ghost use Rattle.cli_requests.specs.Sessions.{session_in};
 ghost use Rattle.cli_talk.specs.Wires.{Takes};
-ghost use Rattle.cli_talk.specs.Turns.{IsTold, IsWholeLine};
+ghost use Rattle.cli_talk.specs.Turns.{IsWholeLine};
 ghost use Rattle.cli_talk.specs.Talks.{IsLineOf};
-ghost use Rattle.cli_talk.specs.Counted.{CountsAll, CountsSoFar};
-ghost use Rattle.cli_talk.specs.Routed.{RoutesNext};
+ghost use Rattle.cli_talk.specs.Counted.{CountsSoFar, CountsWith};
+ghost use Rattle.cli_talk.specs.Routed.{IsToldOf, Names, Routes};
 
 use crate::answer::{Answered, whole_line};
 use crate::fault::TalkFault;
@@ -20,7 +19,7 @@ use std::alloc::Global;
 use std::io::{BufRead, ErrorKind};
 use std::marker::PhantomData;
 
-// The message of a line.
+/// Returns the message of a line.
 fn make_message<L: Talk>(session: u8, number: u64, line: Vec<u8>) -> Message<L>
     requires short { length line.items ≤ MOST_REQUEST_BYTES }
     requires is_of { IsLineOf L.sessions session number line.items L.lines }
@@ -35,7 +34,7 @@ fn make_message<L: Talk>(session: u8, number: u64, line: Vec<u8>) -> Message<L>
     }
 }
 
-// The next line of an input, or `None` where there is none left.
+/// Returns the next line of an input, or `None` if there is none left.
 fn next_line<I: BufRead>(alloc: Global, input: &mut I) -> Result<Option<InputLine>, TalkFault>
     ensures { IfOk result (λ line. ReadsNext MOST_REQUEST_BYTES (I.remaining input.old) (I.remaining input.new) line) }
 {
@@ -48,7 +47,7 @@ fn next_line<I: BufRead>(alloc: Global, input: &mut I) -> Result<Option<InputLin
     }
 }
 
-// Gives the line of an answer.
+/// Gives the line of an answer.
 fn give<P: Replies>(alloc: Global, answered: &Answered, replies: &mut P) -> Result<(), TalkFault>
     ensures { OnOk result ((text : List ℕ) × IsWholeLine answered.now text × Takes (P.given replies.old) (P.given replies.new) text) }
 {
@@ -61,14 +60,14 @@ fn give<P: Replies>(alloc: Global, answered: &Answered, replies: &mut P) -> Resu
     }
 }
 
-// Says what is wrong with a line that names no session.
+/// Says what is wrong with a line that names no session.
 fn tell<P: Replies>(
     alloc: Global,
     line: &InputLine,
     sessions: u8,
     replies: &mut P,
 ) -> Result<(), TalkFault>
-    ensures { OnOk result ((text : List ℕ) × ((bytes : List ℕ) → IsLine MOST_REQUEST_BYTES bytes line.now → (session_in sessions bytes ≡ None) × IsTold sessions bytes text) × Takes (P.given replies.old) (P.given replies.new) text) }
+    ensures { OnOk result (IsToldOf sessions line.now (P.given replies.old) (P.given replies.new)) }
 {
     let Ok(request) = read_request(alloc, line, sessions) else {
         return Err(TalkFault::NoMemory);
@@ -87,9 +86,9 @@ fn tell<P: Replies>(
     }
 }
 
-// The session that a line names, if it names one.
+/// Returns the session that a line names, if it names one.
 fn session_of_line(alloc: Global, line: &InputLine, sessions: u8) -> Result<Option<u8>, TalkFault>
-    ensures which { IfOk result (λ found. IfSome found (λ session. (bytes : List ℕ) → IsLine MOST_REQUEST_BYTES bytes line.now → session_in sessions bytes ≡ Some session)) }
+    ensures which { IfOk result (λ found. IfSome found (Names sessions line.now)) }
     ensures low { IfOk result (λ found. IfSome found (λ session. session < sessions)) }
 {
     let InputLine::Text(text) = line else {
@@ -102,11 +101,11 @@ fn session_of_line(alloc: Global, line: &InputLine, sessions: u8) -> Result<Opti
 }
 
 /// Reads the next line of an input, of at most `MOST_REQUEST_BYTES` bytes, and returns it as the message for the session that it names,
-/// numbered for this session. Nothing is waited for behind the line. Inside it returns `None` where the line names no session: what is
-/// wrong with it was answered then. Outside it returns `None` where there is no line left. The message is to go to the worker of its
+/// numbered for this session. Nothing is waited for behind the line. Inside it returns `None` if the line names no session: what is
+/// wrong with it was answered then. Outside it returns `None` if there is no line left. The message is to go to the worker of its
 /// session. The counts of lines, one for each session, are those that `no_counts` returned and the calls since then have left.
 ///
-/// Returns `CannotRead` where the input fails, `NoMemory` where there is no room for the line or its answer, and `CannotWrite` where the
+/// Returns `CannotRead` if the input fails, `NoMemory` if there is no room for the line or its answer, and `CannotWrite` if the
 /// answer is not given on.
 pub fn route_line<L: Talk + Drop, I: BufRead, P: Replies>(
     alloc: Global,
@@ -119,8 +118,8 @@ pub fn route_line<L: Talk + Drop, I: BufRead, P: Replies>(
     requires sized { length counts.old.items ≡ sessions }
     requires counted { CountsSoFar sessions counts.old.items L.lines (I.remaining input.old) }
     ensures sized { length counts.new.items ≡ sessions }
-    ensures counted { IfOk result (λ routed. MatchOption routed (CountsAll sessions counts.new.items L.lines) (λ _. CountsSoFar sessions counts.new.items L.lines (I.remaining input.new))) }
-    ensures routed { IfOk result (λ routed. RoutesNext sessions (I.remaining input.old) (I.remaining input.new) (option_map (option_map (λ m. (m.session, m.line.items))) routed) (P.given replies.old) (P.given replies.new)) }
+    ensures counted { IfOk result (CountsWith sessions counts.new.items L.lines (I.remaining input.new)) }
+    ensures routed { Routes (λ m. (m.session, m.line.items)) sessions result I.remaining input.old input.new P.given replies.old replies.new }
 {
     let line = match next_line(alloc, input) {
         Ok(Some(line)) => line,
@@ -153,7 +152,7 @@ pub fn route_line<L: Talk + Drop, I: BufRead, P: Replies>(
     Ok(Some(Some(message)))
 }
 
-/// Returns the counts of lines before any line is read: 0 for each of so many sessions. Returns `NoMemory` only where memory was refused.
+/// Returns the counts of lines before any line is read: 0 for each of so many sessions. Returns `NoMemory` only if memory was refused.
 pub fn no_counts<L: Talk + Drop, I: BufRead>(
     alloc: Global,
     _input: &I,

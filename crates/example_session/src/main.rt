@@ -1,4 +1,4 @@
-//! A database from open to close: the program that `docs/API.md` prints.
+//! A database from open to close: the program that `docs/user/library.md` prints.
 #![tactic(auto)]
 
 use anyhow::{Result, bail};

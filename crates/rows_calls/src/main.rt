@@ -72,7 +72,7 @@ fn show_texts<R>(
     out: &mut Vec<u8>,
 ) -> Result<()>
 where
-    R: Clock + Copy + Send + Sync + Threads + Wait,
+    R: AllocGlobal + Clock + Copy + Send + Sync + Threads + Wait,
 {
     for rows in texts {
         let context = Context {

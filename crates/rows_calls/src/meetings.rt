@@ -106,7 +106,7 @@ fn take_part<R: Clock + Wait, E: Ending>(
 }
 
 /// Has session 0 ask while session 1 makes a put, and reads.
-fn meet_at<R: Clock + Sync + Threads + Wait, E: Ending + Send>(
+fn meet_at<R: AllocGlobal + Clock + Sync + Threads + Wait, E: Ending + Send>(
     rt: &R,
     sessions: &mut [Session<E>],
     providers: &Providers,
@@ -127,7 +127,7 @@ fn meet_at<R: Clock + Sync + Threads + Wait, E: Ending + Send>(
 
 impl Context<'_> {
     /// Has the two sessions of a letter meet at the put that a row spells, and answers that they did; fails where one waited too long.
-    pub fn meet<R: Clock + Sync + Threads + Wait, E: Ending + Send>(
+    pub fn meet<R: AllocGlobal + Clock + Sync + Threads + Wait, E: Ending + Send>(
         &self,
         rt: &R,
         case: &mut Case<E>,

@@ -91,7 +91,7 @@ impl Context<'_> {
     /// What a row is answered.
     fn answer<R>(&self, rt: R, case: &mut Case<Waiting<R>>, row: &str) -> Answer
     where
-        R: Clock + Copy + Send + Sync + Threads + Wait,
+        R: AllocGlobal + Clock + Copy + Send + Sync + Threads + Wait,
     {
         let (word, rest) = halves(row);
         match word {
@@ -110,7 +110,7 @@ impl Context<'_> {
     /// What a row is answered at a turn, or why it is refused.
     fn answer_at<R>(&self, rt: R, case: &mut Case<Waiting<R>>, row: &str, turn: u32) -> Answer
     where
-        R: Clock + Copy + Send + Sync + Threads + Wait,
+        R: AllocGlobal + Clock + Copy + Send + Sync + Threads + Wait,
     {
         let number = format!(in self.alloc; "{turn}")?;
         let row = row.replace(self.alloc, "#", &number)?;
@@ -123,7 +123,7 @@ impl Context<'_> {
     /// What a line is answered at each of so many turns; fails where two are answered differently.
     fn answer_turns<R>(&self, rt: R, case: &mut Case<Waiting<R>>, line: &str) -> Answer
     where
-        R: Clock + Copy + Send + Sync + Threads + Wait,
+        R: AllocGlobal + Clock + Copy + Send + Sync + Threads + Wait,
     {
         let (turns, row) = turns(line);
         let first = self.answer_at(rt, case, row, 0)?;
@@ -144,7 +144,7 @@ impl Context<'_> {
         out: &mut Vec<u8>,
     ) -> Result<()>
     where
-        R: Clock + Copy + Send + Sync + Threads + Wait,
+        R: AllocGlobal + Clock + Copy + Send + Sync + Threads + Wait,
     {
         out.append(&mut headed(self.alloc, line)?)?;
         if is_row(line) {
@@ -156,7 +156,7 @@ impl Context<'_> {
     /// Writes each line of the file, and below a row what it is answered.
     pub fn show_rows<R>(&self, rt: R, out: &mut Vec<u8>) -> Result<()>
     where
-        R: Clock + Copy + Send + Sync + Threads + Wait,
+        R: AllocGlobal + Clock + Copy + Send + Sync + Threads + Wait,
     {
         let mut case = Case::new(self.alloc);
         for line in self.rows.lines() {

@@ -189,7 +189,7 @@ impl Context<'_> {
 }
 
 /// Has each session make the calls of its script, on a thread of its own. Gives them back, each with how that ended.
-fn make_scripts<R: Clock + Sync + Threads + Wait, E: Ending + Send>(
+fn make_scripts<R: AllocGlobal + Clock + Sync + Threads + Wait, E: Ending + Send>(
     rt: &R,
     context: &Context<'_>,
     opened: &mut Opened<E>,
@@ -204,14 +204,14 @@ fn make_scripts<R: Clock + Sync + Threads + Wait, E: Ending + Send>(
     if scripts.len() != sessions.len() {
         bail!("as many scripts as sessions");
     }
-    match run_sessions(rt, alloc, db, sessions, scripts, context.providers, gate) {
+    match run_sessions(rt, db, sessions, scripts, context.providers, gate) {
         Ok(ran) => Ok(ran),
         Err(_) => bail!("no memory"),
     }
 }
 
 /// Has sessions make their scripts, held up or not, and answers how each ended, and where session 0 came.
-fn run_held<R: Clock + Sync + Threads + Wait, E: Ending + Send>(
+fn run_held<R: AllocGlobal + Clock + Sync + Threads + Wait, E: Ending + Send>(
     rt: &R,
     context: &Context<'_>,
     opened: &mut Opened<E>,
@@ -226,7 +226,7 @@ fn run_held<R: Clock + Sync + Threads + Wait, E: Ending + Send>(
 
 impl Context<'_> {
     /// Has the sessions of a letter make their scripts, and answers how each ended, and where session 0 came.
-    pub fn run<R: Clock + Sync + Threads + Wait, E: Ending + Send>(
+    pub fn run<R: AllocGlobal + Clock + Sync + Threads + Wait, E: Ending + Send>(
         &self,
         rt: &R,
         case: &mut Case<E>,

@@ -35,8 +35,8 @@ pub fn leave_with<R: AllocGlobal + Threads + Wait + Sync>(
     let mut out = BufWriter::with_capacity(alloc, devices.room, out)?;
     let mut err = Output::new(alloc, devices.tell);
     let status = match &line {
-        Line::Check(_) => check_over(rt, alloc, providers, &line, &mut input, &mut out, &mut err),
-        Line::Run(_) => run_over(rt, alloc, providers, &line, &mut input, &mut out, &mut err),
+        Line::Check(_) => check_over(rt, providers, &line, &mut input, &mut out, &mut err),
+        Line::Run(_) => run_over(rt, providers, &line, &mut input, &mut out, &mut err),
         Line::Serve(_) | Line::Print(_) => return Err(ErrorKind::Other.into()),
     };
     let (out, _unwritten) = out.into_parts();

@@ -1,7 +1,7 @@
 //! The whole program over readers and writers in memory.
 use bc_analyses::providers;
 use cli_line::{USAGE, read_line};
-use cli_program::{Inputs, obey_line, run_program};
+use cli_program::{Engine, Inputs, obey_line, run_program};
 use std::io;
 use std::io::{BufWriter, ErrorKind};
 use std::sync::Wait;
@@ -162,15 +162,11 @@ fn tells_want_of_memory(rt: HostRuntime) -> Result<(), Fail> {
     let files = Named { devices: SOUND };
     let providers = providers!(alloc, want_memory);
     let mut standard = b"".as_slice();
-    let status = obey_line(
-        &rt,
-        &providers,
-        &line,
-        &files,
-        &mut standard,
-        &mut out,
-        &mut err,
-    )?;
+    let engine = Engine {
+        rt: &rt,
+        providers: &providers,
+    };
+    let status = obey_line(&engine, &line, &files, &mut standard, &mut out, &mut err)?;
     assert!(rt; left_of(status, out, err).is(3, b"", b"no memory\n"));
     Ok(())
 }

@@ -1,7 +1,7 @@
 //! What the program tells where standard error is a buffer.
 use bc_analyses::providers;
 use cli_line::read_line;
-use cli_program::{Inputs, obey_line, run_on_system, run_program};
+use cli_program::{Engine, Inputs, obey_line, run_on_system, run_program};
 use std::alloc::Global;
 use std::io;
 use std::io::{BufWriter, ErrorKind};
@@ -70,15 +70,11 @@ fn what_is_told_of_a_line_is_handed_on(rt: HostRuntime) -> Result<(), Fail> {
     let providers = providers!(alloc);
     let mut standard = b"x".as_slice();
     let (mut out, mut err) = (buffer(alloc)?, buffer(alloc)?);
-    obey_line(
-        &rt,
-        &providers,
-        &line,
-        &NoFiles,
-        &mut standard,
-        &mut out,
-        &mut err,
-    )?;
+    let engine = Engine {
+        rt: &rt,
+        providers: &providers,
+    };
+    obey_line(&engine, &line, &NoFiles, &mut standard, &mut out, &mut err)?;
     assert!(rt; taken(err).as_slice() == b"cannot read none\n".as_slice());
     Ok(())
 }

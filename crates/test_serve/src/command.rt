@@ -1,6 +1,6 @@
 //! What the command leaves over readers and writers in memory.
 use bc_analyses::providers;
-use cli_serve::serve_over;
+use cli_serve::{Service, serve_over};
 use std::io;
 use std::io::{BufReader, BufWriter};
 use std::sync::Wait;
@@ -20,9 +20,8 @@ pub fn leave<R: AllocGlobal + Threads + Wait + Sync>(
     let out = Output::new(alloc, devices.write);
     let mut out = BufWriter::with_capacity(alloc, devices.room, out)?;
     let mut err = Output::new(alloc, devices.tell);
-    let status = serve_over(
-        rt, alloc, &providers, 1, 1000, &mut input, &mut out, &mut err,
-    );
+    let service = Service::new(&providers, 1, 1000);
+    let status = serve_over(rt, &service, &mut input, &mut out, &mut err);
     let (out, _unwritten) = out.into_parts();
     Ok(Left::of(status, input.get_ref(), out, err))
 }

@@ -1,7 +1,7 @@
 //! A session that puts, and is answered, while another one is inside a provider.
 use bc_analyses::{Providers, find_values, providers};
 use bc_cons::Facts;
-use cli_serve::serve_over;
+use cli_serve::{Service, serve_over};
 use std::alloc::Global;
 use std::io::{BufReader, BufWriter, Read, Write};
 use std::sync::atomic::AtomicU32;
@@ -138,7 +138,8 @@ fn converse<R: AllocGlobal + Clock + Threads + Wait + Sync>(
     let taken = Vec::new(alloc);
     let mut out = BufWriter::new(alloc, Counted { meeting, taken })?;
     let mut err = Output::new(alloc, SOUND.tell);
-    let _status = serve_over(rt, alloc, providers, 2, 10, &mut input, &mut out, &mut err);
+    let service = Service::new(providers, 2, 10);
+    let _status = serve_over(rt, &service, &mut input, &mut out, &mut err);
     let (out, _unwritten) = out.into_parts();
     Ok(out.taken)
 }

@@ -77,7 +77,7 @@ fn run<R: AllocGlobal + Threads + Wait + Sync, E: Ending + Send>(
     if sessions.len() != scripts.len() {
         bail!("no two sessions");
     }
-    match run_sessions(rt, rt.alloc(), db, sessions, scripts, providers, &Open) {
+    match run_sessions(rt, db, sessions, scripts, providers, &Open) {
         Ok(ran) => Ok(risen(rt.alloc(), ran, made)?),
         Err(sessions) => Ok(sessions),
     }

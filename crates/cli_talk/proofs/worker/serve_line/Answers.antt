@@ -4,7 +4,7 @@ use Rattle.cli_talk.proofs.worker.serve_line.Goals as goal
 
 pub returns-in-Ok-give_or_tell-clause-answered : goal.returns-in-Ok-give_or_tell-clause-answered
 returns-in-Ok-give_or_tell-clause-answered g c =
-    let made : IsLineAnswered c.args.sessions c.args.line.items c.answer_request-answered.result c.args.session.now c.answer_request-answered.new.session = record {
+    let made : IsLineAnswered c.args.post.now.sessions c.args.line.items c.answer_request-answered.result c.args.session.now c.answer_request-answered.new.session = record {
       request = c.in-Ok.request;
       is = c.in-Ok.ensures.reading c.args.line.items (refl, c.requires);
       answers = c.answer_request-answered.ensures;

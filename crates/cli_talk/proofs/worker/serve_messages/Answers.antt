@@ -17,22 +17,22 @@ returns-in_default-clause-answered g c = none_lost _ _ _ _ _ _ _ _ _ c.if-lossy.
 pub returns-in_default-clause-still : goal.returns-in_default-clause-still
 returns-in_default-clause-still g c = answered_still _ _ _ _ _ _ _ _ _ c.messages.invariant
 
-pub returns-then-message-number-clause-stopped : goal.returns-then-message-number-clause-stopped
-returns-then-message-number-clause-stopped g c = stops _ _ _ _ _ _ _ _ _ c.messages.invariant
+pub returns-then-message-post-clause-stopped : goal.returns-then-message-post-clause-stopped
+returns-then-message-post-clause-stopped g c = stops _ _ _ _ _ _ _ _ _ c.messages.invariant
 
-pub returns-then-message-number-clause-still : goal.returns-then-message-number-clause-still
-returns-then-message-number-clause-still g c = answered_still _ _ _ _ _ _ _ _ _ c.messages.invariant
+pub returns-then-message-post-clause-still : goal.returns-then-message-post-clause-still
+returns-then-message-post-clause-still g c = answered_still _ _ _ _ _ _ _ _ _ c.messages.invariant
 
 pub returns-in-Err-clause-stopped : goal.returns-in-Err-clause-stopped
 returns-in-Err-clause-stopped g c =
     let message = c.in-Some.message in
-    let is = same_place g.L.Talk.sessions c.args.sessions message.session c.args.number message.number c.messages.next message.line.items g.L.Talk.lines c.requires c.if-message-number.false c.if-message-next.false message.is_of in
+    let is = same_place g.L.Talk.sessions c.args.post.now.sessions message.session c.args.post.now.number message.number c.messages.next message.line.items g.L.Talk.lines c.requires c.if-message-post.false c.if-message-next.false message.is_of in
     stops_in _ _ _ _ _ _ _ _ _ _ message.line.items c.messages.invariant is c.in-Err.ensures.stopped
 
 pub returns-in-Err-clause-still : goal.returns-in-Err-clause-still
 returns-in-Err-clause-still g c =
     let message = c.in-Some.message in
-    let is = same_place g.L.Talk.sessions c.args.sessions message.session c.args.number message.number c.messages.next message.line.items g.L.Talk.lines c.requires c.if-message-number.false c.if-message-next.false message.is_of in
+    let is = same_place g.L.Talk.sessions c.args.post.now.sessions message.session c.args.post.now.number message.number c.messages.next message.line.items g.L.Talk.lines c.requires c.if-message-post.false c.if-message-next.false message.is_of in
     stopped_still _ _ _ _ _ (stops_in _ _ _ _ _ _ _ _ _ _ message.line.items c.messages.invariant is c.in-Err.ensures.stopped)
 
 pub returns-clause-stopped : goal.returns-clause-stopped
@@ -42,10 +42,10 @@ pub returns-clause-still : goal.returns-clause-still
 returns-clause-still g c = answered_still _ _ _ _ _ _ _ _ _ c.messages.invariant
 
 pub messages-init : goal.messages-init
-messages-init g c = begins c.args.sessions c.args.number g.L.Talk.lines c.args.session.now (g.P.Replies.given c.args.replies.now)
+messages-init g c = begins c.args.post.now.sessions c.args.post.now.number g.L.Talk.lines c.args.session.now (g.P.Replies.given c.args.replies.now)
 
 pub messages-preserved : goal.messages-preserved
 messages-preserved g c =
     let message = c.in-Some.message in
-    let is = same_place g.L.Talk.sessions c.args.sessions message.session c.args.number message.number c.messages.next message.line.items g.L.Talk.lines c.requires c.if-message-number.false c.if-message-next.false message.is_of in
+    let is = same_place g.L.Talk.sessions c.args.post.now.sessions message.session c.args.post.now.number message.number c.messages.next message.line.items g.L.Talk.lines c.requires c.if-message-post.false c.if-message-next.false message.is_of in
     goes_on _ _ _ _ _ _ _ _ _ _ _ _ _ message.line.items c.messages.invariant is c.in-Ok.ensures.answered c.is_either-lossy.ensures
