@@ -1,4 +1,4 @@
-//! The three analyses of a body, to be stored as providers.
+//! The program's providers: the three analyses of a body.
 #![tactic(auto)]
 
 ghost use Rattle.std.specs.Prelude.{IfOk};
@@ -14,8 +14,8 @@ pub use bc_prov::Providers;
 use bc_solve::{Values, solve_components, solve_plain};
 use std::alloc::{AllocError, Global};
 
-/// Returns the points on whose entry each local of a body is live, as `bc_live::live` does, with the contract that a provider
-/// owes. Returns `AllocError` only where memory was refused. (RFC 2094, "Liveness".)
+/// Returns, for each local of a body, the points on entry to which it is live. This is `bc_live::live` with the contract of a provider.
+/// (RFC 2094, "Liveness".)
 pub fn find_live(alloc: Global, typed: &Typed) -> Result<LiveSets, AllocError>
     ensures { IfOk result (AreLive typed.now) }
 {
@@ -23,8 +23,7 @@ pub fn find_live(alloc: Global, typed: &Typed) -> Result<LiveSets, AllocError>
     Ok(sets)
 }
 
-/// Returns the values of regions, as `bc_solve::solve_components` does, with the contract that a provider owes. Returns
-/// `AllocError` only where memory was refused. (RFC 2094, "Solving constraints".)
+/// Returns the values of regions. This is `bc_solve::solve_components` with the contract of a provider. (RFC 2094, "Solving constraints".)
 pub fn find_values(alloc: Global, facts: &Facts) -> Result<Values, AllocError>
     ensures { IfOk result (AreValues facts.now) }
 {
@@ -32,8 +31,7 @@ pub fn find_values(alloc: Global, facts: &Facts) -> Result<Values, AllocError>
     Ok(values)
 }
 
-/// Returns the values of regions, as `bc_solve::solve_plain` does, with the contract that a provider owes. Returns `AllocError`
-/// only where memory was refused. (RFC 2094, "Solving constraints".)
+/// Returns the values of regions. This is `bc_solve::solve_plain` with the contract of a provider. (RFC 2094, "Solving constraints".)
 pub fn find_plain_values(alloc: Global, facts: &Facts) -> Result<Values, AllocError>
     ensures { IfOk result (AreValues facts.now) }
 {
@@ -41,8 +39,8 @@ pub fn find_plain_values(alloc: Global, facts: &Facts) -> Result<Values, AllocEr
     Ok(values)
 }
 
-/// Returns the loans in scope within the values of regions, as `bc_loans::in_scope` does, with the contract that a provider owes.
-/// Returns `AllocError` only where memory was refused. (RFC 2094, "Borrow checker phase 1: computing loans in scope".)
+/// Returns the loans in scope, given the values of regions. This is `bc_loans::in_scope` with the contract of a provider. (RFC 2094,
+/// "Borrow checker phase 1: computing loans in scope".)
 pub fn find_scopes(alloc: Global, typed: &Typed, values: &Values) -> Result<Scopes, AllocError>
     ensures { IfOk result (AreScopes typed.now values.now) }
 {
@@ -50,9 +48,9 @@ pub fn find_scopes(alloc: Global, typed: &Typed, values: &Values) -> Result<Scop
     Ok(scopes)
 }
 
-/// Makes the providers that call `find_live`, `find_scopes` and, where no other solver is named, `find_values`, with the allocator that
-/// is named. Where memory was refused, the function in which it is written returns `AllocError`. It is a macro, since no function may
-/// hand out a closure that it stores. (rustc-dev-guide, "Queries": providers.)
+/// Makes providers with the named allocator. They call `find_live`, `find_scopes` and the named solver, or `find_values` if none is named.
+/// If out of memory, the calling function returns `AllocError`. This is a macro because no function may return a closure that it stores.
+/// (rustc-dev-guide, "Queries": providers.)
 #[macro_export]
 macro_rules! providers {
     ($alloc:expr) => {

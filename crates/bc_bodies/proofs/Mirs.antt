@@ -12,7 +12,7 @@ pub length-block_steps : (block index : ℕ) (statements : List Simple) (termina
 length-block_steps block index [] terminator = omega arith
 length-block_steps block index (statement ∷ statements) terminator = omega (arith, length-block_steps block (index + 1) statements terminator)
 
--- the point of one statement more
+-- the next statement adds its point
 pub statement-more : (front all : List Step) (block index : ℕ) (statements : List Simple) (terminator : Ending) (statement : Simple) → index < length statements → statement ≡ get_or statements index statement → front ++ block_steps block index (drop index statements) terminator ≡ all → (front ++ step_of block index (Statement statement) ∷ []) ++ block_steps block (index + 1) (drop (index + 1) statements) terminator ≡ all
 statement-more front all block index statements terminator statement below is before =
     let one : List Simple → List Step = λ xs. block_steps block index xs terminator in
@@ -20,19 +20,19 @@ statement-more front all block index statements terminator statement below is be
     let next : one (drop index statements) ≡ step_of block index (Statement statement) ∷ rest = at_drop_more one statements index statement below ∙ ap (λ s. step_of block index (Statement s) ∷ rest) (sym is) in
     append_assoc front (step_of block index (Statement statement) ∷ []) rest ∙ ap (λ xs. front ++ xs) (sym next) ∙ before
 
--- the point of the terminator, behind all statements
+-- after all statements, the terminator adds its point
 pub terminator-last : (front all : List Step) (block index : ℕ) (statements : List Simple) (terminator : Ending) → length statements ≤ index → front ++ block_steps block index (drop index statements) terminator ≡ all → front ++ step_of block index (Terminator terminator) ∷ [] ≡ all
 terminator-last front all block index statements terminator past before =
     ap (λ xs. front ++ xs) (sym (at_drop_all (λ xs. block_steps block index xs terminator) statements index past)) ∙ before
 
--- the points of one block more
+-- the next block adds its points
 pub steps-more : (front all : List Step) (n : ℕ) (blocks : List Block) (block : Block) → n < length blocks → block ≡ get_or blocks n block → front ++ steps_from n (drop n blocks) ≡ all → (front ++ block_steps n 0 block.statements block.terminator) ++ steps_from (n + 1) (drop (n + 1) blocks) ≡ all
 steps-more front all n blocks block below is before =
     let rest : List Step = steps_from (n + 1) (drop (n + 1) blocks) in
     let next : steps_from n (drop n blocks) ≡ block_steps n 0 block.statements block.terminator ++ rest = at_drop_more (steps_from n) blocks n block below ∙ ap (λ b. block_steps n 0 b.statements b.terminator ++ rest) (sym is) in
     append_assoc front (block_steps n 0 block.statements block.terminator) rest ∙ ap (λ xs. front ++ xs) (sym next) ∙ before
 
--- the first point of one block more
+-- the next block adds its first point
 pub entries-more : (front all : List ℕ) (entry first n : ℕ) (blocks : List Block) (block : Block) → n < length blocks → block ≡ get_or blocks n block → entry ≡ first → front ++ entries_from first (drop n blocks) ≡ all → (front ++ entry ∷ []) ++ entries_from (first + length block.statements + 1) (drop (n + 1) blocks) ≡ all
 entries-more front all entry first n blocks block below is entered before =
     let rest : Block → List ℕ = λ b. entries_from (first + length b.statements + 1) (drop (n + 1) blocks) in

@@ -34,7 +34,7 @@ mutable_replaced types arguments (Field k ∷ projections) [] (Struct instance) 
     by None same = refl
     by (Some ty) same = same ty
 
--- what is taken as declared tells of what is dereferenced
+-- `mutable_behind` is true exactly if all dereferenced references are mutable
 pub mutable_tells : (types : List Declaration) (projections : List Projection) (references : List Reference) (base : Base) → mutable_behind types projections references base ≡ are_mutable (references_behind types projections references base)
 mutable_tells types [] references base = refl
 mutable_tells types (Deref ∷ projections) [] base = refl

@@ -15,13 +15,13 @@ use Rattle.bc_types.specs.Fields.{declared_field, field_type}
 use Rattle.bc_bodies.specs.Places.{are_mutable}
 use Rattle.bc_bodies.specs.Mir.{Mir}
 
--- field k of a struct
+-- the type of field k of a struct
 abbrev pub field_of : List Declaration → Base → ℕ → Option Ty
 field_of types Int k = None
 field_of types (Struct instance) k = field_type types instance k
 field_of types (Closure closure) k = None
 
--- the type behind projections in turn: `.*` takes the pointee of a reference, and `.k` a field of a struct
+-- the type that projections lead to, one after the other: `.*` takes the pointee of a reference, and `.k` a field of a struct
 abbrev pub type_behind : List Declaration → List Projection → List Reference → Base → Option Ty
 type_behind types [] references base = Some (record { references = references; base = base })
 type_behind types (Deref ∷ projections) [] base = None
@@ -30,7 +30,7 @@ type_behind types (Field k ∷ projections) [] base =
     option_and_then (λ (ty : Ty). type_behind types projections ty.references ty.base) (field_of types base k)
 type_behind types (Field k ∷ projections) (reference ∷ references) base = None
 
--- the type of a place is that of its local, behind each projection in turn
+-- the type of a place, if it has one: that of its local, followed through each projection in turn
 abbrev pub type_of_place : Mir → Place → Option Ty
 type_of_place mir place =
     option_and_then (λ (local : Ty). type_behind mir.types place.projections local.references local.base) (slice_get mir.locals place.local)
@@ -50,11 +50,11 @@ abbrev pub references_of_place : Mir → Place → List Reference
 references_of_place mir place =
     option_map_or (λ (local : Ty). references_behind mir.types place.projections local.references local.base) (slice_get mir.locals place.local) []
 
--- a type from which projections dereference no shared reference
+-- projections from a value of this type dereference no shared reference
 abbrev pub leads_mutable : List Declaration → List Projection → Ty → Bool
 leads_mutable types projections ty = are_mutable (references_behind types projections ty.references ty.base)
 
--- projections dereference no shared reference. Regions do not tell, so that a field is taken as its struct declares it
+-- projections dereference no shared reference; regions do not matter for this, so a field has its declared type
 abbrev pub mutable_behind : List Declaration → List Projection → List Reference → Base → Bool
 mutable_behind types [] references base = true
 mutable_behind types (Deref ∷ projections) [] base = true

@@ -1,4 +1,4 @@
-//! The children of a unit: what their headers say, and the regions that they are given.
+//! The children of a unit: their headers, and the regions that they are given.
 ghost use Rattle.std.specs.Prelude.{◌≡◌, ◌≤◌, ◌<◌, ◌+◌, ◌^◌, ◌++◌, length, IfOk, OnOk};
 ghost use Rattle.std.specs.List.{list_all};
 ghost use Rattle.std.specs.Option.{option_copied};
@@ -11,14 +11,14 @@ use bc_types::{copy_signature, copy_types};
 use std::alloc::{AllocError, Global};
 use std::marker::Model;
 
-/// A child of a unit: its number, and the header of its unit.
+/// A child of a unit: its number and its header.
 #[derive(Drop)]
 pub struct Child {
     pub number: u8,
     pub header: Header,
 }
 
-/// The number of a child, and the header of its unit, which is a closure: what typing has to know of it. It takes no memory.
+/// A child as typing needs it: its number, from 0 to 63, and the borrowed header of its closure.
 #[derive(Drop)]
 pub struct KidHeader<'a> {
     number: u8,
@@ -46,10 +46,11 @@ fn copy_header(header: &Header) -> Result<Header, AllocError>
     })
 }
 
+// Not Copy: a type with a model and a lifetime cannot be.
 impl<'a> Clone for KidHeader<'a> {
     ghost is_clone = { λ s t. t ≡ s };
 
-    /// The number of the child, with its header lent once more. It takes no memory.
+    /// Returns the same number with the same borrowed header.
     fn clone(&self) -> Result<KidHeader<'a>, AllocError> {
         Ok(KidHeader {
             number: self.number,
@@ -59,7 +60,7 @@ impl<'a> Clone for KidHeader<'a> {
 }
 
 impl<'a> KidHeader<'a> {
-    /// Makes what typing has to know of the child of a number.
+    /// Returns the child of a number, which is a closure.
     pub fn of(number: u8, unit: &'a Unit) -> KidHeader<'a>
         requires number { number ≤ 63 }
         requires kind { unit.now.header.kind ≡ Closure }
@@ -71,7 +72,7 @@ impl<'a> KidHeader<'a> {
         }
     }
 
-    /// The child, its header copied.
+    /// Returns the child with a copied header.
     fn copied(&self) -> Result<Child, AllocError>
         ensures { IfOk result (λ child. child ≡ self.now) }
     {
@@ -82,7 +83,7 @@ impl<'a> KidHeader<'a> {
     }
 }
 
-/// The children, their headers copied.
+/// Returns the children with copied headers.
 pub(crate) fn copy_children(alloc: Global, kids: &[KidHeader<'_>]) -> Result<Vec<Child>, AllocError>
     ensures { IfOk result (λ children. children.items ≡ kids.now) }
 {
@@ -93,7 +94,7 @@ pub(crate) fn copy_children(alloc: Global, kids: &[KidHeader<'_>]) -> Result<Vec
     Ok(children)
 }
 
-/// The header of the child of a number.
+/// Returns the header of the child of a number.
 pub(crate) fn child_of(children: &[Child], number: u8) -> Option<&Header>
     ensures { option_copied result ≡ child_there children.now number }
 {
@@ -117,7 +118,7 @@ pub fn takes_externals(closure: &ClosureInstance, header: &Header) -> bool
     external_count(header.captures.as_slice(), 0, names) == closure.regions.as_slice().len()
 }
 
-/// Returns whether so many regions are those of a call: as many as the child has local ones.
+/// Returns whether a call gives as many regions as the child has local ones.
 pub fn takes_locals(regions: &[Region], header: &Header) -> bool
     ensures { result ≡ locals_taken regions.now header.now }
 {
@@ -137,7 +138,7 @@ fn is_known(children: &[Child], ty: &Ty) -> bool
     }
 }
 
-/// Returns whether each closure that types mention is a child and has as many regions as that has external ones.
+/// Returns whether each closure in these types is a child and has as many regions as the child has external ones.
 pub fn are_known(children: &[Child], types: &[Ty]) -> bool
     ensures { result ≡ list_all (known children.now) types.now }
 {
@@ -162,7 +163,7 @@ fn behind_first(regions: &[Region]) -> &[Region]
     }
 }
 
-/// Appends a region for each that is declared behind so many others.
+/// Appends an argument for each of `names`, which are declared after `before` others.
 fn push_arguments(
     arguments: &mut Vec<Region>,
     captures: &[Ty],
@@ -190,9 +191,8 @@ fn push_arguments(
     }
 }
 
-/// Returns a region for each that a child's header declares, in the order of the header: for an external one the next that its
-/// closure has, for a local one the next that the call gives; `'static` where none is left. Returns `AllocError` only where
-/// memory was refused.
+/// Returns an argument for each region that a child's header declares, in the order of the header. An external region gets the next of
+/// `given`, and a local one the next of `local`. If none is left, it gets `'static`.
 pub fn arguments(
     alloc: Global,
     header: &Header,
@@ -220,8 +220,7 @@ fn is_outer(captures: &[Ty], number: u8) -> bool
     number == 0 || is_external(captures, usize::from(number))
 }
 
-/// Returns whether a clause of a child is between its external regions and `'static` alone, so that it is known where its closure
-/// is created.
+/// Returns whether a clause of a child relates only external regions and `'static`. The closure's creation demands such a clause.
 pub fn is_outer_clause(captures: &[Ty], clause: Outlives) -> bool
     ensures { result ≡ outer_clause captures.now clause }
 {

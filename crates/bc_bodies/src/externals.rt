@@ -1,4 +1,4 @@
-//! Which of the regions that a header declares are external, and which are local.
+//! Which declared regions of a header are external, and which are local.
 ghost use Rattle.std.specs.Prelude.{◌≡◌, ◌≤◌, ◌<◌, ◌+◌, ◌^◌, ◌++◌, length, OnOk};
 ghost use Rattle.std.specs.List.{list_any};
 ghost use Rattle.bc_types.specs.Mentions.{regions_of_references, regions_of_base};
@@ -40,14 +40,14 @@ fn stands_in(number: usize, ty: &Ty) -> bool
     stands_behind(number, ty.references.as_slice(), &ty.base)
 }
 
-/// Whether a universal region stands in the type of a capture.
+/// Returns whether a universal region occurs in the type of a capture.
 pub(crate) fn is_external(captures: &[Ty], number: usize) -> bool
     ensures { result ≡ external_test captures.now number }
 {
     captures.iter().any(|ty| stands_in(number, ty))
 }
 
-/// How many of the regions that are declared behind so many others are external.
+/// Returns how many of `names`, which are declared after `before` others, are external.
 pub(crate) fn external_count(captures: &[Ty], before: usize, names: &[RegionName]) -> usize
     requires { before + length names.now < 2 ^ 64 }
     ensures value { result ≡ length (numbers_from (external_test captures.now) before names.now) }
@@ -66,7 +66,7 @@ pub(crate) fn external_count(captures: &[Ty], before: usize, names: &[RegionName
     }
 }
 
-/// How many of the regions that are declared behind so many others are local.
+/// Returns how many of `names`, which are declared after `before` others, are local.
 pub(crate) fn local_count(captures: &[Ty], before: usize, names: &[RegionName]) -> usize
     requires { before + length names.now < 2 ^ 64 }
     ensures value { result ≡ length (numbers_from (is_local captures.now) before names.now) }
@@ -85,7 +85,7 @@ pub(crate) fn local_count(captures: &[Ty], before: usize, names: &[RegionName]) 
     }
 }
 
-/// Appends the numbers of the external ones among the regions that are declared behind so many others.
+/// Appends the numbers of the external ones of `names`, which are declared after `before` others.
 pub(crate) fn push_externals(
     numbers: &mut Vec<usize>,
     captures: &[Ty],

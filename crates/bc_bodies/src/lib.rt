@@ -1,5 +1,5 @@
-//! Bodies over good declarations and the headers of their children: the points of a body in one list, the types of its places,
-//! which of its regions are external. Whether it keeps the typing rules is not asked here.
+//! A body over good declarations and the headers of its children: its points in one list, the types of its places, and its external
+//! regions. This crate does not check the typing rules.
 #![tactic(auto)]
 
 mod children;

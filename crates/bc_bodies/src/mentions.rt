@@ -1,10 +1,10 @@
-//! The regions that stand in types.
+//! The regions that occur in types.
 ghost use Rattle.std.specs.Prelude.{◌≡◌};
 ghost use Rattle.bc_types.specs.Mentions.{regions_of_base};
 
 use bc_syntax::{Base, Region};
 
-/// Returns the regions in what the references of a type lead to: the arguments of a struct or a closure, and none in `int`.
+/// Returns the regions of a base: the arguments of a struct or a closure, and none for `int`.
 pub fn base_regions(base: &Base) -> &[Region]
     ensures { result.now ≡ regions_of_base base.now }
 {

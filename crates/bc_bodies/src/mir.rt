@@ -1,4 +1,4 @@
-//! The points of a unit in one list.
+//! A unit with its points in one list.
 ghost use Rattle.std.specs.Prelude.{◌≡◌, ◌≤◌, [], ◌∷◌, ◌++◌, nat_lt, length, slice_get, IfOk, OnOk};
 ghost use Rattle.std.specs.Arc.{arc_value};
 ghost use Rattle.std.specs.Option.{option_copied};
@@ -16,24 +16,21 @@ use std::alloc::{AllocError, Global};
 use std::marker::Model;
 use std::sync::Arc;
 
-/// A point as it is printed: a statement of a block, or its terminator, which comes last (RFC 2094,
-/// "Control-flow graph").
+/// A point as it is printed: a statement of a block, or its terminator, which comes last (RFC 2094, "Control-flow graph").
 #[derive(Clone, Copy, Debug, PartialEq, Eq)]
 pub struct Point {
     pub block: usize,
     pub index: usize,
 }
 
-/// What happens at a point.
-/// (rustc-dev-guide, "The MIR".)
+/// What a point does. (rustc-dev-guide, "The MIR".)
 #[derive(Drop)]
 pub enum Instruction {
     Statement(Statement),
     Terminator(Terminator),
 }
 
-/// A point with what happens there.
-/// (rustc-dev-guide, "The MIR".)
+/// A point with its instruction. (rustc-dev-guide, "The MIR".)
 #[derive(Drop)]
 pub struct Step {
     pub point: Point,
@@ -54,7 +51,7 @@ pub struct Draft {
     entries: Vec<usize>,
 }
 
-// Written out: whoever makes a draft calls this, and proves nothing of its parts again.
+// Handwritten, so that it is proved once, and not again by each caller.
 impl Drop for Draft {
     fn drop(self) {
         let Self {
@@ -104,7 +101,7 @@ fn copy_terminator(terminator: &Terminator) -> Result<Terminator, AllocError>
     terminator.clone()
 }
 
-/// How many points blocks have, by which their list is sized.
+/// Returns the number of points of blocks: the capacity of their list.
 fn point_count(blocks: &[Block]) -> usize
     requires { points_of blocks.now ≤ 4096 }
     ensures { result ≡ points_of blocks.now }
@@ -116,7 +113,7 @@ fn point_count(blocks: &[Block]) -> usize
     count
 }
 
-/// Appends a point with what happens there.
+/// Appends a point with its instruction.
 fn push_step(
     steps: &mut Vec<Step>,
     block: usize,
@@ -191,7 +188,7 @@ struct Points {
     entries: Vec<usize>,
 }
 
-// Written out: whoever makes a draft calls this, and proves nothing of its parts again.
+// Handwritten, so that it is proved once, and not again by each caller.
 impl Drop for Points {
     fn drop(self) {
         let Self {
@@ -202,7 +199,7 @@ impl Drop for Points {
 }
 
 impl Points {
-    /// Lists the points of blocks.
+    /// Returns the points of blocks.
     fn of(alloc: Global, blocks: &[Block]) -> Result<Points, AllocError>
         requires { points_of blocks.now ≤ 4096 }
         ensures steps { IfOk result (λ points. points.steps.items ≡ steps_from 0 blocks.now) }
@@ -214,7 +211,7 @@ impl Points {
         Ok(Points { steps, entries })
     }
 
-    /// The points, and the first point of each block.
+    /// Returns the points, and the first point of each block.
     fn into_parts(self) -> (Vec<Step>, Vec<usize>)
         ensures steps { result.0 ≡ self.steps }
         ensures entries { result.1 ≡ self.entries }
@@ -224,7 +221,7 @@ impl Points {
     }
 }
 
-/// The numbers of the external regions of a header.
+/// Returns the numbers of the external regions of a header.
 fn externals_of(alloc: Global, header: &Header) -> Result<Vec<usize>, AllocError>
     ensures { IfOk result (λ numbers. numbers.items ≡ external_regions header.now) }
 {
@@ -234,7 +231,7 @@ fn externals_of(alloc: Global, header: &Header) -> Result<Vec<usize>, AllocError
     Ok(numbers)
 }
 
-/// What a header declares, with the types of the locals of its body.
+/// What a draft takes from its body, apart from the points.
 struct Declared {
     kind: UnitKind,
     universals: u8,
@@ -244,7 +241,7 @@ struct Declared {
     first_let: usize,
 }
 
-// Written out: whoever makes a draft calls this, and proves nothing of its parts again.
+// Handwritten, so that it is proved once, and not again by each caller.
 impl Drop for Declared {
     fn drop(self) {
         let Self {
@@ -259,7 +256,7 @@ impl Drop for Declared {
 }
 
 impl Declared {
-    /// Lists what a body declares.
+    /// Returns what a body declares.
     fn of(alloc: Global, body: &Body) -> Result<Declared, AllocError>
         requires { Fits body.now }
         ensures kind { IfOk result (λ declared. declared.kind ≡ body.now.header.kind) }
@@ -280,7 +277,7 @@ impl Declared {
         })
     }
 
-    /// The unit that declares this, over declarations, with its children and its points.
+    /// Returns the draft with these parts, over declarations, with its children and its points.
     fn into_draft(
         self,
         types: Arc<GoodTypes, Global>,
@@ -325,8 +322,7 @@ impl Declared {
 }
 
 impl Draft {
-    /// Lists the points of a body that has a spelling, over declarations and the headers of its children. Returns `AllocError` only
-    /// where memory was refused. (RFC 2094, "Control-flow graph".)
+    /// Returns the draft of a valid body over declarations and the headers of its children. (RFC 2094, "Control-flow graph".)
     pub fn of(
         alloc: Global,
         types: Arc<GoodTypes, Global>,
@@ -342,28 +338,28 @@ impl Draft {
         Ok(declared.into_draft(types, children, points))
     }
 
-    /// Returns the type of a local, or `None` where it is not declared.
+    /// Returns the type of a local, or `None` if it is not declared.
     pub fn local(&self, number: u8) -> Option<&Ty>
         ensures { option_copied result ≡ slice_get self.now.locals number }
     {
         self.locals.as_slice().get(usize::from(number))
     }
 
-    /// Returns the declarations over which the unit is.
+    /// Returns the declarations that the unit uses.
     pub fn types(&self) -> &GoodTypes
         ensures { result.now ≡ self.now.types }
     {
         &self.types
     }
 
-    /// Returns the header of the child of a number, or `None` where it is no child.
+    /// Returns the header of the child of a number, or `None` if there is no such child.
     pub fn child(&self, number: u8) -> Option<&Header>
         ensures { option_copied result ≡ child_there self.now.children number }
     {
         child_of(self.children.as_slice(), number)
     }
 
-    /// Returns whether a label is a block of the unit.
+    /// Returns whether the unit has a block with this label.
     pub fn has_block(&self, label: u8) -> bool
         ensures { result ≡ nat_lt label (length self.now.entries) }
     {
@@ -377,21 +373,21 @@ impl Draft {
         self.kind
     }
 
-    /// Returns how many universal regions there are: `'static` and the declared ones.
+    /// Returns the number of universal regions: `'static` and the declared ones.
     pub fn universals(&self) -> u8
         ensures { result ≡ self.now.universals }
     {
         self.universals
     }
 
-    /// Returns the headers of the children, in the order in which they were handed in.
+    /// Returns the children with their headers, in the order in which `of` got them.
     pub fn children(&self) -> &[Child]
         ensures { result.now ≡ self.now.children }
     {
         self.children.as_slice()
     }
 
-    /// Returns the external regions of a closure, by number: the declared ones in the types of its captures.
+    /// Returns the numbers of a closure's external regions: those that occur in the types of its captures.
     pub fn externals(&self) -> &[usize]
         ensures { result.now ≡ self.now.externals }
     {
@@ -419,7 +415,7 @@ impl Draft {
         self.first_let
     }
 
-    /// Returns the points in order, each with what happens there. (RFC 2094, "Control-flow graph".)
+    /// Returns the points in order, each with its instruction. (RFC 2094, "Control-flow graph".)
     pub fn steps(&self) -> &[Step]
         ensures { result.now ≡ self.now.steps }
     {

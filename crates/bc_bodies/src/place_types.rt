@@ -1,4 +1,4 @@
-//! Types of places, through the fields of structs.
+//! The types of places.
 ghost use Rattle.std.specs.Prelude.{◌≡◌, ◌++◌, ⊤, true, List, [], ◌∷◌, Some, IfOk, OnOk, MatchOption};
 ghost use Rattle.std.specs.List.{list_all};
 ghost use Rattle.bc_syntax.specs.declared.syntax.Declaration.{Declaration};
@@ -11,7 +11,7 @@ use bc_syntax::{Base, Place, Projection, Reference, ShortSequence, Ty};
 use bc_types::GoodTypes;
 use std::alloc::{AllocError, Global};
 
-/// Field `k` of a struct.
+/// Returns the type of a field of a struct.
 fn field_of(
     alloc: Global,
     types: &GoodTypes,
@@ -26,7 +26,7 @@ fn field_of(
     }
 }
 
-/// Appends references in order. Returns `AllocError` only where memory was refused.
+/// Appends references in order.
 pub fn push_references(
     references: &mut ShortSequence<Reference, 7>,
     more: &[Reference],
@@ -45,7 +45,7 @@ fn copy_base(base: &Base) -> Result<Base, AllocError>
     base.clone()
 }
 
-/// The type of these references to what they lead to.
+/// Returns the type with these references and this base.
 fn whole_type(alloc: Global, references: &[Reference], base: &Base) -> Result<Ty, AllocError>
     ensures { IfOk result (λ ty. ty ≡ record { references = references.now; base = base.now }) }
 {
@@ -57,7 +57,7 @@ fn whole_type(alloc: Global, references: &[Reference], base: &Base) -> Result<Ty
     })
 }
 
-/// The type behind a field of a struct and projections in turn.
+/// Returns the type that a field, and then projections, lead to.
 #[cycle(type_behind)]
 fn type_behind_field(
     alloc: Global,
@@ -80,7 +80,7 @@ fn type_behind_field(
     }
 }
 
-/// The type behind projections in turn.
+/// Returns the type that projections lead to.
 #[cycle(type_behind)]
 fn type_behind(
     alloc: Global,
@@ -104,8 +104,8 @@ fn type_behind(
     }
 }
 
-/// Returns the type of a place: that of its local, behind each projection in turn; `None` where it has none. Returns `AllocError`
-/// only where memory was refused. (rustc-dev-guide, "The MIR".)
+/// Returns the type of a place, or `None` if it has none. It is the type of the local, followed through each projection. (rustc-dev-guide,
+/// "The MIR".)
 pub fn type_of_place(alloc: Global, draft: &Draft, place: &Place) -> Result<Option<Ty>, AllocError>
     ensures { IfOk result (λ ty. ty ≡ place_there draft.now place.now) }
 {
@@ -121,7 +121,7 @@ pub fn type_of_place(alloc: Global, draft: &Draft, place: &Place) -> Result<Opti
     }
 }
 
-/// The type behind projections that dereference alone.
+/// Returns the type that projections without fields lead to.
 fn lent_behind<'a>(
     projections: &[Projection],
     references: &'a [Reference],
@@ -140,8 +140,8 @@ fn lent_behind<'a>(
     }
 }
 
-/// Returns the type of a place that has one and goes through no field, as it stands in the type of its local; `None` for any other
-/// place. (rustc-dev-guide, "The MIR".)
+/// Returns the type of a place without fields, borrowed from the type of its local. Returns `None` if the place has no type or has a field.
+/// (rustc-dev-guide, "The MIR".)
 pub fn lent_type_of_place<'a>(draft: &'a Draft, place: &Place) -> Option<TyRef<'a>>
     ensures value { MatchOption result ⊤ (λ ty. place_there draft.now place.now ≡ Some ty) }
     ensures found { has_no_field place.now ≡ true → result ≡ place_there draft.now place.now }
@@ -193,8 +193,7 @@ fn push_references_behind(
     }
 }
 
-/// Appends the references that a place dereferences, the first dereference first; none for a local that is not declared. Returns
-/// `AllocError` only where memory was refused. (RFC 2094, "Reborrow constraints".)
+/// Appends the references that a place dereferences, in order, and none if its local is not declared. (RFC 2094, "Reborrow constraints".)
 pub fn push_references_of_place(
     alloc: Global,
     out: &mut Vec<Reference>,
@@ -216,8 +215,8 @@ pub fn push_references_of_place(
     }
 }
 
-/// Returns whether projections of a type dereference mutable references alone. This does not depend on regions, so a field is
-/// taken as it is declared. (RFC 2094, "Reborrow constraints".)
+/// Returns whether projections from a type dereference only mutable references. Regions do not matter for this, so a field has its declared
+/// type. (RFC 2094, "Reborrow constraints".)
 pub fn passes_only_mutable(
     types: &GoodTypes,
     projections: &[Projection],
@@ -249,7 +248,7 @@ pub fn passes_only_mutable(
     }
 }
 
-/// Returns whether no shared reference is dereferenced on the way to a place. (RFC 2094, "Reborrow constraints".)
+/// Returns whether a place dereferences only mutable references. (RFC 2094, "Reborrow constraints".)
 pub fn goes_only_mutable(draft: &Draft, place: &Place) -> bool
     ensures { result ≡ are_mutable (dereferenced_there draft.now place.now) }
 {

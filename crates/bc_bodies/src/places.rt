@@ -5,7 +5,7 @@ ghost use Rattle.bc_bodies.specs.Places.{is_field, has_no_deref as no_deref};
 
 use bc_syntax::{Place, Projection};
 
-/// Returns whether projections are fields alone.
+/// Returns whether all projections are fields.
 pub fn are_fields(projections: &[Projection]) -> bool
     ensures { result ≡ list_all is_field projections.now }
 {

@@ -5,7 +5,7 @@ ghost use Rattle.bc_bodies.specs.Lines.{point_text};
 use crate::mir::Point;
 use std::fmt;
 
-/// `bbB[I]`.
+/// Writes `bbB[I]`.
 impl fmt::Display for Point {
     ghost output = { λ point. Some (point_text point) };
 

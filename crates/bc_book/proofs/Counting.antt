@@ -1,4 +1,4 @@
--- How many entries each session has, with one entry more.
+-- How many entries each session has after one more entry.
 use Rattle.std.proofs.Common.{◌≡◌, ℕ, ◌+◌, ◌<◌, true, false, cond, List, [], ◌∷◌, ◌++◌, length, set, get_or, inl, inr, refl, sym, ap, ◌∙◌, subst, arith}
 use Rattle.std.specs.Prelude.{◌==◌}
 use Rattle.std.proofs.lemmas.Bool.{cases_eq, eq-eqb, ne_eqb}
@@ -8,7 +8,7 @@ use Rattle.bc_calls.specs.declared.call.Entry.{Entry}
 use Rattle.bc_book.specs.declared.ledger.TheConstants.{MOST_SESSIONS}
 use Rattle.bc_calls.specs.Calls.{count_of}
 
--- how many entries the last one counts for
+-- how many entries of a session the last one is
 abbrev last_of : ℕ → Entry → ℕ
 last_of session e = cond (e.session == session) 1 0
 

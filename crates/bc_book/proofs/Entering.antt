@@ -1,4 +1,4 @@
--- What an entry leaves of a book, by what each step leaves of its ledger and of what is published.
+-- What an entry leaves of a book, from what each step leaves of its ledger and of what is published.
 use Rattle.std.proofs.Common.{◌≡◌, ℕ, List, [], ◌∷◌, ◌++◌, ap, sym, ◌∙◌, Result, Ok, Err}
 use Rattle.std.specs.Prelude.{OnErr}
 use Rattle.bc_names.specs.Names.{NameParts}
@@ -16,7 +16,7 @@ use Rattle.bc_book.specs.Ledgers.{Appends, BookView, LedgerView, SameButAnswers,
 abbrev pub book_of : LedgerView → BookView
 book_of l = record { capacity = l.capacity; entries = l.entries; shelf = l.shelf; answers = l.answers; pieces = l.pieces }
 
--- the same ledger twice
+-- sameness of ledgers is transitive
 pub same_twice : (one mid other : LedgerView) → SameLedger one mid → SameLedger mid other → SameLedger one other
 same_twice one mid other first second = record {
   capacity = second.capacity ∙ first.capacity;
@@ -30,16 +30,16 @@ same_twice one mid other first second = record {
 pub same_book : (one other : LedgerView) → SameLedger one other → book_of other ≡ book_of one
 same_book one other same = λ i. record { capacity = same.capacity i; entries = same.entries i; shelf = same.shelf i; answers = same.answers i; pieces = same.pieces i }
 
--- what holds, holds where a call fails too
+-- what holds also holds if a call fails
 pub on_err : {A E : Type 0} (r : Result A E) (P : Type 0) → P → OnErr r P
 on_err (Ok a) P is = tt
 on_err (Err e) P is = is
 
--- what is published is what the same ledger holds
+-- what is published is what the same ledger stores
 pub still_published : (one other : LedgerView) (press : PressView) → SameLedger one other → press ≡ record { entries = one.entries; shelf = one.shelf } → press ≡ record { entries = other.entries; shelf = other.shelf }
 still_published one other press same is = is ∙ (λ i. record { entries = sym same.entries i; shelf = sym same.shelf i })
 
--- an event that is entered where the ledger was made ready for it
+-- an event that is entered after the ledger was made ready for it
 module _ (l ready more rest new : LedgerView) (session number revision : ℕ) (event : Event) (change : Change)
     (same : SameLedger l ready) (placed : SameButPieces ready more) (answered : SameButAnswers more rest)
     (is : change ≡ change_of event)
@@ -61,7 +61,7 @@ module _ (l ready more rest new : LedgerView) (session number revision : ℕ) (e
     legal = legal;
   }
 
-  -- and what is published is what is held
+  -- and what is published is what is stored
   pub published_book : (before press : PressView) → before ≡ record { entries = l.entries; shelf = l.shelf }
       → press ≡ pressed before (record { entry = record { session = session; number = number; event = event }; revision = revision }) → press ≡ record { entries = new.entries; shelf = new.shelf }
   published_book before press was now =

@@ -39,7 +39,7 @@ use Rattle.bc_calls.proofs.Changing.{shelf_none, shelf_snoc}
 use Rattle.bc_calls.proofs.Parts.{copied_part}
 use Rattle.bc_book.proofs.Remembering.{past_none, past_more, right_more, right_new, right_now, stands_new}
 
--- ---- how many bodies are held
+-- ---- how many bodies are stored
 
 none_if : {A : Type 0} (o : Option A) → is_some o ≡ false → o ≡ None
 none_if None is = refl
@@ -52,7 +52,7 @@ some_unit (Some p) = refl
 pub absent_none : (s : ShelfView) (n : NameParts) → is_some (at_name s.places n) ≡ false → bodies_of s n ≡ None
 absent_none s n absent = ap unit_of (none_if (at_name s.places n) absent)
 
--- a name that is found is among the names, and the other way round
+-- a name is found exactly if it is among the names
 pub named : {V : Type 0} (es : List (NameParts × V)) (n : NameParts) → is_some (at_name es n) ≡ true → Contains (keys_of es) n
 named [] n some = absurd (true≢false (sym some))
 named (e ∷ es) n some = by_bool (is_at (name_order n) e.0)
@@ -80,7 +80,7 @@ counted s ordered = (
   length-map s.places (λ e. e.0),
 )
 
--- the bodies that are held are those that the history leaves
+-- the stored bodies are those that the history leaves
 pub same_bodies : (s : ShelfView) (h : List Entry) → IsShelfOf s h → bodies_of s ≡ (after h).bodies
 same_bodies s h of = λ i n. of.bodies n i
 
@@ -102,7 +102,7 @@ few_placed s h (Types t) revision of right few place = few
 few_placed s h (Ask m o) revision of right few place = few
 few_placed s h (EveryRoot l) revision of right few place = few
 
--- ---- what is remembered behind a change
+-- ---- what is remembered after a change
 
 some_marked : (c : Change) (n : NameParts) (o : Option Place) → IsSome o → IsSome (option_map (mark c n) o)
 some_marked c n None some = absurd (true≢false (sym some))
@@ -215,7 +215,7 @@ kept_remembered capacity h counts writes s rows rows' n r kept row is = record {
     other : (m : NameParts) (q : Remembered) → is_same_name n m ≡ false → at_name rows' m ≡ Some q → at_name rows m ≡ Some q
     other m q apart at = sym (ap (λ (b : Bool). cond b (Some r) (at_name rows m)) apart) ∙ sym (at_name-put n r m rows) ∙ sym (ap (λ (l : List (NameParts × Remembered)). at_name l m) is) ∙ at
 
--- what is remembered and stands is the outcome now
+-- what is remembered and still valid is the outcome now
 pub answer_right : (h : List Entry) (s : ShelfView) (rows : List (NameParts × Remembered)) (n : NameParts) (r : Remembered) (o : Outcome)
     → ((m : NameParts) (q : Remembered) → at_name rows m ≡ Some q → IsRight s h m q) → at_name rows n ≡ Some r → Stands s r → o ≡ r.outcome → IsOutcomeIn (after h) n o
 answer_right h s rows n r o right at stands is = subst (IsOutcomeIn (after h) n) (sym is) (right_now s h n r (right n r at) stands)
@@ -224,7 +224,7 @@ pub some_map : {A : Type 0} (o : Option A) (P Q : A → Type 0) → ((a : A) →
 some_map None P Q f h = tt
 some_map (Some a) P Q f h = f a h
 
--- an outcome that is recorded with the revisions of all that it rests on may be remembered
+-- an outcome that is recorded with the revisions of all that it depends on may be remembered
 pub row_of : (s : ShelfView) (h : List Entry) (v : SnapshotView) (n : NameParts) (names : List NameParts) (r : Remembered) (o : Outcome)
     → IsShelfOf s h → ArePast s h → IsSome (at_name s.places n) → v.types ≡ s.types → v.root ≡ n → v.units ≡ units_in n s.places → names ≡ names_used v.root v.units → IsRowOf s names o r → IsOutcomeIn (after h) n o
     → IsRow s h n r

@@ -1,4 +1,4 @@
--- What is found for all held roots.
+-- What is found for all roots that hold a body.
 use Rattle.std.proofs.Common.{◌≡◌, Bool, false, true≢false, List, [], ◌∷◌, ◌++◌, cond, refl, ap, sym, subst, ◌∙◌, Option, Some, None}
 use Rattle.std.specs.Prelude.{IsSome, is_some}
 use Rattle.std.specs.Option.{ForSome}
@@ -28,7 +28,7 @@ use Rattle.bc_book.proofs.Remembering.{right_now}
 
 -- ---- rows of names
 
--- what is said of all rows is said of the one that is found at a name
+-- what holds of all rows holds of the one that is found at a name
 pub each_at : {V : Type 0} (P : NameParts → V → Type 0) (rows : List (NameParts × V)) (n : NameParts) (v : V) → AllByRecursion (λ (r : NameParts × V). P r.0 r.1) rows → at_name rows n ≡ Some v → P n v
 each_at P [] n v all at = absurd (cc)
 each_at {V} P (r ∷ rows) n v all at = by_bool (is_at (name_order n) r.0)
@@ -49,7 +49,7 @@ pub all_map : {X : Type 0} (P Q : X → Type 0) (xs : List X) → ((x : X) → P
 all_map P Q [] f all = tt
 all_map P Q (x ∷ xs) f all = (f x all.0, all_map P Q xs f all.1)
 
--- ---- what is remembered with more rows
+-- ---- what is remembered after more rows
 
 pub remembering-snoc : (rows answers : List (NameParts × Remembered)) (r : NameParts × Remembered) → remembering (rows ++ r ∷ []) answers ≡ insert_entry name_order (remembering rows answers) r.0 r.1
 remembering-snoc [] answers r = refl
@@ -70,9 +70,9 @@ pub rows_keep : (s : ShelfView) (h : List Entry) (rows answers : List (NameParts
 rows_keep s h [] answers n o are right was = was
 rows_keep s h (r ∷ rows) answers n o are right was = rows_keep s h rows (insert_entry name_order answers r.0 r.1) n o are.1 right (put_keeps s h answers r.0 r.1 n o are.0 right was)
 
--- ---- what is found, with one outcome more
+-- ---- what is found, after one more outcome
 
--- a name that is listed stays listed behind one more row
+-- a listed name stays listed after one more row
 listed_more : (listing : List (NameParts × Outcome)) (x : NameParts × Outcome) (n : NameParts) → IsSome (at_name listing n) → IsSome (at_name (listing ++ x ∷ []) n)
 listed_more [] x n some = absurd (true≢false (sym some))
 listed_more (r ∷ listing) x n some = by_bool (is_at (name_order n) r.0)
@@ -88,7 +88,7 @@ listed_last (r ∷ listing) n o = by_bool (is_at (name_order n) r.0)
 pub found_none : (s : ShelfView) (h : List Entry) (answers : List (NameParts × Remembered)) → IsFoundAll s h answers [] []
 found_none s h answers = record { right = tt; rows = tt; named = tt; remembered = tt }
 
--- of a name whose outcome is remembered
+-- for a name whose outcome is remembered
 pub found_recalled : (s : ShelfView) (h : List Entry) (answers : List (NameParts × Remembered)) (listing : List (NameParts × Outcome)) (rows : List (NameParts × Remembered)) (n : NameParts) (o : Outcome)
     → IsOutcomeIn (after h) n o → IsRemembered s answers n (Some o) → IsFoundAll s h answers listing rows → IsFoundAll s h answers (listing ++ (n, o) ∷ []) rows
 found_recalled s h answers listing rows n o right remembered found = record {
@@ -102,7 +102,7 @@ both_map : {X : Type 0} (P Q R : X → Type 0) (xs : List X) → ((x : X) → P 
 both_map P Q R [] f all are = tt
 both_map P Q R (x ∷ xs) f all are = (f x all.0 are.0, both_map P Q R xs f all.1 are.1)
 
--- of a name whose outcome is to be remembered
+-- for a name whose outcome is to be remembered
 pub found_row : (s : ShelfView) (h : List Entry) (answers : List (NameParts × Remembered)) (listing : List (NameParts × Outcome)) (rows : List (NameParts × Remembered)) (n : NameParts) (o : Outcome) (r : NameParts × Remembered)
     → IsOutcomeIn (after h) n o → r.0 ≡ n → r.1.outcome ≡ o → IsRow s h r.0 r.1 → IsFoundAll s h answers listing rows → IsFoundAll s h answers (listing ++ (n, o) ∷ []) (rows ++ r ∷ [])
 found_row s h answers listing rows n o r right named same row found = record {
@@ -116,7 +116,7 @@ found_row s h answers listing rows n o r right named same row found = record {
       (r.1, put_here r.0 r.1 n (remembering rows answers) (sym named), row.stands, sym same));
 }
 
--- of a name whose outcome is remembered already, or is to be
+-- for a name whose outcome is remembered already, or is to be
 pub found_more : (s : ShelfView) (h : List Entry) (answers : List (NameParts × Remembered)) (listing : List (NameParts × Outcome)) (rows : List (NameParts × Remembered)) (n : NameParts) (o : Outcome) (row : Option (NameParts × Remembered))
     → IsSome (at_name s.places n) → IsOutcomeIn (after h) n o → Recalls s answers n o row → ForSome row (λ r. (r.0 ≡ n) × IsRow s h r.0 r.1) → IsFoundAll s h answers listing rows
     → IsFoundAll s h answers (listing ++ (n, o) ∷ []) (rows ++ row_list row)
@@ -134,9 +134,9 @@ unlisted_kept listing (r ∷ rows) answers n named absent =
     ∙ at_name-put r.0 r.1 n answers
     ∙ ap (λ (b : Bool). cond b (Some r.1) (at_name answers n)) (other_name r.0 n (λ (same : r.0 ≡ n). absurd (true≢false (sym named.0 ∙ ap (λ (k : NameParts). is_some (at_name listing k)) same ∙ absent))))
 
--- ---- the reply to an Ask for all
+-- ---- the reply to an ask for all
 
--- outcomes of just the held roots, in their order, are the listing
+-- the outcomes of exactly the roots that hold a body, in their order, are the listing
 pub listing_of : (s : ShelfView) (h : List Entry) (listing : List (NameParts × Outcome)) → IsShelfOf s h → keys_of listing ≡ roots_in s.places
     → AllByRecursion (λ (r : NameParts × Outcome). IsOutcomeIn (after h) r.0 r.1) listing → IsListing (after h) listing
 listing_of s h listing of names right =
@@ -149,7 +149,7 @@ listing_of s h listing of names right =
       whole = λ n bare held. (let t = (roots.just n).0 (bare, held) in held_at listing n t.0 t.1 t.2);
     }
 
--- a name among the held roots is held
+-- a name among these roots holds a body
 pub root_held : (s : ShelfView) (h : List Entry) (names : List NameParts) (n : NameParts) → IsShelfOf s h → names ≡ roots_in s.places → Contains names n → IsSome (at_name s.places n)
 root_held s h names n of is among =
     let root = ((roots_held s h of).just n).1 (subst (λ (ns : List NameParts). Contains ns n) is among) in

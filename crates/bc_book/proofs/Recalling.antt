@@ -23,14 +23,14 @@ use Rattle.bc_calls.specs.Calls.{after}
 use Rattle.bc_calls.specs.Changes.{change_of, writes_after, writes_of}
 use Rattle.bc_book.specs.Ledgers.{Appends, BookView, IsRow, KeepsOthers, LedgerView, Recalls, Remembers, SameButAnswers, kept_rows, remembering, row_list}
 
--- what is looked up is what is remembered
+-- a lookup finds what is remembered
 pub looked_up : (s : ShelfView) (rows : List (NameParts × Remembered)) (n : NameParts) (r : Option (Bor Outcome))
     → IfSome r (λ o. (row : Remembered) × (at_name rows n ≡ Some row) × Stands s row × (o.now ≡ row.outcome))
     → IfNone r ((row : Remembered) → at_name rows n ≡ Some row → Stands s row → ⊥) → IsRemembered s rows n (option_copied r)
 looked_up s rows n None some none = none
 looked_up s rows n (Some o) some none = some
 
--- what a part carries that carried nothing is what is handed in
+-- a part that carried nothing carries what is passed in
 pub carried_as : (a before made : Option Outcome) → before ≡ None → made ≡ option_or a before → made ≡ a
 carried_as None before made none is = is ∙ none
 carried_as (Some o) before made none is = is
@@ -41,7 +41,7 @@ recalls_none s h rows n o x remembered here outcome = λ held. subst (λ (y : Ou
 
 -- ---- an answer is no write
 
--- a change that brings answers alone: it leaves the places but for these, and the revision of the declarations
+-- a change that brings only answers: it leaves the places without their answers, and the revision of the declarations
 abbrev pub BringsAnswers : Change → Type 0
 BringsAnswers c = ((ps : Places) (revision : ℕ) → placed ps c revision ≡ ps) × ((before revision : ℕ) → next_types_revision before c revision ≡ before)
 
@@ -61,11 +61,11 @@ same_recorded : (s : ShelfView) (c : Change) (revision : ℕ) (used : Recorded) 
 same_recorded s c revision [] brings all = tt
 same_recorded s c revision (u ∷ us) brings all = (same_revision s c revision u.0 brings ∙ all.0, same_recorded s c revision us brings all.1)
 
--- what stands, stands behind it
+-- what was valid is still valid after it
 stands_answered : (s : ShelfView) (c : Change) (revision : ℕ) (r : Remembered) → BringsAnswers c → Stands s r → Stands (changed s c revision) r
 stands_answered s c revision r brings stands = record { types = brings.1 s.types_revision revision ∙ stands.types; names = same_recorded s c revision r.used.items brings stands.names }
 
--- and what is remembered is remembered
+-- and what was remembered still is
 pub remembered_answered : (s : ShelfView) (c : Change) (revision : ℕ) (rows : List (NameParts × Remembered)) (n : NameParts) (o : Outcome) → BringsAnswers c → IsRemembered s rows n (Some o) → IsRemembered (changed s c revision) rows n (Some o)
 remembered_answered s c revision rows n o brings was = (was.0, was.1, stands_answered s c revision was.0 brings was.2, was.3)
 
@@ -79,7 +79,7 @@ held_answered : (n : NameParts) (o : Outcome) (m : NameParts) (p : Option Place)
 held_answered n o m None some = some
 held_answered n o m (Some p) some = refl
 
--- the outcome of a name that is held is remembered behind its Ask
+-- the outcome of a name that holds a body is remembered after an ask of it
 pub recalled : (s : ShelfView) (h : List Entry) (rows : List (NameParts × Remembered)) (n : NameParts) (o : Outcome) (revision : ℕ) (row : Option (NameParts × Remembered))
     → Recalls s rows n o row → ForSome row (λ r. IsRow s h r.0 r.1) → IsSome (at_name (changed s (changes.Answer n o) revision).places n)
     → IsRemembered (changed s (changes.Answer n o) revision) (remembering (row_list row) rows) n (Some o)
@@ -89,7 +89,7 @@ recalled s h rows n o revision None recalls is held =
 recalled s h rows n o revision (Some r) recalls is held =
     (r.1, put_here r.0 r.1 n rows (sym recalls.0), stands_answered s (changes.Answer n o) revision r.1 (answer_brings n o) (is r refl).stands, sym recalls.1)
 
--- an Ask that is entered leaves its outcome remembered
+-- an ask that is entered leaves its outcome remembered
 pub recalled_by : (session : ℕ) (k n : NameParts) (o mine : Outcome) (old new : BookView) (row : Option (NameParts × Remembered))
     → Appends session (Ask k o) old new → new.answers ≡ kept_rows (change_of (Ask k o)) (remembering (row_list row) old.answers) → k ≡ n → mine ≡ o
     → Recalls old.shelf old.answers k o row → ForSome row (λ r. (r.0 ≡ k) × IsRow old.shelf old.entries r.0 r.1) → Remembers n mine new
@@ -100,7 +100,7 @@ recalled_by session k n o mine old new row step answers named same recalls is =
     (recalled old.shelf old.entries old.answers k o revision row recalls (λ r at. (is r at).1)
     (subst (λ (x : ShelfView × NameParts). IsSome (at_name x.0.places x.1)) (λ i. (step.shelf i, sym named i)) held))
 
--- with a row of one name, what is remembered for another is as it was
+-- a row of one name leaves what is remembered for another
 others_kept : (n other : NameParts) (rows : List (NameParts × Remembered)) (row : Option (NameParts × Remembered)) → ForSome row (λ r. r.0 ≡ n) → (other ≡ n → ⊥)
     → at_name (remembering (row_list row) rows) other ≡ at_name rows other
 others_kept n other rows None is apart = refl
@@ -108,7 +108,7 @@ others_kept n other rows (Some r) is apart =
     at_name-put r.0 r.1 other rows
     ∙ ap (λ (b : Bool). cond b (Some r.1) (at_name rows other)) (other_name r.0 other (λ (same : r.0 ≡ other). apart (sym same ∙ is r refl)))
 
--- an Ask that is entered leaves what is remembered for other names
+-- an ask that is entered leaves what is remembered for other names
 pub others_kept_by : (k n : NameParts) (o : Outcome) (old new : BookView) (row : Option (NameParts × Remembered))
     → new.answers ≡ kept_rows (change_of (Ask k o)) (remembering (row_list row) old.answers) → k ≡ n
     → ForSome row (λ r. (r.0 ≡ k) × IsRow old.shelf old.entries r.0 r.1) → KeepsOthers n old new
@@ -116,7 +116,7 @@ others_kept_by k n o old new row answers named is other apart =
     ap (λ (rows : List (NameParts × Remembered)). at_name rows other) answers
     ∙ others_kept n other old.answers row (λ r at. (is r at).0 ∙ named) apart
 
--- ---- ledgers that are the same but for what is remembered
+-- ---- ledgers that are the same, except for what is remembered
 
 pub same_itself : (l : LedgerView) → SameButAnswers l l
 same_itself l = record { capacity = refl; entries = refl; shelf = refl; pieces = refl; room = refl; places = refl; ready = refl }

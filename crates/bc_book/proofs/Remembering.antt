@@ -1,4 +1,4 @@
--- What is remembered stays right, and where all that it was found from has its revision, it is the outcome now.
+-- What is remembered stays right, and if all that it was found from has its revision, it is the outcome now.
 use Rattle.std.proofs.Common.{◌≡◌, ◌⊎◌, ℕ, zero, suc, ◌<◌, ◌≤◌, Bool, true, false, true≢false, List, [], ◌∷◌, ◌++◌, length, get_or, cond, refl, ap, sym, subst, ◌∙◌, inl, inr, ⊎_elim, arith, Option, Some, None}
 use Rattle.std.specs.Prelude.{IsSome, is_some}
 use Rattle.std.specs.Option.{option_map}
@@ -27,9 +27,9 @@ use Rattle.bc_book.specs.Memory.{IsRight, ArePast}
 use Rattle.bc_calls.proofs.Histories.{writes_more, writes_no_fewer}
 use Rattle.bc_calls.proofs.Changing.{shelf_snoc, unit-marked, same_voids, clears_writes}
 
--- ---- what stands
+-- ---- what is still valid
 
--- what stands is as it was at each name
+-- what is still valid has its revision at each name
 stands_at : (s : ShelfView) (used : Recorded) (m : NameParts) (v : Option ℕ) → AllByRecursion (λ (u : NameParts × Option ℕ). revision_at s u.0 ≡ u.1) used → at_name used m ≡ Some v → revision_at s m ≡ v
 stands_at s [] m v all is = absurd (cc)
 stands_at s (u ∷ us) m v all is = by_bool (is_at (name_order m) u.0)
@@ -42,7 +42,7 @@ known : {A : Type 0} (o : Option A) → IsSome o → (a : A) × (o ≡ Some a)
 known None some = absurd (true≢false (sym some))
 known (Some a) some = (a, refl)
 
--- where all stands, what is remembered is the outcome now
+-- if what is remembered is right and still valid, it is the outcome now
 pub right_now : (s : ShelfView) (h : List Entry) (n : NameParts) (r : Remembered) → IsRight s h n r → Stands s r → IsOutcomeIn (after h) n r.outcome
 right_now s h n r right stands =
     outcome_used right.state (after h) n r.outcome
@@ -54,7 +54,7 @@ right_now s h n r right stands =
     })
     right.outcome
 
--- what is recorded of a shelf stands there
+-- what is recorded of a shelf is valid there
 recorded_stand : (s : ShelfView) (names : List NameParts) → AllByRecursion (λ (u : NameParts × Option ℕ). revision_at s u.0 ≡ u.1) (recorded s names)
 recorded_stand s [] = tt
 recorded_stand s (n ∷ ns) = (refl, recorded_stand s ns)
@@ -65,7 +65,7 @@ stands_new s names o r row = record {
   names = subst (AllByRecursion (λ (u : NameParts × Option ℕ). revision_at s u.0 ≡ u.1)) (sym row.used) (recorded_stand s names);
 }
 
--- ---- one more entry
+-- ---- after one more entry
 
 revision-marked : (c : Change) (n : NameParts) (o : Option Place) → revision_of (option_map (mark c n) o) ≡ revision_of o
 revision-marked c n None = refl
@@ -128,7 +128,7 @@ some_same a b e = cc
 none_some : (a : ℕ) → None ≡ Some a → ⊥
 none_some a e = absurd (cc)
 
--- a revision that an entry gives is above all before
+-- a revision that an entry gives is above all before it
 newer : (h : List Entry) (x : Entry) (v : ℕ) → writes x.event ≡ true → v ≤ writes_of h → writes_of (h ++ x ∷ []) ≡ v → ⊥
 newer h x v is past same = let more = writes_more h x is in absurd (omega (arith, more, past, same))
 

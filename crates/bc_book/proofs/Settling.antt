@@ -1,4 +1,4 @@
--- What an Ask, and an Ask for all, leave of what is remembered.
+-- What an ask, and an ask for all, leave of what is remembered.
 use Rattle.std.proofs.Common.{◌≡◌, ℕ, true≢false, List, refl, ap, sym, subst, ◌∙◌, Option, Some, None, Result, Ok, Err}
 use Rattle.std.specs.Prelude.{IfOk, OnOk, is_some}
 use Rattle.std.specs.Option.{ForSome}
@@ -23,7 +23,7 @@ pub rows_of_row : (s : ShelfView) (h : List Entry) (n : NameParts) (row : Option
 rows_of_row s h n None is = tt
 rows_of_row s h n (Some r) is = ((is r refl).1, tt)
 
--- ---- an Ask of a name
+-- ---- an ask of a name
 
 pub settled_step : (r : Result Event Refusal) (session : ℕ) (k n : NameParts) (o : Outcome) (old new : BookView) (row : Option (NameParts × Remembered))
     → IfOk r (λ told. told ≡ events.Ask k o) → OnOk r (Appends session (events.Ask k o) old new)
@@ -58,7 +58,7 @@ pub settled_absent : (r : Result Event Refusal) (k n : NameParts) (o : Outcome) 
 settled_absent (Err e) k n o old new row answers named is = tt
 settled_absent (Ok event) k n o old new row answers named is = λ absent. answers ∙ no_row old.shelf old.entries k old.answers row is (ap (at_name old.shelf.places) named ∙ absent)
 
--- ---- an Ask for all
+-- ---- an ask for all
 
 pub settled_all : (r : Result Event Refusal) (session : ℕ) (listing : List (NameParts × Outcome)) (old new : BookView) (rows : List (NameParts × Remembered))
     → IfOk r (λ told. told ≡ events.All listing) → OnOk r (Appends session (events.All listing) old new)

@@ -10,8 +10,8 @@ use Rattle.bc_calls.specs.declared.call.Entry.{Entry}
 use Rattle.bc_calls.specs.Calls.{after}
 use Rattle.bc_calls.specs.Changes.{writes_of}
 
--- The outcome was found in a state. All that it rests on there is recorded, each with its revision, and whatever has that revision
--- now is as it was there. No recorded revision is above the count of accepted writes.
+-- The outcome was found in a state. All that it depends on there is recorded with its revision, and whatever still has that revision is as
+-- it was there. No recorded revision is above the count of accepted writes.
 pub record IsRight (shelf : ShelfView) (h : List Entry) (name : NameParts) (row : Remembered) : Type 0 where
   pub state : State
   pub outcome : IsOutcomeIn state name row.outcome

@@ -1,4 +1,4 @@
--- What a session enters in its book, and the call that this becomes.
+-- What a session enters in a book, and the call that this becomes.
 use Rattle.std.specs.Prelude.{◌≡◌, List}
 use Rattle.bc_names.specs.Names.{NameParts}
 use Rattle.bc_prov.specs.declared.outcome.Outcome.{Outcome}

@@ -1,4 +1,4 @@
-//! What lies under the lock: the history, what it leaves, what is remembered, and what publishes it.
+//! The book: all that is under the lock, which is the ledger and the writer that publishes it.
 ghost use Rattle.std.specs.Prelude.{◌≡◌, ◌<◌, ◌^◌, None, IsSome, [], List, length, IfOk, IfSome, IfErr, MatchResult, OnErr, OnOk};
 ghost use Rattle.bc_prov.specs.Outcome.{IsOutcomeIn};
 ghost use Rattle.bc_prov.specs.Pieces.{rows_of};
@@ -16,11 +16,11 @@ ghost use Rattle.bc_book.specs.Operations.{IsCallOf, NeedsWork};
 
 use crate::ledger::{Ledger, MOST_SESSIONS, Refusal};
 use crate::operation::Operation;
-use crate::roots::{FoundAll, count_pieces, push_row};
-use bc_calls::{Begun, Entry, Event, PutReply, RemoveReply, Told, Work, no_declarations};
+use crate::roots::{ListingResult, count_pieces, push_row};
+use bc_calls::{Begun, Entry, Event, EventOwners, PutReply, RemoveReply, Work, no_declarations};
 use bc_memo::Remembered;
 use bc_names::Name;
-use bc_outcomes::Found;
+use bc_outcomes::AskResult;
 use bc_prov::{Declared, Outcome, PieceSet, Providers, Shared, share};
 use bc_syntax::{Sequence, Unit};
 use bc_versions::{Ending, Fronts, Press};
@@ -28,41 +28,40 @@ use std::alloc::{AllocError, Global};
 use std::marker::Model;
 use std::sync::Wait;
 
-/// What an Ask leaves beside its entry: outcomes that are to be remembered, and pieces that are to be kept and published.
+/// What an ask leaves besides its entry: outcomes to remember, pieces to keep, and pieces to publish.
 #[derive(Drop)]
-struct Findings {
+struct SideEffects {
     rows: Vec<(Name, Remembered)>,
     kept: Option<PieceSet>,
     published: Option<PieceSet>,
 }
 
-impl Findings {
-    /// Nothing is left beside the entry. It takes no memory.
-    fn none(alloc: Global) -> Findings
+impl SideEffects {
+    /// Returns no side effects.
+    fn none(alloc: Global) -> SideEffects
         ensures rows { result.rows.items ≡ [] }
         ensures kept { result.kept ≡ None }
         ensures published { result.published ≡ None }
     {
-        Findings {
+        SideEffects {
             rows: Vec::new(alloc),
             kept: None,
             published: None,
         }
     }
 
-    /// Outcomes that are to be remembered, and pieces that are to be kept and published, if there are any. Returns `AllocError` only
-    /// if memory was refused.
+    /// Returns the side effects with these outcomes to remember, and with these pieces, if any, to keep and to publish.
     fn of(
         alloc: Global,
         rows: Vec<(Name, Remembered)>,
         pieces: Option<PieceSet>,
-    ) -> Result<Findings, AllocError>
+    ) -> Result<SideEffects, AllocError>
         ensures rows { IfOk result (λ findings. findings.rows.items ≡ rows.items) }
         ensures kept { IfOk result (λ findings. findings.kept ≡ pieces) }
         ensures published { IfOk result (λ findings. findings.published ≡ pieces) }
     {
         let published = copy_of(alloc, &pieces)?;
-        Ok(Findings {
+        Ok(SideEffects {
             rows,
             kept: pieces,
             published,
@@ -70,7 +69,7 @@ impl Findings {
     }
 }
 
-/// One more owner of each piece of a set, if there is one. Returns `AllocError` only if memory was refused.
+/// Returns one more owner of each piece of a set, if there is one.
 fn copy_of(alloc: Global, pieces: &Option<PieceSet>) -> Result<Option<PieceSet>, AllocError>
     ensures { IfOk result (λ copy. copy ≡ pieces.now) }
 {
@@ -83,8 +82,7 @@ fn copy_of(alloc: Global, pieces: &Option<PieceSet>) -> Result<Option<PieceSet>,
     }
 }
 
-/// Publishes one more owner of the entry that comes next, as `Press::add` says. Returns `AllocError` only if memory was refused, and then
-/// nothing is published.
+/// Publishes one more owner of the entry that comes next, as `Press::add` does. If it returns `AllocError`, nothing is published.
 fn publish<E: Ending, R: Wait>(
     rt: &R,
     press: &mut Press<E>,
@@ -100,16 +98,15 @@ fn publish<E: Ending, R: Wait>(
     press.add(rt, copy, revision, pieces)
 }
 
-/// The state under the lock: the append-only history of all calls, what is stored after it, the remembered outcomes, and the writer of
-/// the published table. Contracts see how many entries it may have, those that it has, what is stored, what is remembered, and the pieces that
-/// are kept. The type keeps that the entries that it has are those that were published, and so is what is stored, with its revisions and its
-/// answers.
+/// The state under the lock: the append-only history of all calls, what is stored after it, the remembered outcomes, and the writer of the
+/// published table. A contract sees how many entries there may be, the entries, what is stored, what is remembered, and the kept pieces.
+/// The type guarantees that the writer has published these entries, and what is stored with its revisions and answers.
 pub struct Book<E: Ending> {
     ledger: Ledger,
     press: Press<E>,
 }
 
-// Written out: the crates above call this, and prove nothing of its parts again.
+// Handwritten, so that it is proved once: the crates above only call it.
 impl<E: Ending> Drop for Book<E> {
     fn drop(self) {
         let Self {
@@ -137,8 +134,8 @@ impl<E: Ending> Model for Book<E> {
 }
 
 impl<E: Ending> Book<E> {
-    /// Opens a book without entries, which may have so many, with no declaration and no body. It may have so many readers of what
-    /// it publishes; what ends its writer is handed in. Returns `AllocError` only if memory was refused.
+    /// Opens a book without entries, with no declaration and no body. It may have at most `capacity` entries, and at most `readers` readers
+    /// of what it publishes. `ending` ends its writer.
     pub fn new(
         alloc: Global,
         ending: E,
@@ -157,7 +154,7 @@ impl<E: Ending> Book<E> {
         })
     }
 
-    /// Returns the maker of the readers of what is published. Returns `AllocError` only if one more owner of it was refused.
+    /// Returns the maker of the readers of what is published. Returns `AllocError` if it has too many owners.
     pub fn fronts(&self) -> Result<Fronts, AllocError> {
         self.press.fronts()
     }
@@ -171,7 +168,7 @@ impl<E: Ending> Book<E> {
         session: u8,
         operation: Operation,
         providers: Option<&Providers>,
-    ) -> Result<Told, Refusal>
+    ) -> Result<EventOwners, Refusal>
         requires session { session < MOST_SESSIONS }
         requires providers { NeedsWork operation → IsSome providers }
         ensures step { IfOk result (λ told. IsCallOf operation told × Appends session told self.old self.new) }
@@ -190,18 +187,18 @@ impl<E: Ending> Book<E> {
         }
     }
 
-    /// Stores a session's declarations in place of those before. They were checked before, since that takes memory and time. What
-    /// is entered is published; it waits for those who still read what was published before.
+    /// Stores declarations in place of those before, as a call of a session. They are already checked, since that takes memory and time.
+    /// Publishes the entry, and waits for those who still read what was published before.
     ///
-    /// Refused with `HistoryFull` exactly if the history has as many entries as it may have, which is tested first, and with
-    /// `NoMemory` only if memory was refused. Then nothing has changed.
+    /// Returns `HistoryFull` exactly if the history has as many entries as it may have, which is tested first, and otherwise `NoMemory` if
+    /// out of memory. Then nothing has changed.
     pub fn put_types<R: Wait>(
         &mut self,
         rt: &R,
         alloc: Global,
         session: u8,
         types: Shared<Declared>,
-    ) -> Result<Told, Refusal>
+    ) -> Result<EventOwners, Refusal>
         requires session { session < MOST_SESSIONS }
         ensures step { IfOk result (λ told. (told ≡ Event.Types types) × Appends session told self.old self.new) }
         ensures answers { IfOk result (λ told. Keeps told self.old self.new) }
@@ -209,12 +206,12 @@ impl<E: Ending> Book<E> {
         ensures full { IfErr result (IsFull self.old) }
         ensures below { OnOk result (length self.old.entries < self.old.capacity) }
     {
-        self.append(rt, session, Event::Types(types), Findings::none(alloc))
+        self.append(rt, session, Event::Types(types), SideEffects::none(alloc))
     }
 
-    /// Stores a session's unit under a name, where the reply says so: `WrongKind` if the name is not one for such a unit (a
-    /// function's a root, a closure's any other, and a name of seven segments is none for a unit with a child), else `Full` if the
-    /// name is new and `MOST_BODIES` are stored, else `Replaced` or `Added`. Published and refused as `put_types` is.
+    /// Stores a unit under a name, as a call of a session, if the reply says so: `WrongKind` if the unit does not suit the name (a function
+    /// needs a root, a closure any other name, and a unit with a child fewer than seven segments), otherwise `Full` if the name is new and
+    /// `MOST_BODIES` bodies are stored, otherwise `Replaced` or `Added`. Publishes and fails as `put_types` does.
     pub fn put<R: Wait>(
         &mut self,
         rt: &R,
@@ -222,7 +219,7 @@ impl<E: Ending> Book<E> {
         session: u8,
         name: Name,
         unit: Shared<Unit>,
-    ) -> Result<Told, Refusal>
+    ) -> Result<EventOwners, Refusal>
         requires session { session < MOST_SESSIONS }
         ensures step { IfOk result (λ told. (reply : PutReply) × (told ≡ Event.Put name unit reply) × Appends session told self.old self.new) }
         ensures answers { IfOk result (λ told. Keeps told self.old self.new) }
@@ -236,18 +233,19 @@ impl<E: Ending> Book<E> {
             rt,
             session,
             Event::Put(name, unit, reply),
-            Findings::none(alloc),
+            SideEffects::none(alloc),
         )
     }
 
-    /// Takes the unit of a name away, and replies `Removed`, or `Absent` if none is stored. Published and refused as `put_types` is.
+    /// Removes the unit of a name, as a call of a session, and replies `Removed`, or `Absent` if the name holds none. Publishes and fails
+    /// as `put_types` does.
     pub fn remove<R: Wait>(
         &mut self,
         rt: &R,
         alloc: Global,
         session: u8,
         name: Name,
-    ) -> Result<Told, Refusal>
+    ) -> Result<EventOwners, Refusal>
         requires session { session < MOST_SESSIONS }
         ensures step { IfOk result (λ told. (reply : RemoveReply) × (told ≡ Event.Remove name reply) × Appends session told self.old self.new) }
         ensures answers { IfOk result (λ told. Keeps told self.old self.new) }
@@ -260,14 +258,13 @@ impl<E: Ending> Book<E> {
             rt,
             session,
             Event::Remove(name, reply),
-            Findings::none(alloc),
+            SideEffects::none(alloc),
         )
     }
 
-    /// Returns the part of what is stored that the outcome of a name rests on: the declarations, and the units at the name and at all
-    /// names that begin with it and `/`, with their revisions. It carries the outcome that is remembered for the name and still
-    /// valid, if there is one, which is the name's outcome in what is stored. Nothing is entered. Returns `AllocError` only if
-    /// memory was refused.
+    /// Returns the part of what is stored that the outcome of a name depends on: the declarations, and the units at the name and at names
+    /// that begin with it and `/`, with their revisions. It carries the outcome that is remembered for the name, if that is still valid.
+    /// Nothing is entered.
     pub fn snapshot(&self, alloc: Global, name: &Name) -> Result<Begun, AllocError>
         ensures part { IfOk result (λ begun. IsPartOf begun name.now (after self.now.entries)) }
         ensures remembered { IfOk result (λ begun. IsRemembered self.now.shelf self.now.answers name.now begun.carried) }
@@ -277,12 +274,12 @@ impl<E: Ending> Book<E> {
         self.ledger.begin(alloc, name)
     }
 
-    /// Enters a session's Ask of the name of a work, and replies with the name's outcome: the work's own if its revisions, declarations and
-    /// units are those stored; else the one that is remembered and still valid; else the one that the pieces that the work made and those that
-    /// are kept give, as far as they are still valid, with the other bodies worked on by the providers. Where the work made no pieces, what is
-    /// remembered comes first: it is the same outcome. The outcome of a name that is stored is remembered, and published with the entry, and so
-    /// are the pieces; that of an absent name is remembered nowhere. Published and refused as `put_types` is, and with `NoMemory` if a
-    /// provider runs out of memory.
+    /// Enters an ask of the name of a work, as a call of a session, and replies with the name's outcome. This is the work's own outcome if
+    /// its declarations and units are still stored, with the same revisions, otherwise the remembered one if that is still valid. Otherwise
+    /// the pieces of the work and the kept ones are reused as far as they are valid, and the providers work on the other bodies. If the
+    /// work has no pieces, the remembered outcome comes first: it is the same. The outcome of a name that holds a body is remembered, and
+    /// published with the entry, and so are the pieces; that of any other name is not remembered. Publishes and fails as `put_types` does,
+    /// and returns `NoMemory` also if a provider runs out of memory.
     pub fn settle<R: Wait>(
         &mut self,
         rt: &R,
@@ -290,7 +287,7 @@ impl<E: Ending> Book<E> {
         session: u8,
         work: Work,
         providers: &Providers,
-    ) -> Result<Told, Refusal>
+    ) -> Result<EventOwners, Refusal>
         requires session { session < MOST_SESSIONS }
         ensures step { IfOk result (λ told. (outcome : Outcome) × (told ≡ Event.Ask work.snapshot.root outcome) ×
             Appends session told self.old self.new × Remembers work.snapshot.root outcome self.new) }
@@ -302,18 +299,20 @@ impl<E: Ending> Book<E> {
     {
         self.ledger.has_room()?;
         let name = *work.name();
-        let Found { outcome, pieces } = self.ledger.outcome(alloc, &name, Some(work), providers)?;
+        let AskResult { outcome, pieces } = self
+            .ledger
+            .outcome(alloc, &name, Some(work), providers)?;
         let row = self.ledger.row(alloc, &name, &outcome)?;
         let mut rows = Vec::new(alloc);
         push_row(&mut rows, row)?;
-        let findings = Findings::of(alloc, rows, pieces)?;
+        let findings = SideEffects::of(alloc, rows, pieces)?;
         self.append(rt, session, Event::Ask(name, outcome), findings)
     }
 
-    /// Enters a session's Ask for all, and replies with the outcome of each stored root, in the order of their names. Each is the one that
-    /// `settle` would reply to an Ask of that name, with a session's work on it if one is handed in. Works may be handed in in any
-    /// order, and may be of names that are no stored roots, or of another database. Of several of one name one is taken, and the others are
-    /// dropped. All outcomes are remembered, and published with the one entry, and so are the pieces. Published and refused as `settle` is.
+    /// Enters an ask for all, as a call of a session, and replies with the outcome of each root that holds a body, in the order of their
+    /// names. Each is the one that `settle` would reply to an ask of that name, with a work on it if there is one. Works may come in any
+    /// order, and may be on names that are no such roots, or from another database. Of several on one name one is taken, and the others are
+    /// dropped. All outcomes are remembered, and published with the one entry, and so are the pieces. Publishes and fails as `settle` does.
     pub fn settle_all<R: Wait>(
         &mut self,
         rt: &R,
@@ -321,7 +320,7 @@ impl<E: Ending> Book<E> {
         session: u8,
         works: Vec<Work>,
         providers: &Providers,
-    ) -> Result<Told, Refusal>
+    ) -> Result<EventOwners, Refusal>
         requires session { session < MOST_SESSIONS }
         ensures step { IfOk result (λ told. (listing : List (NameParts × Outcome)) × (told ≡ events.All listing) ×
             Appends session told self.old self.new × RemembersEach self.new.shelf self.new.answers listing) }
@@ -331,27 +330,27 @@ impl<E: Ending> Book<E> {
         ensures below { OnOk result (length self.old.entries < self.old.capacity) }
     {
         self.ledger.has_room()?;
-        let FoundAll {
+        let ListingResult {
             listing,
             rows,
             pieces,
         } = self.ledger.outcomes(alloc, works, providers)?;
         let listing = share(alloc, Sequence::from(listing))?;
-        let findings = Findings::of(alloc, rows, Some(pieces))?;
+        let findings = SideEffects::of(alloc, rows, Some(pieces))?;
         self.append(rt, session, Event::All(listing), findings)
     }
 
-    /// Adds a session's event, whose reply is the one that what is stored gives it, publishes it, and remembers outcomes and keeps pieces,
-    /// if there are any: the pieces that are kept fit what is stored, and those that are published fit what the event leaves of it. The
-    /// capacity is tested first, all that may be refused comes next, and of that the writer's own room is the
-    /// last: a refused event leaves what is remembered and what is kept. Answers two more owners of the event.
+    /// Adds a session's event, publishes it, remembers outcomes and keeps pieces, if there are any. Requires that the event has the right
+    /// reply for what is stored, that the pieces to keep fit what is stored, and that the pieces to publish fit what the event leaves of
+    /// it. The capacity is tested first, and all that can fail comes next, the writer's own room last. So if it fails, nothing has changed.
+    /// Returns two more owners of the event.
     fn append<R: Wait>(
         &mut self,
         rt: &R,
         session: u8,
         event: Event,
-        findings: Findings,
-    ) -> Result<Told, Refusal>
+        findings: SideEffects,
+    ) -> Result<EventOwners, Refusal>
         requires session { session < MOST_SESSIONS }
         requires reply { IsReply (after self.old.entries) event }
         requires place { HasPlace (length self.old.shelf.places) event }
@@ -367,14 +366,14 @@ impl<E: Ending> Book<E> {
         ensures full { IfErr result (IsFull self.old) }
         ensures below { OnOk result (length self.old.entries < self.old.capacity) }
     {
-        let Findings {
+        let SideEffects {
             rows,
             kept,
             published,
         } = findings;
         let pieces = count_pieces(&kept);
         let change = self.ledger.make_ready(&event, rows.len(), pieces)?;
-        let told = Told::of(&event)?;
+        let told = EventOwners::of(&event)?;
         let number = self.ledger.number(session);
         let revision = self.ledger.revision(&event);
         let entry = Entry {
@@ -382,7 +381,7 @@ impl<E: Ending> Book<E> {
             number,
             event,
         };
-        // Published before it is stored. Nobody sees the order: both happen under the lock.
+        // Published before it is stored, since publishing can fail. Nobody sees the order: both happen under the lock.
         publish(rt, &mut self.press, &entry, revision, published)?;
         self.ledger.keep(kept);
         self.ledger.remember(rows);
@@ -390,7 +389,7 @@ impl<E: Ending> Book<E> {
         Ok(told)
     }
 
-    /// Takes the history out: all entries, in their order.
+    /// Consumes the book, and returns the history: all entries, in their order.
     pub fn into_history(self) -> Vec<Entry>
         ensures entries { result.items ≡ self.entries }
         ensures legal { IsLegal self.entries }

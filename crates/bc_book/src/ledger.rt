@@ -1,4 +1,4 @@
-//! The history, and what it leaves: what lies under the lock but for what publishes. It waits for nobody.
+//! The ledger: all that is under the lock, except the writer that publishes it. It waits for nobody.
 ghost use Rattle.std.specs.Prelude.{◌≡◌, ◌↔◌, ◌+◌, ◌^◌, ◌<◌, ◌≤◌, [], ◌∷◌, ◌++◌, length, IfOk, IfSome, IsSome, IsTrue, None, OnOk, IfErr};
 ghost use Rattle.std.specs.Option.{ForSome, option_copied};
 ghost use Rattle.std.specs.BTreeMap.{insert_entry};
@@ -15,11 +15,11 @@ ghost use Rattle.bc_calls.specs.Changes.{change_of, writes_after, writes_of};
 ghost use Rattle.bc_book.specs.Ledgers.{AreRows, HasPlace, IsFoundAll, IsRow, Recalls, SameButAnswers, SameButPieces, SameLedger, kept_rows, remembering};
 
 use crate::reply::{put_reply, remove_reply};
-use crate::roots::{FoundAll, brings_pieces, in_reverse, push_pieces, push_row, take_work};
+use crate::roots::{ListingResult, brings_pieces, in_reverse, push_pieces, push_row, take_work};
 use bc_calls::{Begun, Entry, Event, MOST_BODIES, PutReply, RemoveReply, Work, no_declarations};
 use bc_memo::{Change, Memo, Part, PieceMemo, Remembered, Shelf};
 use bc_names::Name;
-use bc_outcomes::Found;
+use bc_outcomes::AskResult;
 use bc_prov::{Outcome, PieceSet, Providers, Shared};
 use bc_syntax::Unit;
 use std::alloc::{AllocError, Global};
@@ -29,7 +29,7 @@ use thiserror::Error;
 /// The most sessions that a database may have.
 pub const MOST_SESSIONS: usize = 16;
 
-/// The reason why a call was refused: memory was refused, or the history is as long as it may be. The call changed nothing.
+/// The reason why a book refused a call: out of memory, or the history is full. The call changed nothing.
 #[derive(Clone, Copy, Debug, PartialEq, Eq, Error)]
 pub enum Refusal {
     #[error("no memory")]
@@ -43,14 +43,14 @@ impl From<AllocError> for Refusal {
 
     ghost from_gives = { λ _ refusal. refusal ≡ NoMemory };
 
-    /// Returns the refusal `NoMemory`, of a call for which memory was refused.
+    /// Returns the refusal `NoMemory`, of a call that was out of memory.
     fn from(_error: AllocError) -> Refusal {
         Refusal::NoMemory
     }
 }
 
-/// The append-only history, of at most so many entries, with what is stored after it, the pieces that are kept of that, and the remembered
-/// outcomes. It is legal. There is memory for a piece of each body that may be stored, and one to spare.
+/// The append-only history, with what is stored after it, the kept pieces of that, and the remembered outcomes. The history is legal, and
+/// has at most `capacity` entries. There is room for a piece of each body that may be stored, and one more.
 pub(crate) struct Ledger {
     capacity: u32,
     history: Vec<Entry>,
@@ -101,7 +101,7 @@ impl Model for Ledger {
 }
 
 impl Ledger {
-    /// An empty history, with no declaration and no body, and memory for all bodies. Returns `AllocError` only if memory was refused.
+    /// Returns an empty history of at most `capacity` entries, with no declaration and no body, and with room for all bodies.
     pub(crate) fn new(alloc: Global, capacity: u32) -> Result<Ledger, AllocError>
         ensures same { IfOk result (λ ledger. (ledger.capacity ≡ capacity) × (ledger.entries ≡ []) × (ledger.shelf ≡ empty_shelf []) ×
             (ledger.answers ≡ []) × (ledger.pieces ≡ [])) }
@@ -119,7 +119,7 @@ impl Ledger {
         })
     }
 
-    /// Returns whether one more entry may come: refused with `HistoryFull` exactly if the history is as long as it may be. It takes no memory.
+    /// Returns whether one more entry may come: `HistoryFull` exactly if the history is full.
     pub(crate) fn has_room(&self) -> Result<(), Refusal>
         ensures below { OnOk result (length self.now.entries < self.now.capacity) }
         ensures full { IfErr result (λ r. (r ≡ Refusal.HistoryFull) × (length self.now.entries ≡ self.now.capacity)) }
@@ -130,8 +130,8 @@ impl Ledger {
         Ok(())
     }
 
-    /// Makes room for one entry, one body, so many answers and so many pieces. The capacity is tested first: `HistoryFull` exactly if the
-    /// history is as long as it may be, and `NoMemory` only if memory was refused. What is kept is as it was in each case.
+    /// Makes room for one entry, one body, and at least this many answers and pieces. Returns `HistoryFull` exactly if the history is full,
+    /// which is tested first, and otherwise `NoMemory` if out of memory. The ledger keeps what it has in each case.
     pub(crate) fn reserve(&mut self, answers: usize, pieces: usize) -> Result<(), Refusal>
         ensures same { SameLedger self.old self.new }
         ensures room { OnOk result ((0 < self.new.room) × (0 < self.new.places) × (answers ≤ self.new.rows) × (pieces ≤ self.new.piece_room)) }
@@ -146,7 +146,7 @@ impl Ledger {
         Ok(())
     }
 
-    /// The reply to a put. Returns `AllocError` only if memory was refused.
+    /// Returns the reply to a put.
     pub(crate) fn put_reply(
         &self,
         alloc: Global,
@@ -159,14 +159,14 @@ impl Ledger {
         put_reply(alloc, &self.shelf, name, unit)
     }
 
-    /// Returns the reply to a removal. It takes no memory.
+    /// Returns the reply to a removal.
     pub(crate) fn remove_reply(&self, name: &Name) -> RemoveReply
         ensures { IsRemoveReply (after self.now.entries).bodies name.now result }
     {
         remove_reply(&self.shelf, name)
     }
 
-    /// Returns what is remembered for a name, where all that it was found from is as it was: the name's outcome. It takes no memory.
+    /// Returns the outcome of a name that is remembered, if all that it was found from still has its revision.
     pub(crate) fn answer(&self, name: &Name) -> Option<&Shared<Outcome>>
         ensures right { IfSome result (λ outcome. IsOutcomeIn (after self.now.entries) name.now outcome.now) }
         ensures remembered { IsRemembered self.now.shelf self.now.answers name.now (option_copied result) }
@@ -174,7 +174,7 @@ impl Ledger {
         self.memo.lookup(&self.shelf, name)
     }
 
-    /// Returns one more owner of what is remembered for a name and stands.
+    /// Returns one more owner of the remembered outcome of a name, if it is still valid.
     fn shared_answer(&self, name: &Name) -> Result<Option<Shared<Outcome>>, AllocError>
         ensures right { IfOk result (λ answer. IfSome answer (IsOutcomeIn (after self.now.entries) name.now)) }
         ensures remembered { IfOk result (IsRemembered self.now.shelf self.now.answers name.now) }
@@ -188,7 +188,7 @@ impl Ledger {
         }
     }
 
-    /// Returns a name's part of what is stored, with the pieces that are kept of its bodies.
+    /// Returns a name's part of what is stored, with the kept pieces of its bodies.
     fn part(&self, alloc: Global, name: &Name) -> Result<Part, AllocError>
         ensures part { IfOk result (λ part. IsPartOf part.snapshot name.now (after self.now.entries)) }
         ensures held { IfOk result (λ part. (part.snapshot.types ≡ self.now.shelf.types) × (part.snapshot.root ≡ name.now) ×
@@ -209,8 +209,7 @@ impl Ledger {
         })
     }
 
-    /// A name's part of what is stored, with the pieces that are kept of its bodies, and with its outcome if it is remembered. Returns
-    /// `AllocError` only if memory was refused.
+    /// Returns a name's part of what is stored, with the kept pieces of its bodies, and with its outcome if a valid one is remembered.
     pub(crate) fn begin(&self, alloc: Global, name: &Name) -> Result<Begun, AllocError>
         ensures part { IfOk result (λ begun. IsPartOf begun name.now (after self.now.entries)) }
         ensures remembered { IfOk result (λ begun. IsRemembered self.now.shelf self.now.answers name.now begun.carried) }
@@ -223,18 +222,18 @@ impl Ledger {
         Ok(Begun::carrying(part, answer))
     }
 
-    /// The outcome of a name, of which a session may have worked on a part: the work's own if the work stands; else what is remembered for
-    /// the name; else what the pieces of the work and those that are kept give, as far as they stand, with the other bodies worked on. What is
-    /// remembered comes first if no pieces were made for the work: it is the same outcome, for which nothing is compared. With it come the
-    /// pieces that are not kept yet, each found from what is stored. Returns `AllocError` only if memory was refused, as a provider may
-    /// answer too.
+    /// Returns the outcome of a name, on which a session may have worked, with the pieces that are not kept yet, each found from what is
+    /// stored. This is the work's own outcome if its inputs are still stored, otherwise the remembered one if that is still valid.
+    /// Otherwise the pieces of the work and the kept ones are reused as far as they are valid, and the other bodies are worked on. If the
+    /// work has no pieces, the remembered outcome comes first: it is the same, and nothing is compared for it. Returns `AllocError` also if
+    /// a provider does.
     pub(crate) fn outcome(
         &self,
         alloc: Global,
         name: &Name,
         work: Option<Work>,
         providers: &Providers,
-    ) -> Result<Found, AllocError>
+    ) -> Result<AskResult, AllocError>
         requires { IfSome work (λ w. w.snapshot.root ≡ name.now) }
         ensures outcome { IfOk result (λ found. IsOutcomeIn (after self.now.entries) name.now found.outcome) }
         ensures over { IfOk result (λ found. IfSome found.pieces (λ set. set.types ≡ self.now.shelf.types)) }
@@ -242,7 +241,7 @@ impl Ledger {
     {
         if !brings_pieces(&work) {
             if let Some(outcome) = self.shared_answer(name)? {
-                return Ok(Found::without_pieces(outcome));
+                return Ok(AskResult::without_pieces(outcome));
             }
         }
         match work {
@@ -254,15 +253,15 @@ impl Ledger {
         }
     }
 
-    /// Returns the outcome of a name: what is remembered for it, else what is worked out, but for the bodies of which a piece is handed in or kept
-    /// that stands.
+    /// Returns the outcome of a name: the remembered one if it is still valid, otherwise a new one. Pieces that are passed in or kept are
+    /// reused as far as they are valid.
     fn found_anew(
         &self,
         alloc: Global,
         name: &Name,
         pieces: Option<PieceSet>,
         providers: &Providers,
-    ) -> Result<Found, AllocError>
+    ) -> Result<AskResult, AllocError>
         ensures outcome { IfOk result (λ found. IsOutcomeIn (after self.now.entries) name.now found.outcome) }
         ensures over { IfOk result (λ found. IfSome found.pieces (λ set. set.types ≡ self.now.shelf.types)) }
         ensures fit { IfOk result (λ found. AreFitting self.now.shelf (rows_of found.pieces)) }
@@ -272,21 +271,21 @@ impl Ledger {
         with_pieces.find(alloc, providers)
     }
 
-    /// The outcome of each stored root, in the order of their names, with what is to be remembered and the pieces that are not kept yet. The
-    /// works are taken as `outcome` takes one, in whatever order they come: for each root one work of its name. Any other is let go. Returns
-    /// `AllocError` only if memory was refused, as a provider may answer too.
+    /// Returns the outcome of each root that holds a body, in the order of their names, with the rows to remember and the pieces that are
+    /// not kept yet. For each root one work on it is taken, as `outcome` takes one, in whatever order the works come. Any other work is
+    /// dropped. Returns `AllocError` also if a provider does.
     pub(crate) fn outcomes(
         &self,
         alloc: Global,
         works: Vec<Work>,
         providers: &Providers,
-    ) -> Result<FoundAll, AllocError>
+    ) -> Result<ListingResult, AllocError>
         ensures listing { IfOk result (λ found. IsListing (after self.now.entries) found.listing.items) }
         ensures found { IfOk result (λ found. IsFoundAll self.now.shelf self.now.entries self.now.answers found.listing.items found.rows.items) }
         ensures fit { IfOk result (λ found. AreFitting self.now.shelf found.pieces.rows) }
     {
         let types = self.shelf.types().clone()?;
-        let mut found = FoundAll::none(alloc, types);
+        let mut found = ListingResult::none(alloc, types);
         let mut works = in_reverse(works);
         let roots = self.shelf.roots(alloc)?;
         for name in &roots {
@@ -296,11 +295,11 @@ impl Ledger {
         Ok(found)
     }
 
-    /// Adds the outcome of a stored name, what is to be remembered of it, and the pieces that are not kept yet.
+    /// Appends the outcome of a name that holds a body, the row to remember for it, if any, and the pieces that are not kept yet.
     fn push_outcome(
         &self,
         alloc: Global,
-        found: &mut FoundAll,
+        found: &mut ListingResult,
         name: &Name,
         work: Option<Work>,
         providers: &Providers,
@@ -315,7 +314,7 @@ impl Ledger {
         ensures fit { OnOk result (AreFitting self.now.shelf found.new.pieces.rows) }
         ensures found { OnOk result (IsFoundAll self.now.shelf self.now.entries self.now.answers found.new.listing.items found.new.rows.items) }
     {
-        let Found { outcome, pieces } = self.outcome(alloc, name, work, providers)?;
+        let AskResult { outcome, pieces } = self.outcome(alloc, name, work, providers)?;
         let row = self.row(alloc, name, &outcome)?;
         push_row(&mut found.rows, row)?;
         push_pieces(&mut found.pieces, pieces)?;
@@ -323,8 +322,7 @@ impl Ledger {
         Ok(())
     }
 
-    /// What is to be remembered of an outcome of a name, if the name is stored and nothing that stands is remembered for it.
-    /// Returns `AllocError` only if memory was refused.
+    /// Returns the row to remember for an outcome of a name, if the name holds a body and no valid outcome of it is remembered.
     pub(crate) fn row(
         &self,
         alloc: Global,
@@ -347,7 +345,7 @@ impl Ledger {
         }
     }
 
-    /// Returns an outcome of a name that is stored, with the revisions of all that it rests on.
+    /// Returns the row of an outcome, with the revisions of all that it depends on. Requires that the name holds a body.
     fn remembered(
         &self,
         alloc: Global,
@@ -366,7 +364,7 @@ impl Ledger {
         Ok(row)
     }
 
-    /// Returns how many entries a session has.
+    /// Returns the number of entries that a session has.
     pub(crate) fn number(&self, session: u8) -> u32
         requires { session < MOST_SESSIONS }
         ensures { result ≡ count_of session self.now.entries }
@@ -374,7 +372,7 @@ impl Ledger {
         self.counts[usize::from(session)]
     }
 
-    /// Returns the revision that an event gives to what it writes, as the next one: the count of accepted writes with it.
+    /// Returns the revision that the next event gives to what it writes: the count of accepted writes with it.
     pub(crate) fn revision(&self, event: &Event) -> u32
         requires { length self.now.entries < self.now.capacity }
         ensures { result ≡ writes_after (writes_of self.now.entries) event.now }
@@ -382,7 +380,7 @@ impl Ledger {
         writes_with(self.writes, event)
     }
 
-    /// Remembers outcomes of names that are stored. It takes no memory.
+    /// Remembers outcomes of names that hold a body. Requires room for them.
     pub(crate) fn remember(&mut self, rows: Vec<(Name, Remembered)>)
         requires room { length rows.items ≤ self.old.rows }
         requires rows { AreRows self.old.shelf self.old.entries rows.items }
@@ -394,7 +392,7 @@ impl Ledger {
         }
     }
 
-    /// Remembers an outcome of a name that is stored.
+    /// Remembers an outcome of a name that holds a body. Requires room for it.
     fn remember_one(&mut self, name: Name, row: Remembered)
         requires room { 0 < self.old.rows }
         requires row { IsRow self.old.shelf self.old.entries name row }
@@ -405,8 +403,8 @@ impl Ledger {
         self.memo.put(name, row);
     }
 
-    /// Keeps these pieces, if there are any, each in the place of one that was kept for its name. It asks that each was found from what is
-    /// stored, which it does not compare, and for room for them. It takes no memory.
+    /// Keeps these pieces, if there are any, each in place of one that was kept for its name. Requires that each was found from what is
+    /// stored, which is not compared, and that there is room for them.
     pub(crate) fn keep(&mut self, pieces: Option<PieceSet>)
         requires fit { AreFitting self.old.shelf (rows_of pieces) }
         requires room { length (rows_of pieces) ≤ self.old.piece_room }
@@ -418,8 +416,8 @@ impl Ledger {
         }
     }
 
-    /// Makes the owners that a change brings for many names. Returns `AllocError` only if memory or an owner was refused. What is kept
-    /// is as it was in each case.
+    /// Makes the owners that a change brings for many names. The ledger keeps what it has in each case. Returns `AllocError` also if an
+    /// outcome has too many owners.
     pub(crate) fn prepare(&mut self, change: &Change) -> Result<(), AllocError>
         ensures same { SameLedger self.old self.new }
         ensures room { (self.new.room ≡ self.old.room) × (self.new.places ≡ self.old.places) ×
@@ -429,9 +427,9 @@ impl Ledger {
         self.shelf.prepare(change)
     }
 
-    /// Makes ready for an event: makes room for its entry, for one body, for so many answers and for so many pieces, and makes the owners that
-    /// its change brings. Returns the change. The capacity is tested first: `HistoryFull` exactly if the history is as long as it may be,
-    /// and `NoMemory` only if memory was refused. What is kept is as it was in each case.
+    /// Makes room for an event's entry, for one body, and for at least this many answers and pieces, and makes the owners that its change
+    /// brings. Returns the change. Returns `HistoryFull` exactly if the history is full, which is tested first, and otherwise `NoMemory` if
+    /// out of memory. The ledger keeps what it has in each case.
     pub(crate) fn make_ready(
         &mut self,
         event: &Event,
@@ -451,8 +449,8 @@ impl Ledger {
         Ok(change)
     }
 
-    /// Takes in the entry that comes next, given what it changes, and the revision that it gives to what it writes. Pieces that the change
-    /// makes wrong are dropped. It takes no memory.
+    /// Adds the entry that comes next, given what it changes and the revision that it gives to what it writes. Pieces that the change makes
+    /// wrong are dropped. Requires room for it.
     pub(crate) fn record(&mut self, entry: Entry, change: Change, revision: u32)
         requires session { entry.session < MOST_SESSIONS }
         requires room { (0 < self.old.room) × (0 < self.old.places) }
@@ -477,7 +475,7 @@ impl Ledger {
         self.history.push_reserved(entry);
     }
 
-    /// Returns the history, taken out: all entries, in their order.
+    /// Consumes the ledger, and returns the history: all entries, in their order.
     pub(crate) fn into_history(self) -> Vec<Entry>
         ensures entries { result.items ≡ self.entries }
         ensures legal { IsLegal self.entries }
@@ -495,7 +493,7 @@ impl Ledger {
     }
 }
 
-/// Returns the count of accepted writes, with one event more.
+/// Returns the count of accepted writes after one more event.
 fn writes_with(count: u32, event: &Event) -> u32
     requires { count + 1 < 2 ^ 32 }
     ensures { result ≡ writes_after count event.now }
@@ -503,7 +501,7 @@ fn writes_with(count: u32, event: &Event) -> u32
     if event.writes() { count + 1 } else { count }
 }
 
-/// Forgets what is remembered for a name whose body is taken away.
+/// Forgets what is remembered for a name whose body is removed.
 fn forget_removed(memo: &mut Memo, change: &Change)
     ensures { memo.new.rows ≡ kept_rows change.now memo.old.rows }
 {

@@ -1,4 +1,4 @@
-//! What lies under the lock: the history, what it leaves, what is remembered of it, and the writer that publishes it.
+//! All that is under the lock: the history, what it leaves, what is remembered of it, and the writer that publishes it.
 #![tactic(auto)]
 
 mod book;

@@ -27,9 +27,9 @@ fn stored_reply(shelf: &Shelf, name: &Name, unit: &Unit) -> PutReply
     }
 }
 
-/// The reply to a put: `WrongKind` if the name is not one for such a unit (a function's a root, a closure's any other, and a name
-/// of seven segments is none for a unit with a child), else `Full` if the name is new and `MOST_BODIES` are stored, else `Replaced`
-/// or `Added`. Returns `AllocError` only if memory was refused.
+/// Returns the reply to a put: `WrongKind` if the unit does not suit the name (a function needs a root, a closure any other name, and a
+/// unit with a child fewer than seven segments), otherwise `Full` if the name is new and `MOST_BODIES` bodies are stored, otherwise
+/// `Replaced` or `Added`.
 pub(crate) fn put_reply(
     alloc: Global,
     shelf: &Shelf,
@@ -47,7 +47,7 @@ pub(crate) fn put_reply(
     }
 }
 
-/// Returns the reply to a removal. It takes no memory.
+/// Returns the reply to a removal.
 pub(crate) fn remove_reply(shelf: &Shelf, name: &Name) -> RemoveReply
     ensures { IsRemoveReply (bodies_of shelf.now.held) name.now result }
 {

@@ -1,4 +1,4 @@
-//! What is found for all stored roots.
+//! What is found for all roots that hold a body.
 ghost use Rattle.std.specs.Prelude.{◌≡◌, ◌++◌, [], length, IfSome, OnOk};
 ghost use Rattle.bc_prov.specs.Pieces.{rows_of};
 ghost use Rattle.bc_book.specs.Ledgers.{row_list};
@@ -10,22 +10,22 @@ use bc_prov::{Declared, Outcome, PieceSet, Shared};
 use std::alloc::{AllocError, Global};
 use std::cmp::Ordering;
 
-/// The outcomes of stored roots, in the order of their names, with those that are to be remembered, and the pieces that are not kept yet.
+/// The outcomes of roots that hold a body, in the order of their names, with the rows to remember, and the pieces that are not kept yet.
 #[derive(Drop)]
-pub(crate) struct FoundAll {
+pub(crate) struct ListingResult {
     pub(crate) listing: Vec<(Name, Shared<Outcome>)>,
     pub(crate) rows: Vec<(Name, Remembered)>,
     pub(crate) pieces: PieceSet,
 }
 
-impl FoundAll {
-    /// Nothing is found yet, over these declarations. It takes no memory.
-    pub(crate) fn none(alloc: Global, types: Shared<Declared>) -> FoundAll
+impl ListingResult {
+    /// Returns a value with nothing found yet, over these declarations.
+    pub(crate) fn none(alloc: Global, types: Shared<Declared>) -> ListingResult
         ensures listing { result.listing.items ≡ [] }
         ensures rows { result.rows.items ≡ [] }
         ensures pieces { result.pieces ≡ record { types = types; rows = [] } }
     {
-        FoundAll {
+        ListingResult {
             listing: Vec::new(alloc),
             rows: Vec::new(alloc),
             pieces: PieceSet::of(types, Vec::new(alloc)),
@@ -33,7 +33,7 @@ impl FoundAll {
     }
 }
 
-/// Puts a row, if there is one, behind others. Returns `AllocError` only if memory was refused.
+/// Appends a row, if there is one.
 pub(crate) fn push_row(
     rows: &mut Vec<(Name, Remembered)>,
     row: Option<(Name, Remembered)>,
@@ -49,7 +49,7 @@ pub(crate) fn push_row(
     }
 }
 
-/// Puts the pieces of a set over the same declarations, if there is one, behind others. Returns `AllocError` only if memory was refused.
+/// Appends the pieces of a set over the same declarations, if there is one.
 pub(crate) fn push_pieces(pieces: &mut PieceSet, more: Option<PieceSet>) -> Result<(), AllocError>
     requires { IfSome more (λ set. set.types ≡ pieces.old.types) }
     ensures types { pieces.new.types ≡ pieces.old.types }
@@ -61,7 +61,7 @@ pub(crate) fn push_pieces(pieces: &mut PieceSet, more: Option<PieceSet>) -> Resu
     }
 }
 
-/// Returns whether there is work for which pieces were made. It takes no memory.
+/// Returns whether there is a work that has pieces.
 pub(crate) fn brings_pieces(work: &Option<Work>) -> bool {
     match work {
         Some(work) => work.has_pieces(),
@@ -69,7 +69,7 @@ pub(crate) fn brings_pieces(work: &Option<Work>) -> bool {
     }
 }
 
-/// Returns how many pieces a set has, if there is one. It takes no memory.
+/// Returns the number of pieces in a set, or 0 if there is none.
 pub(crate) fn count_pieces(pieces: &Option<PieceSet>) -> usize
     ensures { result ≡ length (rows_of pieces.now) }
 {
@@ -79,14 +79,14 @@ pub(crate) fn count_pieces(pieces: &Option<PieceSet>) -> usize
     }
 }
 
-/// Works in the order of their names, in reverse. It takes no memory.
+/// Returns works in the reverse order of their names.
 pub(crate) fn in_reverse(works: Vec<Work>) -> Vec<Work> {
     let mut works = works;
     works.sort_unstable_by(|one, other| other.name().cmp(one.name()));
     works
 }
 
-/// Returns the work of a name among works that lie in reverse, if it is the next of them; those before it, of lesser names, are let go.
+/// Returns the work on a name, if it is the next of works in reverse order. Drops the works on lesser names.
 pub(crate) fn take_work(works: &mut Vec<Work>, name: &Name) -> Option<Work>
     ensures { IfSome result (λ work. work.snapshot.root ≡ name.now) }
 {

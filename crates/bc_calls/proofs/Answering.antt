@@ -22,7 +22,7 @@ use Rattle.bc_calls.specs.Calls.{next, after, stores, takes, with_body, IsListin
 use Rattle.bc_calls.specs.Answers.{clears, found, asks, IsNameAnswered, IsAnswer}
 use Rattle.bc_calls.proofs.Histories.{snoc_split, after-snoc}
 
--- a write of a name that does not lie within n leaves the body of each that does
+-- a write outside n's part leaves the bodies in it
 spared : (s : Bool) (bodies : Bodies) (n m : NameParts) (v : Option Body) → (s && is_within n m) ≡ false → (k : NameParts) → is_within n k ≡ true → bodies k ≡ (cond s (with_body bodies m v) bodies) k
 spared false bodies n m v out k within = refl
 spared true bodies n m v out k within =
@@ -35,17 +35,17 @@ same_next s n (Remove m r) keeps = record { types = refl; bodies = spared (takes
 same_next s n (Ask m o) keeps = record { types = refl; bodies = λ k within. refl }
 same_next s n (EveryRoot rows) keeps = record { types = refl; bodies = λ k within. refl }
 
--- an entry that does not make an answer of n void leaves n's part
+-- an entry that does not make n's answer void leaves n's part
 pub same_part : (h : List Entry) (e : Entry) (n : NameParts) → clears n e.event ≡ false → HaveSamePart n (after h) (after (h ++ e ∷ []))
 same_part h e n keeps = subst (HaveSamePart n (after h)) (sym (after-snoc h e)) (same_next (after h) n e.event keeps)
 
--- an event that answers for n is an Ask of it, or one for all that lists it, with its outcome; it makes no answer of n void
+-- an event that answers for n is an ask of it, or an ask for all that lists it, with its outcome, and does not make its answer void
 abbrev Finding : State → NameParts → Event → Type 0
 Finding s n e =
     ((found n e ≡ None) × (asks n e ≡ false))
     ⊎ ((o : Outcome) × (found n e ≡ Some o) × (asks n e ≡ true) × IsOutcomeIn s n o × (clears n e ≡ false))
 
--- what is listed for n, if it is
+-- the outcome that is listed for n, if there is one
 listing : (s : State) (n : NameParts) (rows : OutcomeRows) → IsListing s rows → (a : Option Outcome) → at_name rows n ≡ a → Finding s n (EveryRoot rows)
 listing s n rows right None e = inl (e, ap (λ (a : Option Outcome). is_some a) e)
 listing s n rows right (Some o) e = inr (o, e, ap (λ (a : Option Outcome). is_some a) e, (right.listed n o e).2, refl)
@@ -81,7 +81,7 @@ second_true false b is = ap (λ x. x || false) is
 abbrev voids_of : NameParts → Entry → Bool
 voids_of n e = clears n e.event
 
--- what an entry makes void has no answer
+-- a name whose answer an entry makes void is not answered
 unanswered_void : (h : List Entry) (e : Entry) (n : NameParts) → clears n e.event ≡ true → ¬ IsNameAnswered (h ++ e ∷ []) n
 unanswered_void h e n voids a =
     ⊎_elim
@@ -90,7 +90,7 @@ unanswered_void h e n voids a =
     true≢false (sym (second_true (list_any (voids_of n) t.0) (clears n e.event) voids) ∙ sym (list_any-append (voids_of n) t.0 (e ∷ [])) ∙ ap (list_any (voids_of n)) (sym t.1) ∙ a.1.5))
     (snoc_split h e a.1.0 a.1.1 a.1.2 a.1.3)
 
--- what is not held has none
+-- a name that holds no body is not answered
 pub unanswered_absent : (h : List Entry) (n : NameParts) → (after h).bodies n ≡ None → ¬ IsNameAnswered h n
 unanswered_absent h n none a = absurd (true≢false (sym (held_along ((after h).bodies n) None none a.0)))
 
@@ -120,11 +120,11 @@ answer_map : {A : Type 0} (o : Option A) (none none' : Type 0) (some some' : A �
 answer_map None none none' some some' f g m = f m
 answer_map (Some a) none none' some some' f g m = g a m
 
--- the answer of a name after an event that is no write of it, of a name below it or of declarations
+-- the answer of a name after an event that writes neither declarations nor the name nor one below it
 abbrev pub answer_after : NameParts → Event → Option Outcome → Option Outcome
 answer_after n e before = cond (clears n e) None (option_or (found n e) before)
 
--- the answer of a name that is still held, after one more entry
+-- the answer of a name that still holds a body, after one more entry
 pub answer_more : (h : List Entry) (e : Entry) (n : NameParts) (a : Option Outcome) → MayComeNext h e → IsSome ((after (h ++ e ∷ [])).bodies n) → IsAnswer h n a → IsAnswer (h ++ e ∷ []) n (answer_after n e.event a)
 answer_more h e n a fits held was = by_bool (clears n e.event) void kept
   where
@@ -151,7 +151,7 @@ answer_more h e n a fits held was = by_bool (clears n e.event) void kept
         ((held, (h, e, [], refl, t.2, refl)), outcome_same (after h) (after (h ++ e ∷ [])) n t.0 part t.3))
         (finding (after h) n e.event fits.0))
 
--- a name whose answers an entry makes void has none, whatever it had
+-- a name whose answer an entry makes void has none, whatever it had
 pub answer_void : (h : List Entry) (e : Entry) (n : NameParts) (a : Option Outcome) → clears n e.event ≡ true → IsAnswer (h ++ e ∷ []) n (answer_after n e.event a)
 answer_void h e n a is =
     subst (IsAnswer (h ++ e ∷ []) n) (sym (ap (λ (b : Bool). cond b None (option_or (found n e.event) a)) is))

@@ -31,7 +31,7 @@ starts_again f g h a b = (b.0 ++ a.0, a.1 ∙ ap (λ l. l ++ a.0) b.1 ∙ append
 count-append : (p : Entry → Bool) (xs ys : List Entry) → count_by p (xs ++ ys) ≡ count_by p xs + count_by p ys
 count-append p xs ys = sum_by-append (λ (e : Entry). cond (p e) 1 0) xs ys
 
--- in a legal history a beginning with the same last entry is the whole: an entry's session and number stand in it once
+-- in a legal history a beginning with the same last entry is the whole: each session and number occurs once
 pub same_end : (log h : List Entry) → IsLegal log → StartsWith log h → last_of h ≡ last_of log → log ≡ h
 same_end log h legal begins same =
     ⊎_elim
@@ -75,7 +75,7 @@ length-calls session h = length-map (filter (λ (e : Entry). e.session == sessio
 calls_one : (e : Entry) → calls e.session (e ∷ []) ≡ e.event ∷ []
 calls_one e = ap (λ (b : Bool). map (λ (x : Entry). x.event) (cond b (e ∷ []) [])) (eq-eqb e.session e.session refl)
 
--- where an entry with the next number is the last that was seen, its session has no other since what was its list
+-- if the last entry that was seen has the next number of its session, it is the one call that the session made since its own list was seen
 pub calls_grow : (h seen : List Entry) (e : Entry) (own : List Event)
     → calls e.session h ≡ own → StartsWith seen h → IsLegal seen → last_of seen ≡ Some e → e.number ≡ length own
     → calls e.session seen ≡ own ++ e.event ∷ []

@@ -1,4 +1,4 @@
--- What a history leaves, after the next entry, is what the longer history leaves.
+-- The next entry changes what a history leaves into what the longer history leaves.
 use Rattle.std.proofs.Common.{◌≡◌, ◌⊎◌, ℕ, ◌&&◌, Bool, true, false, List, [], ◌∷◌, ◌++◌, cond, refl, ap, sym, subst, ◌∙◌, ⊎_elim, Option, Some, None}
 use Rattle.std.specs.Prelude.{IsSome}
 use Rattle.std.specs.Option.{option_map, option_or}
@@ -35,7 +35,7 @@ remove_voids : (s : Bool) (n m : NameParts) → voids (cond s (changes.Remove m)
 remove_voids true n m = refl
 remove_voids false n m = refl
 
--- the change of an event makes those answers void that the event does
+-- the change of an event makes void the answers that the event makes void
 pub same_voids : (n : NameParts) (e : Event) → voids (change_of e) n ≡ clears n e
 same_voids n (Types t) = refl
 same_voids n (Put m b r) = put_voids (stores r) n m b
@@ -51,7 +51,7 @@ remove_brings : (s : Bool) (n m : NameParts) → brought (cond s (changes.Remove
 remove_brings true n m = refl
 remove_brings false n m = refl
 
--- and brings the answers that the event does
+-- and brings the answers that the event gives
 pub same_brought : (n : NameParts) (e : Event) → brought (change_of e) n ≡ found n e
 same_brought n (Types t) = refl
 same_brought n (Put m b r) = put_brings (stores r) n m b
@@ -160,7 +160,7 @@ shelf_snoc t h x revision of fits = record {
         other)
         (placing t.places n c revision of.ordered)
 
--- an event that makes answers of a name void is an accepted write
+-- an event that makes a name's answer void is an accepted write
 pub clears_writes : (n : NameParts) (e : Event) → clears n e ≡ true → writes e ≡ true
 clears_writes n (Types t) is = refl
 clears_writes n (Put m b r) is = first_true (stores r) (is_within n m) is

@@ -6,7 +6,7 @@ use Rattle.bc_prov.specs.State.{State}
 use Rattle.bc_calls.specs.Calls.{opening, next, after, MayComeNext, IsLegal}
 use Rattle.bc_calls.specs.Changes.{writes, writes_of}
 
--- where a longer list is cut before an element, that is the last one, or the cut is in the list before
+-- if a longer list is cut before an element, it is the last one, or the cut is in the shorter list
 pub snoc_split : {A : Type 0} (h : List A) (x : A) (before : List A) (e : A) (rest : List A) → h ++ x ∷ [] ≡ before ++ e ∷ rest
     → ((before ≡ h) × (e ≡ x) × (rest ≡ [])) ⊎ ((front : List A) × (rest ≡ front ++ x ∷ []) × (h ≡ before ++ e ∷ front))
 snoc_split [] x [] e rest is = inl (refl, cc, cc)
@@ -35,7 +35,7 @@ legal_snoc h x legal fits before e rest is =
 pub after-snoc : (h : List Entry) (e : Entry) → after (h ++ e ∷ []) ≡ next (after h) e.event
 after-snoc h e = fold-append (λ (s : State) (x : Entry). next s x.event) opening h (e ∷ [])
 
--- how many accepted writes there are with one entry more
+-- the number of accepted writes with one entry more
 pub writes-snoc : (h : List Entry) (e : Entry) → writes_of (h ++ e ∷ []) ≡ writes_of h + cond (writes e.event) 1 0
 writes-snoc h e =
     let split : writes_of (h ++ e ∷ []) ≡ writes_of h + (0 + cond (writes e.event) 1 0) = sum_by-append (λ (x : Entry). cond (writes x.event) 1 0) h (e ∷ []) in

@@ -1,4 +1,4 @@
--- A name's part of what is held.
+-- A name's part of what is stored.
 use Rattle.std.proofs.Common.{◌≡◌, List, refl, sym, ap, ◌∙◌, subst, Result, Ok, Err}
 use Rattle.std.specs.Prelude.{IfOk}
 use Rattle.bc_names.specs.Names.{NameParts}
@@ -18,14 +18,14 @@ use Rattle.bc_calls.specs.Calls.{after}
 use Rattle.bc_calls.specs.Answers.{IsShelfOf}
 use Rattle.bc_calls.specs.Works.{WorkView, Stood}
 
--- the outcome of a snapshot is that of the name whose part it is
+-- the outcome of a snapshot is the outcome of the name whose part it is
 pub part_outcome : (snapshot : SnapshotView) (name : NameParts) (state : State) (outcome : Outcome) → IsPartOf snapshot name state → IsOutcomeIn (state_of snapshot.types snapshot.units) snapshot.root outcome
     → IsOutcomeIn state name outcome
 part_outcome snapshot name state outcome part is =
     let here = state_of snapshot.types snapshot.units in
     outcome_same here state name outcome (record { types = part.types; bodies = part.bodies }) (subst (λ (n : NameParts). IsOutcomeIn here n outcome) part.root is)
 
--- and that of the name is the snapshot's
+-- and the other way round
 pub outcome_part : (snapshot : SnapshotView) (name : NameParts) (state : State) (outcome : Outcome) → IsPartOf snapshot name state → IsOutcomeIn state name outcome
     → IsOutcomeIn (state_of snapshot.types snapshot.units) snapshot.root outcome
 outcome_part snapshot name state outcome part is =
@@ -33,7 +33,7 @@ outcome_part snapshot name state outcome part is =
     subst (λ (n : NameParts). IsOutcomeIn here n outcome) (sym part.root)
     (outcome_same state here name outcome (record { types = sym part.types; bodies = λ other within. sym (part.bodies other within) }) is)
 
--- what is lent of a shelf for a name is the name's part of what its history leaves
+-- a shelf's part for a name is the name's part of what the history leaves
 pub copied_part : (shelf : ShelfView) (h : List Entry) (name : NameParts) (snapshot : SnapshotView) → IsShelfOf shelf h → snapshot.types ≡ shelf.types → snapshot.root ≡ name → snapshot.units ≡ units_in name shelf.places
     → IsPartOf snapshot name (after h)
 copied_part shelf h name snapshot of types root units = record {
@@ -42,7 +42,7 @@ copied_part shelf h name snapshot of types root units = record {
   bodies = λ other within. ap (λ us. at_name us other) units ∙ units_at name shelf.places other within ∙ of.bodies other;
 }
 
--- a snapshot that has the same part is that part
+-- a snapshot that equals a name's part is that part
 pub same_part_of : (one other : SnapshotView) (name : NameParts) (state : State) → other.types ≡ one.types → other.root ≡ one.root → other.units ≡ one.units → IsPartOf one name state → IsPartOf other name state
 same_part_of one other name state types root units part = record {
   root = root ∙ part.root;
@@ -50,12 +50,12 @@ same_part_of one other name state types root units part = record {
   bodies = λ n within. ap (λ us. at_name us n) units ∙ part.bodies n within;
 }
 
--- the outcome of work that stands is the outcome now
+-- the outcome of work whose inputs are still stored is the outcome now
 pub stood_outcome : (shelf : ShelfView) (h : List Entry) (work : WorkView) (outcome : Outcome) → IsShelfOf shelf h → Stood shelf work outcome → IsOutcomeIn (after h) work.snapshot.root outcome
 stood_outcome shelf h work outcome of stood =
     part_outcome work.snapshot work.snapshot.root (after h) outcome (copied_part shelf h work.snapshot.root work.snapshot of stood.types refl stood.units) stood.right
 
--- pieces of a name's part of what is held fit what is held
+-- pieces of a name's part of what is stored fit what is stored
 pub part_fitting : (shelf : ShelfView) (name : NameParts) (types : List Declaration) (units : List (NameParts × Body)) (rows : PieceRows) → types ≡ shelf.types → units ≡ units_in name shelf.places
     → ArePieces types units rows → AreFitting shelf rows
 part_fitting shelf name types units rows same is are =

@@ -32,7 +32,7 @@ root_bare n is = no_items n.segments (eqb-true (length n.segments) 0 is)
 pub bare_root : (n : NameParts) → n.segments ≡ [] → is_root n ≡ true
 bare_root n none = eq-eqb (length n.segments) 0 (ap length none)
 
--- what a list has, and a test lets pass, is in what the test leaves of it
+-- an element that passes a test stays in the filtered list
 stays_at : {X : Type 0} (test : X → Bool) (xs : List X) (x : X) (k : ℕ) → test x ≡ true → k < length xs → get_or xs k x ≡ x → Contains (filter test xs) x
 stays_at test [] x k passes less is = absurd (omega arith)
 stays_at test (y ∷ ys) x zero passes less is = subst (λ (b : Bool). Contains (cond b (y ∷ filter test ys) (filter test ys)) x) (sym (ap test is ∙ passes)) (0, omega arith, is)
@@ -50,7 +50,7 @@ place_held : (o : Option Place) (b : Option Body) → unit_of o ≡ b → IsSome
 place_held None b is held = absurd (cc)
 place_held (Some p) b is held = subst (λ (u : Option Body). IsSome u) is refl
 
--- the roots of places are those of what a history leaves
+-- the roots of places are the roots that a history leaves
 pub roots_held : (s : ShelfView) (h : List Entry) → IsShelfOf s h → AreRoots (after h) (roots_in s.places)
 roots_held s h of = record {
   ascending = IsStrictlySortedBy-filter name_order is_root (keys_of s.places) of.ordered;

@@ -11,8 +11,8 @@ use Rattle.bc_calls.specs.declared.call.Event.TheVariants.{Types, Put, Remove, A
 use Rattle.bc_calls.specs.declared.call.Entry.{Entry}
 use Rattle.bc_calls.specs.Calls.{after, stores, takes}
 
--- the event makes an answer of the name void: it stored declarations, or added, replaced or removed the name or one that
--- begins with it and `/`
+-- the event makes the name's answer void: it stored declarations, or it added, replaced or removed a body at the name or at one that begins
+-- with it and `/`
 abbrev pub clears : NameParts → Event → Bool
 clears name (Types types) = true
 clears name (Put other body reply) = stores reply && is_within name other
@@ -20,7 +20,7 @@ clears name (Remove other reply) = takes reply && is_within name other
 clears name (Ask other outcome) = false
 clears name (EveryRoot rows) = false
 
--- the answer that an event gives for the name: an Ask of it, its outcome, and an Ask for all the one that is listed for it
+-- the answer that an event gives for the name: the outcome of an ask of it, or the outcome that an ask for all lists for it
 abbrev pub found : NameParts → Event → Option Outcome
 found name (Types types) = None
 found name (Put other body reply) = None
@@ -28,7 +28,7 @@ found name (Remove other reply) = None
 found name (Ask other outcome) = if is_same_name other name then Some outcome else None
 found name (EveryRoot rows) = at_name rows name
 
--- the event asks for the name: an Ask of it, or an Ask for all that lists it
+-- the event asks for the name: it is an ask of the name, or an ask for all that lists it
 abbrev pub asks : NameParts → Event → Bool
 asks name (Types types) = false
 asks name (Put other body reply) = false
@@ -36,18 +36,18 @@ asks name (Remove other reply) = false
 asks name (Ask other outcome) = is_same_name other name
 asks name (EveryRoot rows) = is_some (at_name rows name)
 
--- the name is held, and was asked for since an answer of it was made void last
+-- the name holds a body and was asked for, and no later event made its answer void
 abbrev pub IsNameAnswered : List Entry → NameParts → Type 0
 IsNameAnswered h name =
     IsSome ((after h).bodies name)
     × ((before : List Entry) × (asked : Entry) × (rest : List Entry)
     × (h ≡ before ++ asked ∷ rest) × (asks name asked.event ≡ true) × (list_any (λ (e : Entry). clears name e.event) rest ≡ false))
 
--- the answer of a name after a history: where it is answered, its outcome, else none
+-- the answer of a name after a history: its outcome if the name is answered there, otherwise none
 abbrev pub IsAnswer : List Entry → NameParts → Option Outcome → Type 0
 IsAnswer h name answer = MatchOption answer (¬ IsNameAnswered h name) (λ outcome. IsNameAnswered h name × IsOutcomeIn (after h) name outcome)
 
--- What a history leaves. A name has an answer exactly where it is answered, and then it is its outcome.
+-- The shelf is what the history leaves. A name has an answer exactly if it is answered, and then the answer is its outcome.
 pub record IsShelfOf (shelf : ShelfView) (h : List Entry) : Type 0 where
   pub types : shelf.types ≡ (after h).types
   pub ordered : AreOrdered shelf.places

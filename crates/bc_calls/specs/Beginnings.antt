@@ -1,4 +1,4 @@
--- What is begun of all roots that a history leaves.
+-- What a session begins to work on, after a history.
 use Rattle.std.specs.Prelude.{◌≡◌, ◌↔◌, List, [], IsSome}
 use Rattle.std.specs.List.{AllZip, Contains}
 use Rattle.std.specs.List.Sorted.{IsStrictlySortedBy}
@@ -9,17 +9,17 @@ use Rattle.bc_calls.specs.declared.call.Entry.{Entry}
 use Rattle.bc_calls.specs.Calls.{after}
 use Rattle.bc_calls.specs.Answers.{IsAnswer}
 
--- these names ascend, and are just those without segments that are held
+-- the names ascend, and are exactly the roots that hold a body
 pub record AreRoots (state : State) (names : List NameParts) : Type 0 where
   pub ascending : IsStrictlySortedBy name_order names
   pub just : (name : NameParts) → ((name.segments ≡ []) × IsSome (state.bodies name)) ↔ Contains names name
 
--- a name's part of what a history leaves, which carries the name's answer, if it has one
+-- what is begun for a name: its part of the state after the history, with the name's answer if it has one
 pub record IsBegun (h : List Entry) (name : NameParts) (begun : SnapshotView) : Type 0 where
   pub part : IsPartOf begun name (after h)
   pub answer : IsAnswer h name begun.carried
 
--- the part of each root that a history leaves, in the order of the roots, with its answer
+-- what is begun for all roots that hold a body after the history, in their order: for each its part, with its answer if it has one
 pub record AreAllBegun (h : List Entry) (begun : List SnapshotView) : Type 0 where
   pub roots : List NameParts
   pub are_roots : AreRoots (after h) roots

@@ -1,4 +1,4 @@
--- Declarations and a map from names to bodies, which know of no memo, and the histories of one thread over them.
+-- The state as a plain map, which remembers no answer, and the legal histories over it.
 use Rattle.std.specs.Prelude.{◌≡◌, ◌≢◌, ◌==◌, ◌↔◌, ◌<◌, ℕ, Bool, true, false, Option, Some, None, IsSome, List, [], ◌∷◌, ◌++◌, length, map, filter, fold, count_by, if◌then◌else◌}
 use Rattle.std.specs.List.{AllPairs, Contains}
 use Rattle.bc_names.specs.Names.{NameParts, is_same_name}
@@ -18,44 +18,46 @@ use Rattle.bc_calls.specs.declared.call.Event.{Event}
 use Rattle.bc_calls.specs.declared.call.Event.TheVariants.{Types, Put, Remove, Ask, All as EveryRoot}
 use Rattle.bc_calls.specs.declared.call.Entry.{Entry}
 
--- how many bodies may be held
+-- how many bodies may be stored
 abbrev pub most_bodies : ℕ
 most_bodies = 1024
 
--- no declaration and no body
+-- the state before any call: no declaration and no body
 abbrev pub opening : State
 opening = record { types = []; bodies = λ name. None }
 
--- the bodies with this one, or none, at a name
+-- the bodies after a name was given this body, or none
 abbrev pub with_body : Bodies → NameParts → Option Body → Bodies
 with_body bodies name body = λ other. if is_same_name name other then body else bodies other
 
--- so many names hold a body: so many, all different, are just those that do
+-- exactly this many names hold a body: there is a list of them, without repetition and of this length
 abbrev pub HoldsCount : Bodies → ℕ → Type 0
 HoldsCount bodies count =
     (names : List NameParts) × AllPairs (λ a b. a ≢ b) names
     × ((name : NameParts) → IsSome (bodies name) ↔ Contains names name) × (length names ≡ count)
 
--- the reply to a put of a body at a name
+-- the reply to a put: `WrongKind` if the body does not suit the name, otherwise `Full` if the name is new and 1,024 bodies are stored,
+-- otherwise `Replaced` or `Added`
 abbrev pub IsPutReply : Bodies → NameParts → Body → PutReply → Type 0
 IsPutReply bodies name body WrongKind = ¬ Suits body name
 IsPutReply bodies name body Full = Suits body name × (bodies name ≡ None) × HoldsCount bodies most_bodies
 IsPutReply bodies name body Replaced = Suits body name × IsSome (bodies name)
 IsPutReply bodies name body Added = Suits body name × (bodies name ≡ None) × ((count : ℕ) × (count < most_bodies) × HoldsCount bodies count)
 
--- the reply to a removal of a name
+-- the reply to a removal: `Removed` if the name holds a body, otherwise `Absent`
 abbrev pub IsRemoveReply : Bodies → NameParts → RemoveReply → Type 0
 IsRemoveReply bodies name Removed = IsSome (bodies name)
 IsRemoveReply bodies name Absent = bodies name ≡ None
 
--- The names ascend. Each is a root that is held, with its outcome, and each root that is held is among them. A root is a name without
--- segments.
+-- The names ascend. Each is a root that holds a body, and is listed with its outcome. Each root that holds a body is listed. A root is a
+-- name without segments.
 pub record IsListing (state : State) (rows : OutcomeRows) : Type 0 where
   pub ordered : AreOrdered rows
   pub listed : (name : NameParts) (outcome : Outcome) → at_name rows name ≡ Some outcome → (name.segments ≡ []) × IsSome (state.bodies name) × IsOutcomeIn state name outcome
   pub whole : (name : NameParts) → name.segments ≡ [] → IsSome (state.bodies name) → IsSome (at_name rows name)
 
--- the reply of the event is the one to its call: an Ask's is the outcome of its name, and that of an Ask for all the outcomes of all roots
+-- The reply is right in this state. The reply to an ask is the outcome of its name. The reply to an ask for all lists each root that holds
+-- a body, with its outcome. Declarations are always stored.
 abbrev pub IsReply : State → Event → Type 0
 IsReply state (Types types) = Unit {0}
 IsReply state (Put name body reply) = IsPutReply state.bodies name body reply
@@ -70,7 +72,7 @@ stores Replaced = true
 stores Full = false
 stores WrongKind = false
 
--- a removal with this reply took a body away
+-- a removal with this reply removed a body
 abbrev pub takes : RemoveReply → Bool
 takes Removed = true
 takes Absent = false
@@ -95,19 +97,20 @@ next_bodies bodies (EveryRoot rows) = bodies
 abbrev pub next : State → Event → State
 next state event = record { types = next_types state.types event; bodies = next_bodies state.bodies event }
 
--- the state after the calls of a history
+-- the state after a history, which starts from no declaration and no body
 abbrev pub after : List Entry → State
 after h = fold (λ state (e : Entry). next state e.event) opening h
 
--- how many entries of a history are this session's
+-- how many entries of a history belong to this session
 abbrev pub count_of : ℕ → List Entry → ℕ
 count_of session h = count_by (λ (e : Entry). e.session == session) h
 
--- the entry may come next: its reply is the map's, and its number is how many its session has before it
+-- the entry may follow this history: its reply is right in the state after the history, and its number is how many entries its session has
+-- there
 abbrev pub MayComeNext : List Entry → Entry → Type 0
 MayComeNext h e = IsReply (after h) e.event × (e.number ≡ count_of e.session h)
 
--- a history of one thread: wherever it is cut, the entry there may come next after those before it
+-- a legal history, which one thread could have made: wherever it is cut, the next entry may follow those before it
 abbrev pub IsLegal : List Entry → Type 0
 IsLegal h = (before : List Entry) (e : Entry) (rest : List Entry) → h ≡ before ++ e ∷ rest → MayComeNext before e
 
@@ -123,7 +126,7 @@ call_of (Remove name reply) = calls_made.Remove name
 call_of (Ask name outcome) = calls_made.Ask name
 call_of (EveryRoot rows) = calls_made.All
 
--- h is a beginning of g
+-- the list g begins with the list h
 abbrev pub StartsWith : List Entry → List Entry → Type 0
 StartsWith g h = (rest : List Entry) × (g ≡ h ++ rest)
 

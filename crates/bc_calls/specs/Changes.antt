@@ -1,4 +1,4 @@
--- What an event changes in what is held, and how many changes a history has made.
+-- What an event changes in what is stored, and how many accepted writes a history has.
 use Rattle.std.specs.Prelude.{ℕ, ◌+◌, Bool, true, false, List, count_by, if◌then◌else◌}
 use Rattle.bc_calls.specs.declared.call.Event.{Event}
 use Rattle.bc_calls.specs.declared.call.Event.TheVariants.{Types, Put, Remove, Ask, All as EveryRoot}
@@ -7,7 +7,7 @@ use Rattle.bc_memo.specs.declared.change.Change.{Change}
 use Rattle.bc_memo.specs.declared.change.Change.TheVariants as changes
 use Rattle.bc_calls.specs.Calls.{stores, takes}
 
--- what an event changes
+-- the change that an event makes
 abbrev pub change_of : Event → Change
 change_of (Types types) = changes.Types types
 change_of (Put name body reply) = if stores reply then changes.Put name body else changes.Nothing
@@ -23,7 +23,7 @@ writes (Remove name reply) = takes reply
 writes (Ask name outcome) = false
 writes (EveryRoot rows) = false
 
--- so many accepted writes, with one event more
+-- the number of accepted writes after one more event
 abbrev pub writes_after : ℕ → Event → ℕ
 writes_after count event = count + (if writes event then 1 else 0)
 

@@ -9,22 +9,23 @@ use bc_prov::{Declared, Listing, Outcome, Shared};
 use bc_syntax::{Types, Unit};
 use std::alloc::AllocError;
 
-/// The most bodies that a database may hold.
+/// The most bodies that a database stores.
 pub const MOST_BODIES: usize = 1024;
 
-/// A call of a session: to store declarations in place of those before, to put a unit under a name, to take the unit of a name
-/// away, to ask for the outcome of a name, or to ask for the outcomes of all held names without segments.
+/// A call of a session: it stores declarations in place of those before, puts a unit under a name, removes the unit of a name, asks for the
+/// outcome of a name, or asks for the outcomes of all roots that hold a body.
 #[derive(Drop)]
 pub enum Call {
     Types(Shared<Types>),
+    // Shared: scripts are lent to threads, so a put makes one more owner of its unit.
     Put(Name, Shared<Unit>),
     Remove(Name),
     Ask(Name),
     All,
 }
 
-/// The reply to a put. The body is new, or it replaces another; or the name is new and `MOST_BODIES` are held; or the name is not
-/// one for such a unit. The last two store nothing.
+/// The reply to a put. The body is new, or it replaces another; or the name is new and `MOST_BODIES` bodies are stored; or the unit does
+/// not suit the name. The last two store nothing.
 #[derive(Clone, Copy, Debug, PartialEq, Eq)]
 pub enum PutReply {
     Added,
@@ -33,7 +34,7 @@ pub enum PutReply {
     WrongKind,
 }
 
-/// The reply to a removal: the body is taken away, or none was held.
+/// The reply to a removal: the body is removed, or the name held none.
 #[derive(Clone, Copy, Debug, PartialEq, Eq)]
 pub enum RemoveReply {
     Removed,
@@ -53,7 +54,7 @@ impl PutReply {
 }
 
 impl RemoveReply {
-    /// Returns whether the removal took a body away.
+    /// Returns whether the removal removed a body.
     pub fn takes(self) -> bool
         ensures { result ≡ takes self }
     {
@@ -64,8 +65,8 @@ impl RemoveReply {
     }
 }
 
-/// A call with its reply: declarations, which are stored; a put or a removal with its reply; an Ask with its outcome; or an Ask for all
-/// with the outcome of each held name without segments, in the order of the names.
+/// A call with its reply: declarations, which are stored; a put or a removal with its reply; an ask with its outcome; or an ask for all
+/// with the outcome of each root that holds a body, in the order of the names.
 #[derive(Drop, PartialEq)]
 pub enum Event {
     Types(Shared<Declared>),
@@ -75,7 +76,7 @@ pub enum Event {
     All(Shared<Listing>),
 }
 
-/// An entry of a history: an event of a session, and how many events that session had before it.
+/// An entry of a history: an event of a session, and the number of events that the session had before it.
 pub struct Entry {
     pub session: u8,
     pub number: u32,
@@ -93,7 +94,7 @@ impl Drop for Entry {
 }
 
 impl Entry {
-    /// Copies the entry, as one more owner of what it brings. Returns `AllocError` only where memory was refused.
+    /// Copies the entry, as one more owner of what its event has.
     pub fn copy(&self) -> Result<Entry, AllocError>
         ensures { IfOk result (λ copy. copy ≡ self.now) }
     {
@@ -105,7 +106,7 @@ impl Entry {
         })
     }
 
-    /// Returns whether the entry is this event of this session, and the session had so many entries before it.
+    /// Returns whether the entry is this event of this session, and the session had `number` entries before it.
     pub fn is(&self, session: u8, number: usize, event: &Event) -> bool
         ensures { IsTrue result ↔ (self.now ≡ record { session = session; number = number; event = event.now }) }
     {
@@ -121,7 +122,7 @@ impl Event {
         self == other
     }
 
-    /// Copies the event, as one more owner of what it brings. Returns `AllocError` only where memory was refused.
+    /// Copies the event, as one more owner of what it has.
     pub fn copy(&self) -> Result<Event, AllocError>
         ensures { IfOk result (λ copy. copy ≡ self.now) }
     {
@@ -147,8 +148,7 @@ impl Event {
         }
     }
 
-    /// Returns the change that the event makes to what is held, as one more owner of what it brings. Returns `AllocError` only
-    /// where memory was refused.
+    /// Returns the change that the event makes to what is stored, as one more owner of what the event has.
     pub fn change(&self) -> Result<Change, AllocError>
         ensures { IfOk result (λ change. change ≡ change_of self.now) }
     {

@@ -1,11 +1,11 @@
-//! Declarations as they are held: with the result of their check.
+//! Declarations as they are stored: with the result of their check.
 ghost use Rattle.std.specs.Prelude.{◌≡◌, [], IfOk};
 
 use bc_prov::{Declared, Shared, share};
 use bc_syntax::{Sequence, Types};
 use std::alloc::{AllocError, Global};
 
-/// Checks declarations, and returns them with the result, shared. Returns `AllocError` only where memory was refused.
+/// Checks declarations, and returns them with the result.
 pub fn checked(alloc: Global, types: Shared<Types>) -> Result<Shared<Declared>, AllocError>
     ensures { IfOk result (λ declared. declared ≡ types) }
 {
@@ -13,7 +13,7 @@ pub fn checked(alloc: Global, types: Shared<Types>) -> Result<Shared<Declared>, 
     share(alloc, declared)
 }
 
-/// Returns the declarations that a database opens with: none, checked and shared. Returns `AllocError` only where memory was refused.
+/// Returns the declarations that a database opens with: none.
 pub fn no_declarations(alloc: Global) -> Result<Shared<Declared>, AllocError>
     ensures { IfOk result (λ declared. declared ≡ []) }
 {

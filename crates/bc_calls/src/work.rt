@@ -1,4 +1,4 @@
-//! Snapshots that were begun, and the work on them, which needs no part of what they were taken from.
+//! Snapshots to work on, and the work on them, which needs nothing but the snapshot.
 ghost use Rattle.std.specs.Prelude.{◌≡◌, ◌↔◌, None, IfOk, IfSome, IsOk};
 ghost use Rattle.std.specs.Option.{option_or};
 ghost use Rattle.bc_names.specs.Names.{NameParts};
@@ -12,13 +12,13 @@ ghost use Rattle.bc_calls.specs.Works.{StandsIn, Stood};
 
 use bc_memo::{Part, Shelf};
 use bc_names::Name;
-use bc_outcomes::{Found, find_outcome};
+use bc_outcomes::{AskResult, find_outcome};
 use bc_prov::{Outcome, PieceSet, Pieces, Providers, Shared, Snapshot};
 use std::alloc::{AllocError, Global};
 use std::marker::Model;
 
-/// A snapshot to be worked on: a name's part of what was held, with the revisions of its declarations and of its units. Contracts
-/// see the snapshot.
+/// A snapshot to work on: a name's part of what was stored, with the revisions of its declarations and of its units. A contract sees the
+/// snapshot.
 #[derive(Drop)]
 pub struct Begun {
     snapshot: Snapshot,
@@ -34,8 +34,8 @@ impl Model for Begun {
     ghost view = { λ b. b.snapshot };
 }
 
-/// A snapshot with its revisions and its outcome, and the pieces of its bodies that were made for it. The type keeps that these were found
-/// from its declarations, each from the unit at its name. Contracts see all but the pieces.
+/// A snapshot with its revisions and its outcome, and the pieces of its bodies that it did not keep yet. The type guarantees that each
+/// piece was found from the snapshot's declarations and from the unit at its name. A contract sees all but the pieces.
 #[derive(Drop)]
 pub struct Work {
     snapshot: Snapshot,
@@ -54,12 +54,12 @@ impl Model for Work {
 
     ghost view = { λ w. record { snapshot = w.snapshot; types_at = w.types_revision; units_at = w.revisions.items; outcome = w.outcome } };
 
-    ghost invariant = { λ w. IsDone w.snapshot w.outcome × IfSome w.pieces (λ set. set.types ≡ w.snapshot.types) × ArePieces w.snapshot.types w.snapshot.units (rows_of w.pieces) };
+    ghost invariant = { λ w. IsDone w.snapshot w.outcome × IfSome w.pieces (λ set. set.types ≡ w.snapshot.types) ×
+        ArePieces w.snapshot.types w.snapshot.units (rows_of w.pieces) };
 }
 
 impl Begun {
-    /// Begins a part, which then carries the answer of its name where there is one. It asks that this is the outcome of the part's
-    /// name. It takes no memory.
+    /// Begins a part. Its snapshot then carries the answer, if one is given. Requires that this is the outcome of the part's name.
     pub fn carrying(part: Part, answer: Option<Shared<Outcome>>) -> Begun
         requires { IfSome answer (IsOutcomeIn (state_of part.snapshot.types part.snapshot.units) part.snapshot.root) }
         ensures part { (result.types ≡ part.snapshot.types) × (result.root ≡ part.snapshot.root) × (result.units ≡ part.snapshot.units) }
@@ -81,8 +81,8 @@ impl Begun {
         }
     }
 
-    /// Adds pieces that are kept of the bodies of what was begun. It takes no memory. It asks that each was found from the declarations and
-    /// from the unit at its name; a report finds them where their names ascend.
+    /// Adds kept pieces of the snapshot's bodies. Requires that each was found from the declarations and from the unit at its name. A
+    /// report finds them if their names ascend.
     pub fn keep_pieces(self, pieces: Pieces) -> Begun
         requires { ArePieces self.types self.units pieces.items }
         ensures { result ≡ self }
@@ -99,8 +99,7 @@ impl Begun {
         }
     }
 
-    /// Adds the pieces of a set, if there is one, to what was begun; they are taken where all that they were found from is there. It takes
-    /// no memory, and asks nothing of its caller.
+    /// Adds the pieces of a set, if there is one. A piece is reused if all that it was found from is there.
     pub fn offer(self, pieces: Option<PieceSet>) -> Begun
         ensures { result ≡ self }
     {
@@ -119,12 +118,13 @@ impl Begun {
         }
     }
 
-    /// Returns the outcome of the snapshot's name in the snapshot: the one that the snapshot carries, without a provider, else the one
-    /// that the providers and the pieces of its bodies give, with the pieces that were made for it, each from the declarations and from
-    /// the unit at its name. Returns `AllocError` only where memory was refused, as a provider may too.
-    pub fn find(&self, alloc: Global, providers: &Providers) -> Result<Found, AllocError>
+    /// Returns the outcome of the snapshot's name in the snapshot. If the snapshot carries one, this is it, and no provider is called.
+    /// Otherwise the providers and the pieces of its bodies give it, and with it come the pieces that the snapshot does not keep, each
+    /// found from the declarations and from the unit at its name. Returns `AllocError` also if a provider does.
+    pub fn find(&self, alloc: Global, providers: &Providers) -> Result<AskResult, AllocError>
         ensures outcome { IfOk result (λ found. IsOutcomeIn (state_of self.now.types self.now.units) self.now.root found.outcome) }
-        ensures pieces { IfOk result (λ found. AreAmongPiecesOf (state_of self.now.types self.now.units) self.now.root self.now.carried found.outcome (rows_of found.pieces)) }
+        ensures pieces { IfOk result (λ found. AreAmongPiecesOf
+            (state_of self.now.types self.now.units) self.now.root self.now.carried found.outcome (rows_of found.pieces)) }
         ensures over { IfOk result (λ found. IfSome found.pieces (λ set. set.types ≡ self.now.types)) }
         ensures fit { IfOk result (λ found. ArePieces self.now.types self.now.units (rows_of found.pieces)) }
         ensures carried { IfSome self.now.carried (λ outcome. IfOk result (λ found. (found.outcome ≡ outcome) × (found.pieces ≡ None))) }
@@ -132,9 +132,9 @@ impl Begun {
         find_outcome(alloc, providers, &self.snapshot)
     }
 
-    /// Finds the outcome of the snapshot's name: the one that the snapshot carries, without a provider, else the one that the providers
-    /// give. It is that of the name in each state of which the snapshot is the name's part. No lock is held meanwhile. Returns
-    /// `AllocError` only where memory was refused, as a provider may too.
+    /// Finds the outcome of the snapshot's name: the one that the snapshot carries, without a provider, or else the one that the providers
+    /// give. It is the outcome of the name in each state of which the snapshot is the name's part. No lock is held meanwhile. Returns
+    /// `AllocError` also if a provider does.
     pub fn work(self, alloc: Global, providers: &Providers) -> Result<Work, AllocError>
         ensures same { IfOk result (λ work. work.snapshot ≡ self) }
         ensures outcome { (name : NameParts) (state : State) → IsPartOf self name state → IfOk result (λ work. IsOutcomeIn state name work.outcome) }
@@ -158,7 +158,7 @@ impl Work {
         self.snapshot.root()
     }
 
-    /// Returns whether pieces were made for it. Contracts do not see them. It takes no memory.
+    /// Returns whether pieces come with the outcome. A contract does not see them.
     pub fn has_pieces(&self) -> bool {
         match &self.pieces {
             Some(set) => !set.rows().is_empty(),
@@ -174,10 +174,9 @@ impl Work {
         self.outcome.get()
     }
 
-    /// Returns the outcome that the work found, with the pieces that were made for it, exactly where its snapshot has the revisions
-    /// that a shelf has and is what the shelf holds; each of them was then found from what the shelf holds. Else these pieces are handed
-    /// back alone. It takes no memory.
-    pub fn standing(self, shelf: &Shelf) -> Result<Found, Option<PieceSet>>
+    /// Returns the outcome that the work found, with its pieces, exactly if the shelf holds the work's snapshot with the same revisions.
+    /// Each piece then fits what the shelf holds. Otherwise it returns the pieces alone.
+    pub fn standing(self, shelf: &Shelf) -> Result<AskResult, Option<PieceSet>>
         ensures own { IfOk result (λ found. Stood shelf.now.held self found.outcome) }
         ensures over { IfOk result (λ found. IfSome found.pieces (λ set. set.types ≡ shelf.now.held.types)) }
         ensures fit { IfOk result (λ found. AreFitting shelf.now.held (rows_of found.pieces)) }
@@ -191,7 +190,7 @@ impl Work {
             pieces,
         } = self;
         if shelf.holds(&snapshot, types_revision, &revisions) {
-            Ok(Found { outcome, pieces })
+            Ok(AskResult { outcome, pieces })
         } else {
             Err(pieces)
         }

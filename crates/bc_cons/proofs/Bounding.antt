@@ -1,4 +1,4 @@
--- The bound that was computed is the least that the numbers of regions are below.
+-- The computed bound is the least number that is above the numbers of the regions.
 use Rattle.std.proofs.Common.{ℕ, ◌+◌, ◌<◌, ◌≤◌, max, List, [], ◌∷◌, map, filter, arith}
 use Rattle.std.specs.List.{All}
 use Rattle.std.proofs.lemmas.List.Elements.{All-nil, All-cons, All-head, All-tail, All-map, All-weaker}

@@ -7,7 +7,7 @@ use Rattle.bc_syntax.specs.declared.syntax.Ty.{Ty}
 use Rattle.bc_flow.specs.Flow.{row, holds}
 use Rattle.bc_cons.specs.Starts.{AreGrown, mentions, goes_to_variable}
 
--- elements were added twice
+-- elements are added twice
 pub AreGrown-then : {old mid new : List (List Bool)} (first second both : ℕ → ℕ → Bool) → ((r e : ℕ) → (first r e || second r e) ≡ both r e) → AreGrown old mid first → AreGrown mid new second → AreGrown old new both
 AreGrown-then {old} first second both joins a b = record {
   rows = b.rows ∙ a.rows;
@@ -28,7 +28,7 @@ pub starts_go : (universal start variable : Bool) → ((universal && start) || (
 starts_go true start variable = or-false start
 starts_go false start variable = refl
 
--- elements were added for the first of a list, and then for the others
+-- elements are added for the first of a list, and then for the others
 pub grown-each : {A : Type 0} {old mid new : List (List Bool)} (number : A → ℕ) (goes : ℕ → ℕ → Bool) (xs : List A) (d : A) → 1 ≤ length xs → AreGrown old mid (λ r e. number (get_or xs 0 d) == r && goes r e)
     → AreGrown mid new (λ r e. list_any (λ x. number x == r) (take (length xs - 1) (drop 1 xs)) && goes r e) → AreGrown old new (λ r e. list_any (λ x. number x == r) xs && goes r e)
 grown-each number goes [] d some first others = absurd (omega (arith, some))
@@ -46,12 +46,12 @@ locals_go true true true live later = refl
 locals_go true true false live later = refl
 locals_go false true point live later = refl
 
--- what is added for locals from a number on
+-- what is added for the locals from a number on
 abbrev locals_added : ℕ → ℕ → List (List Bool) → ℕ → List Ty → ℕ → ℕ → Bool
 locals_added universals points live local tys r e =
     not (nat_lt r universals) && (nat_lt e points && list_any (λ (here : ℕ × Ty). mentions universals r here.1 && holds live here.0 e) (enumerate_from local tys))
 
--- elements were added for the first of the locals, and then for the others
+-- elements are added for the first of the locals, and then for the others
 pub grown-locals : {old mid new : List (List Bool)} (universals points : ℕ) (live : List (List Bool)) (local : ℕ) (tys : List Ty) (ty d : Ty) → 1 ≤ length tys → ty ≡ get_or tys 0 d
     → AreGrown old mid (λ r e. mentions universals r ty && goes_to_variable universals points (row live local) r e) → AreGrown mid new (locals_added universals points live (local + 1) (take (length tys - 1) (drop 1 tys)))
     → AreGrown old new (locals_added universals points live local tys)

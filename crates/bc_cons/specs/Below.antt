@@ -11,19 +11,20 @@ use Rattle.bc_cons.specs.Constraints.{constraints_of}
 use Rattle.bc_cons.specs.Facts.{ArePairsWithin}
 use Rattle.bc_types.specs.Mentions.{regions_of}
 
--- the regions of a type, of each type, and of each pair have numbers below the bound
+-- each region in the type has a number below the bound
 abbrev pub TyIsBelow : ℕ → ℕ → Ty → Type 0
 TyIsBelow universals bound ty = All (λ (region : Region). region_number universals region < bound) (regions_of ty)
 
+-- each region in the types has a number below the bound
 abbrev pub TysAreBelow : ℕ → ℕ → List Ty → Type 0
 TysAreBelow universals bound tys = All (λ (ty : Ty). TyIsBelow universals bound ty) tys
 
+-- each region of the pairs has a number below the bound
 abbrev pub PairsAreBelow : ℕ → ℕ → List RegionConstraint → Type 0
 PairsAreBelow universals bound pairs =
     All (λ (pair : RegionConstraint). (region_number universals pair.longer < bound) × (region_number universals pair.shorter < bound)) pairs
 
--- the least number that those of the universal regions, of the regions in the types of locals and of those in constraints
--- are below
+-- the least number that is above the numbers of the universal regions, of the regions in the types of locals and of those in constraints
 pub record IsRegionCount (mir : Mir) (kids : List (ℕ × Requirements)) (count : ℕ) : Type 0 where
   pub universals : mir.universals ≤ count
   pub types : TysAreBelow mir.universals count mir.locals

@@ -26,7 +26,8 @@ use Rattle.bc_cons.specs.declared.facts.NumberedConstraint.{NumberedConstraint}
 use Rattle.bc_cons.specs.declared.requirements.Requirements.{Requirements}
 use Rattle.bc_cons.specs.Requirements.{required_by}
 
--- a reborrow: each supporting prefix that dereferences a reference of region b, borrowed for r, gives (b, r)
+-- the pairs of a borrow for a region r: each reference that a supporting prefix of the place dereferences has a region b that outlives r
+-- (RFC 2094, "Reborrow constraints")
 abbrev pub reborrow_pairs : Mir → Rvalue → List RegionConstraint
 reborrow_pairs mir (Use operand) = []
 reborrow_pairs mir (Borrow borrow) =
@@ -48,8 +49,8 @@ required_pairs mir kids (Closure creation) =
     option_map_or (required_of creation (required_by kids creation.closure.number)) (child_of mir.children creation.closure.number) []
 required_pairs mir kids (Calc operands) = []
 
--- the pairs of a point, where the children require so much: those of an assignment, whose value may create a closure or borrow
--- through references, and those of a call or of an invocation
+-- the pairs of a point, given what the children require: those of an assignment, with what a closure that it creates requires and with
+-- those of a borrow; those of a call; and those of an invocation
 abbrev pub pairs_at : Mir → List (ℕ × Requirements) → Instruction → List RegionConstraint
 pairs_at mir kids (Statement (Assign assignment)) =
     assignment_pairs mir assignment ++ (required_pairs mir kids assignment.value ++ reborrow_pairs mir assignment.value)
@@ -63,7 +64,7 @@ pairs_at mir kids (Terminator (Invoke invocation)) = invocation_pairs mir invoca
 pairs_at mir kids (Terminator Return) = []
 pairs_at mir kids (Terminator Stop) = []
 
--- a region and itself make no constraint
+-- the regions of a pair differ: a region makes no constraint with itself
 abbrev pub differ : RegionConstraint → Bool
 differ pair = not (same_region pair.longer pair.shorter)
 
@@ -71,7 +72,7 @@ differ pair = not (same_region pair.longer pair.shorter)
 abbrev pub point_pairs : Mir → List (ℕ × Requirements) → List RegionConstraint
 point_pairs mir kids = flat_map (λ (step : Step). pairs_at mir kids step.instruction) mir.steps
 
--- those, and what the types of the `let` locals demand to be well-formed, once for the body
+-- the pairs of all points, and the pairs that the types of the `let` locals demand to be well-formed, once for the body
 abbrev pub all_pairs : Mir → List (ℕ × Requirements) → List RegionConstraint
 all_pairs mir kids = point_pairs mir kids ++ let_pairs mir
 
@@ -79,6 +80,7 @@ all_pairs mir kids = point_pairs mir kids ++ let_pairs mir
 abbrev pub numbered : ℕ → RegionConstraint → NumberedConstraint
 numbered universals pair = record { longer = region_number universals pair.longer; shorter = region_number universals pair.shorter }
 
--- the constraints of a body whose children require so much, by the numbers of the regions
+-- the constraints of a body, given what its children require, by the numbers of the regions (RFC 2094, "Subtyping" and "Reborrow
+-- constraints"; rustc-dev-guide, "Propagating closure constraints")
 abbrev pub constraints_of : Mir → List (ℕ × Requirements) → List NumberedConstraint
 constraints_of mir kids = map (numbered mir.universals) (filter differ (all_pairs mir kids))

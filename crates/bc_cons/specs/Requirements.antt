@@ -6,7 +6,7 @@ use Rattle.bc_cons.specs.declared.requirements.Requirements.{Requirements}
 use Rattle.bc_bodies.specs.declared.children.Child.{Child}
 use Rattle.bc_bodies.specs.Externals.{external_regions}
 
--- `'static`, or one of these regions
+-- the region is `'static` or one of these
 abbrev pub is_static_or : List ℕ → ℕ → Bool
 is_static_or externals number = number == 0 || list_any (λ external. external == number) externals
 
@@ -18,12 +18,12 @@ may_go_up externals pair = is_static_or externals pair.longer && is_static_or ex
 abbrev pub MayGoUp : List ℕ → Requirements → Type 0
 MayGoUp externals requirements = list_all (may_go_up externals) requirements.pairs ≡ true
 
--- this is the child's number, with what the child requires: pairs of its external regions and `'static`
+-- the entry has the child's number, and pairs between the child's external regions and `'static` alone
 pub record IsOfChild (child : Child) (kid : ℕ × Requirements) : Type 0 where
   pub number : kid.0 ≡ child.number
   pub may_go_up : MayGoUp (external_regions child.header) kid.1
 
--- one for each child, in their order
+-- one entry for each child, in the order of the children, with what the child requires
 abbrev pub AreOfChildren : List Child → List (ℕ × Requirements) → Type 0
 AreOfChildren children kids = AllZip IsOfChild children kids
 

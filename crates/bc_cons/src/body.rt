@@ -20,7 +20,7 @@ use bc_points::region_number;
 use bc_types::is_same_region;
 use std::alloc::{AllocError, Global};
 
-/// The pairs of points, in order.
+/// Returns the pairs of points, in order.
 fn pairs_of_steps(
     alloc: Global,
     typed: &Typed,
@@ -44,7 +44,7 @@ fn pairs_of_steps(
     Ok(pairs)
 }
 
-/// The pairs of all points, in order, and then what the types of the `let` locals demand.
+/// Returns the pairs of all points, in order, and then those of the types of the `let` locals.
 fn pairs_of_body(
     alloc: Global,
     typed: &Typed,
@@ -57,7 +57,7 @@ fn pairs_of_body(
     Ok(pairs)
 }
 
-/// Those of two regions.
+/// Returns the pairs of two different regions.
 fn differing(alloc: Global, pairs: &[RegionConstraint]) -> Result<Vec<RegionConstraint>, AllocError>
     ensures { IfOk result (λ kept. kept.items ≡ filter differ pairs.now) }
 {
@@ -70,7 +70,7 @@ fn differing(alloc: Global, pairs: &[RegionConstraint]) -> Result<Vec<RegionCons
     Ok(kept)
 }
 
-/// The pairs of the body, those of a region with itself left out.
+/// Returns the pairs of the body, without those of a region with itself.
 fn differing_of_body(
     alloc: Global,
     typed: &Typed,
@@ -82,7 +82,7 @@ fn differing_of_body(
     differing(alloc, &pairs)
 }
 
-/// How many regions a body with these pairs has.
+/// Returns how many regions a body with these pairs has.
 fn region_count(typed: &Typed, pairs: &[RegionConstraint]) -> usize
     ensures count { result ≡ bound_of_pairs typed.now.universals (bound_of_types typed.now.universals typed.now.universals typed.now.locals) pairs.now }
     ensures few { result ≤ typed.now.universals + 65536 }
@@ -116,13 +116,12 @@ fn by_number(
         .collect(alloc)
 }
 
-/// Returns what the values of a body's regions are made from, over the liveness that is handed in and what the body's children
-/// require, one entry for each child, ascending: the outlives constraints of its points and those that the types of its `let`
-/// locals demand to be well-formed, pairs of a region with itself left out, and the elements that each region starts with. What a
-/// child requires is demanded at each of its creations, with its external regions replaced by those of the creation. It asks that
-/// a child requires nothing of its local regions. Returns `AllocError` only where memory was refused. (RFC 2094, "Liveness",
-/// "Subtyping" and "Reborrow constraints"; RFC 1214; rustc-dev-guide, "Propagating closure constraints"; here constraints hold at
-/// every point, and `'static` starts with all ends.)
+/// Returns the facts that the values of a body's regions are solved from: the elements that each region starts with, and the constraints.
+/// Regions start with points by the given liveness. The constraints are those of the points, and those that the types of the `let` locals
+/// demand to be well-formed; pairs of a region with itself are left out. `requirements` has one entry for each child, ascending, with pairs
+/// between the child's external regions and `'static` alone. Each creation of a child demands what the child requires, with its external
+/// regions replaced by those of the creation. (RFC 2094, "Liveness", "Subtyping" and "Reborrow constraints"; RFC 1214; rustc-dev-guide,
+/// "Propagating closure constraints"; here constraints hold at every point, and `'static` starts with all ends.)
 pub fn constraints(
     alloc: Global,
     typed: &Typed,

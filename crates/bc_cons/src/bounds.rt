@@ -7,7 +7,7 @@ use bc_mir::{Constraint as RegionConstraint, base_regions};
 use bc_points::region_number;
 use bc_syntax::{Reference, Region, Ty};
 
-/// One more than the greatest number of the regions, or `least` where that is more.
+/// Returns one more than the greatest number of the regions, and at least `least`.
 fn regions_bound(universals: u8, least: usize, regions: &[Region]) -> usize
     ensures bound { result ≡ bound_of_regions universals least regions.now }
     ensures within { result ≤ max least (universals + 65536) }
@@ -19,7 +19,7 @@ fn regions_bound(universals: u8, least: usize, regions: &[Region]) -> usize
     bound
 }
 
-/// One more than the greatest number of the regions of references, or `least` where that is more.
+/// Returns one more than the greatest number of the regions of references, and at least `least`.
 fn references_bound(universals: u8, least: usize, references: &[Reference]) -> usize
     ensures bound { result ≡ bound_of_regions universals least (regions_of_references references.now) }
     ensures within { result ≤ max least (universals + 65536) }
@@ -31,7 +31,7 @@ fn references_bound(universals: u8, least: usize, references: &[Reference]) -> u
     bound
 }
 
-/// One more than the greatest number of the regions that stand in a type, or `least` where that is more.
+/// Returns one more than the greatest number of the regions in a type, and at least `least`.
 fn type_bound(universals: u8, least: usize, ty: &Ty) -> usize
     ensures bound { result ≡ bound_of_regions universals least (regions_of ty.now) }
     ensures within { result ≤ max least (universals + 65536) }
@@ -40,7 +40,7 @@ fn type_bound(universals: u8, least: usize, ty: &Ty) -> usize
     regions_bound(universals, bound, base_regions(&ty.base))
 }
 
-/// One more than the greatest number of the regions that stand in the types of locals, or `least` where that is more.
+/// Returns one more than the greatest number of the regions in the types of locals, and at least `least`.
 pub(crate) fn types_bound(universals: u8, least: usize, locals: &[Ty]) -> usize
     ensures bound { result ≡ bound_of_types universals least locals.now }
     ensures within { result ≤ max least (universals + 65536) }
@@ -52,7 +52,7 @@ pub(crate) fn types_bound(universals: u8, least: usize, locals: &[Ty]) -> usize
     bound
 }
 
-/// One more than the greatest number of the regions of pairs, or `least` where that is more.
+/// Returns one more than the greatest number of the regions of pairs, and at least `least`.
 pub(crate) fn pairs_bound(universals: u8, least: usize, pairs: &[RegionConstraint]) -> usize
     ensures bound { result ≡ bound_of_pairs universals least pairs.now }
     ensures within { result ≤ max least (universals + 65536) }

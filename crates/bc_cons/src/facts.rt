@@ -1,4 +1,4 @@
-//! What the values of regions are made from: the elements that each region starts with, and the constraints between regions.
+//! What the values of regions are solved from: the elements that each region starts with, and the constraints between regions.
 ghost use Rattle.std.specs.Prelude.{◌≡◌, ◌+◌, ◌<◌, ◌≤◌, length};
 ghost use Rattle.bc_flow.specs.Flow.{HaveSize};
 ghost use Rattle.bc_points.specs.Regions.{region_of_number as region_of};
@@ -9,17 +9,16 @@ use bc_points::region_of_number;
 use bc_syntax::Region;
 use std::marker::Model;
 
-/// `longer: shorter`: the longer region has each element that the shorter has. Regions are numbers. (RFC 2094, "Subtyping";
-/// here a constraint holds at each point, as in rustc's region inference.)
+/// A constraint `longer: shorter`: the longer region has each element that the shorter one has. Regions are numbers. (RFC 2094,
+/// "Subtyping"; here a constraint holds at each point, as in rustc's region inference.)
 #[derive(Clone, Copy)]
 pub struct NumberedConstraint {
     pub longer: usize,
     pub shorter: usize,
 }
 
-/// For each region the elements that it starts with, and the constraints between regions. The universal regions have the first
-/// numbers, and the variables those behind them.
-/// (RFC 2094, "Liveness" and "Subtyping".)
+/// The elements that each region starts with, and the constraints between regions. The universal regions have the first numbers, then come
+/// the variables. (RFC 2094, "Liveness" and "Subtyping".)
 #[derive(Drop)]
 pub struct Facts {
     universals: u8,
@@ -39,8 +38,8 @@ impl Model for Facts {
 }
 
 impl Facts {
-    /// Makes the facts of regions of which so many are universal, with these start rows, one of so many elements for each region,
-    /// and these constraints between them. It asks for no more regions than have numbers.
+    /// Returns the facts with these start rows, one of `elements` elements for each region, and these constraints between the regions. The
+    /// first `universals` regions are universal, and at most 65,536 more may follow.
     pub fn new(
         universals: u8,
         starts: BitTable,
@@ -63,21 +62,21 @@ impl Facts {
         }
     }
 
-    /// Returns how many regions there are.
+    /// Returns the number of regions.
     pub fn regions(&self) -> usize
         ensures { result ≡ length self.now.starts }
     {
         self.starts.len()
     }
 
-    /// Returns how many of the regions are universal.
+    /// Returns the number of universal regions.
     pub fn universals(&self) -> u8
         ensures { result ≡ self.now.universals }
     {
         self.universals
     }
 
-    /// Returns the region of a number, one of those that there are.
+    /// Returns the region of a number below `regions`.
     pub fn region(&self, number: usize) -> Region
         requires { number < length self.now.starts }
         ensures { result ≡ region_of self.now.universals number }
@@ -85,14 +84,14 @@ impl Facts {
         region_of_number(self.universals, number)
     }
 
-    /// Returns how many elements there are.
+    /// Returns the number of elements.
     pub fn elements(&self) -> usize
         ensures { result ≡ self.now.elements }
     {
         self.elements
     }
 
-    /// Returns the start rows: for each region the set of the elements that it starts with.
+    /// Returns the start rows: for each region the set of elements that it starts with.
     pub fn starts(&self) -> &BitTable
         ensures starts { result.now ≡ self.now.starts }
         ensures sizes { HaveSize self.now.elements self.now.starts }
@@ -100,7 +99,7 @@ impl Facts {
         &self.starts
     }
 
-    /// Returns the constraints, each a pair of regions.
+    /// Returns the constraints between regions.
     pub fn pairs(&self) -> &[NumberedConstraint]
         ensures pairs { result.now ≡ self.now.pairs }
         ensures within { ArePairsWithin (length self.now.starts) self.now.pairs }

@@ -1,4 +1,4 @@
-//! Outlives constraints: what a body demands of its regions, and what their values are made from.
+//! Outlives constraints: what a body demands of its regions, and what their values are solved from.
 #![tactic(auto)]
 
 mod body;

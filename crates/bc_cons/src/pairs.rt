@@ -12,7 +12,7 @@ use bc_points::{
 use bc_syntax::{Creation, Header, Outlives, Reference, Region, Rvalue, Statement, Terminator};
 use std::alloc::{AllocError, Global};
 
-/// Appends that the region of each reference outlives a region.
+/// Appends, for each reference, that its region outlives `region`.
 fn push_outlives(
     pairs: &mut Vec<RegionConstraint>,
     references: &[Reference],
@@ -29,7 +29,7 @@ fn push_outlives(
     Ok(())
 }
 
-/// Appends the pairs of a borrow through references. `references` is a list to be filled anew.
+/// Appends the pairs of a reborrow. `references` is a buffer, which is cleared first.
 fn push_reborrow(
     alloc: Global,
     pairs: &mut Vec<RegionConstraint>,
@@ -50,7 +50,7 @@ fn push_reborrow(
     }
 }
 
-/// What the child of a number requires.
+/// Returns what the child of a number requires.
 fn required_by(kids: &[(u8, Requirements)], number: u8) -> &[Outlives]
     ensures { result.now ≡ required_here kids.now number }
 {
@@ -80,7 +80,7 @@ fn push_required_of(
     push_clauses(pairs, &given, required)
 }
 
-/// Appends what the creation of a closure demands since the closure requires it.
+/// Appends what the creation of a closure demands because the closure requires it.
 fn push_required(
     alloc: Global,
     pairs: &mut Vec<RegionConstraint>,
@@ -105,7 +105,7 @@ fn push_required(
     }
 }
 
-/// Appends the pairs of a point, by what happens there. `references` is a list to be filled anew.
+/// Appends the pairs of a point, given its instruction. `references` is a buffer, which is cleared before use.
 pub(crate) fn push_pairs_at(
     alloc: Global,
     pairs: &mut Vec<RegionConstraint>,

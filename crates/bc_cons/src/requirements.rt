@@ -1,8 +1,8 @@
-//! What a closure asks of its creator.
+//! What a closure requires of its creator.
 use bc_syntax::{Outlives, Sequence};
 
-/// What a closure asks of the body that creates it: pairs of its universal regions by number, of which the longer has to outlive
-/// the shorter. It borrows nothing. (rustc-dev-guide, "Propagating closure constraints".)
+/// What a closure requires of its creator: pairs of universal regions by number, of which the longer one must outlive the shorter one. It
+/// borrows nothing. (rustc-dev-guide, "Propagating closure constraints".)
 #[derive(Drop)]
 pub struct Requirements {
     pub pairs: Sequence<Outlives>,

@@ -1,4 +1,4 @@
-//! The rows of the elements that regions start with.
+//! Rows of the elements that regions start with.
 ghost use Rattle.std.specs.Prelude.{◌≡◌, ◌==◌, ◌+◌, ◌^◌, ◌<◌, ◌≤◌, ◌&&◌, ◌||◌, ℕ, nat_lt, not, length, IfOk};
 ghost use Rattle.std.specs.List.{All, list_any, enumerate_from};
 ghost use Rattle.bc_flow.specs.Flow.{row, holds, HaveSize, AreAdded};
@@ -30,7 +30,7 @@ fn add_universal(rows: &mut BitTable, universals: usize, points: usize, region: 
     }
 }
 
-/// The rows where the universal regions alone start with something.
+/// Returns rows in which only the universal regions start with elements.
 fn universal_rows(
     alloc: Global,
     universals: usize,
@@ -68,7 +68,7 @@ fn add_to_region(
     }
 }
 
-/// Adds points to what each variable among the regions starts with.
+/// Adds points to the row of each variable among the regions.
 fn add_to_regions(
     rows: &mut BitTable,
     universals: u8,
@@ -78,7 +78,8 @@ fn add_to_regions(
 )
     requires regions { All (λ region. number_of universals region < length rows.old) regions.now }
     requires points { (r : ℕ) → r < length rows.old → points ≤ length (row rows.old r) }
-    ensures { AreGrown rows.old rows.new (λ r e. list_any (λ region. number_of universals region == r) regions.now && goes_to_variable universals points live_points.now r e) }
+    ensures { AreGrown rows.old rows.new (λ r e.
+        list_any (λ region. number_of universals region == r) regions.now && goes_to_variable universals points live_points.now r e) }
 {
     match regions {
         [] => {}
@@ -89,7 +90,7 @@ fn add_to_regions(
     }
 }
 
-/// Adds points to what each variable among the regions of references starts with.
+/// Adds points to the row of each variable among the regions of references.
 fn add_to_references(
     rows: &mut BitTable,
     universals: u8,
@@ -99,7 +100,8 @@ fn add_to_references(
 )
     requires regions { All (λ reference. number_of universals reference.region < length rows.old) references.now }
     requires points { (r : ℕ) → r < length rows.old → points ≤ length (row rows.old r) }
-    ensures { AreGrown rows.old rows.new (λ r e. list_any (λ reference. number_of universals reference.region == r) references.now && goes_to_variable universals points live_points.now r e) }
+    ensures { AreGrown rows.old rows.new (λ r e.
+        list_any (λ reference. number_of universals reference.region == r) references.now && goes_to_variable universals points live_points.now r e) }
 {
     match references {
         [] => {}
@@ -110,7 +112,7 @@ fn add_to_references(
     }
 }
 
-/// Adds points to what each variable that stands in a type starts with.
+/// Adds points to the row of each variable in a type.
 fn add_to_type(
     rows: &mut BitTable,
     universals: u8,
@@ -133,7 +135,7 @@ fn add_to_type(
     add_to_regions(rows, universals, arguments, live_points, points);
 }
 
-/// Adds the points on whose entry a local is live to the regions of its type.
+/// Adds the points on entry to which a local is live to the regions of its type.
 fn add_local(
     rows: &mut BitTable,
     universals: u8,
@@ -152,7 +154,7 @@ fn add_local(
     }
 }
 
-/// Adds the points on whose entry each local is live, from number `local` on, to the regions of its type.
+/// Adds the points on entry to which each local is live, from number `local` on, to the regions of its type.
 fn add_locals(
     rows: &mut BitTable,
     universals: u8,
@@ -176,7 +178,7 @@ fn add_locals(
     }
 }
 
-/// What each region starts with, where no region in a type has a number that is not below `regions`.
+/// Returns what each region starts with. The regions in the types of locals must have numbers below `regions`.
 pub(crate) fn start_rows(
     alloc: Global,
     typed: &Typed,
@@ -192,6 +194,7 @@ pub(crate) fn start_rows(
     let universals = typed.universals();
     let points = typed.steps().len();
     let mut rows = universal_rows(alloc, usize::from(universals), points, regions)?;
+    // One pass over the locals: each type is walked once, and not once for each region.
     add_locals(&mut rows, universals, live, 0, typed.locals(), points);
     Ok(rows)
 }

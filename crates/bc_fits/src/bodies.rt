@@ -1,4 +1,4 @@
-//! Units of bodies: the numbers of a body are within their limits, its regions and locals declared, and its names words.
+//! Units of bodies that a text can spell.
 ghost use Rattle.std.specs.Prelude.{◌≡◌, ◌+◌, ◌≤◌, ◌<◌, ◌&&◌, ◌↔◌, ◌++◌, [], IsTrue, IfSome, IsSome, nat_le, true, false, length, sum_by, take, drop, ℕ};
 ghost use Rattle.std.specs.List.{list_all};
 ghost use Rattle.bc_syntax.specs.Fits as spec;
@@ -12,8 +12,7 @@ use bc_syntax::{
     is_word,
 };
 
-/// What may be named in a place of a text: region variables or none, the universal regions below a number, and the locals below
-/// another.
+/// What a part of a text may name: region variables or none, the universal regions below a number, and the locals below another.
 #[derive(Clone, Copy)]
 pub struct Limits {
     pub variables: bool,
@@ -29,7 +28,8 @@ pub fn item_fits(name: &ItemName) -> bool
     is_word(bytes) && bytes.len() <= 32
 }
 
-/// Returns whether these regions may be declared one after the other: names of at most 16 bytes, none twice and not `'static`.
+/// Returns whether these regions may be declared one after the other: their names have at most 16 bytes, and none is declared twice or is
+/// `'static`.
 pub fn are_new(names: &[RegionName]) -> bool
     ensures { result ≡ spec.are_new [] names.now }
 {
@@ -88,7 +88,7 @@ fn each_clause_fits(universals: usize, clauses: &[Outlives]) -> bool
         .all(|clause| clause_fits(universals, *clause))
 }
 
-/// Returns whether these are at most 32 clauses between regions below this number of universal ones.
+/// Returns whether these are at most 32 clauses between universal regions below this number.
 pub fn clauses_fit(universals: usize, clauses: &[Outlives]) -> bool
     ensures { result ≡ spec.clauses_fit universals clauses.now }
 {
@@ -119,8 +119,8 @@ fn references_fit(limits: Limits, references: &[Reference]) -> bool
         .all(|reference| reference_fits(limits, *reference))
 }
 
-/// Returns whether a type has a spelling within the limits: at most seven references, regions that may be named there, and a base
-/// that has a spelling.
+/// Returns whether a text can spell a type within the limits: it has at most seven references, its regions may be named there, and its base
+/// fits.
 pub fn ty_fits(limits: Limits, ty: &Ty) -> bool
     ensures { result ≡ spec.ty_fits limits.variables limits.universals ty.now }
 {
@@ -128,14 +128,14 @@ pub fn ty_fits(limits: Limits, ty: &Ty) -> bool
     references_fit(limits, references) && references.len() <= 7 && base_fits(limits, &ty.base)
 }
 
-/// Returns whether each of these types has a spelling within the limits.
+/// Returns whether a text can spell each of these types within the limits.
 pub fn tys_fit(limits: Limits, tys: &[Ty]) -> bool
     ensures { result ≡ list_all (spec.ty_fits limits.variables limits.universals) tys.now }
 {
     tys.iter().all(|ty| ty_fits(limits, ty))
 }
 
-/// Whether a type is a closure behind no reference.
+/// Returns whether a type is a whole closure that fits, without references.
 fn whole_closure_fits(limits: Limits, ty: &Ty) -> bool
     requires { limits.variables ≡ true }
     ensures { result ≡ spec.whole_closure_fits limits.universals ty.now.references ty.now.base }
@@ -333,7 +333,7 @@ fn blocks_fit(limits: Limits, blocks: &[Block]) -> bool
     blocks.iter().all(|block| block_fits(limits, block))
 }
 
-/// Whether blocks have at most 4,096 points.
+/// Returns whether blocks have at most 4,096 points.
 fn has_few_points(blocks: &[Block]) -> bool
     ensures { result ≡ nat_le (point_count blocks.now) 4096 }
 {
@@ -348,7 +348,7 @@ fn has_few_points(blocks: &[Block]) -> bool
     true
 }
 
-/// Whether these are at most 16 types that may stand in a header.
+/// Returns whether these are at most 16 types that fit in a header.
 fn parameters_fit(limits: Limits, parameters: &[Ty]) -> bool
     requires { limits.variables ≡ false }
     ensures { result ≡ spec.parameters_fit limits.universals parameters.now }
@@ -356,7 +356,7 @@ fn parameters_fit(limits: Limits, parameters: &[Ty]) -> bool
     tys_fit(limits, parameters) && parameters.len() <= 16
 }
 
-/// What may be named in a header that declares so many regions.
+/// Returns what may be named in a header that declares these regions.
 fn header_limits(regions: &[RegionName]) -> Limits
     requires { length regions.now ≤ 15 }
     ensures variables { result.variables ≡ false }
@@ -369,7 +369,7 @@ fn header_limits(regions: &[RegionName]) -> Limits
     }
 }
 
-/// Returns whether a signature has a spelling where it may declare at most so many regions.
+/// Returns whether a text can spell a signature that may declare at most `limit` regions.
 pub(crate) fn signature_fits(signature: &Signature, limit: usize) -> bool
     requires { limit ≤ 15 }
     ensures { result ≡ spec.signature_fits limit signature.now }
@@ -385,7 +385,7 @@ pub(crate) fn signature_fits(signature: &Signature, limit: usize) -> bool
         && ty_fits(limits, &signature.result)
 }
 
-/// Whether a unit of a kind may capture these types: a function captures nothing.
+/// Returns whether a unit of this kind may capture these types. A function captures nothing.
 fn kind_fits(limits: Limits, kind: UnitKind, captures: &[Ty]) -> bool
     requires { limits.variables ≡ false }
     ensures { result ≡ spec.kind_fits limits.universals kind captures.now }
@@ -399,7 +399,7 @@ fn kind_fits(limits: Limits, kind: UnitKind, captures: &[Ty]) -> bool
     }
 }
 
-/// Whether a unit's header has a spelling.
+/// Returns whether a text can spell the header of a unit.
 fn header_fits(header: &Header) -> bool
     ensures { result ≡ spec.header_fits header.now }
 {
@@ -413,8 +413,8 @@ fn header_fits(header: &Header) -> bool
         && signature_fits(&header.signature, 15)
 }
 
-/// Whether a body has a spelling: its numbers are within their limits, its regions and locals are declared, and its
-/// names are words.
+/// Returns whether a text can spell a body: its numbers are within their limits, its regions and locals are declared, and its names are
+/// words.
 fn fits(body: &Body) -> bool
     ensures { IsTrue result ↔ Fits body.now }
 {
@@ -435,9 +435,9 @@ fn fits(body: &Body) -> bool
         && blocks_fit(limits, blocks)
 }
 
-/// Makes the unit of a body, or returns `None` exactly where no text spells it: a number or a count is past its limit, a region
-/// is declared twice, is declared as `'static` or is not declared, a local is not declared, a name is not well formed, a header
-/// has a region variable, a closure is where none may be, a function has captures, or there is no block.
+/// Makes the unit of a body. Returns `None` exactly if no text spells it: a number or a count is past its limit, a region is not declared,
+/// declared twice or declared as `'static`, a local is not declared, a name is not well formed, a header has a region variable, a closure
+/// is in a wrong place, a function has captures, or there is no block.
 pub fn unit_of(body: Body) -> Option<Unit>
     ensures body { IfSome result (λ unit. unit ≡ body) }
     ensures fits { IfSome result (λ _. Fits body) }

@@ -1,4 +1,4 @@
-//! Types of lists of declarations that have a spelling.
+//! `Types` of declarations that a text can spell.
 ghost use Rattle.std.specs.Prelude.{◌≡◌, ◌≤◌, ◌↔◌, [], IsTrue, IfSome, IsSome, length};
 ghost use Rattle.std.specs.List.{list_all, filter};
 ghost use Rattle.bc_syntax.specs.Fits as spec;
@@ -63,7 +63,7 @@ fn struct_count(declarations: &[Declaration]) -> usize
     count
 }
 
-/// Whether declarations have a spelling.
+/// Returns whether a text can spell these declarations.
 fn fit(declarations: &[Declaration]) -> bool
     ensures { IsTrue result ↔ TypesFit declarations.now }
 {
@@ -71,9 +71,9 @@ fn fit(declarations: &[Declaration]) -> bool
     structs <= 64 && declarations.len() - structs <= 64 && each_fits(declarations)
 }
 
-/// Makes `Types` of declarations, or returns `None` exactly where no text spells them: a number or a count is past its limit, a
-/// name is not well formed, a region is declared twice, is declared as `'static` or is not declared, a struct has not one
-/// variance for each region, or a type has a region variable or a closure.
+/// Makes `Types` of declarations. Returns `None` exactly if no text spells them: a number or a count is past its limit, a name is not well
+/// formed, a region is not declared, declared twice or declared as `'static`, a struct has not one variance for each region, or a type has
+/// a region variable or a closure.
 pub fn types_of(declarations: Sequence<Declaration>) -> Option<Types>
     ensures declarations { IfSome result (λ types. types ≡ declarations) }
     ensures fit { IfSome result (λ _. TypesFit declarations) }

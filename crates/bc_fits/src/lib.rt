@@ -1,4 +1,4 @@
-//! Units and types that are made by hand: of bodies and of declarations that have a spelling, and of no others.
+//! Makes units and declarations in code, from bodies and declarations that a text can spell.
 #![tactic(auto)]
 
 mod bodies;

@@ -17,7 +17,7 @@ use Rattle.bc_flow.specs.Levels.{is_unreached, unreached, GivesLevel, IsSuccesso
 abbrev one_unreached : ℕ → ℕ
 one_unreached level = cond (is_unreached level) 1 0
 
--- one node less
+-- one unreached node less
 pub unreached-set : (levels : List ℕ) (n level : ℕ) → n < length levels → get_or levels n 0 ≡ 0 → 0 < level → unreached (set levels n level) + 1 ≡ unreached levels
 unreached-set levels n level within is positive =
     let whole : sum_by one_unreached (set levels n level) + one_unreached (get_or levels n 0) ≡ sum_by one_unreached levels + one_unreached level = sum_by-set one_unreached levels n level 0 within in
@@ -51,7 +51,7 @@ GivesLevel-none P level levels found passed = record {
   counted = refl;
 }
 
--- a target that was not reached
+-- an unreached target got the level
 pub GivesLevel-one : (level node : ℕ) (levels found : List ℕ) → 0 < level → node < length levels → get_or levels node 0 ≡ 0 →
     GivesLevel (λ n. n ≡ node) level levels (set levels node level) found (found ++ node ∷ [])
 GivesLevel-one level node levels found positive within is =
@@ -74,7 +74,7 @@ GivesLevel-one level node levels found positive within is =
       counted = let one = unreached-set levels node level within is positive in omega (arith, one, length_push found node);
     }
 
--- first the one targets, and then the others
+-- first some targets got the level, then the others
 pub GivesLevel-then : (P Q R : ℕ → Type 0) (level : ℕ) (a b c fa fb fc : List ℕ) → 0 < level → ((n : ℕ) → P n → R n) → ((n : ℕ) → Q n → R n) → ((n : ℕ) → R n → P n ⊎ Q n) →
     GivesLevel P level a b fa fb → GivesLevel Q level b c fb fc → GivesLevel R level a c fa fc
 GivesLevel-then P Q R level a b c fa fb fc positive left right either one two = record {
@@ -114,7 +114,7 @@ GivesLevel-same P Q level a b fa fb forth back one = record {
   counted = one.counted;
 }
 
--- one edge more, of those that leave a node
+-- one more of the edges that leave a node
 pub GivesLevel-edge : (edges : List Edge) (node i next level : ℕ) (e : Edge) (a b c fa fb fc : List ℕ) → 0 < level → i < length edges → get_or edges i e ≡ e → e.from ≡ node → IsNext edges node (i + 1) next →
     GivesLevel (HasEdge (take i edges) node) level a b fa fb → GivesLevel (λ n. n ≡ e.to) level b c fb fc → GivesLevel (HasEdge (take next edges) node) level a c fa fc
 GivesLevel-edge edges node i next level e a b c fa fb fc positive within is from skip one two =
@@ -132,7 +132,7 @@ GivesLevel-edge edges node i next level e a b c fa fb fc positive within is from
     (λ n h. rw more at ((skipped edges node (i + 1) next skip n).1 h))
     both
 
--- one node more of a front
+-- one more node of a front
 pub GivesLevel-front : (edges : List Edge) (front : List ℕ) (i level : ℕ) (a b c fa fb fc : List ℕ) → 0 < level → i < length front →
     GivesLevel (IsSuccessor edges (take i front)) level a b fa fb → GivesLevel (HasEdge edges (get_or front i 0)) level b c fb fc → GivesLevel (IsSuccessor edges (take (i + 1) front)) level a c fa fc
 GivesLevel-front edges front i level a b c fa fb fc positive within one two =
@@ -147,7 +147,7 @@ GivesLevel-front edges front i level a b c fa fb fc positive within one two =
     ])
     one two)
 
--- one source more
+-- one more source
 pub GivesLevel-source : (sources : List ℕ) (i level : ℕ) (a b c fa fb fc : List ℕ) → 0 < level → i < length sources →
     GivesLevel (Contains (take i sources)) level a b fa fb → GivesLevel (λ n. n ≡ get_or sources i 0) level b c fb fc → GivesLevel (Contains (take (i + 1) sources)) level a c fa fc
 GivesLevel-source sources i level a b c fa fb fc positive within one two =
@@ -196,7 +196,7 @@ AreLevelsUpTo-first edges sources empty levels front none marks =
       closed = λ m n edge positive below. absurd (omega (arith, positive, below));
     }
 
--- one level more
+-- one more level
 pub AreLevelsUpTo-more : (edges : List Edge) (sources : List ℕ) (level : ℕ) (levels new front found : List ℕ) → AreLevelsUpTo edges sources level levels front →
     GivesLevel (IsSuccessor edges front) (level + 1) levels new [] found → AreLevelsUpTo edges sources (level + 1) new found
 AreLevelsUpTo-more edges sources level levels new front found old marks =
@@ -245,7 +245,7 @@ AreLevelsUpTo-more edges sources level levels new front found old marks =
       ];
     }
 
--- a level with no nodes is the end
+-- the search ends at a level without nodes
 pub AreLevels-end : (edges : List Edge) (sources : List ℕ) (level : ℕ) (levels front : List ℕ) → length front ≡ 0 → AreLevelsUpTo edges sources level levels front → AreLevels edges sources levels
 AreLevels-end edges sources level levels front none spread = record {
   begins = spread.begins;
@@ -260,7 +260,7 @@ AreLevels-end edges sources level levels front none spread = record {
   ];
 }
 
--- a node that was reached is one of the nodes
+-- a reached node is one of the nodes
 pub reached_within : (levels : List ℕ) (n : ℕ) → 0 < get_or levels n 0 → n < length levels
 reached_within levels n h = elim (cases_lt n (length levels)) [
   | inl within ↦ within

@@ -1,4 +1,4 @@
--- A word of a row that is joined with another.
+-- A word of a row, joined with another.
 use Rattle.std.proofs.Common.{◌≡◌, ℕ, ◌+◌, ◌*◌, ◌/◌, ◌%◌, ◌^◌, ◌<◌, ◌≤◌, inl, inr, Bool, true, false, not, ◌||◌, ◌&&◌, eqb, List, length, min, w64, sym, ap, ◌∙◌, arith}
 use Rattle.std.specs.Prelude.{bit_or, bit_and}
 use Rattle.std.specs.Int.{bit_at, bit_not}
@@ -26,7 +26,7 @@ pub joined_clean : (index before word : ℕ) (set : List Bool) → ((i : ℕ) �
 joined_clean index before word set read clean i at past =
     is_set_or before word (i % 64) ∙ or_from (is_set before (i % 64)) (is_set word (i % 64)) (sym (read i at) ∙ get_or_past set i false past) (clean i at past)
 
--- the numbers of the word are added
+-- the numbers of the word were added
 pub joined_members : (index before word after : ℕ) (old new : ℕ → Bool) → after ≡ bit_or before word → ((i : ℕ) → i / 64 ≡ index → old i ≡ is_set before (i % 64)) → ((i : ℕ) → i / 64 ≡ index → new i ≡ is_set after (i % 64)) →
     ((i : ℕ) → (i / 64 ≡ index → ⊥) → new i ≡ old i) → (i : ℕ) → new i ≡ (old i || word_has index word i)
 joined_members index before word after old new joined read written rest i = elim (cases_eq (i / 64) index) [
@@ -36,7 +36,7 @@ joined_members index before word after old new joined read written rest i = elim
   | inr apart ↦ rest i apart ∙ sym (ap (λ (b : Bool). old i || (b && is_set word (i % 64))) (ne_eqb (i / 64) index apart) ∙ or-false (old i))
 ]
 
--- a set that has more members, in another word, lacks fewer
+-- a set with more members in another word lacks fewer
 pub joined_grown : (index before after : ℕ) (old new : List Bool) → before < 2 ^ 64 → after < 2 ^ 64 → length new ≡ length old → ((i : ℕ) → has old i ≡ true → has new i ≡ true) →
     ((i : ℕ) → i / 64 ≡ index → has old i ≡ is_set before (i % 64)) → ((i : ℕ) → i / 64 ≡ index → has new i ≡ is_set after (i % 64)) → (after ≡ before → ⊥) → absent_count new < absent_count old
 joined_grown index before after old new small_before small_after size more read written differs = elim (cases_lt (absent_count new) (absent_count old)) [

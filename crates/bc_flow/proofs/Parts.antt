@@ -17,7 +17,7 @@ use Rattle.bc_flow.proofs.Tabled.{rows_is, size_is, row_in, has-row_of, get_or-t
 abbrev pub part : ℕ → ℕ → List ℕ → List ℕ
 part at width words = take (at + width - at) (drop at words)
 
--- the block where those words came back
+-- the block after those words came back
 abbrev pub put_back : ℕ → ℕ → List ℕ → List ℕ → List ℕ
 put_back at width words new = put_mid at (at + width - at) words new
 
@@ -36,7 +36,7 @@ bit-part at width words i h =
 
 -- ---- back in the block
 
--- what stands before the part, and what stands after it
+-- the words before the part, and those after it
 front_of : (at : ℕ) (words : List ℕ) → at ≤ length words → length (take at words) ≡ at
 front_of at words h = length-take-le at words h
 
@@ -99,7 +99,7 @@ row_of_part {rows} {width} {size} {words} {table} t view n h =
       | inr past ↦ packed.clean i past ∙ sym (no_fact t view n i (omega (arith, h, rows_is t view)) past)
     ])
 
--- the bits that a part has room for
+-- a part has room for the bits of its row
 pub room : {rows width size : ℕ} {words : List ℕ} {table : List (List Bool)} (lent : List ℕ) → IsTable rows width size words → table_of rows width size words ≡ table → lent ≡ words → (n : ℕ) → n < length table →
     (count : ℕ) → count ≤ length (row table n) → count ≤ 64 * length (part (n * width) width lent)
 room {rows} {width} {size} {words} lent t view e n h count small =
@@ -115,7 +115,7 @@ added_to {rows} {width} {size} {items} {new} {old} {table} {to} j = record {
   members = j.members;
 }
 
--- the same numbers, said in another way
+-- the same numbers, described in another way
 pub AreAdded-same : {old new : List (List Bool)} {node : ℕ} (added wanted : ℕ → Bool) → ((f : ℕ) → added f ≡ wanted f) → AreAdded old new node added → AreAdded old new node wanted
 AreAdded-same {old} {new} {node} added wanted same a = record {
   rows = a.rows;
@@ -131,7 +131,7 @@ below_size set size h f = elim (cases_lt f size) [
   | inr past ↦ rw (le-ltb f size past, get_or_past set f false (omega (arith, h, past))) refl
 ]
 
--- numbers were added to the part, and it came back
+-- numbers were added to the part before it came back
 abbrev pub IsPartJoined : ℕ → ℕ → ℕ → List ℕ → ℕ → List ℕ → List ℕ → List (List Bool) → ℕ → (ℕ → Bool) → Type 0
 IsPartJoined rows width size old len lent new table to added =
     IsRowJoined rows width size (take len (put_back (to * width) width lent new ++ drop (length (put_back (to * width) width lent new)) old)) (put_back (to * width) width lent new) old table to added
@@ -151,11 +151,11 @@ none_below : {rows width size : ℕ} {old : List ℕ} {table : List (List Bool)}
     (i : ℕ) → size ≤ i → nat_lt i count ≡ false
 none_below t view to h count small i past = le-ltb i count (omega (arith, past, small, size_is t view to h))
 
--- a set's members are its bits
+-- the members of a set are its bits
 pub member_is : {size : ℕ} {words : List ℕ} {set : List Bool} → IsPacked size words → bits_of size words ≡ set → (i : ℕ) → bit words i ≡ has set i
 member_is packed view i = sym (has-bits_of packed i) ∙ ap (λ t. has t i) view
 
--- each number below a count
+-- each number below a count was added
 pub filled_row : {rows width size : ℕ} {old : List ℕ} {table : List (List Bool)} (len : ℕ) (lent new : List ℕ) (to count : ℕ) → IsTable rows width size old → table_of rows width size old ≡ table → lent ≡ old → to < length table →
     count ≤ length (row table to) → len ≡ length old → length new ≡ length (part (to * width) width lent) →
     ((i : ℕ) → bit new i ≡ (bit (part (to * width) width lent) i || nat_lt i count)) →
@@ -163,7 +163,7 @@ pub filled_row : {rows width size : ℕ} {old : List ℕ} {table : List (List Bo
 filled_row {rows} {width} {size} {old} {table} len lent new to count t view e h small whole same bits =
     part_joined len lent new to (λ i. nat_lt i count) t view e h whole same bits (none_below t view to h count small)
 
--- the members of a set below a count
+-- the members of a set below a count were added
 pub joined_row_below : {rows width size size2 : ℕ} {old from : List ℕ} {table : List (List Bool)} {set : List Bool} (len : ℕ) (lent new : List ℕ) (to count : ℕ) → IsTable rows width size old → table_of rows width size old ≡ table → lent ≡ old → to < length table →
     count ≤ length (row table to) → IsPacked size2 from → bits_of size2 from ≡ set → len ≡ length old → length new ≡ length (part (to * width) width lent) →
     ((i : ℕ) → bit new i ≡ (bit (part (to * width) width lent) i || (nat_lt i count && bit from i))) →

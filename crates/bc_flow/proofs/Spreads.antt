@@ -1,4 +1,4 @@
--- A fact handed on, along one edge after another, and from one node after another.
+-- A fact handed on, along one edge after another and from one node after another.
 use Rattle.std.proofs.Common.{◌≡◌, ℕ, ◌+◌, ◌<◌, ◌⊎◌, inl, inr, Bool, true, false, List, [], ◌∷◌, ◌++◌, ◌↔◌, length, set, refl, sym, ap, ◌∙◌, arith}
 use Rattle.std.specs.List.{Contains, sum_by}
 use Rattle.std.proofs.lemmas.Bool.{cases_eq, both_ways}
@@ -28,7 +28,7 @@ Spreads-none node fact enters rows pending = record {
   progress = omega arith;
 }
 
--- where it lets in and had not the fact
+-- an edge into a node of `enters` that does not have the fact
 pub Spreads-entered : (node next fact : ℕ) (enters : ℕ → Bool) (old new : List (List Bool)) (old_pending pending : List ℕ) → next < length old → fact < length (row old next) →
     enters next ≡ true → holds old next fact ≡ false → new ≡ set old next (row new next) → row new next ≡ set (row old next) fact true → pending ≡ old_pending ++ next ∷ [] →
     Spreads (record { from = node; to = next } ∷ []) node fact enters old new old_pending pending
@@ -63,7 +63,7 @@ Spreads-entered node next fact enters old new old_pending pending within small l
           omega (arith, s, t, one, fewer, longer);
     }
 
--- what was handed on along some edges, and then along another
+-- one more edge
 pub Spreads-more : (node fact : ℕ) (enters : ℕ → Bool) (edges : List Edge) (e : Edge) (old mid new : List (List Bool)) (old_pending mid_pending pending : List ℕ) →
     Spreads edges node fact enters old mid old_pending mid_pending → Spreads (e ∷ []) node fact enters mid new mid_pending pending →
     Spreads (edges ++ e ∷ []) node fact enters old new old_pending pending
@@ -93,7 +93,7 @@ Spreads-more node fact enters edges e old mid new old_pending mid_pending pendin
   progress = let a = p.progress in let b = q.progress in omega arith;
 }
 
--- what was handed on along other edges that leave the node for the same targets
+-- other edges lead from the node to the same targets
 pub Spreads-same : (node fact : ℕ) (enters : ℕ → Bool) (edges others : List Edge) (old new : List (List Bool)) (old_pending pending : List ℕ) →
     ((b : ℕ) → HasEdge edges node b ↔ HasEdge others node b) → Spreads edges node fact enters old new old_pending pending → Spreads others node fact enters old new old_pending pending
 Spreads-same node fact enters edges others old new old_pending pending same p = record {
@@ -107,14 +107,13 @@ Spreads-same node fact enters edges others old new old_pending pending same p = 
   progress = p.progress;
 }
 
--- A fact on its way from `start`: each node that has it was reached, and from each the fact was handed on, unless the node is
--- still to be visited.
+-- A walk of a fact from `start`: each node that has it was reached, and each handed it on or is still to be visited.
 pub record IsWalk (edges : List Edge) (passes enters : ℕ → Bool) (start fact : ℕ) (rows : List (List Bool)) (pending : List ℕ) : Type 0 where
   pub reached : (n : ℕ) → holds rows n fact ≡ true → Reaches edges passes enters start n
   pub known : (n : ℕ) → Contains pending n → (n ≡ start) ⊎ (holds rows n fact ≡ true)
   pub handed_on : (m n : ℕ) → (m ≡ start) ⊎ (holds rows m fact ≡ true) → passes m ≡ true → HasEdge edges m n → enters n ≡ true → (holds rows n fact ≡ true) ⊎ Contains pending m
 
--- the node that was taken from the list, and the rest
+-- the node that was taken from the list, or one of the rest
 taken : (node m : ℕ) (before rest : List ℕ) → before ≡ rest ++ node ∷ [] → Contains before m → Contains rest m ⊎ (m ≡ node)
 taken node m before rest is h = elim (Contains-push_cases rest node m (rw is at h)) [ inl later ↦ inl later | inr now ↦ inr (sym now) ]
 
@@ -122,7 +121,7 @@ known_from : (edges : List Edge) (passes enters : ℕ → Bool) (start fact node
     IsWalk edges passes enters start fact rows before → (n : ℕ) → Contains rest n → (n ≡ start) ⊎ (holds rows n fact ≡ true)
 known_from edges passes enters start fact node rows before rest is walk n h = walk.known n (rw is (Contains-append_left rest (node ∷ []) n h))
 
--- a visit of a node that lets nothing pass
+-- a visit of a node that hands nothing on
 pub IsWalk-stays : (edges : List Edge) (passes enters : ℕ → Bool) (start fact node : ℕ) (rows : List (List Bool)) (before rest : List ℕ) → before ≡ rest ++ node ∷ [] → passes node ≡ false →
     IsWalk edges passes enters start fact rows before → IsWalk edges passes enters start fact rows rest
 IsWalk-stays edges passes enters start fact node rows before rest is shut walk = record {
@@ -137,7 +136,7 @@ IsWalk-stays edges passes enters start fact node rows before rest is shut walk =
   ];
 }
 
--- a visit of a node that lets pass
+-- a visit of a node that hands the fact on
 pub IsWalk-visit : (edges : List Edge) (passes enters : ℕ → Bool) (start fact node : ℕ) (old new : List (List Bool)) (before rest pending : List ℕ) → before ≡ rest ++ node ∷ [] → passes node ≡ true →
     Spreads edges node fact enters old new rest pending → IsWalk edges passes enters start fact old before → IsWalk edges passes enters start fact new pending
 IsWalk-visit edges passes enters start fact node old new before rest pending is lets spreads walk =
@@ -177,7 +176,7 @@ IsWalk-visit edges passes enters start fact node old new before rest pending is 
       ];
     }
 
--- at the end each node that is reached has the fact
+-- at the end each reachable node has the fact
 all_reached : (edges : List Edge) (passes enters : ℕ → Bool) (start fact : ℕ) (rows : List (List Bool)) (pending : List ℕ) → length pending ≡ 0 → IsWalk edges passes enters start fact rows pending →
     (n : ℕ) → Reaches edges passes enters start n → holds rows n fact ≡ true
 all_reached edges passes enters start fact rows pending none walk n (begins m lets e into) =
@@ -185,7 +184,7 @@ all_reached edges passes enters start fact rows pending none walk n (begins m le
 all_reached edges passes enters start fact rows pending none walk n (goes_on m q before lets e into) =
     elim (walk.handed_on m q (inr (all_reached edges passes enters start fact rows pending none walk m before)) lets e into) [ inl there ↦ there | inr (i, within, at) ↦ absurd (omega (arith, none, within)) ]
 
--- at the end the nodes that have the fact are those that are reached
+-- at the end exactly the reachable nodes have the fact
 pub IsWalk-end : (edges : List Edge) (passes enters : ℕ → Bool) (start fact : ℕ) (rows : List (List Bool)) (pending : List ℕ) → length pending ≡ 0 → IsWalk edges passes enters start fact rows pending →
     (n : ℕ) → (holds rows n fact ≡ true) ↔ Reaches edges passes enters start n
 IsWalk-end edges passes enters start fact rows pending none walk n = (walk.reached n, all_reached edges passes enters start fact rows pending none walk n)

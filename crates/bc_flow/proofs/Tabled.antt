@@ -1,4 +1,4 @@
--- What the words of a table say of its rows.
+-- What the words of a table say about its rows.
 use Rattle.std.proofs.Common.{◌≡◌, ℕ, ◌+◌, ◌-◌, ◌*◌, ◌/◌, ◌%◌, ◌^◌, ◌<◌, ◌≤◌, Bool, true, false, not, ◌||◌, ◌&&◌, eqb, List, [], length, get_or, set, take, drop, ◌++◌, min, inl, inr, refl, sym, ap, ◌∙◌, arith, w64, suc}
 use Rattle.std.specs.Prelude.{bit_or, bit_and}
 use Rattle.std.specs.Int.{bit_at, bit_not}
@@ -79,7 +79,7 @@ holds_past rows width size words n f h p = ap (λ t. has t f) (get_or-table_of r
 pub holds_none : (rows width size : ℕ) (words : List ℕ) (n f : ℕ) → rows ≤ n → holds (table_of rows width size words) n f ≡ false
 holds_none rows width size words n f h = ap (λ t. has t f) (get_or_past (table_of rows width size words) n [] (omega (arith, length-table_of rows width size words)))
 
--- ---- the same by the value
+-- ---- the same for the value
 
 pub rows_is : {rows width size : ℕ} {words : List ℕ} {table : List (List Bool)} → IsTable rows width size words → table_of rows width size words ≡ table → rows ≡ length table
 rows_is {rows} {width} {size} {words} t view = sym (length-table_of rows width size words) ∙ ap length view
@@ -89,7 +89,7 @@ size_is {rows} {width} {size} {words} t view n h =
     let within : n < rows = omega (arith, rows_is t view) in
     ap (λ v. length (row v n)) (sym view) ∙ (ap length (get_or-table_of rows width size words n [] within) ∙ length-row_of size words (n * width))
 
--- tables of the same size have rows of as many words
+-- rows of the same size have as many words
 pub same_width : {rows width size rows2 width2 size2 : ℕ} {old kills : List ℕ} {table killed : List (List Bool)} → IsTable rows width size old → table_of rows width size old ≡ table →
     IsTable rows2 width2 size2 kills → table_of rows2 width2 size2 kills ≡ killed → (to kill : ℕ) → to < length table → kill < length killed → HaveSize (length (row table to)) killed → width2 ≡ width
 same_width t view t2 view2 to kill h k sizes = omega (arith, t.wide, t2.wide, size_is t view to h, size_is t2 view2 kill k, sizes kill [] k)
@@ -106,7 +106,7 @@ apart_in from to width apart k h before = elim (cases_lt from to) [
 pub word_in : {rows width size : ℕ} {words : List ℕ} → IsTable rows width size words → (n i : ℕ) → n < rows → i < size → n * width + i / 64 < length words
 word_in {rows} {width} {size} {words} t n i h p = omega (arith, rows_apart n rows width h, t.count, t.wide)
 
--- a number of a row stands in one of the words
+-- a number of a row is in one of the words
 pub cell_in : {rows width size : ℕ} {words : List ℕ} {table : List (List Bool)} → IsTable rows width size words → table_of rows width size words ≡ table → (n i : ℕ) → n < length table → i < length (row table n) → n * width + i / 64 < length words
 cell_in t view n i h p = word_in t n i (omega (arith, h, rows_is t view)) (omega (arith, p, size_is t view n h))
 
@@ -141,7 +141,7 @@ holds-zeros rows width size words zeros n f = elim (cases_lt n rows) [
 
 -- ---- one row written
 
--- the words of all other rows are as they were
+-- the words of all other rows are unchanged
 abbrev pub OthersKept : ℕ → ℕ → List ℕ → List ℕ → Type 0
 OthersKept at width new old = (j : ℕ) → (at ≤ j → at + width ≤ j) → get_or new j 0 ≡ get_or old j 0
 

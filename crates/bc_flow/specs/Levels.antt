@@ -1,19 +1,20 @@
--- A breadth-first search: how far each node is from the nearest of some sources. Of each node a number is kept, its level: 1 for
--- a source, one more for each edge on the shortest way from one, and 0 for a node that was not reached.
+-- A breadth-first search. The level of a node is 1 for a source, one more for each edge on a shortest path from a source, and 0 for a node
+-- that was not reached.
 use Rattle.std.specs.Prelude.{◌≡◌, ℕ, ◌+◌, ◌<◌, ◌≤◌, ◌⊎◌, Bool, ◌==◌, List, length, count_by, slice_index}
 use Rattle.std.specs.List.{Contains}
 use Rattle.bc_flow.specs.declared.graph.Edge.{Edge}
 use Rattle.bc_flow.specs.Graph.{HasEdge}
 
--- the levels of all nodes: 1 for the sources, and one more along an edge, but no more than that
+-- the level of each node is the number of nodes on a shortest path to it from a source, or 0 if there is no path
 pub record AreLevels (edges : List Edge) (sources levels : List ℕ) : Type 0 where
   pub begins : (n : ℕ) → Contains sources n → slice_index levels n ≡ 1
   pub first : (n : ℕ) → slice_index levels n ≡ 1 → Contains sources n
   pub goes_on : (n : ℕ) → 1 < slice_index levels n → (m : ℕ) × HasEdge edges m n × (slice_index levels m + 1 ≡ slice_index levels n)
   pub closed : (m n : ℕ) → HasEdge edges m n → 0 < slice_index levels m → (0 < slice_index levels n) × (slice_index levels n ≤ slice_index levels m + 1)
 
--- ---- on the way
+-- ---- in progress
 
+-- a node of this level was not reached
 abbrev pub is_unreached : ℕ → Bool
 is_unreached level = level == 0
 
@@ -21,7 +22,7 @@ is_unreached level = level == 0
 abbrev pub unreached : List ℕ → ℕ
 unreached levels = count_by is_unreached levels
 
--- an edge leads to the node from one of these
+-- an edge leads to node n from one of these
 abbrev pub IsSuccessor : List Edge → List ℕ → ℕ → Type 0
 IsSuccessor edges nodes n = (m : ℕ) × Contains nodes m × HasEdge edges m n
 
@@ -34,7 +35,7 @@ pub record GivesLevel (IsTarget : ℕ → Type 0) (level : ℕ) (old new old_fou
   pub found_new : (n : ℕ) → Contains found n → Contains old_found n ⊎ (slice_index new n ≡ level)
   pub counted : unreached new + length found ≡ unreached old + length old_found
 
--- the levels as far as this one: all nodes up to it were reached, and those at it are the front
+-- the search has found the nodes up to this level, and `front` lists those at it
 pub record AreLevelsUpTo (edges : List Edge) (sources : List ℕ) (level : ℕ) (levels front : List ℕ) : Type 0 where
   pub onward : 0 < level
   pub deep : (n : ℕ) → slice_index levels n ≤ level

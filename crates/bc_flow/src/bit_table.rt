@@ -10,10 +10,9 @@ use crate::bit_words::{fill_below, next_bit, union_words_below};
 use std::alloc::{AllocError, Global};
 use std::marker::Model;
 
-/// A table of sets of numbers below a size: one set, a row, for each node. The size and the number of the rows are fixed when
-/// the table is made.
+/// A table of sets of numbers below a size, with one row for each node. The number of rows and the size are fixed when the table is made.
 ///
-/// Contracts see it as the list of its rows, each the list that says of each number whether it is a member. (After `BitMatrix` of
+/// Contracts see it as the list of its rows; a row is the list that says of each number whether it is a member. (After `BitMatrix` of
 /// `rustc_index`.)
 pub struct BitTable {
     words: Vec<u64>,
@@ -22,7 +21,7 @@ pub struct BitTable {
     size: usize,
 }
 
-// Written out: what lets a table go calls this, and proves nothing of its parts again.
+// Handwritten, so that it is proved once, and not again for each type that contains a table.
 impl Drop for BitTable {
     fn drop(self) {
         let Self {
@@ -50,7 +49,7 @@ impl Clone for BitTable {
 
     ghost is_clone = { λ s t. t ≡ s };
 
-    /// Returns another table with the same rows. Returns `AllocError` only where memory was refused.
+    /// Returns another table with the same rows.
     fn clone(&self) -> Result<Self, AllocError> {
         let words = self.words.clone()?;
         Ok(Self {
@@ -89,7 +88,7 @@ impl<'a> Clone for BitRow<'a> {
 
     ghost is_infallible = { λ _. ⊤ };
 
-    /// The row, lent once more. It takes no memory, and so there is no error.
+    /// Returns the same borrowed row. It never fails.
     fn clone(&self) -> Result<Self, AllocError> {
         Ok(Self {
             words: self.words,
@@ -99,7 +98,7 @@ impl<'a> Clone for BitRow<'a> {
 }
 
 impl<'a> BitRow<'a> {
-    /// Returns whether a number is a member, also where it is not below the size. It takes no memory.
+    /// Returns whether a number is a member. A number that is not below the size is none.
     pub fn has(&self, element: usize) -> bool
         ensures { result ≡ has self.now element }
     {
@@ -109,15 +108,15 @@ impl<'a> BitRow<'a> {
         self.words[element / 64] >> (element % 64) & 1 == 1
     }
 
-    /// Returns the least member that is `from` or greater, or `None` where there is none. It takes no memory.
+    /// Returns the least member that is `from` or greater, or `None` if there is none.
     pub fn next_member(&self, from: usize) -> Option<usize>
         ensures { MatchOption result ((i : ℕ) → from ≤ i → has self.now i ≡ false) (λ member. IsNextMember self.now from member) }
     {
         next_bit(self.words, self.size, from)
     }
 
-    /// Returns which of 64 numbers are members, by the number of the run of 64: bit `i % 64` tells of the number `i`. A number that is not
-    /// below the size is none. It takes no memory.
+    /// Returns one word of the row: its bit `i % 64` says whether `i` is a member, for each `i` with `i / 64 == index`. A number that is
+    /// not below the size is none.
     pub fn word(&self, index: usize) -> u64
         ensures { (i : ℕ) → i / 64 ≡ index → is_set result (i % 64) ≡ has self.now i }
     {
@@ -130,8 +129,7 @@ impl<'a> BitRow<'a> {
 }
 
 impl BitTable {
-    /// Makes a table of empty rows. Returns `AllocError` if memory was refused, and, without asking for any, if the table would have
-    /// 2^64 words or more: no table of a body within the limits comes near.
+    /// Makes a table of empty rows. Also returns `AllocError` if it would have 2^64 words or more, which no body within the limits reaches.
     pub fn new(alloc: Global, rows: usize, size: usize) -> Result<Self, AllocError>
         ensures rows { IfOk result (λ table. length table ≡ rows) }
         ensures size { IfOk result (λ table. HaveSize size table) }
@@ -150,15 +148,14 @@ impl BitTable {
         })
     }
 
-    /// Returns the number of the rows.
+    /// Returns the number of rows.
     pub fn len(&self) -> usize
         ensures { result ≡ length self.now }
     {
         self.rows
     }
 
-    /// Returns whether the row of a node has a fact. For a node that has no row, and for a fact past the size, it is false. It
-    /// takes no memory.
+    /// Returns whether the row of a node has a fact: `false` past the last row and past the size.
     pub fn holds(&self, node: usize, fact: usize) -> bool
         ensures { result ≡ holds self.now node fact }
     {
@@ -171,7 +168,7 @@ impl BitTable {
         self.words[node * self.width + fact / 64] >> (fact % 64) & 1 == 1
     }
 
-    /// Returns the row of a node, or `None` past the last. It takes no memory.
+    /// Returns the row of a node, or `None` past the last.
     pub fn get(&self, node: usize) -> Option<BitRow<'_>>
         ensures row { MatchOption result ((f : ℕ) → holds self.now node f ≡ false) (λ found. found ≡ row self.now node) }
         ensures within { MatchOption result (length self.now ≤ node) (λ _. node < length self.now) }
@@ -183,7 +180,7 @@ impl BitTable {
         }
     }
 
-    /// Returns the row of a node, which has one. It takes no memory.
+    /// Returns the row of a node. The table must have that row.
     pub fn row(&self, node: usize) -> BitRow<'_>
         requires { node < length self.now }
         ensures { result ≡ row self.now node }
@@ -195,7 +192,7 @@ impl BitTable {
         }
     }
 
-    /// Returns which of 64 numbers a row has, by the number of the run of 64: bit `i % 64` tells of the number `i`. It takes no memory.
+    /// Returns one word of a node's row: its bit `i % 64` says whether `i` is a member, for each `i` with `i / 64 == index`.
     pub fn word(&self, node: usize, index: usize) -> u64
         requires node { node < length self.now }
         requires within { 64 * index < length (row self.now node) }
@@ -204,7 +201,7 @@ impl BitTable {
         self.words[node * self.width + index]
     }
 
-    /// Replaces one word of a row, none of its numbers beyond the size.
+    /// Replaces one word of a row. The new word has no bit past the size.
     pub(crate) fn set_word(&mut self, node: usize, index: usize, value: u64)
         requires node { node < length self.old }
         requires within { 64 * index < length (row self.old node) }
@@ -219,8 +216,7 @@ impl BitTable {
         self.words[at] = value;
     }
 
-    /// Adds the numbers of one run of 64 that are bits of a word to a row, none of them beyond its size, and returns whether there was a
-    /// new one.
+    /// Adds the bits of `word` to one word of a row, and returns whether any was new. `word` has no bit past the size.
     pub fn join_word(&mut self, node: usize, index: usize, word: u64) -> bool
         requires node { node < length self.old }
         requires within { 64 * index < length (row self.old node) }
@@ -238,7 +234,7 @@ impl BitTable {
         true
     }
 
-    /// Adds a number to a row, and returns whether it was not there.
+    /// Adds a number below the size to a row, and returns whether it was new.
     pub fn insert(&mut self, node: usize, element: usize) -> bool
         requires node { node < length self.old }
         requires element { element < length (row self.old node) }
@@ -284,7 +280,7 @@ impl BitTable {
         union_words_below(&mut self.words[at..at + self.width], from.words, count);
     }
 
-    /// Adds the numbers of the row `from` to those of the row `to`. The answer is whether there was a new one.
+    /// Adds the members of row `from` to row `to`, and returns whether any was new.
     pub(crate) fn union_rows(&mut self, to: usize, from: usize) -> bool
         requires to { to < length self.old }
         requires from { from < length self.old }
@@ -301,8 +297,7 @@ impl BitTable {
         union_within(&mut self.words, at, source, self.width)
     }
 
-    /// Adds the numbers of the row `from` that are not in the row `kill` of `kills` to those of the row `to`.
-    /// The answer is whether there was a new one.
+    /// Adds to row `to` the members of row `from` that are not in row `kill` of `kills`, and returns whether any was new.
     pub(crate) fn union_rows_without(
         &mut self,
         to: usize,
@@ -329,7 +324,7 @@ impl BitTable {
     }
 }
 
-/// Joins `count` words to others of the same block.
+/// Adds the bits of `count` words to other words of the same block, and returns whether any was new.
 fn union_within(words: &mut [u64], to: usize, from: usize, count: usize) -> bool
     requires to { to + count ≤ length words.old }
     requires from { from + count ≤ length words.old }
@@ -337,7 +332,8 @@ fn union_within(words: &mut [u64], to: usize, from: usize, count: usize) -> bool
     ensures words { (k : ℕ) → k < count → slice_index words.new (to + k) ≡ bit_or (slice_index words.old (to + k)) (slice_index words.old (from + k)) }
     ensures others { (j : ℕ) → (to ≤ j → to + count ≤ j) → slice_index words.new j ≡ slice_index words.old j }
     ensures unchanged { result ≡ false → words.new ≡ words.old }
-    ensures changed { result ≡ true → (k : ℕ) × (k < to + count) × (slice_index words.new k < 2 ^ 64) × (slice_index words.old k < 2 ^ 64) × (slice_index words.new k ≡ slice_index words.old k → ⊥) }
+    ensures changed { result ≡ true → (k : ℕ) × (k < to + count) × (slice_index words.new k < 2 ^ 64) × (slice_index words.old k < 2 ^ 64) ×
+        (slice_index words.new k ≡ slice_index words.old k → ⊥) }
 {
     let mut changed = false;
     for k in 0..count {
@@ -349,7 +345,7 @@ fn union_within(words: &mut [u64], to: usize, from: usize, count: usize) -> bool
     changed
 }
 
-/// Adds the words of one block to another, without the bits of words of a third. Answers whether that changed any.
+/// Adds to `count` words of a block the bits of others that are not bits of `kills`, and returns whether any was new.
 fn union_within_without(
     words: &mut [u64],
     to: usize,
@@ -363,10 +359,12 @@ fn union_within_without(
     requires kill { kill + count ≤ length kills.now }
     requires apart { (k : ℕ) → k < count → (from + k < to → ⊥) → to + count ≤ from + k }
     ensures fits { (k : ℕ) → slice_index kills.now k < 2 ^ 64 }
-    ensures words { (k : ℕ) → k < count → slice_index words.new (to + k) ≡ bit_or (slice_index words.old (to + k)) (bit_and (slice_index words.old (from + k)) (bit_not w64 (slice_index kills.now (kill + k)))) }
+    ensures words { (k : ℕ) → k < count → slice_index words.new (to + k) ≡
+        bit_or (slice_index words.old (to + k)) (bit_and (slice_index words.old (from + k)) (bit_not w64 (slice_index kills.now (kill + k)))) }
     ensures others { (j : ℕ) → (to ≤ j → to + count ≤ j) → slice_index words.new j ≡ slice_index words.old j }
     ensures unchanged { result ≡ false → words.new ≡ words.old }
-    ensures changed { result ≡ true → (k : ℕ) × (k < to + count) × (slice_index words.new k < 2 ^ 64) × (slice_index words.old k < 2 ^ 64) × (slice_index words.new k ≡ slice_index words.old k → ⊥) }
+    ensures changed { result ≡ true → (k : ℕ) × (k < to + count) × (slice_index words.new k < 2 ^ 64) × (slice_index words.old k < 2 ^ 64) ×
+        (slice_index words.new k ≡ slice_index words.old k → ⊥) }
 {
     let mut changed = false;
     for k in 0..count {

@@ -1,9 +1,9 @@
-//! Runs of words, one bit for each number, the least in the lowest bit of the first word.
+//! Words as sets: one bit for each number, the least in the lowest bit of the first word.
 ghost use Rattle.std.specs.Prelude.{◌≡◌, ℕ, ◌+◌, ◌*◌, ◌^◌, ◌<◌, ◌≤◌, true, false, not, ◌||◌, ◌&&◌, nat_lt, length, MatchOption, slice_index, bit_or, bit_and};
 ghost use Rattle.std.specs.Int.{Width, w64, bit_not};
 ghost use Rattle.bc_flow.specs.Packed.{is_set, bit, IsNextBit};
 
-/// The first bit from `from` on that is set. All bits that are set are below `size`.
+/// Returns the first set bit from `from` on. All set bits are below `size`.
 pub(crate) fn next_bit(words: &[u64], size: usize, from: usize) -> Option<usize>
     requires { (i : ℕ) → bit words.now i ≡ true → i < size }
     ensures { MatchOption result ((i : ℕ) → from ≤ i → bit words.now i ≡ false) (λ next. IsNextBit words.now from next) }
@@ -17,7 +17,7 @@ pub(crate) fn next_bit(words: &[u64], size: usize, from: usize) -> Option<usize>
     Some(64 * index + word.trailing_zeros() as usize)
 }
 
-/// Adds the first `count` bits of `from`, which may have fewer or more words.
+/// Adds the first `count` bits of `from` to `into`. The two may differ in length.
 pub(crate) fn union_words_below(into: &mut [u64], from: &[u64], count: usize)
     requires { count ≤ 64 * length into.old }
     ensures { (i : ℕ) → bit into.new i ≡ (bit into.old i || (nat_lt i count && bit from.now i)) }
@@ -41,7 +41,7 @@ pub(crate) fn fill_below(words: &mut [u64], count: usize)
     }
 }
 
-/// A word whose first `count` bits are set, or all of them where there are no more.
+/// Returns a word whose first `count` bits are set, or all 64 if `count` is greater.
 fn first_bits(count: usize) -> u64
     ensures { (i : ℕ) → i < 64 → is_set result i ≡ nat_lt i count }
 {

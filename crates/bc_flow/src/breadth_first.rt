@@ -1,4 +1,4 @@
-//! The levels of a breadth-first search: how far each node of a graph is from the nearest of some sources.
+//! The levels of a breadth-first search: how far each node is from the nearest source.
 ghost use Rattle.std.specs.Prelude.{◌≡◌, ℕ, ◌<◌, [], length, slice_index, IfOk, OnOk};
 ghost use Rattle.std.specs.List.{All, Contains};
 ghost use Rattle.bc_flow.specs.Graph.{HasEdge, AreWithin};
@@ -10,9 +10,8 @@ use crate::graph::Edge;
 use std::alloc::{AllocError, Global};
 use std::mem;
 
-/// Returns the level of each node: 1 for the sources, one more for each edge on the shortest way from one of them, and 0 for a
-/// node to which no way leads. So the level is the number of nodes on the shortest way. It takes time in proportion to the nodes
-/// and the edges that leave those reached. Returns `AllocError` only where memory was refused.
+/// Returns the level of each node: the number of nodes on a shortest path to it from a source, or 0 if there is no path. A source has level
+/// 1. The time is proportional to the nodes and the edges that leave reached nodes.
 pub fn levels(
     alloc: Global,
     nodes: usize,
@@ -31,7 +30,7 @@ pub fn levels(
     Ok(levels)
 }
 
-/// Finds the level of each node, where none was reached before.
+/// Finds the level of each node. At the start all levels are 0.
 fn fill_levels(
     alloc: Global,
     levels: &mut [usize],
@@ -56,7 +55,7 @@ fn fill_levels(
     Ok(())
 }
 
-/// Gives the sources the first level, and lists them.
+/// Gives the unreached sources level 1, and returns them, each once.
 fn first_level(
     alloc: Global,
     levels: &mut [usize],
@@ -72,7 +71,7 @@ fn first_level(
     Ok(found)
 }
 
-/// Gives the nodes this level that edges lead to from the front and that were not reached before, and lists them and no others.
+/// Gives this level to the unreached nodes to which edges lead from the front, and lists exactly these in `found`.
 fn next_level(
     levels: &mut [usize],
     front: &[usize],
@@ -94,7 +93,7 @@ fn next_level(
     Ok(())
 }
 
-/// Gives the nodes this level that edges lead to from one, unless they were reached before, and lists them.
+/// Gives this level to the unreached nodes to which edges lead from `node`, and appends them to `found`.
 fn visit(
     levels: &mut [usize],
     found: &mut Vec<usize>,
@@ -117,7 +116,7 @@ fn visit(
     Ok(())
 }
 
-/// Gives a node its level, unless it was reached before, and lists it.
+/// Gives a node this level and appends it to `found`, unless it was reached before.
 fn reach(
     levels: &mut [usize],
     found: &mut Vec<usize>,

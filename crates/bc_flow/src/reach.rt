@@ -1,4 +1,4 @@
-//! One fact handed on from node to node.
+//! One fact, handed on from node to node.
 ghost use Rattle.std.specs.Prelude.{◌≡◌, ◌<◌, [], ◌∷◌, length, OnOk};
 ghost use Rattle.std.specs.List.{All};
 ghost use Rattle.bc_flow.specs.BitSet.{has};
@@ -10,33 +10,33 @@ ghost use Rattle.bc_flow.specs.Reach.{Spreads};
 use crate::adjacency::EdgeChains;
 use crate::bit_table::{BitRow, BitTable};
 use crate::graph::Edge;
+use crate::tables::Entry;
 use std::alloc::AllocError;
 
-/// Adds a fact to the set of each node to which an edge goes from `node` and that `allowed` has. Those that did not have it are
-/// appended to `pending`. Returns `AllocError` only where memory was refused.
+/// Adds the fact of `from` to the set of each node of `allowed` to which an edge leads from the node of `from`. Nodes that did not have it are appended to
+/// `pending`.
 pub fn spread(
     rows: &mut BitTable,
     pending: &mut Vec<usize>,
-    node: usize,
-    fact: usize,
+    from: Entry,
     edges: &[Edge],
     chains: &EdgeChains,
     allowed: &BitRow<'_>,
 ) -> Result<(), AllocError>
-    requires node { node < length rows.old }
-    requires fact { fact < length (row rows.old node) }
+    requires node { from.node < length rows.old }
+    requires fact { from.fact < length (row rows.old from.node) }
     requires edges { AreWithin edges.now (length rows.old) }
     requires chains { AreChains 0 (length rows.old) edges.now chains.now.first.items chains.now.next.items }
-    requires rows { HaveSize (length (row rows.old node)) rows.old }
+    requires rows { HaveSize (length (row rows.old from.node)) rows.old }
     requires pending { All (λ n. n < length rows.old) pending.old.items }
     ensures nodes { OnOk result (length rows.new ≡ length rows.old) }
-    ensures rows { OnOk result (HaveSize (length (row rows.old node)) rows.new) }
+    ensures rows { OnOk result (HaveSize (length (row rows.old from.node)) rows.new) }
     ensures pending { OnOk result (All (λ n. n < length rows.old) pending.new.items) }
-    ensures spreads { OnOk result (Spreads edges.now node fact (has allowed.now) rows.old rows.new pending.old.items pending.new.items) }
+    ensures spreads { OnOk result (Spreads edges.now from.node from.fact (has allowed.now) rows.old rows.new pending.old.items pending.new.items) }
 {
-    let mut at = chains.first[node];
+    let mut at = chains.first[from.node];
     while at < edges.len() {
-        enter(rows, pending, fact, edges[at], allowed)?;
+        enter(rows, pending, from.fact, edges[at], allowed)?;
         at = chains.next[at];
     }
     Ok(())

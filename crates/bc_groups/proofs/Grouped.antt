@@ -1,4 +1,4 @@
--- The facts that flow between groups of nodes are those that flow between the nodes.
+-- The same facts flow between groups of nodes as between the nodes.
 use Rattle.std.proofs.Common.{◌≡◌, ℕ, ◌+◌, ◌<◌, inl, inr, Bool, true, ◌||◌, List, [], map, length, get_or, refl, sym, ap, ◌∙◌, arith}
 use Rattle.std.specs.List.{All, range_with_len}
 use Rattle.std.proofs.lemmas.Bool.{cases_eq, cases_lt, both_ways, or_cases, or_left, or_right}
@@ -71,7 +71,7 @@ flow_by_groups edges seeds nodes groups group_of gathered rows within same group
       (flow.least (get_or group_of n 0) f (sym (holds_by rows group_of n f inside) ∙ h)) n (omega (arith, inside, grouped.count)) refl;
 }
 
--- a table whose rows have their own numbers
+-- a table whose rows are numbered in order
 pub rows_by_themselves : (rows : List (List Bool)) (row_of : List ℕ) → row_of ≡ range_with_len 0 (length rows) → rows_by rows row_of ≡ rows
 rows_by_themselves rows row_of is = ap (rows_by rows) is ∙ sym (fill_by_all (row rows) rows (length rows) [] refl (λ k h. refl))
 
@@ -81,14 +81,14 @@ rows_by_size facts seeds rows row_of sized kept same all =
     All-map (λ (set : List Bool). length set ≡ facts) (row rows) row_of
     (λ k d h. let inside = all k d h in kept (get_or row_of k d) [] inside ∙ sized 0 [] (omega (arith, inside, same)))
 
--- the edges between groups
+-- the edges between groups are within the groups
 pub group_edges_within : (edges : List Edge) (nodes groups : ℕ) (group_of : List ℕ) → AreWithin edges nodes → length group_of ≡ nodes → All (λ g. g < groups) group_of → AreWithin (map (group_edge group_of) edges) groups
 group_edges_within edges nodes groups group_of within count all =
     All-map (λ (e : Edge). (e.from < groups) × (e.to < groups)) (group_edge group_of) edges
     (All-weaker (λ (e : Edge). (e.from < nodes) × (e.to < nodes)) (λ (e : Edge). (get_or group_of e.from 0 < groups) × (get_or group_of e.to 0 < groups))
     (λ e h. (all e.from 0 (omega (arith, h.0, count)), all e.to 0 (omega (arith, h.1, count)))) edges within)
 
--- what one node more has
+-- one more node was gathered
 pub gathered_more : (rows gathered new : List (List Bool)) (group_of : List ℕ) (k : ℕ) → ((g : ℕ) → (g ≡ get_or group_of k 0 → ⊥) → row new g ≡ row gathered g) →
     ((f : ℕ) → holds new (get_or group_of k 0) f ≡ (holds gathered (get_or group_of k 0) f || holds rows k f)) → AreGathered k rows group_of gathered → AreGathered (k + 1) rows group_of new
 gathered_more rows gathered new group_of k others joined before g f =
@@ -115,7 +115,7 @@ gathered_more rows gathered new group_of k others joined before g f =
           )
     ]
 
--- a node and its label lead to each other
+-- a node and its label are reachable from each other
 pub mutual_with_label : (edges : List Edge) (before behind labels : List ℕ) (n : ℕ) → Leads edges (get_or before n 0) n → Leads edges n (get_or behind n 0) → IsAgreed before behind labels n →
     AreMutual edges n (get_or labels n 0)
 mutual_with_label edges before behind labels n ahead back agreed = elim agreed [

@@ -2,7 +2,7 @@
 use Rattle.std.specs.Prelude.{◌≡◌, ℕ, ◌<◌, ◌⊎◌, List, length, slice_index}
 use Rattle.bc_groups.specs.declared.components.Naming.{Naming}
 
--- a number is that of a label
+-- the label has this number
 abbrev pub IsNamed : List ℕ → ℕ → ℕ → Type 0
 IsNamed names number label = (number < length names) × (slice_index names number ≡ label)
 

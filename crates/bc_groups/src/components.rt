@@ -1,4 +1,4 @@
-//! Groups of nodes: from each node of a group edges lead to each other.
+//! Groups of nodes: within a group, each node is reachable from each other.
 ghost use Rattle.std.specs.Prelude.{◌≡◌, ℕ, ◌<◌, ◌≤◌, ◌⊎◌, List, length, IfOk, OnOk, slice_index};
 ghost use Rattle.std.specs.List.{All, Contains};
 ghost use Rattle.bc_flow.specs.Graph.{AreWithin, Leads};
@@ -11,18 +11,18 @@ ghost use Rattle.bc_groups.specs.Spread.{IsSpread, AreOpened, spread_work};
 use bc_flow::{Edge, EdgeChains, edge_chains, every_node, postorder, reversed};
 use std::alloc::{AllocError, Global};
 
-/// Nodes in groups: for each node the number of its group, and how many groups there are.
+/// The nodes of a graph in groups: the group of each node, and the number of groups.
 #[derive(Drop)]
 pub struct Grouping {
     pub group_of: Vec<usize>,
     pub groups: usize,
 }
 
-/// Returns the strong components of a graph: from each node of a group edges lead to each other node of it.
+/// Returns the strong components of a graph: within a group, each node is reachable from each other.
 ///
-/// The search is Kosaraju's: one in postorder and one back along the edges. A third search shows the groups: a node that it does
-/// not find again is in a group of its own. Groups are numbered along the edges between them, which only the time of a caller
-/// depends on. Returns `AllocError` only where memory was refused.
+/// This is Kosaraju's algorithm: a search that finds a postorder, and one back along the edges. A third search checks the groups: a node
+/// that it does not find again gets a group of its own. Groups are numbered along the edges between them; only the running time of a caller
+/// depends on that.
 pub fn strong_components(
     alloc: Global,
     nodes: usize,
@@ -38,7 +38,7 @@ pub fn strong_components(
     Ok(found)
 }
 
-/// For each node one that leads to it and to which it leads.
+/// Returns for each node a label: a node that is reachable from it and from which it is reachable.
 fn labels(
     alloc: Global,
     nodes: usize,
@@ -59,8 +59,8 @@ fn labels(
     Ok(labels)
 }
 
-// The first search after the order goes back along the edges, with all nodes in one class: it gives for each node one to which
-// edges lead from it.
+/// Returns for each node one that is reachable from it: the root from which a search back along the edges reached it. All nodes are in one
+/// class.
 fn nodes_behind(
     alloc: Global,
     nodes: usize,
@@ -79,8 +79,8 @@ fn nodes_behind(
     Ok(behind)
 }
 
-/// For each node one from which edges lead to it: the root from which a search came to it first, or itself. A search begins at
-/// each root that no earlier one came to, the last root first, and stays among the nodes of the root's class.
+/// Returns for each node one from which it is reachable: the root whose search reached it, or the node itself. Searches begin at the
+/// unreached roots, the last one first, and stay in the class of the root.
 fn owners(
     alloc: Global,
     edges: &[Edge],
@@ -108,7 +108,7 @@ fn owners(
     Ok(spread.into_owners())
 }
 
-/// A search: the nodes that were reached, for each node the root from which it was, and the nodes whose edges are still to be
+/// A search from one root after another: which nodes were reached, the root of each node, and the nodes whose edges are still to be
 /// followed.
 pub struct Spread {
     pub reached: Vec<bool>,
@@ -127,7 +127,7 @@ impl Drop for Spread {
 }
 
 impl Spread {
-    // The roots that were found, once the search is over.
+    /// Returns the root of each node, once the search is over.
     fn into_owners(self) -> Vec<usize>
         ensures { result ≡ self.owners }
     {
@@ -139,7 +139,7 @@ impl Spread {
         owners
     }
 
-    /// Reaches all that edges lead to from the root, unless it was reached before.
+    /// Searches from a root, unless it was reached before.
     fn begin(
         &mut self,
         root: usize,
@@ -162,7 +162,7 @@ impl Spread {
         Ok(())
     }
 
-    /// Reaches the nodes of the root's class to which an edge goes from the node.
+    /// Reaches the nodes of the root's class to which an edge leads from `node`.
     fn visit(
         &mut self,
         root: usize,
@@ -193,13 +193,14 @@ impl Spread {
         Ok(())
     }
 
-    /// Reaches a node, unless it was reached before.
+    /// Reaches a node from this root, unless it was reached before.
     fn reach(&mut self, root: usize, node: usize, classes: &[usize]) -> Result<(), AllocError>
         requires marks { length self.old.reached.items ≡ length classes.now }
         requires owner_count { length self.old.owners.items ≡ length classes.now }
         requires root { root < length classes.now }
         requires node { node < length classes.now }
-        ensures spread { OnOk result ((edges : List AnEdge) → Leads edges root node → IsSpread edges (length classes.now) self.old → IsSpread edges (length classes.now) self.new) }
+        ensures spread { OnOk result ((edges : List AnEdge) → Leads edges root node → IsSpread edges (length classes.now) self.old →
+            IsSpread edges (length classes.now) self.new) }
         ensures opened { OnOk result ((edges : List AnEdge) → Leads edges root node → AreOpened edges (length classes.now) root self.old.opened.items
             → AreOpened edges (length classes.now) root self.new.opened.items) }
         ensures work { OnOk result (spread_work self.new ≤ spread_work self.old) }
@@ -213,7 +214,7 @@ impl Spread {
     }
 }
 
-/// For each node the one that leads to it and to which it leads, where the two lists agree, and else itself.
+/// Returns for each node the label that both lists give it, or the node itself if they differ.
 fn agreed(alloc: Global, before: &[usize], behind: &[usize]) -> Result<Vec<usize>, AllocError>
     requires { length before.now ≡ length behind.now }
     ensures count { IfOk result (λ labels. length labels.items ≡ length before.now) }
@@ -231,7 +232,7 @@ fn agreed(alloc: Global, before: &[usize], behind: &[usize]) -> Result<Vec<usize
     Ok(labels)
 }
 
-/// Numbers the labels: nodes with one number have one label. The label of the last node in the order has number 0.
+/// Returns groups in which nodes with one number have one label. The label of the last node in the order has number 0.
 fn numbered(alloc: Global, labels: &[usize], order: &[usize]) -> Result<Grouping, AllocError>
     requires labels { All (λ n. n < length labels.now) labels.now }
     requires order { All (λ n. n < length labels.now) order.now }
@@ -259,7 +260,7 @@ fn numbered(alloc: Global, labels: &[usize], order: &[usize]) -> Result<Grouping
     })
 }
 
-/// For each label its number, where the count of labels stands for none, and the label of each number.
+/// The number of each label, or the count of labels if it has none, and the label of each number.
 #[derive(Drop)]
 pub struct Naming {
     pub numbers: Vec<usize>,
@@ -267,7 +268,7 @@ pub struct Naming {
 }
 
 impl Naming {
-    /// The number of a label: a new one, where it has none.
+    /// Returns the number of a label. A label without one gets the next.
     fn number(&mut self, label: usize) -> Result<usize, AllocError>
         requires label { label < length self.old.numbers.items }
         requires naming { IsNaming self.old }

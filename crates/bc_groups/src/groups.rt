@@ -1,4 +1,4 @@
-//! A graph with one node for each group of nodes.
+//! The graph that has one node for each group of nodes.
 ghost use Rattle.std.specs.Prelude.{◌≡◌, ◌<◌, ℕ, map, length, IfOk};
 ghost use Rattle.std.specs.List.{All};
 ghost use Rattle.bc_flow.specs.Graph.{AreWithin};
@@ -8,8 +8,7 @@ ghost use Rattle.bc_groups.specs.Groups.{group_edge, AreGathered};
 use bc_flow::{BitTable, Edge};
 use std::alloc::{AllocError, Global};
 
-/// Returns each edge between nodes as one between their groups, in the same order. Returns `AllocError` only where memory was
-/// refused.
+/// Returns for each edge the one between the groups of its nodes, in the same order.
 pub fn group_edges(
     alloc: Global,
     edges: &[Edge],
@@ -28,7 +27,7 @@ pub fn group_edges(
     Ok(condensed)
 }
 
-/// Returns for each group the set of all facts of its nodes. Returns `AllocError` only where memory was refused.
+/// Returns for each group the set of all facts of its nodes.
 pub fn gathered(
     alloc: Global,
     rows: &BitTable,

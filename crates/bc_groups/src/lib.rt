@@ -1,4 +1,4 @@
-//! Groups of the nodes of a graph: the strong components, and the graph between them.
+//! Groups of the nodes of a graph: strong components, and the graph between them.
 #![tactic(auto)]
 
 mod components;

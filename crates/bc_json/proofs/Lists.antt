@@ -17,7 +17,7 @@ items_no_float [] (t ∷ ts) h = absurd h
 items_no_float (v ∷ vs) [] h = absurd h
 items_no_float (v ∷ vs) (t ∷ ts) h = no_float _ _ h.0.0 (items_no_float vs ts h.1)
 
--- the values behind the first
+-- the values after the first
 later_text : (values : List Value) (texts : List (List ℕ)) → AllZip HasText values texts → items_text true (items_view values) ≡ flat_map (λ later. codes "," ++ later) texts ++ 93 ∷ []
 later_text [] [] h = refl
 later_text [] (t ∷ ts) h = absurd h
@@ -49,7 +49,7 @@ push_text [] (t ∷ ts) value text h new = absurd h
 push_text (v ∷ vs) [] value text h new = absurd h
 push_text (v ∷ vs) (t ∷ ts) value text h new = (h.0, push_text vs ts value text h.1 new)
 
--- one more value, of the next item
+-- one more value, that of the next item
 pub one_more : {X : Type 0} (f : X → List ℕ) (xs : List X) (i : ℕ) (d : X) (values : List Value) (value : Value) → i < length xs → AllZip HasText values (map f (take i xs)) → HasText value (f (get_or xs i d)) → AllZip HasText (values ++ value ∷ []) (map f (take (i + 1) xs))
 one_more f xs i d values value lt h new =
     subst (AllZip HasText (values ++ value ∷ [])) (sym (map_more f xs i d lt)) (push_text values (map f (take i xs)) value (f (get_or xs i d)) h new)

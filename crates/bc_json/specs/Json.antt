@@ -1,4 +1,4 @@
--- The JSON form of an outcome: each object compact, its keys in byte order.
+-- An outcome as JSON: each object is compact, its keys in byte order.
 use Rattle.std.specs.Prelude.{ℕ, List, ◌++◌, map, decimal, codes}
 use Rattle.json.specs.Print.{quoted}
 use Rattle.bc_syntax.specs.declared.syntax.Region.{Region}
@@ -42,7 +42,7 @@ outcome_json (Ill name place) =
     codes "{\"at\":" ++ quoted (place_text place) ++ codes ",\"kind\":\"ill\",\"name\":" ++ quoted (name_text name) ++ codes "}"
 outcome_json (Report bodies) = codes "{\"bodies\":" ++ array_text (map body_json bodies) ++ codes ",\"kind\":\"report\"}"
 
--- the line of a root that was asked, without its line feed
+-- the line of a root that was asked for, without its line feed
 abbrev pub json_line : NameParts → Outcome → List ℕ
 json_line name outcome =
     codes "{\"ask\":" ++ quoted (name_text name) ++ codes ",\"outcome\":" ++ outcome_json outcome ++ codes "}"

@@ -11,7 +11,7 @@ use bc_syntax::Region;
 use serde_json::{Map, Value, put};
 use std::alloc::{AllocError, Global};
 
-/// The value of a region.
+/// Returns the value of a region: a string such as `"'?1"`.
 fn region_value(alloc: Global, region: Region) -> Result<Value, AllocError>
     ensures { IfOk result (λ value. HasText value (region_json region)) }
 {
@@ -20,7 +20,7 @@ fn region_value(alloc: Global, region: Region) -> Result<Value, AllocError>
     Ok(Value::String(word))
 }
 
-/// The array of the regions of a chain, in order.
+/// Returns the array of the regions of a chain, in order.
 fn chain_value(alloc: Global, chain: &[Region]) -> Result<Value, AllocError>
     ensures { IfOk result (λ value. HasText value (chain_json chain.now)) }
 {
@@ -31,7 +31,7 @@ fn chain_value(alloc: Global, chain: &[Region]) -> Result<Value, AllocError>
     Ok(Value::Array(words))
 }
 
-/// The value of a conflict.
+/// Returns the object of a conflict.
 fn conflict_value(
     alloc: Global,
     at: Point,
@@ -51,7 +51,7 @@ fn conflict_value(
     Ok(Value::Object(members))
 }
 
-/// The value of a lifetime error.
+/// Returns the object of a lifetime error.
 fn lifetime_value(
     alloc: Global,
     longer: u8,
@@ -69,7 +69,7 @@ fn lifetime_value(
     Ok(Value::Object(members))
 }
 
-/// The value of an error.
+/// Returns the object of an error.
 fn error_value(alloc: Global, error: &BorrowError) -> Result<Value, AllocError>
     ensures { IfOk result (λ value. HasText value (error_json error.now)) }
 {
@@ -88,7 +88,7 @@ fn error_value(alloc: Global, error: &BorrowError) -> Result<Value, AllocError>
     }
 }
 
-/// The array of errors, in order.
+/// Returns the array of errors, in order.
 pub(crate) fn errors_value(alloc: Global, errors: &[BorrowError]) -> Result<Value, AllocError>
     ensures { IfOk result (λ value. HasText value (array_text (map error_json errors.now))) }
 {

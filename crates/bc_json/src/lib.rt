@@ -1,4 +1,4 @@
-//! The JSON form of an outcome.
+//! An outcome as JSON.
 #![tactic(auto)]
 
 mod errors;

@@ -11,7 +11,7 @@ use bc_names::Name;
 use serde_json::{Map, ToValue, Value, put};
 use std::alloc::{AllocError, Global};
 
-/// Puts a string into an object, under a key. Returns `AllocError` only where memory was refused. (RFC 8259 for the text of JSON.)
+/// Puts a string into an object, under a key. (RFC 8259 for the text of JSON.)
 pub fn put_string(
     members: &mut Map<String, Value>,
     alloc: Global,
@@ -25,8 +25,7 @@ pub fn put_string(
     put(members, alloc, key, value)
 }
 
-/// Puts the name of a body into an object, under a key. Returns `AllocError` only where memory was refused. (RFC 8259 for the text of
-/// JSON.)
+/// Puts the name of a body into an object, under a key. (RFC 8259 for the text of JSON.)
 pub fn put_name(
     members: &mut Map<String, Value>,
     alloc: Global,
@@ -40,7 +39,7 @@ pub fn put_name(
     put(members, alloc, key, Value::String(text))
 }
 
-/// Puts a point, as it is printed, into an object.
+/// Puts a point, such as `bb0[2]`, into an object, under a key.
 pub(crate) fn put_point(
     members: &mut Map<String, Value>,
     alloc: Global,
@@ -54,7 +53,7 @@ pub(crate) fn put_point(
     put(members, alloc, key, Value::String(text))
 }
 
-/// Puts a number into an object, under a key. Returns `AllocError` only where memory was refused. (RFC 8259 for the text of JSON.)
+/// Puts a number into an object, under a key. (RFC 8259 for the text of JSON.)
 pub fn put_number(
     members: &mut Map<String, Value>,
     alloc: Global,
@@ -68,7 +67,7 @@ pub fn put_number(
     put(members, alloc, key, value)
 }
 
-/// Puts the place of a misfit, as it is printed, into an object.
+/// Puts the place of a misfit, `header` or a point, into an object, under a key.
 pub(crate) fn put_place(
     members: &mut Map<String, Value>,
     alloc: Global,

@@ -12,7 +12,7 @@ use bc_prov::{BodyErrors, Outcome};
 use serde_json::{Map, Value, put};
 use std::alloc::{AllocError, Global};
 
-/// The value of a body.
+/// Returns the object of a body: its name and its errors.
 fn body_value(alloc: Global, body: &BodyErrors) -> Result<Value, AllocError>
     ensures { IfOk result (λ value. HasText value (body_json body.now)) }
 {
@@ -23,7 +23,7 @@ fn body_value(alloc: Global, body: &BodyErrors) -> Result<Value, AllocError>
     Ok(Value::Object(members))
 }
 
-/// The array of bodies, in order.
+/// Returns the array of bodies, in order.
 fn bodies_value(alloc: Global, bodies: &[BodyErrors]) -> Result<Value, AllocError>
     ensures { IfOk result (λ value. HasText value (array_text (map body_json bodies.now))) }
 {
@@ -34,7 +34,7 @@ fn bodies_value(alloc: Global, bodies: &[BodyErrors]) -> Result<Value, AllocErro
     Ok(Value::Array(values))
 }
 
-/// The value of the outcome that no body is held.
+/// Returns the object of the outcome that nothing is stored under the name.
 fn no_body_value(alloc: Global) -> Result<Value, AllocError>
     ensures { IfOk result (λ value. HasText value (outcome_json NoBody)) }
 {
@@ -43,7 +43,7 @@ fn no_body_value(alloc: Global) -> Result<Value, AllocError>
     Ok(Value::Object(members))
 }
 
-/// The value of a child that is not held.
+/// Returns the object of a closure that is not stored.
 fn missing_value(alloc: Global, name: &Name) -> Result<Value, AllocError>
     ensures { IfOk result (λ value. HasText value (outcome_json (Missing name.now))) }
 {
@@ -53,7 +53,7 @@ fn missing_value(alloc: Global, name: &Name) -> Result<Value, AllocError>
     Ok(Value::Object(members))
 }
 
-/// The value of a bad declaration.
+/// Returns the object of a bad declaration.
 fn bad_types_value(alloc: Global, index: usize) -> Result<Value, AllocError>
     ensures { IfOk result (λ value. HasText value (outcome_json (BadTypes index))) }
 {
@@ -63,7 +63,7 @@ fn bad_types_value(alloc: Global, index: usize) -> Result<Value, AllocError>
     Ok(Value::Object(members))
 }
 
-/// The value of a unit that breaks a typing rule.
+/// Returns the object of a body that breaks a typing rule.
 fn ill_value(alloc: Global, name: &Name, place: &Where) -> Result<Value, AllocError>
     ensures { IfOk result (λ value. HasText value (outcome_json (Ill name.now place.now))) }
 {
@@ -74,7 +74,7 @@ fn ill_value(alloc: Global, name: &Name, place: &Where) -> Result<Value, AllocEr
     Ok(Value::Object(members))
 }
 
-/// The value of a report.
+/// Returns the object of a report.
 fn report_value(alloc: Global, bodies: &[BodyErrors]) -> Result<Value, AllocError>
     ensures { IfOk result (λ value. HasText value (outcome_json (Report bodies.now))) }
 {
@@ -85,8 +85,8 @@ fn report_value(alloc: Global, bodies: &[BodyErrors]) -> Result<Value, AllocErro
     Ok(Value::Object(members))
 }
 
-/// Returns the JSON value of an outcome, the object that `json_report` writes behind `"outcome":`. It has no float, and its compact
-/// text is exactly these bytes. Returns `AllocError` only where memory was refused. (RFC 8259 for the text of JSON.)
+/// Returns the JSON value of an outcome: the object that `json_report` writes after `"outcome":`. It has no float, and its compact text is
+/// exactly these bytes. (RFC 8259 for the text of JSON.)
 pub fn outcome_value(alloc: Global, outcome: &Outcome) -> Result<Value, AllocError>
     ensures { IfOk result (λ value. HasText value (outcome_json outcome.now)) }
 {

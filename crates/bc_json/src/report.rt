@@ -1,4 +1,4 @@
-//! The line of an outcome.
+//! The line of a root and its outcome.
 ghost use Rattle.std.specs.Prelude.{◌≡◌, IfOk, string_bytes};
 ghost use Rattle.bc_json.specs.Json.{json_line};
 ghost use Rattle.bc_json.specs.Texts.{HasText};
@@ -10,7 +10,7 @@ use bc_prov::Outcome;
 use serde_json::{Map, Value, put};
 use std::alloc::{AllocError, Global};
 
-/// The value of a root's name and its outcome.
+/// Returns the object of a root's name and its outcome.
 fn line_value(alloc: Global, name: &Name, outcome: &Outcome) -> Result<Value, AllocError>
     ensures { IfOk result (λ value. HasText value (json_line name.now outcome.now)) }
 {
@@ -21,9 +21,8 @@ fn line_value(alloc: Global, name: &Name, outcome: &Outcome) -> Result<Value, Al
     Ok(Value::Object(members))
 }
 
-/// Returns the JSON of what was found of the root of this name, as one line without its line feed: compact, the keys of each
-/// object in byte order, and exactly these bytes. Returns `AllocError` only where memory was refused. (RFC 8259 for the text of
-/// JSON.)
+/// Returns the outcome of the root of this name as one line of JSON, without its line feed. It is compact, and the keys of each object are
+/// in byte order. (RFC 8259 for the text of JSON.)
 pub fn json_report(alloc: Global, name: &Name, outcome: &Outcome) -> Result<String, AllocError>
     ensures { IfOk result (λ line. string_bytes line ≡ json_line name.now outcome.now) }
 {

@@ -1,4 +1,4 @@
--- What flows from the shorter regions of clauses, and of what types demand, to the longer ones is what is known.
+-- What is known flows from the shorter regions of clauses, and of what types demand, to the longer ones.
 use Rattle.std.proofs.Common.{◌≡◌, ℕ, ◌<◌, ◌⊎◌, inl, inr, Bool, true, List, [], ◌∷◌, ◌++◌, map, refl, sym, ap, subst, arith}
 use Rattle.std.specs.Prelude.{nat_lt}
 use Rattle.std.specs.List.{Contains, flat_map, range_with_len, list_all}
@@ -115,7 +115,7 @@ flows_below : (edges : List Edge) (count : ℕ) (seeds : List (List Bool)) → H
 flows_below edges count seeds listed b a (begins n h) = (from_first count (entry n b) ((listed n b).0 h)).0
 flows_below edges count seeds listed b a (goes_on m n before edge alive) = flows_below edges count seeds listed b m before
 
--- what is known hands on what the shorter region outlives
+-- what the shorter region outlives flows along what is known
 handed_on : (mir : Mir) (count : ℕ) (seeds after : List (List Bool)) → HaveEntries seeds (first count) → IsFlow (known_edges mir) seeds [] after →
     (a b : ℕ) → IsKnown mir a b → (c : ℕ) → holds after b c ≡ true → holds after a c ≡ true
 handed_on mir count seeds after listed flow a b (same k) c h = h

@@ -50,7 +50,7 @@ pub failures_have_ends : (mir : Mir) (facts : RegionFacts) (values : List (List 
 failures_have_ends mir facts values known are tells f there =
     in_value facts values are f.longer (end_of mir f.shorter) (from_lifetimes mir (holds values) known tells f there).0.has_end
 
--- a function that tells chains explains what values have
+-- a function that gives chains explains what values have
 pub explains_values : (facts : RegionFacts) (values : List (List Bool)) (chain : ChainTo) → AreValues facts values → TellsChains facts chain →
     (r e : ℕ) → holds values r e ≡ true → Explains facts r e (chain r e)
 explains_values facts values chain are tells r e has = tells r e (in_value facts values are r e has)

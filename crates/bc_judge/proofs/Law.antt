@@ -201,12 +201,12 @@ from_lifetimes mir value known tells f h =
     let kept = from_filter (is_lifetime_error mir) (failures_of mir value known) f h in
     (from_failures mir value known tells f kept.0, not-true (is_required mir f) kept.1)
 
--- the point of a conflict is in the value of the loan's region where each loan in scope has it there
+-- the point of a conflict is in the value of the loan's region, if each loan in scope has it there
 abbrev pub IsWithin : Mir → ScopeTest → ValueTest → Type 0
 IsWithin mir in_scope value =
     (point number : ℕ) (made : ℕ × Loan) → in_scope point number ≡ true → slice_get (loans_of mir) number ≡ Some made → value (region_number mir.universals made.1.region) point ≡ true
 
--- for each region and element there is one explanation at most
+-- each element of each region has at most one explanation
 abbrev pub IsOne : (ℕ → ℕ → List Region → Type 0) → Type 0
 IsOne Explains = (r e : ℕ) (chain other : List Region) → Explains r e chain → Explains r e other → chain ≡ other
 

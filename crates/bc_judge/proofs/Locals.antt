@@ -59,7 +59,7 @@ are_candidates mir access loans rows have reached at l made is conflicts =
     let here : holds rows (row_number access.kind access.place.local) l ≡ true = subst (λ (k : ℕ). holds rows (row_number access.kind k) l ≡ true) same there in
     subst (λ (n : ℕ). holds rows n l ≡ true) (sym at) here
 
--- an access conflicts with no other
+-- an access conflicts with no other loan
 pub no_conflict : (mir : Mir) (access : Access) (loans : List (ℕ × Loan)) (among : List Bool) → AreCandidates mir access loans among → (l : ℕ) (made : ℕ × Loan) → slice_get loans l ≡ Some made →
     has among l ≡ false → is_conflict mir access made.1 ≡ false
 no_conflict mir access loans among are l made is none =
@@ -97,13 +97,13 @@ this_entered old new at fact small written row_is =
     let entry : Entry = record { node = at; fact = fact } in
     (entered old new entry small written row_is).here at fact refl refl
 
--- a shared loan, in the row of writes
+-- a shared loan, in the row for writes
 pub shared_added : (rows : List (List Bool)) (local number writes : ℕ) → writes ≡ row_number Write local → holds rows writes number ≡ true →
     (kind : AccessKind) → one_writes kind Shared ≡ true → holds rows (row_number kind local) number ≡ true
 shared_added rows local number writes at there Write _ = subst (λ (n : ℕ). holds rows n number ≡ true) at there
 shared_added rows local number writes at there Read only_reads = absurd (both_ways false refl only_reads)
 
--- a mutable one, in both
+-- a mutable loan, in both rows
 pub mutable_added : (rows : List (List Bool)) (local number writes reads : ℕ) → writes ≡ row_number Write local → reads ≡ row_number Read local → holds rows writes number ≡ true → holds rows reads number ≡ true →
     (kind : AccessKind) → holds rows (row_number kind local) number ≡ true
 mutable_added rows local number writes reads at_writes at_reads written read Write = subst (λ (n : ℕ). holds rows n number ≡ true) at_writes written

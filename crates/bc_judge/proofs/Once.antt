@@ -22,7 +22,7 @@ same_test true t f g = sym (f refl)
 same_test false true f g = g refl
 same_test false false f g = refl
 
--- lists that are gathered over the same numbers, where what each number gives is the same
+-- lists that are gathered over the same numbers are the same if each number gives the same
 gathered : {A : Type 0} (f g : ℕ → List A) (start len : ℕ) → ((x : ℕ) → x < start + len → f x ≡ g x) → flat_map f (range_with_len start len) ≡ flat_map g (range_with_len start len)
 gathered f g start zero same = refl
 gathered f g start (suc len) same =
@@ -72,7 +72,7 @@ module _ (mir : Mir) (Explains : ℕ → ℕ → List Region → Type 0) (in_sco
       let failure = from_lifetimes mir value known tells f there in
       ap (variants.Lifetime f.longer f.shorter) (chain_same f.longer (end_of mir f.shorter) failure.0.has_end))
 
--- the errors, where each loan in scope has the point in its region's value, and an element has one explanation
+-- the errors, if each loan in scope has the point in its region's value, and an element has one explanation
 pub errors_once : (mir : Mir) (Explains : ℕ → ℕ → List Region → Type 0) (in_scope : ScopeTest) (value : ValueTest) (xs ys : List BorrowError) → IsWithin mir in_scope value → IsOne Explains →
     AreErrors mir Explains in_scope value xs → AreErrors mir Explains in_scope value ys → xs ≡ ys
 errors_once mir Explains in_scope value xs ys within one a b =

@@ -62,7 +62,7 @@ access-end mir among set point access loans items whole from are none before =
     walk-end (conflict_with mir (has set) point access) loans items whole from
     (λ i other low there. passed_over mir among set point access loans are i other there (none i low)) before
 
--- an access whose row is not there has no conflict
+-- an access whose row is missing has no conflict
 pub no_candidates : (mir : Mir) (set : List Bool) (point : ℕ) (access : ℕ × Access) (rows : List (List Bool)) (reached : ℕ) → reached ≡ row_number access.1.kind access.1.place.local → HaveCandidates (loans_of mir) rows →
     ((l : ℕ) → holds rows reached l ≡ false) → conflicts_of_access mir (has set) point access ≡ []
 no_candidates mir set point access rows reached at have none =

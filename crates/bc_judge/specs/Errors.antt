@@ -20,11 +20,11 @@ use Rattle.bc_judge.specs.declared.conflicts.Conflict.{Conflict}
 use Rattle.bc_judge.specs.Conflicts.{ScopeTest, is_relevant_at, conflicts_of}
 use Rattle.bc_judge.specs.Lifetimes.{IsKnown, TellsKnown, ValueTest, end_of, is_required, lifetimes_of, requirements_of}
 
--- a point, by its number, as it is printed
+-- the point of a number, by its block and its index there
 abbrev pub point_of : List Step → ℕ → Point
 point_of steps p = option_map_or (λ (step : Step). step.point) (slice_get steps p) (record { block = 0; index = 0 })
 
--- what explains why an element is in the value of a region: of the region's number and the element's
+-- the regions that explain why an element is in the value of a region, by the region's number and the element's
 abbrev pub ChainTo : Type 0
 ChainTo = ℕ → ℕ → List Region
 
@@ -49,7 +49,8 @@ abbrev pub errors_of : Mir → ScopeTest → ValueTest → (ℕ → ℕ → Bool
 errors_of mir in_scope value known chain =
     map (conflict_error mir chain) (conflicts_of mir in_scope) ++ map (lifetime_error mir chain) (lifetimes_of mir value known)
 
--- these are the errors, in order, where `Explains` tells which regions explain why an element is in the value of a region
+-- These are the errors of the body, in order. Each has the regions that explain why its element is in the value of its region; `Explains`
+-- says which regions explain that.
 pub record AreErrors (mir : Mir) (Explains : ℕ → ℕ → List Region → Type 0) (in_scope : ScopeTest) (value : ValueTest) (errors : List BorrowError) : Type 0 where
   pub known : ℕ → ℕ → Bool
   pub decides : TellsKnown mir known
@@ -57,15 +58,14 @@ pub record AreErrors (mir : Mir) (Explains : ℕ → ℕ → List Region → Typ
   pub explains : (region element : ℕ) → value region element ≡ true → Explains region element (chain region element)
   pub listed : errors ≡ errors_of mir in_scope value known chain
 
--- these are the requirements, in order
+-- these are the requirements of the body, in order
 pub record AreRequirements (mir : Mir) (value : ValueTest) (requirements : Requirements) : Type 0 where
   pub known : ℕ → ℕ → Bool
   pub decides : TellsKnown mir known
   pub listed : requirements.pairs ≡ requirements_of mir value known
 
--- a conflict: a point, one of its accesses, and a loan in scope on entry to it, with the point that makes the loan.
--- The access reaches the loan's path, it writes or the loan is mutable, and the chain explains why the point is in the value of
--- the loan's region
+-- A conflict: a point, one of its accesses, and a loan in scope on entry to it, with the point that makes the loan. The access is relevant
+-- to the loan, the access writes or the loan is mutable, and the chain explains why the point is in the value of the loan's region.
 pub record IsConflict (mir : Mir) (Explains : ℕ → ℕ → List Region → Type 0) (in_scope : ScopeTest) (at : Point) (number : ℕ) (loan_at : Point) (chain : List Region) : Type 0 where
   pub point : ℕ
   pub step : Step
@@ -85,8 +85,8 @@ pub record IsConflict (mir : Mir) (Explains : ℕ → ℕ → List Region → Ty
   pub relevant : is_relevant_at mir access.depth access.place loan.path ≡ true
   pub explained : Explains (region_number mir.universals loan.region) point chain
 
--- a failure: two universal regions, of which the value of the first has the end of the second, and the first is not
--- known to outlive the second
+-- a failure: two universal regions, such that the end of the second is in the value of the first, and the first is not known to outlive the
+-- second
 pub record IsFailure (mir : Mir) (value : ValueTest) (longer shorter : ℕ) : Type 0 where
   pub longer_declared : longer < mir.universals
   pub shorter_declared : shorter < mir.universals

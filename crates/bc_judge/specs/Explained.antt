@@ -1,4 +1,4 @@
--- What chains are asked for: the elements that explain conflicts and failures are in the values of their regions.
+-- What chains explain: the elements of conflicts and failures are in the values of their regions.
 use Rattle.std.specs.Prelude.{ℕ, List}
 use Rattle.std.specs.List.{Contains}
 use Rattle.bc_syntax.specs.declared.syntax.Outlives.{Outlives}
@@ -18,9 +18,10 @@ IsInside mir facts conflict = IsInValue (holds facts.starts) facts.pairs (region
 abbrev pub HasEnd : Mir → RegionFacts → Outlives → Type 0
 HasEnd mir facts failure = IsInValue (holds facts.starts) facts.pairs failure.longer (end_of mir failure.shorter)
 
--- so it is for each of these
+-- the point of each of these is in the value of its region
 abbrev pub AreInside : Mir → RegionFacts → List Conflict → Type 0
 AreInside mir facts conflicts = (c : Conflict) → Contains conflicts c → IsInside mir facts c
 
+-- the end of the shorter region of each failure is in the value of the longer
 abbrev pub HaveEnds : Mir → RegionFacts → List Outlives → Type 0
 HaveEnds mir facts failures = (f : Outlives) → Contains failures f → HasEnd mir facts f

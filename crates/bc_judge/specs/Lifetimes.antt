@@ -1,4 +1,4 @@
--- What is known of universal regions, and what fails.
+-- Which universal region is known to outlive which, and which failures there are.
 use Rattle.std.specs.Prelude.{◌≡◌, ℕ, ◌+◌, ◌<◌, ◌↔◌, Bool, true, false, ◌&&◌, not, if◌then◌else◌, List, [], ◌∷◌, length, filter}
 use Rattle.std.specs.List.{flat_map, Contains, range_with_len}
 use Rattle.bc_syntax.specs.declared.syntax.Outlives.{Outlives}
@@ -10,8 +10,9 @@ use Rattle.bc_bodies.specs.Mir.{Mir}
 use Rattle.bc_mir.specs.WellFormed.{implied_pairs}
 use Rattle.bc_types.specs.Subtype.{outlives}
 
--- a is known to outlive b: the least reflexive and transitive relation with the `where` clauses, and with what the types of
--- the captures and the parameters demand to be well-formed, in which 'static outlives all
+-- a is known to outlive b: the least relation that is reflexive and transitive, in which 'static outlives all, and that has the `where`
+-- clauses and what the types of the captures and the parameters demand to be well-formed (RFC 2094, "Named lifetimes"; RFC 1214, "implied
+-- bounds")
 pub data IsKnown (mir : Mir) : ℕ → ℕ → Type 0 where
   same : (a : ℕ) → IsKnown mir a a
   static : (b : ℕ) → IsKnown mir 0 b
@@ -19,16 +20,16 @@ pub data IsKnown (mir : Mir) : ℕ → ℕ → Type 0 where
   implied : (a b : ℕ) → Contains (implied_pairs mir) (outlives (Universal a) (Universal b)) → IsKnown mir a b
   join : (a b c : ℕ) → IsKnown mir a b → IsKnown mir b c → IsKnown mir a c
 
--- a test tells what is known of a body's universal regions
+-- a test is true of two universal regions of a body exactly if the first is known to outlive the second
 abbrev pub TellsKnown : Mir → (ℕ → ℕ → Bool) → Type 0
 TellsKnown mir known =
     (a b : ℕ) → a < mir.universals → b < mir.universals → (known a b ≡ true) ↔ IsKnown mir a b
 
--- whether an element is in the value of a region: of the region's number and the element's
+-- a test of whether an element is in the value of a region, by the region's number and the element's
 abbrev pub ValueTest : Type 0
 ValueTest = ℕ → ℕ → Bool
 
--- the element end(u) of a universal region; the points come before all ends
+-- the number of the element end(u) of a universal region; the points come before all ends
 abbrev pub end_of : Mir → ℕ → ℕ
 end_of mir u = length mir.steps + u
 
@@ -37,30 +38,31 @@ abbrev pub failure_of : Mir → ValueTest → (ℕ → ℕ → Bool) → ℕ →
 failure_of mir value known a b =
     if value a (end_of mir b) && not (known a b) then record { longer = a; shorter = b } ∷ [] else []
 
--- the failures of a region, by the shorter one
+-- the failures in which this region is the longer one, by the shorter
 abbrev pub failures_from : Mir → ValueTest → (ℕ → ℕ → Bool) → ℕ → List Outlives
 failures_from mir value known a = flat_map (failure_of mir value known a) (range_with_len 0 mir.universals)
 
--- the failures of a body, by the longer region
+-- the failures of a body, by the longer region and then by the shorter (RFC 2094, "Named lifetimes")
 abbrev pub failures_of : Mir → ValueTest → (ℕ → ℕ → Bool) → List Outlives
 failures_of mir value known = flat_map (failures_from mir value known) (range_with_len 0 mir.universals)
 
--- in a closure a failure between external regions and `'static` alone is a requirement, in a function none is
+-- in a closure, a failure between external regions and `'static` alone is a requirement; in a function, none is
 abbrev pub is_required_in : UnitKind → List ℕ → Outlives → Bool
 is_required_in Function externals failure = false
 is_required_in Closure externals failure = may_go_up externals failure
 
+-- the failure is a requirement: the body's creator has to meet it
 abbrev pub is_required : Mir → Outlives → Bool
 is_required mir failure = is_required_in mir.kind mir.externals failure
 
--- any other failure is an error
+-- the failure is an error, since it is no requirement
 abbrev pub is_lifetime_error : Mir → Outlives → Bool
 is_lifetime_error mir failure = not (is_required mir failure)
 
--- the failures of a body that are errors, by the longer region
+-- the lifetime errors of a body, in the order of the failures: the failures that are not requirements
 abbrev pub lifetimes_of : Mir → ValueTest → (ℕ → ℕ → Bool) → List Outlives
 lifetimes_of mir value known = filter (is_lifetime_error mir) (failures_of mir value known)
 
--- what a body requires of its creator, by the longer region
+-- what a body requires of its creator, in the order of the failures (rustc-dev-guide, "Propagating closure constraints")
 abbrev pub requirements_of : Mir → ValueTest → (ℕ → ℕ → Bool) → List Outlives
 requirements_of mir value known = filter (is_required mir) (failures_of mir value known)

@@ -1,4 +1,4 @@
-//! Rows of the loans that an access may conflict with, one for each kind of access and each local.
+//! Rows of the loans that an access may conflict with: one for each kind of access and each local.
 ghost use Rattle.std.specs.Prelude.{◌≡◌, ◌+◌, ◌*◌, ◌<◌, ◌≤◌, ℕ, true, false, length, IfOk, MatchOption};
 ghost use Rattle.std.specs.List.{All};
 ghost use Rattle.bc_flow.specs.Flow.{row, holds};
@@ -11,7 +11,7 @@ use bc_points::{AccessKind, Loan};
 use bc_syntax::Mutability;
 use std::alloc::{AllocError, Global};
 
-/// The number of the row for accesses of a kind to a local: two rows for each number that a byte has.
+/// Returns the number of the row for accesses of a kind to a local: even for reads, odd for writes.
 pub(crate) fn row_number(kind: AccessKind, local: u8) -> usize
     ensures number { result ≡ number_of kind local }
     ensures below { result < 512 }
@@ -34,7 +34,7 @@ fn add(rows: &mut BitTable, at: usize, loan: usize)
     let _added = rows.insert(at, loan);
 }
 
-/// Adds a loan to the rows of its path's local: to that for writes, and if it is mutable to that for reads too.
+/// Adds a loan to the rows of its path's local: to the one for writes and, if it is mutable, to the one for reads.
 fn add_loan(rows: &mut BitTable, number: usize, loan: &Loan<'_>)
     requires local { 2 * loan.now.path.local + 1 < length rows.old }
     requires number { (n : ℕ) → n < length rows.old → number < length (row rows.old n) }
@@ -53,7 +53,7 @@ fn add_loan(rows: &mut BitTable, number: usize, loan: &Loan<'_>)
     }
 }
 
-/// How many rows reach the last with a loan in it: 0 without loans.
+/// Returns the number of rows up to the last with a loan, or 0 without loans.
 fn rows_bound(loans: &[(usize, Loan<'_>)]) -> usize
     ensures { All (λ (made : ℕ × LoanValue). 2 * made.1.path.local + 1 < result) loans.now }
 {
@@ -64,8 +64,8 @@ fn rows_bound(loans: &[(usize, Loan<'_>)]) -> usize
     bound
 }
 
-/// For each kind of access and each local, by `row_number`, a row that has every loan with which such an access conflicts. There are no
-/// rows past the last with a loan in it.
+/// Returns a row for each kind of access and each local, by `row_number`. It has every loan with which such an access conflicts. No row
+/// follows the last that has a loan.
 pub(crate) fn candidate_rows(
     alloc: Global,
     loans: &[(usize, Loan<'_>)],
@@ -79,7 +79,7 @@ pub(crate) fn candidate_rows(
     Ok(rows)
 }
 
-/// The least number that is `from` or greater and in both rows.
+/// Returns the least number from `from` on that is in both rows.
 pub(crate) fn next_in_both(one: &BitRow<'_>, other: &BitRow<'_>, from: usize) -> Option<usize>
     ensures { MatchOption result ((i : ℕ) → from ≤ i → both_have one.now other.now i ≡ false) (λ number. IsNextInBoth one.now other.now from number) }
 {

@@ -16,8 +16,8 @@ use bc_points::{Access, Loan, push_accesses};
 use bc_syntax::Region;
 use std::alloc::{AllocError, Global};
 
-/// An access that a loan in scope makes illegal: the numbers of its point, of the access among the point's accesses, and of the point
-/// that makes the loan, with the loan's region.
+/// An access that a loan in scope makes illegal: the numbers of its point, of the access there, and of the point that makes the loan, with
+/// the loan's region.
 #[derive(Clone, Copy)]
 pub(crate) struct Conflict {
     pub(crate) point: usize,
@@ -37,7 +37,7 @@ struct BodyLoans<'a> {
     ghost candidates: { HaveCandidates loans.now rows },
 }
 
-/// An access, with the number of its point and its own among the accesses of that point.
+/// An access, with the number of its point and its number among the accesses of the point.
 #[derive(Clone, Copy)]
 struct PointAccess<'a> {
     point: usize,
@@ -45,7 +45,7 @@ struct PointAccess<'a> {
     access: &'a Access<'a>,
 }
 
-/// Appends the conflict of an access with a loan that is in scope, if they conflict. Returns `AllocError` only if memory was refused.
+/// Appends the conflict of an access with a loan in scope, if they conflict.
 fn push_conflict(
     conflicts: &mut Vec<Conflict>,
     typed: &Typed,
@@ -54,7 +54,8 @@ fn push_conflict(
     loan: &Loan<'_>,
 ) -> Result<(), AllocError>
     ensures { OnOk result ((scope : ℕ → Bool) (n : ℕ) → scope n ≡ true →
-        conflicts.new.items ≡ conflicts.old.items ++ conflict_with typed.now scope here.entry.point (here.entry.number, here.entry.access.now) (n, (maker, loan.now))) }
+        conflicts.new.items
+        ≡ conflicts.old.items ++ conflict_with typed.now scope here.entry.point (here.entry.number, here.entry.access.now) (n, (maker, loan.now))) }
 {
     if is_conflict(typed, here.access, loan) {
         conflicts.push(Conflict {
@@ -68,7 +69,7 @@ fn push_conflict(
 }
 
 impl<'a> BodyLoans<'a> {
-    /// Returns a body with its loans. Returns `AllocError` only if memory was refused.
+    /// Returns a body with its loans.
     fn of(
         alloc: Global,
         typed: &'a Typed,
@@ -81,8 +82,7 @@ impl<'a> BodyLoans<'a> {
         Ok(BodyLoans { typed, loans, rows })
     }
 
-    /// Appends the conflicts of an access with those of its candidates that `scope` has, which are in scope on entry to its point. Returns
-    /// `AllocError` only if memory was refused.
+    /// Appends the conflicts of an access with those of its candidates that are in `scope`: the loans in scope on entry to its point.
     fn push_candidates(
         &self,
         conflicts: &mut Vec<Conflict>,
@@ -105,8 +105,7 @@ impl<'a> BodyLoans<'a> {
         Ok(())
     }
 
-    /// Appends the conflicts of an access with the loans of `scope`, which are in scope on entry to its point. Returns `AllocError` only if
-    /// memory was refused.
+    /// Appends the conflicts of an access with the loans in `scope`: those in scope on entry to its point.
     fn push_access(
         &self,
         conflicts: &mut Vec<Conflict>,
@@ -124,7 +123,7 @@ impl<'a> BodyLoans<'a> {
         }
     }
 
-    /// Appends the conflicts of the accesses of a point. Returns `AllocError` only if memory was refused.
+    /// Appends the conflicts of the accesses of a point with the loans in `scope`.
     fn push_conflicts(
         &self,
         conflicts: &mut Vec<Conflict>,
@@ -146,8 +145,8 @@ impl<'a> BodyLoans<'a> {
         Ok(())
     }
 
-    /// Appends the conflicts of a numbered point with the loans of `scope`, which are in scope on entry to it. `accesses` is a list to be
-    /// filled anew. Returns `AllocError` only if memory was refused.
+    /// Appends the conflicts of a numbered point with the loans in `scope`: those in scope on entry to it. `accesses` is a buffer, which is
+    /// cleared before use.
     fn push_step<'s>(
         &self,
         alloc: Global,
@@ -166,8 +165,7 @@ impl<'a> BodyLoans<'a> {
         self.push_conflicts(conflicts, scope, here.0, accesses)
     }
 
-    /// Appends the conflicts of a numbered point, where `scopes` has for each point the loans that are in scope on entry to it. Returns
-    /// `AllocError` only if memory was refused.
+    /// Appends the conflicts of a numbered point. `scopes` has for each point the loans in scope on entry to it.
     fn push_point<'s>(
         &self,
         alloc: Global,
@@ -176,7 +174,8 @@ impl<'a> BodyLoans<'a> {
         scopes: &BitTable,
         here: (usize, &'s Step),
     ) -> Result<(), AllocError>
-        ensures { OnOk result (conflicts.new.items ≡ conflicts.old.items ++ conflicts_of_step self.now.typed.now (holds scopes.now) (here.entry.0, here.entry.1.now)) }
+        ensures { OnOk result (conflicts.new.items ≡
+            conflicts.old.items ++ conflicts_of_step self.now.typed.now (holds scopes.now) (here.entry.0, here.entry.1.now)) }
     {
         match scopes.get(here.0) {
             Some(scope) => self.push_step(alloc, conflicts, accesses, &scope, here),
@@ -185,8 +184,7 @@ impl<'a> BodyLoans<'a> {
     }
 }
 
-/// Returns the conflicts of a body in order, where `scopes` has for each point the loans that are in scope on entry to it. Returns `AllocError`
-/// only if memory was refused.
+/// Returns the conflicts of a body, in order. `scopes` has for each point the loans in scope on entry to it.
 pub(crate) fn conflicts(
     alloc: Global,
     typed: &Typed,

@@ -5,17 +5,15 @@ ghost use Rattle.bc_judge.specs.Errors.{chain_of};
 use bc_mir::Point;
 use bc_syntax::{Region, Sequence};
 
-/// An error of a body.
+/// An error of a body: a conflict of an access with a loan, or a lifetime error.
 ///
-/// `Conflict`: the access of this number, counted from 0, among the accesses of the point `at` is illegal, since the loan that
-/// the point `loan` makes is in scope there (RFC 2094, "Borrow checker phase 2"). `Lifetime`: the universal region
-/// `longer` must outlive `shorter`, and is not known to (RFC 2094, "Named lifetimes"). Both are numbers of
-/// universal regions, where 0 is `'static`.
+/// `Conflict`: access number `access`, counted from 0, of the point `at` is illegal, because the loan that the point `loan` makes is in
+/// scope there (RFC 2094, "Borrow checker phase 2"). `Lifetime`: the universal region `longer` must outlive `shorter`, and is not known to
+/// (RFC 2094, "Named lifetimes"). Both are numbers, and 0 is `'static`.
 ///
-/// `chain` explains the error: each of its regions must outlive the next. It begins with the loan's region and ends with one that
-/// is live at the point, or begins with the longer region and ends with one that has the end of the shorter from the start. It is
-/// the first of the shortest such lists. (rustc-dev-guide, "Region inference (NLL)", on the constraints that errors are
-/// explained by.)
+/// `chain` explains the error: each of its regions must outlive the next. It leads from the loan's region to one that has the point of its
+/// own, or from `longer` to one that has the end of `shorter` of its own, and not because it must outlive another. It is the first of the
+/// shortest such lists. (rustc-dev-guide, "Region inference (NLL)", on the constraints that errors are explained by.)
 #[derive(PartialEq)]
 pub enum BorrowError {
     Conflict {
@@ -50,7 +48,7 @@ impl Drop for BorrowError {
 }
 
 impl BorrowError {
-    /// The chain that explains the error.
+    /// Returns the chain that explains the error.
     pub fn chain(&self) -> &[Region]
         ensures { result.now ≡ chain_of self.now }
     {

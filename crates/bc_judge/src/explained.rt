@@ -19,7 +19,7 @@ use bc_solve::Explainer;
 use bc_syntax::{Outlives, Sequence};
 use std::alloc::{AllocError, Global};
 
-/// A point, by its number, as it is printed. For a number that is no point's the answer is of no use.
+/// Returns the point of a number, as it is printed, or `bb0[0]` if there is no such point.
 fn printed(steps: &[Step], point: usize) -> Point
     ensures { result ≡ point_of steps.now point }
 {
@@ -116,7 +116,7 @@ fn push_lifetime_errors(
     Ok(())
 }
 
-/// The errors of conflicts, and then those of failures, in order. Where there are none, nothing is done.
+/// Returns the errors of conflicts, and then those of failures, in order. If there are none, it makes no explainer.
 fn explained(
     alloc: Global,
     typed: &Typed,
@@ -139,8 +139,8 @@ fn explained(
     Ok(errors)
 }
 
-/// The errors of a body, each with the chain that explains it: those of its conflicts with the loans that `scopes` has in scope, and then
-/// those of the failures that its creator is not to meet.
+/// Returns the errors of a body, each with the chain that explains it: those of its conflicts with the loans in `scopes`, and then those of
+/// the failures that are no requirements.
 pub(crate) fn errors_over(
     alloc: Global,
     typed: &Typed,

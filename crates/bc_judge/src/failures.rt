@@ -1,4 +1,4 @@
-//! What of a body's universal regions fails (RFC 2094, "Named lifetimes": errors of universal regions).
+//! Universal regions that must outlive others and are not known to (RFC 2094, "Named lifetimes": errors of universal regions).
 ghost use Rattle.std.specs.Prelude.{◌≡◌, ◌++◌, IfOk, OnOk};
 ghost use Rattle.bc_flow.specs.Flow.{holds};
 ghost use Rattle.bc_judge.specs.Lifetimes.{end_of, failure_of, failures_from, failures_of};
@@ -9,7 +9,7 @@ use bc_solve::Values;
 use bc_syntax::Outlives;
 use std::alloc::{AllocError, Global};
 
-/// Whether the value of a universal region has the end of another.
+/// Returns whether the value of a universal region has the end of another.
 fn has_end(typed: &Typed, values: &Values, longer: u8, shorter: u8) -> bool
     ensures { result ≡ holds values.now longer (end_of typed.now shorter) }
 {
@@ -56,7 +56,7 @@ fn push_failures(
     Ok(())
 }
 
-/// The failures of a body in order, where `values` has the elements of each region.
+/// Returns the failures of a body in order, given the values of regions and the known relations.
 pub(crate) fn failures(
     alloc: Global,
     typed: &Typed,

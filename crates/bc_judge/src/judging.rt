@@ -1,4 +1,4 @@
-//! The verdict on a body over its values and scopes.
+//! The verdict on a body, given values and scopes.
 ghost use Rattle.std.specs.Prelude.{◌↔◌, IfOk};
 ghost use Rattle.std.specs.List.{Contains};
 ghost use Rattle.bc_flow.specs.Flow.{holds};
@@ -17,12 +17,12 @@ use bc_mir::Typed;
 use bc_solve::Values;
 use std::alloc::{AllocError, Global};
 
-/// The verdict on a body: all its errors, and all that it requires of its creator, each once and in order. The errors are the
-/// conflicts by point, access and loan, and then the lifetime errors by longer and shorter region, each with the chain that
-/// explains it. The requirements come by longer and shorter region. In a function each failure is a lifetime error. In a closure
-/// one between external regions and `'static` alone is a requirement, and any other an error. It asks that the values are those
-/// of the facts, and the scopes those of the values. Answers `AllocError` only where memory was refused. (RFC 2094, "Borrow
-/// checker phase 2" and "Named lifetimes"; rustc-dev-guide, "Propagating closure constraints".)
+/// Returns the verdict on a body: all its errors, and all that it requires of its creator, each once and in order. The errors are the
+/// conflicts by point, access and loan, and then the lifetime errors by longer and shorter region, each with the chain that explains it.
+/// The requirements are ordered by longer and shorter region. In a function, each failure is a lifetime error. In a closure, a failure
+/// between external regions and `'static` alone is a requirement, and any other is an error. The values must be those of the facts, and the
+/// scopes those of the values. (RFC 2094, "Borrow checker phase 2" and "Named lifetimes"; rustc-dev-guide, "Propagating closure
+/// constraints".)
 pub fn judge(
     alloc: Global,
     typed: &Typed,
@@ -33,10 +33,11 @@ pub fn judge(
     requires values { AreValues facts.now values.now }
     requires scopes { AreScopes typed.now values.now scopes.now }
     ensures errors { IfOk result (λ verdict. AreErrors typed.now (Explains facts.now) (holds scopes.now) (holds values.now) verdict.errors) }
-    // An error stands in the list exactly where it is a conflict or a failure that is no requirement.
-    ensures error { IfOk result (λ verdict. (e : AnError) → Contains verdict.errors e ↔ IsError typed.now (Explains facts.now) (holds scopes.now) (holds values.now) e) }
+    // The list has an error exactly if it is a conflict, or a failure that is no requirement.
+    ensures error { IfOk result (λ verdict. (e : AnError) → Contains verdict.errors e ↔
+        IsError typed.now (Explains facts.now) (holds scopes.now) (holds values.now) e) }
     ensures requirements { IfOk result (λ verdict. AreRequirements typed.now (holds values.now) verdict.requirements) }
-    // A pair is required exactly where it is a failure of a closure between its external regions and `'static` alone.
+    // A pair is required exactly if it is a failure of a closure between its external regions and `'static` alone.
     ensures requirement { IfOk result (λ verdict. (r : Outlives) → Contains verdict.requirements.pairs r ↔ IsRequirement typed.now (holds values.now) r) }
     ensures external { IfOk result (λ verdict. MayGoUp typed.now.externals verdict.requirements) }
 {

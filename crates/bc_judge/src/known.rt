@@ -1,4 +1,4 @@
-//! The relations between universal regions that a body may count on.
+//! What a body knows of its universal regions: which outlive which.
 ghost use Rattle.std.specs.Prelude.{◌≡◌, ◌≤◌, ◌++◌, [], length, map, IfOk, OnOk};
 ghost use Rattle.std.specs.List.{flat_map, range_with_len};
 ghost use Rattle.bc_flow.specs.Flow.{row, holds, HaveSize, IsFlow};
@@ -12,8 +12,8 @@ use bc_syntax::{Outlives, Region};
 use std::alloc::{AllocError, Global};
 use std::marker::Model;
 
-/// For each universal region those that it is known to outlive. Contracts see a row of regions for each region.
-/// (RFC 2094, "Named lifetimes".)
+/// For each universal region, those that it is known to outlive. Contracts see a row of regions for each region. (RFC 2094, "Named
+/// lifetimes".)
 #[derive(Drop)]
 pub struct KnownRelations {
     rows: BitTable,
@@ -28,8 +28,8 @@ impl Model for KnownRelations {
 }
 
 impl KnownRelations {
-    /// Whether the first region is known to outlive the second, both by number. A number that is none of the body's
-    /// universal regions gives false. It takes no memory.
+    /// Returns whether the first region is known to outlive the second, both by number. Returns false if the body has no such universal
+    /// region.
     pub fn contains(&self, longer: usize, shorter: usize) -> bool
         ensures { result ≡ holds self.now longer shorter }
     {
@@ -37,7 +37,7 @@ impl KnownRelations {
     }
 }
 
-/// The edges of clauses: what a region outlives is handed on from the shorter region of each clause to the longer one.
+/// Returns the edges of clauses, along which known relations flow: from the shorter region of each clause to the longer one.
 fn clause_edges(alloc: Global, clauses: &[Outlives]) -> Result<Vec<Edge>, AllocError>
     ensures { IfOk result (λ edges. edges.items ≡ map edge_of clauses.now) }
 {
@@ -50,7 +50,7 @@ fn clause_edges(alloc: Global, clauses: &[Outlives]) -> Result<Vec<Edge>, AllocE
         .collect(alloc)
 }
 
-/// Appends the edge of a pair, from the shorter region to the longer one, or none where one of the two is a variable.
+/// Appends the edge of a pair, from the shorter region to the longer one, or none if one of them is a variable.
 fn push_edges_between(
     edges: &mut Vec<Edge>,
     longer: Region,
@@ -83,8 +83,8 @@ fn push_pair_edges(edges: &mut Vec<Edge>, pairs: &[Constraint]) -> Result<(), Al
     Ok(())
 }
 
-/// The edges along which known relations are handed on: those of the clauses, and those of the pairs that the types of
-/// the captures and the parameters demand.
+/// Returns the edges along which known relations flow: those of the clauses, and those of the pairs that the types of the captures and the
+/// parameters demand.
 fn known_edges(alloc: Global, typed: &Typed) -> Result<Vec<Edge>, AllocError>
     ensures value { IfOk result (λ edges. edges.items ≡ edges_known typed.now) }
     ensures within { IfOk result (λ edges. AreWithin edges.items typed.now.universals) }
@@ -95,7 +95,7 @@ fn known_edges(alloc: Global, typed: &Typed) -> Result<Vec<Edge>, AllocError>
     Ok(edges)
 }
 
-/// Appends that a region outlives itself, and that `'static`, which is number 0, outlives it.
+/// Appends that a region outlives itself, and that `'static` (0) outlives it.
 fn push_entries(entries: &mut Vec<Entry>, region: usize) -> Result<(), AllocError>
     ensures { OnOk result (entries.new.items ≡ entries.old.items ++ entries_of region) }
 {
@@ -110,7 +110,7 @@ fn push_entries(entries: &mut Vec<Entry>, region: usize) -> Result<(), AllocErro
     Ok(())
 }
 
-/// The entries of all universal regions, in order: each region outlives itself, and `'static` outlives it.
+/// Returns the entries of all universal regions, in order: each region outlives itself, and `'static` outlives it.
 fn first_entries(alloc: Global, universals: usize) -> Result<Vec<Entry>, AllocError>
     ensures { IfOk result (λ entries. entries.items ≡ flat_map entries_of (range_with_len 0 universals)) }
 {
@@ -121,7 +121,7 @@ fn first_entries(alloc: Global, universals: usize) -> Result<Vec<Entry>, AllocEr
     Ok(entries)
 }
 
-/// The least relations that have the seeds and are handed on along the edges: no region holds any of them up.
+/// Returns the least relations that have the seeds and are closed along the edges, if no region kills any.
 fn handed_on(alloc: Global, edges: &[Edge], seeds: BitTable) -> Result<BitTable, AllocError>
     requires edges { AreWithin edges.now (length seeds) }
     requires rows { HaveSize (length (row seeds 0)) seeds }
@@ -134,10 +134,9 @@ fn handed_on(alloc: Global, edges: &[Edge], seeds: BitTable) -> Result<BitTable,
     flow(alloc, edges, seeds, &no_kills, pending)
 }
 
-/// The relations between universal regions that a body may count on. They are the reflexive and transitive closure of its
-/// `where` clauses, of what the types of its captures and parameters demand to be well-formed, and of `'static` outliving
-/// all. Answers `AllocError` only where memory was refused. (RFC 2094, "Named lifetimes": the universal regions and their
-/// declared relations; RFC 1214, "implied bounds".)
+/// Returns what a body knows of its universal regions: the reflexive and transitive closure of its `where` clauses, of what the types of
+/// its captures and parameters demand to be well-formed, and of `'static` outliving all. (RFC 2094, "Named lifetimes": the universal
+/// regions and their declared relations; RFC 1214, "implied bounds".)
 pub fn known_relations(alloc: Global, typed: &Typed) -> Result<KnownRelations, AllocError>
     ensures tells { IfOk result (λ known. TellsKnown typed.now (holds known)) }
     ensures regions { IfOk result (λ known. length known ≡ typed.now.universals) }

@@ -1,5 +1,5 @@
-//! The errors of a body: accesses that conflict with loans in scope, and universal regions that must outlive others
-//! with no known reason to (RFC 2094, "Borrow checker phase 2" and "Named lifetimes").
+//! The errors of a body: accesses that conflict with loans in scope, and universal regions that must outlive others and are not known to
+//! (RFC 2094, "Borrow checker phase 2" and "Named lifetimes").
 #![tactic(auto)]
 
 mod candidates;

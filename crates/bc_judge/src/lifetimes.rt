@@ -16,21 +16,21 @@ fn is_among(externals: &[usize], number: usize) -> bool
     externals.iter().any(|external| *external == number)
 }
 
-/// Whether a number is that of `'static` or among these.
+/// Returns whether a region is `'static` (0) or one of these.
 fn is_static_or(externals: &[usize], number: u8) -> bool
     ensures { result ≡ static_or externals.now number }
 {
     number == 0 || is_among(externals, usize::from(number))
 }
 
-/// Whether a pair is between these regions and `'static` alone.
+/// Returns whether a pair is between these regions and `'static` alone.
 fn may_go_up(externals: &[usize], pair: Outlives) -> bool
     ensures { result ≡ goes_up externals.now pair }
 {
     is_static_or(externals, pair.longer) && is_static_or(externals, pair.shorter)
 }
 
-/// Whether a failure is a requirement of a unit of this kind with these external regions.
+/// Returns whether a failure is a requirement of a unit of this kind with these external regions.
 fn is_required_in(kind: UnitKind, externals: &[usize], failure: Outlives) -> bool
     ensures { result ≡ required_in kind externals.now failure }
 {
@@ -40,14 +40,14 @@ fn is_required_in(kind: UnitKind, externals: &[usize], failure: Outlives) -> boo
     }
 }
 
-/// Whether a failure is a requirement of a body.
+/// Returns whether a failure is a requirement of a body.
 fn is_required(typed: &Typed, failure: Outlives) -> bool
     ensures { result ≡ required typed.now failure }
 {
     is_required_in(typed.kind(), typed.externals(), failure)
 }
 
-/// The failures that are errors, in order.
+/// Returns the failures that are errors, in order.
 pub(crate) fn lifetimes(
     alloc: Global,
     typed: &Typed,
@@ -64,7 +64,7 @@ pub(crate) fn lifetimes(
     Ok(lifetimes)
 }
 
-/// The failures that are requirements, in order.
+/// Returns the failures that are requirements, in order.
 pub(crate) fn requirements(
     alloc: Global,
     typed: &Typed,

@@ -6,7 +6,7 @@ use crate::error::BorrowError;
 use bc_syntax::Region;
 use std::fmt;
 
-/// The error as a report has it, without the two spaces before it and the line feed behind it.
+/// Writes an error as in a report, without the two spaces before it and the line feed after it.
 impl fmt::Display for BorrowError {
     ghost output = { λ error. Some (error_text error) };
 
@@ -27,7 +27,7 @@ impl fmt::Display for BorrowError {
     }
 }
 
-/// A region as a chain has it: a universal one by its number, a variable as `'?N`.
+/// A region as a chain prints it: a universal one by its number, a variable as `'?N`.
 #[derive(Clone, Copy)]
 pub struct PrintedRegion {
     pub region: Region,
@@ -44,7 +44,7 @@ impl fmt::Display for PrintedRegion {
     }
 }
 
-/// A chain as a report has it, without the four spaces before it and the line feed behind it.
+/// A chain as a report prints it, without the four spaces before it and the line feed after it.
 #[derive(Clone, Copy)]
 pub struct PrintedChain<'a> {
     pub regions: &'a [Region],

@@ -7,8 +7,8 @@ use bc_points::{
     Access, AccessKind, Depth, Loan, PlaceRef, is_prefix, is_shallow_prefix, supports,
 };
 
-/// Whether an access to a place reaches a loan of a path: the path is a prefix of the place, or the place is a
-/// prefix of the path, which must be shallow for a shallow access and supporting for a deep one.
+/// Returns whether an access to a place is relevant to a loan of a path: the path is a prefix of the place, or the place is a shallow
+/// prefix of the path for a shallow access, and a supporting one for a deep access.
 fn is_relevant(typed: &Typed, depth: Depth, place: &PlaceRef<'_>, path: &PlaceRef<'_>) -> bool
     ensures { result ≡ is_relevant_at typed.now depth place.now path.now }
 {
@@ -24,8 +24,7 @@ fn is_write(kind: AccessKind) -> bool
     matches!(kind, AccessKind::Write)
 }
 
-/// Whether an access conflicts with a loan that is in scope: it reaches the loan's path, and the access writes or
-/// the loan is mutable.
+/// Returns whether an access conflicts with a loan in scope: it is relevant to the loan, and the access writes or the loan is mutable.
 pub(crate) fn is_conflict(typed: &Typed, access: &Access<'_>, loan: &Loan<'_>) -> bool
     ensures { result ≡ conflict_test typed.now access.now loan.now }
 {

@@ -1,4 +1,4 @@
-//! What is found of a body.
+//! The verdict on a body.
 ghost use Rattle.std.specs.Prelude.{◌↔◌, IfOk};
 ghost use Rattle.std.specs.List.{Contains};
 ghost use Rattle.bc_flow.specs.Flow.{holds};
@@ -22,17 +22,16 @@ use bc_solve::Values;
 use bc_syntax::Sequence;
 use std::alloc::{AllocError, Global};
 
-/// What is found of a body: its errors in order, and the relations between its external regions that its creator
-/// has to meet. (RFC 2094, "Borrow checker phase 2" and "Named lifetimes"; rustc-dev-guide, "Propagating closure constraints".)
+/// The verdict on a body: its errors in order, and the relations between its external regions that its creator has to meet. (RFC 2094,
+/// "Borrow checker phase 2" and "Named lifetimes"; rustc-dev-guide, "Propagating closure constraints".)
 #[derive(Drop)]
 pub struct Verdict {
     pub errors: Sequence<BorrowError>,
     pub requirements: Requirements,
 }
 
-/// The verdict on a body, over the values and scopes that are handed in: `values` has for each region the elements
-/// of its value, the points before the ends, and `scopes` has for each point the loans in scope on entry to it, each
-/// by its place among all loans. It asks that the values are those of the facts, and the scopes those of the values.
+/// Returns the verdict on a body. `values` has for each region the elements of its value, the points before the ends, and must be the
+/// values of the facts. `scopes` has for each point the loans in scope on entry to it, by number, and must be the scopes of the values.
 pub(crate) fn verdict_over(
     alloc: Global,
     typed: &Typed,
@@ -43,7 +42,8 @@ pub(crate) fn verdict_over(
     requires values { AreValues facts.now values.now }
     requires scopes { AreScopes typed.now values.now scopes.now }
     ensures errors { IfOk result (λ verdict. AreErrors typed.now (Explains facts.now) (holds scopes.now) (holds values.now) verdict.errors) }
-    ensures error { IfOk result (λ verdict. (e : AnError) → Contains verdict.errors e ↔ IsError typed.now (Explains facts.now) (holds scopes.now) (holds values.now) e) }
+    ensures error { IfOk result (λ verdict. (e : AnError) → Contains verdict.errors e ↔
+        IsError typed.now (Explains facts.now) (holds scopes.now) (holds values.now) e) }
     ensures requirements { IfOk result (λ verdict. AreRequirements typed.now (holds values.now) verdict.requirements) }
     ensures requirement { IfOk result (λ verdict. (r : Outlives) → Contains verdict.requirements.pairs r ↔ IsRequirement typed.now (holds values.now) r) }
     ensures external { IfOk result (λ verdict. MayGoUp typed.now.externals verdict.requirements) }

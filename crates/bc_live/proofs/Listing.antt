@@ -16,7 +16,7 @@ use Rattle.bc_live.specs.Entries.{entries_at, listed, use_entries, definition_en
 abbrev pub entries_by : (Instruction → List ℕ) → List Step → List Entry
 entries_by g steps = flat_map (λ (here : ℕ × Step). entries_at here.0 (g here.1.instruction)) (enumerate_from 0 steps)
 
--- a local that a point has
+-- the point has the local
 abbrev pub HasAt : (Instruction → List ℕ) → List Step → ℕ → ℕ → Type 0
 HasAt g steps p l = (step : Step) × (slice_get steps p ≡ Some step) × Contains (g step.instruction) l
 

@@ -57,7 +57,7 @@ sets_are_live mir seeds kills after uses definitions flow =
     } in
     flow_is_live mir seeds kills after tables flow
 
--- the same of the table turned round
+-- the transposed table has the same entries
 pub rows_are_live : (mir : Mir) (after rows : List (List Bool)) → ((p l : ℕ) → holds rows l p ≡ holds after p l) → ((l p : ℕ) → (holds after p l ≡ true) ↔ IsLive mir l p) →
     (l p : ℕ) → (holds rows l p ≡ true) ↔ IsLive mir l p
 rows_are_live mir after rows turned_rows live l p = (λ h. (live l p).0 (sym (turned_rows p l) ∙ h), λ h. turned_rows p l ∙ (live l p).1 h)

@@ -1,4 +1,4 @@
--- What fits uses and defines locals of its unit alone.
+-- What fits uses and defines only locals of its unit.
 use Rattle.std.proofs.Common.{◌≡◌, ℕ, zero, suc, ◌<◌, ◌≤◌, inl, inr, Bool, true, false, cond, Some, None, List, [], ◌∷◌, ◌++◌, length, get_or, arith}
 use Rattle.std.specs.Prelude.{slice_get}
 use Rattle.std.specs.List.{Contains, flat_map, list_all}
@@ -24,7 +24,7 @@ use Rattle.bc_flow.proofs.Membership.{Contains-nil, Contains-one}
 use Rattle.bc_live.specs.Entries.{listed, use_entries, definition_entries}
 use Rattle.bc_live.proofs.Listing.{entries_by, from_entries}
 
--- each local of the list is one of so many
+-- each local of the list is below this number
 abbrev Below : ℕ → List ℕ → Type 0
 Below count locals = (l : ℕ) → Contains locals l → l < count
 

@@ -5,7 +5,8 @@ use Rattle.bc_flow.specs.Graph.{IsPath}
 use Rattle.bc_bodies.specs.Mir.{Mir, edges_of}
 use Rattle.bc_points.specs.Points.{Uses, Defines}
 
--- a path from the point ends in a point that uses the local, and no earlier point of that path defines it
+-- the local is live on entry to the point: a path from the point ends in a point that uses the local, and no earlier point of that path
+-- defines it (RFC 2094, "Liveness")
 pub record IsLive (mir : Mir) (local point : ℕ) : Type 0 where
   pub earlier : List ℕ
   pub last : ℕ

@@ -36,7 +36,7 @@ fn push_listed(entries: &mut Vec<Entry>, point: usize, local: Option<u8>) -> Res
     }
 }
 
-/// Returns what each point uses, as entries of points and locals. Returns `AllocError` only where memory was refused.
+/// Returns what each point uses, as entries of points and locals.
 pub fn use_entries(alloc: Global, typed: &Typed) -> Result<Vec<Entry>, AllocError>
     ensures { IfOk result (λ entries. entries.items ≡ uses_of_points typed.now) }
 {
@@ -50,7 +50,7 @@ pub fn use_entries(alloc: Global, typed: &Typed) -> Result<Vec<Entry>, AllocErro
     Ok(entries)
 }
 
-/// Returns what each point defines, as entries of points and locals. Returns `AllocError` only where memory was refused.
+/// Returns what each point defines, as entries of points and locals.
 pub fn definition_entries(alloc: Global, typed: &Typed) -> Result<Vec<Entry>, AllocError>
     ensures { IfOk result (λ entries. entries.items ≡ definitions_of_points typed.now) }
 {

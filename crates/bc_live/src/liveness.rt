@@ -12,8 +12,7 @@ use bc_mir::Typed;
 use std::alloc::{AllocError, Global};
 use std::marker::Model;
 
-/// For each local the points on whose entry it is live. Contracts see a row of points for each local.
-/// (RFC 2094, "Liveness".)
+/// For each local, the points on entry to which it is live. Contracts see a row of points for each local. (RFC 2094, "Liveness".)
 #[derive(Drop)]
 pub struct LiveSets {
     rows: BitTable,
@@ -28,15 +27,14 @@ impl Model for LiveSets {
 }
 
 impl LiveSets {
-    /// Returns whether a local is live on entry to a point, both by number. For a number that is none of the unit's locals or
-    /// points it is false. It takes no memory.
+    /// Returns whether a local is live on entry to a point, both by number. Returns false if the unit has no such local or point.
     pub fn live(&self, local: usize, point: usize) -> bool
         ensures { result ≡ holds self.now local point }
     {
         self.rows.holds(local, point)
     }
 
-    /// Returns the points on whose entry each local is live: one set for each local, in order.
+    /// Returns a set for each local, in order: the points on entry to which it is live.
     pub fn rows(&self) -> &BitTable
         ensures { result.now ≡ self.now }
     {
@@ -44,8 +42,8 @@ impl LiveSets {
     }
 }
 
-/// Returns the points on whose entry each local is live: a path from there leads to a use, and no point before it on that path
-/// defines the local. Returns `AllocError` only where memory was refused. (RFC 2094, "Liveness".)
+/// Returns the points on entry to which each local is live: a path from the point leads to a use of the local, and no earlier point of that
+/// path defines it. (RFC 2094, "Liveness".)
 pub fn live(alloc: Global, typed: &Typed) -> Result<LiveSets, AllocError>
     ensures locals { IfOk result (λ sets. length sets ≡ length typed.now.locals) }
     ensures points { IfOk result (λ sets. HaveSize (length typed.now.steps) sets) }
@@ -56,7 +54,7 @@ pub fn live(alloc: Global, typed: &Typed) -> Result<LiveSets, AllocError>
     Ok(LiveSets { rows })
 }
 
-/// The locals that are live on entry to each point.
+/// Returns the locals that are live on entry to each point.
 fn live_by_point(alloc: Global, typed: &Typed) -> Result<BitTable, AllocError>
     ensures points { IfOk result (λ rows. length rows ≡ length typed.now.steps) }
     ensures locals { IfOk result (λ rows. HaveSize (length typed.now.locals) rows) }
@@ -67,7 +65,7 @@ fn live_by_point(alloc: Global, typed: &Typed) -> Result<BitTable, AllocError>
     flow_back(alloc, typed, seeds, &kills)
 }
 
-/// The locals that each point uses.
+/// Returns the locals that each point uses.
 fn use_table(alloc: Global, typed: &Typed) -> Result<BitTable, AllocError>
     ensures points { IfOk result (λ rows. length rows ≡ length typed.now.steps) }
     ensures locals { IfOk result (λ rows. HaveSize (length typed.now.locals) rows) }
@@ -77,7 +75,7 @@ fn use_table(alloc: Global, typed: &Typed) -> Result<BitTable, AllocError>
     table(alloc, typed.steps().len(), typed.locals().len(), &uses)
 }
 
-/// The locals that each point defines.
+/// Returns the locals that each point defines.
 fn definition_table(alloc: Global, typed: &Typed) -> Result<BitTable, AllocError>
     ensures points { IfOk result (λ rows. length rows ≡ length typed.now.steps) }
     ensures locals { IfOk result (λ rows. HaveSize (length typed.now.locals) rows) }
@@ -92,8 +90,8 @@ fn definition_table(alloc: Global, typed: &Typed) -> Result<BitTable, AllocError
     )
 }
 
-/// The least sets of locals that have the seeds and are closed along the edges turned round: each local of a point goes back to
-/// the points before it, except into a point that kills it.
+/// Returns the least sets of locals that have the seeds and are closed along the reversed edges: each local of a point goes back to the
+/// points before it, except into a point that kills it.
 fn flow_back(
     alloc: Global,
     typed: &Typed,

@@ -1,4 +1,4 @@
--- A loan walks to a point where swept rows have it, and its walk within the rows of the loans that are inside is that within its region's value.
+-- Swept rows have a loan exactly where it walks to within its region's value.
 use Rattle.std.proofs.Common.{◌≡◌, ℕ, ◌/◌, ◌<◌, ◌↔◌, Bool, true, false, not, List, length, Option, Some, None, refl, sym, ap, ◌∙◌}
 use Rattle.std.specs.Prelude.{slice_get, MatchOption}
 use Rattle.std.specs.Option.{option_map_or}
@@ -70,7 +70,7 @@ row_found : (edges : List Edge) (steps : List Step) (loans : List (ℕ × Loan))
 row_found edges steps loans inside word rows n l None at is within seeds closed h = absurd h
 row_found edges steps loans inside word rows n l (Some made) at is within seeds closed h = in_row edges steps loans inside word rows l made at is within seeds closed n h
 
--- they have each loan of the run that walks there
+-- they have each loan of the word that walks there
 pub walks_in_rows : (edges : List Edge) (steps : List Step) (loans : List (ℕ × Loan)) (inside : ℕ → ℕ → Bool) (word : ℕ) (rows : List (List Bool)) → AreWithin edges (length steps) →
     ((m k : ℕ) → k / 64 ≡ word → IsSeed edges steps loans inside m k → holds rows m k ≡ true) → ((m : ℕ) → m < length steps → IsClosed edges steps loans inside word rows m) →
     (n l : ℕ) → l / 64 ≡ word → WalksTo edges steps loans inside n l → holds rows n l ≡ true

@@ -1,4 +1,4 @@
--- Loans by their places in the list of loans.
+-- Loans by their index in the list of loans.
 use Rattle.std.proofs.Common.{◌≡◌, ℕ, ◌+◌, ◌<◌, ◌≤◌, ◌↔◌, Bool, true, false, ◌==◌, inl, inr, List, [], ◌∷◌, ◌++◌, Option, Some, None, length, get_or, drop, refl, sym, ap, ◌∙◌, append_assoc, append-nil, subst, arith}
 use Rattle.std.specs.Prelude.{slice_get}
 use Rattle.std.specs.List.{All, Contains, flat_map, enumerate_from}
@@ -24,7 +24,7 @@ use Rattle.bc_loans.specs.Overwrites.{begins_with, AreProjecting}
 abbrev Made : Type 0
 Made = ℕ × Loan
 
--- two that are found at one place are one
+-- what is found twice at one place is the same
 pub same_found : {A : Type 0} (o : Option A) (a b : A) → o ≡ Some a → o ≡ Some b → a ≡ b
 same_found o a b p q = let both : Some a ≡ Some b = sym p ∙ q in cc
 
@@ -59,7 +59,7 @@ in_locals loans l made is =
     (subst (λ k. Contains (enumerate_from 0 loans) (k, made)) number (in_enumerate 0 loans l made is))
     (Contains-head (record { node = made.1.path.local; fact = l }) [])
 
--- a set has the loans that begin with a local where it has those that are listed there
+-- a set has the loans that begin with a local if it has those that are listed there
 listed_begins : (loans : List Made) (k l : ℕ) (found : Option Made) → slice_get loans l ≡ found → (b : Bool) → (b ≡ true) ↔ Lists (local_entries loans) k l →
     b ≡ option_map_or (λ (made : Made). k == made.1.path.local) found false
 listed_begins loans k l None is b listed = false_from_ne_true b (λ h. let a = from_locals loans (record { node = k; fact = l }) (listed.0 h) in let bad : None ≡ Some a.0 = sym is ∙ a.1 in absurd cc)
@@ -88,7 +88,7 @@ same_truth true b to from = sym (to refl)
 same_truth false true to from = from refl
 same_truth false false to from = refl
 
--- projections with one number are one
+-- projections with one number are the same
 same_number : (p q : Projection) → projection_number p ≡ projection_number q → same_projection p q ≡ true
 same_number Deref Deref is = refl
 same_number Deref (Field k) is = absurd (omega (arith, is))
@@ -124,7 +124,7 @@ in_projections depth loans l made q is at =
     (subst (λ k. Contains (enumerate_from 0 loans) (k, made)) number (in_enumerate 0 loans l made is))
     (subst (λ (o : Option Projection). Contains (listed (entry_at l o)) (record { node = projection_number q; fact = l })) (sym at) (Contains-head (record { node = projection_number q; fact = l }) []))
 
--- a set has a loan that projects there where it is listed
+-- a set has a loan that projects there if it is listed
 listed_at : (depth : ℕ) (loans : List Made) (p : Projection) (l : ℕ) (made : Made) (found : Option Projection) → slice_get loans l ≡ Some made → slice_get made.1.path.projections depth ≡ found → (b : Bool) →
     (b ≡ true) ↔ Lists (projection_entries depth loans) (projection_number p) l → b ≡ option_map_or (same_projection p) found false
 listed_at depth loans p l made None is at b listed = false_from_ne_true b (λ h.

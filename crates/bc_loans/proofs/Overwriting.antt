@@ -1,4 +1,4 @@
--- The loans whose paths a place is a prefix of: by the local, and then by one projection after another.
+-- The loans whose paths have a place as a prefix: by the local, and then by one projection after another.
 use Rattle.std.proofs.Common.{◌≡◌, ℕ, ◌+◌, ◌<◌, ◌≤◌, inl, inr, Bool, true, false, cond, ◌&&◌, ◌==◌, List, [], ◌∷◌, ◌++◌, length, take, get_or, Option, Some, None, is_some, refl, sym, ap, ◌∙◌, subst, arith}
 use Rattle.std.specs.Prelude.{slice_get}
 use Rattle.std.specs.Option.{option_map_or}
@@ -100,7 +100,7 @@ longer_found local beginning p (Some made) = longer_place local beginning p made
 abbrev pub cut : Place → ℕ → Place
 cut place depth = record { local = place.local; projections = take depth place.projections }
 
--- the loans whose paths have one projection more of it as a prefix
+-- the loans whose paths have a prefix with one more of its projections
 cut_more : (loans : List (ℕ × Loan)) (place : Place) (depth : ℕ) (p : Projection) → depth < length place.projections → (l : ℕ) →
     has_prefix loans (cut place (depth + 1)) l ≡ (has_prefix loans (cut place depth) l && projects loans depth (get_or place.projections depth p) l)
 cut_more loans place depth p within l =
@@ -110,7 +110,7 @@ cut_more loans place depth p within l =
     ∙ longer_found place.local (take depth place.projections) next (slice_get loans l)
     ∙ ap (λ (k : ℕ). has_prefix loans (cut place depth) l && projects loans k next l) size
 
--- of those whose paths have the first projections, those that project once more
+-- of the loans whose paths have the first projections, those that have one more
 pub cut_step : (loans : List (ℕ × Loan)) (place : Place) (depth : ℕ) (projections : List Projection) (p : Projection) (l : ℕ) (old new more : Bool) → projections ≡ place.projections → depth < length projections →
     old ≡ has_prefix loans (cut place depth) l → more ≡ projects loans depth (get_or projections depth p) l → new ≡ (old && more) → new ≡ has_prefix loans (cut place (depth + 1)) l
 cut_step loans place depth projections p l old new more same within were projecting both =

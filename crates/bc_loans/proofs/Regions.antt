@@ -1,4 +1,4 @@
--- The points inside the region of each loan, one loan after another, and the loans inside at each point.
+-- The points in the region of each loan, and the loans that are inside at each point.
 use Rattle.std.proofs.Common.{◌≡◌, ℕ, ◌≤◌, inl, inr, Bool, false, List, [], length, Some, refl, ap, arith}
 use Rattle.std.specs.Prelude.{slice_get}
 use Rattle.std.proofs.lemmas.Bool.{cases_lt}
@@ -10,7 +10,7 @@ use Rattle.bc_points.specs.declared.loan.Loan.{Loan}
 use Rattle.bc_points.specs.Regions.{region_number}
 use Rattle.bc_loans.specs.Inside.{is_inside}
 
--- a number of no loan has no place in rows
+-- a number that is no loan is in no row
 pub no_place : (rows : List (List Bool)) (count l p : ℕ) → HaveSize count rows → count ≤ l → holds rows p l ≡ false
 no_place rows count l p sizes past = elim (cases_lt p (length rows)) [
   | inl within ↦ get_or_past (row rows p) l false (let size = sizes p [] within in omega (arith, size, past))

@@ -1,4 +1,4 @@
--- Loans that come to points from those that make them, one loan after another.
+-- Loans that flow from the points that make them, one loan after another.
 use Rattle.std.proofs.Common.{◌≡◌, ℕ, ◌+◌, ◌<◌, ◌≤◌, ◌⊎◌, inl, inr, ◌↔◌, Bool, true, false, not, List, length, Some, refl, sym, ◌∙◌, arith}
 use Rattle.std.specs.Prelude.{slice_get}
 use Rattle.std.proofs.lemmas.Bool.{cases_eq, cases_lt, both_ways}
@@ -15,7 +15,7 @@ use Rattle.bc_loans.specs.Overwrites.{keeps}
 use Rattle.bc_loans.specs.Sweeps.{IsSeed}
 use Rattle.bc_loans.proofs.Regions.{no_place}
 
--- the loans below a number came there, and the others are in no row
+-- the loans below a number have flowed, and the others are in no row
 pub record AreSeeded (edges : List Edge) (steps : List Step) (loans : List (ℕ × Loan)) (inside : ℕ → ℕ → Bool) (count : ℕ) (rows : List (List Bool)) : Type 0 where
   pub seeds : (n l : ℕ) → l < count → (holds rows n l ≡ true) ↔ IsSeed edges steps loans inside n l
   pub fresh : (n l : ℕ) → count ≤ l → holds rows n l ≡ false
@@ -57,7 +57,7 @@ AreSeeded-all edges steps loans inside count rows all sizes below n l = elim (ca
 
 -- ---- one loan
 
--- it was handed on from the point that makes it
+-- it flows from the point that makes it
 pub seeded_by : (edges : List Edge) (maker number : ℕ) (enters : ℕ → Bool) (old new : List (List Bool)) (before after : List ℕ) (lets : Bool) → lets ≡ true →
     Spreads edges maker number enters old new before after → (n : ℕ) → (holds new n number ≡ true) ↔ ((holds old n number ≡ true) ⊎ ((lets ≡ true) × HasEdge edges maker n × (enters n ≡ true)))
 seeded_by edges maker number enters old new before after lets is spreads n = (
@@ -73,7 +73,7 @@ seeded_not edges maker number enters rows lets is n = (
   λ h. elim h [ inl was ↦ was | inr t ↦ absurd (both_ways lets is t.0) ],
 )
 
--- the same points let it in
+-- the same points let it enter
 pub seeded_same : (edges : List Edge) (maker number : ℕ) (one other : ℕ → Bool) (old new : List (List Bool)) (lets : Bool) → ((n : ℕ) → one n ≡ other n) →
     ((n : ℕ) → (holds new n number ≡ true) ↔ ((holds old n number ≡ true) ⊎ ((lets ≡ true) × HasEdge edges maker n × (one n ≡ true)))) →
     (n : ℕ) → (holds new n number ≡ true) ↔ ((holds old n number ≡ true) ⊎ ((lets ≡ true) × HasEdge edges maker n × (other n ≡ true)))
@@ -82,7 +82,7 @@ seeded_same edges maker number one other old new lets same seeded n = (
   λ h. (seeded n).1 (elim h [ inl was ↦ inl was | inr t ↦ inr (t.0, t.1, same n ∙ t.2) ]),
 )
 
--- no point lets it in
+-- no point lets it enter
 pub seeded_nowhere : (edges : List Edge) (maker number : ℕ) (enters : ℕ → Bool) (rows : List (List Bool)) (lets : Bool) → ((n : ℕ) → enters n ≡ false) →
     (n : ℕ) → (holds rows n number ≡ true) ↔ ((holds rows n number ≡ true) ⊎ ((lets ≡ true) × HasEdge edges maker n × (enters n ≡ true)))
 seeded_nowhere edges maker number enters rows lets none n = (
@@ -94,7 +94,7 @@ seeded_nowhere edges maker number enters rows lets none n = (
 pub keeps_is : (steps : List Step) (path : Place) (point : ℕ) (step : Step) → slice_get steps point ≡ Some step → not (kills path step.instruction) ≡ keeps steps path point
 keeps_is steps path point step is = rw is refl
 
--- where a loan comes to from the point that makes it
+-- where a loan flows from the point that makes it
 pub seeded_is : (edges : List Edge) (steps : List Step) (loans : List (ℕ × Loan)) (inside : ℕ → ℕ → Bool) (number : ℕ) (made : ℕ × Loan) (old new : List (List Bool)) → slice_get loans number ≡ Some made →
     ((n : ℕ) → (holds new n number ≡ true) ↔ ((holds old n number ≡ true) ⊎ ((keeps steps made.1.path made.0 ≡ true) × HasEdge edges made.0 n × (inside n number ≡ true)))) →
     (n : ℕ) → (holds new n number ≡ true) ↔ ((holds old n number ≡ true) ⊎ IsSeed edges steps loans inside n number)

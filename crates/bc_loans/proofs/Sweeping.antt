@@ -1,4 +1,4 @@
--- Sweeps over the points for one run of 64 loans, one point after another, and one edge after another.
+-- Sweeps over the points for one word of 64 loans, one point after another, and one edge after another.
 use Rattle.std.proofs.Common.{◌≡◌, ℕ, ◌+◌, ◌*◌, ◌/◌, ◌%◌, ◌<◌, ◌≤◌, inl, inr, ◌↔◌, Bool, true, false, not, ◌&&◌, ◌||◌, ◌==◌, List, [], ◌∷◌, ◌++◌, length, set, get_or, take, Option, Some, None, refl, sym, ap, ◌∙◌, subst, true≢false, arith}
 use Rattle.std.specs.Prelude.{⊤, slice_get, MatchOption, bit_and}
 use Rattle.std.specs.List.{sum_by}
@@ -81,11 +81,11 @@ ArePushed-one point to here inside grew again old new within added unchanged gro
         let t : sum_by absent_count new ≡ sum_by absent_count (set old to (row new to)) = ap (sum_by absent_count) (row_written old new to (λ l. here l && inside to l) within added) in
         omega (arith, s, t, fewer)
 
--- of two tests of which not both hold and the first does, the second does not
+-- if two tests do not both hold and the first does, the second does not
 pub second_false : (one other : Bool) → one ≡ true → (one && other) ≡ false → other ≡ false
 second_false one other first none = rw first at none
 
--- the loans of a word along one edge, within those that are told to be inside
+-- the loans of a word along one edge, if they are inside there
 pub pushed_along : (point to word here mask : ℕ) (inside : ℕ → ℕ → Bool) (grew again : Bool) (old new : List (List Bool)) → to < length old → ((l : ℕ) → l / 64 ≡ word → is_set mask (l % 64) ≡ inside to l) →
     AreAdded old new to (word_has word (bit_and here mask)) → (grew ≡ false → new ≡ old) → (grew ≡ true → absent_count (row new to) < absent_count (row old to)) → (again ≡ true → grew ≡ true) → (again ≡ false → to ≤ point → grew ≡ false) →
     ArePushed (record { from = point; to = to } ∷ []) point (word_has word here) inside again old new
@@ -155,7 +155,7 @@ IsSwept-none edges steps loans inside word rows = record {
   grown = λ h. absurd (true≢false (sym h));
 }
 
--- the loans that go on from a point
+-- the loans that flow on from a point
 pub here_is : (word : ℕ) (loans : List (ℕ × Loan)) (steps : List Step) (rows : List (List Bool)) (point : ℕ) (step : Step) → slice_get steps point ≡ Some step →
     (l : ℕ) → ((l / 64 == word) && (holds rows point l && not (is_overwritten loans step.instruction l))) ≡ ((l / 64 == word) && passes loans steps rows point l)
 here_is word loans steps rows point step is l = ap (λ (b : Bool). (l / 64 == word) && (holds rows point l && not b)) (at_point loans steps point step is l)
@@ -208,11 +208,11 @@ IsSwept-more edges steps loans inside word point first second old mid new swept 
   ];
 }
 
--- no loan of the run is at a point that was not reached
+-- no loan of the word is at a point that was not reached
 pub unreached : (word : ℕ) (rows reached : List (List Bool)) → AreReached word rows reached → (point : ℕ) → holds reached 0 point ≡ false → (l : ℕ) → l / 64 ≡ word → holds rows point l ≡ false
 unreached word rows reached all point none l at = false_from_ne_true (holds rows point l) (λ h. both_ways (holds reached 0 point) none (all point l at h))
 
--- points without loans of the run are passed over
+-- points without loans of the word are skipped
 pub IsSwept-skip : (edges : List Edge) (steps : List Step) (loans : List (ℕ × Loan)) (inside : ℕ → ℕ → Bool) (word from point : ℕ) (again : Bool) (old new : List (List Bool)) → IsSwept edges steps loans inside word from again old new →
     ((m : ℕ) → from ≤ m → m < point → (l : ℕ) → l / 64 ≡ word → holds new m l ≡ false) → IsSwept edges steps loans inside word point again old new
 IsSwept-skip edges steps loans inside word from point again old new swept empty = record {
@@ -227,7 +227,7 @@ IsSwept-skip edges steps loans inside word from point again old new swept empty 
   grown = swept.grown;
 }
 
--- a point that loans got to is reached
+-- a point that loans reached is noted
 pub AreReached-joined : (word : ℕ) (old new reached more : List (List Bool)) (to : ℕ) (grown : Bool) → AreReached word old reached → ((n : ℕ) → (n ≡ to → ⊥) → row new n ≡ row old n) → (grown ≡ false → new ≡ old) →
     ((n : ℕ) → holds reached 0 n ≡ true → holds more 0 n ≡ true) → (grown ≡ true → holds more 0 to ≡ true) → AreReached word new more
 AreReached-joined word old new reached more to grown all others unchanged kept noted n l at h = elim (cases_eq n to) [
@@ -240,7 +240,7 @@ AreReached-joined word old new reached more to grown all others unchanged kept n
 
 -- ---- the points with which sweeps begin
 
--- along one edge more
+-- along one more edge
 pub target_more : (edges : List Edge) (point at : ℕ) (old new : List (List Bool)) → at < length edges → ((n : ℕ) → holds old 0 n ≡ true → holds new 0 n ≡ true) →
     let none : Edge = record { from = 0; to = 0 } in holds new 0 (get_or edges at none).to ≡ true → ((n : ℕ) → HasEdge (take at edges) point n → holds old 0 n ≡ true) → (n : ℕ) → HasEdge (take (at + 1) edges) point n → holds new 0 n ≡ true
 target_more edges point at old new within kept there before n edge =
@@ -270,7 +270,7 @@ targets_kept : (edges : List Edge) (old new : List (List Bool)) (found : Option 
 targets_kept edges old new None kept before = tt
 targets_kept edges old new (Some made) kept before = λ point edge. kept point (before point edge)
 
--- those of one loan more
+-- those of one more loan
 pub targets_more : (edges : List Edge) (loans : List (ℕ × Loan)) (word k : ℕ) (made : ℕ × Loan) (old new : List (List Bool)) → slice_get loans (64 * word + k) ≡ Some made → ((n : ℕ) → holds old 0 n ≡ true → holds new 0 n ≡ true) →
     ((n : ℕ) → HasEdge edges made.0 n → holds new 0 n ≡ true) → ((j : ℕ) → j < k → AreTargets edges loans (64 * word + j) old) → (j : ℕ) → j < k + 1 → AreTargets edges loans (64 * word + j) new
 targets_more edges loans word k made old new is kept targets before j low = elim (cases_eq j k) [
@@ -304,7 +304,7 @@ begins_found edges steps inside n l (Some made) h = begins n h.0 h.1 h.2
 pub seed_walks : (edges : List Edge) (steps : List Step) (loans : List (ℕ × Loan)) (inside : ℕ → ℕ → Bool) (n l : ℕ) → IsSeed edges steps loans inside n l → WalksTo edges steps loans inside n l
 seed_walks edges steps loans inside n l seed = begins_found edges steps inside n l (slice_get loans l) seed
 
--- ---- one run of loans after another
+-- ---- one word of loans after another
 
 pub AreWalked-sound : (edges : List Edge) (steps : List Step) (loans : List (ℕ × Loan)) (inside : ℕ → ℕ → Bool) (word : ℕ) (rows : List (List Bool)) → AreWalked edges steps loans inside word rows →
     (n l : ℕ) → holds rows n l ≡ true → WalksTo edges steps loans inside n l

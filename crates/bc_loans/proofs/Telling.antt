@@ -1,4 +1,4 @@
--- What is told of points, one run of them after another, and words of 64 loans.
+-- Which words are known, one run of points after another, and words of 64 loans.
 use Rattle.std.proofs.Common.{◌≡◌, ℕ, ◌+◌, ◌*◌, ◌/◌, ◌%◌, ◌<◌, ◌≤◌, inl, inr, Bool, true, false, ◌&&◌, ◌||◌, ◌==◌, eqb, List, length, get_or, set, refl, sym, ap, ◌∙◌, arith}
 use Rattle.std.specs.Prelude.{bit_and}
 use Rattle.std.proofs.lemmas.Bool.{cases_eq, cases_lt, ne_eqb}
@@ -13,7 +13,7 @@ use Rattle.bc_points.specs.declared.loan.Loan.{Loan}
 use Rattle.bc_loans.specs.Inside.{is_inside, inside_at, AreTold, IsWritten}
 use Rattle.bc_loans.proofs.Regions.{no_loan}
 
--- a table with one member more
+-- a table with one more member
 pub record IsInserted (old new : List (List Bool)) (node fact : ℕ) : Type 0 where
   pub rows : length new ≡ length old
   pub sizes : (n : ℕ) → length (row new n) ≡ length (row old n)
@@ -48,7 +48,7 @@ IsInserted-kept old new node fact inserted n f h = elim (cases_eq n node) [
 
 -- ---- the words of loans, gathered
 
--- the first words are those of the values of the loans of a run, and the others are empty
+-- the first words are the values of the regions of the word's loans, and the others are empty
 pub record AreGathered (universals : ℕ) (loans : List (ℕ × Loan)) (value : ℕ → ℕ → Bool) (word run count : ℕ) (block : List ℕ) : Type 0 where
   pub size : length block ≡ 64
   pub done : (k p : ℕ) → k < count → p / 64 ≡ run → is_set (get_or block k 0) (p % 64) ≡ is_inside universals loans value (64 * word + k) p
@@ -65,7 +65,7 @@ AreGathered-more universals loans value word run k here old gathered few is = re
   rest = λ j past. get_or-set_other old k j here 0 (λ same. omega (arith, same, past)) ∙ gathered.rest j (omega (arith, past));
 }
 
--- all loans of the run are there
+-- all loans of the word are there
 pub gathered_all : (universals : ℕ) (loans : List (ℕ × Loan)) (value : ℕ → ℕ → Bool) (word run count : ℕ) (block : List ℕ) → AreGathered universals loans value word run count block → (64 * word + count < length loans → 64 ≤ count) →
     (p l : ℕ) → p / 64 ≡ run → l / 64 ≡ word → is_set (get_or block (l % 64) 0) (p % 64) ≡ inside_at universals loans value p l
 gathered_all universals loans value word run count block gathered all p l at_run at_word =
@@ -95,9 +95,9 @@ IsWritten-more first k here block old new written within is = record {
   rest = λ i outside. get_or-set_other new (first + k) i here 0 (λ e. let out = outside (omega (arith, e)) in omega (arith, e, out)) ∙ written.rest i (λ from. let out = outside from in omega (arith, out));
 }
 
--- ---- what is told
+-- ---- what is known
 
--- a run was told before
+-- a run that was known
 pub AreTold-again : (inside : ℕ → ℕ → Bool) (word : ℕ) (words : List ℕ) (old new : List (List Bool)) (run : ℕ) → AreTold inside word words old → IsInserted old new 0 run → holds old 0 run ≡ true → AreTold inside word words new
 AreTold-again inside word words old new run told inserted before = record {
   some = omega (arith, told.some, inserted.rows);
@@ -108,7 +108,7 @@ AreTold-again inside word words old new run told inserted before = record {
   ];
 }
 
--- a run is told now
+-- a run that becomes known
 pub AreTold-more : (inside : ℕ → ℕ → Bool) (word run : ℕ) (words more block : List ℕ) (old new : List (List Bool)) → AreTold inside word words old → IsInserted old new 0 run → IsWritten (64 * run) 64 block words more →
     ((p l : ℕ) → p / 64 ≡ run → l / 64 ≡ word → is_set (get_or block (p % 64) 0) (l % 64) ≡ inside p l) → AreTold inside word more new
 AreTold-more inside word run words more block old new told inserted written is = record {
@@ -133,7 +133,7 @@ AreTold-none inside word words runs one long empty = record {
 
 -- ---- words of loans as sets
 
--- a word that tells something of the loans of its run
+-- a word that says which of its loans pass a test
 pub word_same : (word value : ℕ) (test : ℕ → Bool) → ((l : ℕ) → l / 64 ≡ word → is_set value (l % 64) ≡ test l) → (l : ℕ) → word_has word value l ≡ ((l / 64 == word) && test l)
 word_same word value test is l = elim (cases_eq (l / 64) word) [
   | inl at ↦ ap (λ (b : Bool). (l / 64 == word) && b) (is l at)
@@ -144,7 +144,7 @@ both_of : (in_run here inside : Bool) → (in_run && (here && inside)) ≡ ((in_
 both_of true here inside = refl
 both_of false here inside = refl
 
--- a word within another
+-- a word that is masked
 pub word_within : (word here mask : ℕ) (inside : ℕ → Bool) → ((l : ℕ) → l / 64 ≡ word → is_set mask (l % 64) ≡ inside l) → (l : ℕ) → word_has word (bit_and here mask) l ≡ (word_has word here l && inside l)
 word_within word here mask inside is l = elim (cases_eq (l / 64) word) [
   | inl at ↦

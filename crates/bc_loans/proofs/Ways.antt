@@ -1,4 +1,4 @@
--- The walk of a loan comes to the points where it is in scope.
+-- A loan walks to the points where it is in scope.
 use Rattle.std.proofs.Common.{◌≡◌, ℕ, ◌↔◌, Bool, true, not, List, [], ◌∷◌, ◌++◌, Option, Some, None, IsTrue, refl, sym, ◌∙◌, subst}
 use Rattle.std.specs.Prelude.{slice_get, MatchOption}
 use Rattle.std.specs.List.{All}
@@ -42,7 +42,7 @@ Inside mir value made p = value (region_number mir.universals made.1.region) p �
 abbrev Walked : Mir → (ℕ → ℕ → Bool) → ℕ × Loan → ℕ → Type 0
 Walked mir value made = Reaches (edges_of mir) (keeps mir.steps made.1.path) (value (region_number mir.universals made.1.region)) made.0
 
--- a path of a loan in scope, but for the loan's number
+-- a path of a loan in scope, without the loan's number
 record Way (mir : Mir) (value : ℕ → ℕ → Bool) (made : ℕ × Loan) (point : ℕ) : Type 0 where
   between : List ℕ
   is_path : IsPath (edges_of mir) (made.0 ∷ (between ++ point ∷ []))

@@ -1,4 +1,4 @@
--- What decides where the loans of a body go, and how far they have come.
+-- What decides where the loans of a body flow, and how far they have flowed.
 use Rattle.std.specs.Prelude.{◌≡◌, ℕ, ◌+◌, ◌*◌, ◌/◌, ◌↔◌, ◌&&◌, ◌==◌, Bool, true, List, length}
 use Rattle.bc_flow.specs.Flow.{holds, HaveSize}
 use Rattle.bc_loans.specs.Inside.{inside_at, AreTold}
@@ -11,15 +11,15 @@ use Rattle.bc_loans.specs.declared.sweeps.Sweep.{Sweep}
 abbrev pub inside : LoanFlow → ℕ → ℕ → Bool
 inside flow = inside_at flow.universals flow.set.loans.now (holds flow.values.now)
 
--- a loan of the run is in the row of a point, which does not overwrite it
+-- a loan of the word is in the row of a point, which does not overwrite it
 abbrev pub goes_on : LoanFlow → ℕ → List (List Bool) → ℕ → ℕ → Bool
 goes_on flow word rows point loan = (loan / 64 == word) && passes flow.set.loans.now flow.steps.now rows point loan
 
--- the loan comes to the point from the one that makes it
+-- the loan flows to the point from the one that makes it
 abbrev pub IsSeedIn : LoanFlow → ℕ → ℕ → Type 0
 IsSeedIn flow point loan = IsSeed flow.edges.now flow.steps.now flow.set.loans.now (inside flow) point loan
 
--- the loan walks to the point, as the rows of loans that are inside let it
+-- the loan walks to the point, through points where it is inside
 abbrev pub WalksIn : LoanFlow → ℕ → ℕ → Type 0
 WalksIn flow point loan = WalksTo flow.edges.now flow.steps.now flow.set.loans.now (inside flow) point loan
 
@@ -33,27 +33,27 @@ pub record IsReady (flow : LoanFlow) (sweep : Sweep) : Type 0 where
   pub rows : HaveSize (length flow.set.loans.now) sweep.rows
   pub long : length sweep.insides.words.items ≡ 64 * ((length flow.steps.now + 63) / 64)
 
--- It notes each point whose row has a loan of a run, and which loans of the run are inside at points is told as far as it was asked.
+-- the sweep notes each point whose row has a loan of the word, and its known words say which loans of the word are inside at points
 pub record IsSweep (flow : LoanFlow) (word : ℕ) (sweep : Sweep) : Type 0 where
   pub ready : IsReady flow sweep
   pub told : AreTold (inside flow) word sweep.insides.words.items sweep.insides.runs
   pub set : HasSet (length flow.steps.now) sweep.reached
   pub reached : AreReached word sweep.rows sweep.reached
 
--- all points were swept for a run of loans; `again` tells that a loan is new at a point that was passed
+-- all points were swept for a word of loans; `again` is true if a loan is new at a point that was passed
 abbrev pub AreSwept : LoanFlow → ℕ → Bool → List (List Bool) → List (List Bool) → Type 0
 AreSwept flow word again old new = IsSwept flow.edges.now flow.steps.now flow.set.loans.now (inside flow) word (length flow.steps.now) again old new
 
--- each loan of a run is where it comes from the point that makes it, and no loan is where it does not walk to
+-- each loan of the word is where it flows from the point that makes it, and no loan is where it does not walk to
 pub record IsBegun (flow : LoanFlow) (word : ℕ) (rows : List (List Bool)) : Type 0 where
   pub seeds : (n l : ℕ) → l / 64 ≡ word → IsSeedIn flow n l → holds rows n l ≡ true
   pub sound : (n l : ℕ) → holds rows n l ≡ true → WalksIn flow n l
 
--- the loans of one run walked, and the others are where they were
+-- the loans of the word walked, and the others are where they were
 pub record IsWordWalked (flow : LoanFlow) (word : ℕ) (old new : List (List Bool)) : Type 0 where
   pub walks : (n l : ℕ) → l / 64 ≡ word → (holds new n l ≡ true) ↔ WalksIn flow n l
   pub others : (n l : ℕ) → (l / 64 ≡ word → ⊥) → holds new n l ≡ holds old n l
 
--- the loans of the first runs walked, and the others are where they come from the points that make them
+-- the loans of the first words walked, and the others are where they flow from the points that make them
 abbrev pub AreWalkedIn : LoanFlow → ℕ → List (List Bool) → Type 0
 AreWalkedIn flow word rows = AreWalked flow.edges.now flow.steps.now flow.set.loans.now (inside flow) word rows

@@ -1,4 +1,4 @@
--- Whether a point is in the value of a loan's region, and words in which that is told as far as it was asked for.
+-- Whether a point is in the value of a loan's region, and the words in which this is known.
 use Rattle.std.specs.Prelude.{◌≡◌, ◌+◌, ◌<◌, ◌≤◌, ◌*◌, ◌/◌, ◌%◌, ℕ, Bool, true, false, List, length, slice_get, slice_index}
 use Rattle.std.specs.Option.{option_map_or}
 use Rattle.bc_flow.specs.Packed.{is_set}
@@ -15,13 +15,13 @@ is_inside universals loans value loan point =
 abbrev pub inside_at : ℕ → List (ℕ × Loan) → (ℕ → ℕ → Bool) → ℕ → ℕ → Bool
 inside_at universals loans value point loan = is_inside universals loans value loan point
 
--- so many words were written over those from a place on
+-- `count` words were overwritten from an index on, and no others
 pub record IsWritten (first count : ℕ) (block old new : List ℕ) : Type 0 where
   pub size : length new ≡ length old
   pub done : (k : ℕ) → k < count → slice_index new (first + k) ≡ slice_index block k
   pub rest : (i : ℕ) → (first ≤ i → first + count ≤ i) → slice_index new i ≡ slice_index old i
 
--- The word of a point has, for each loan of one run of 64, whether it is inside there, in those runs of 64 points that `runs` has.
+-- the words of points in known runs say, for each loan of one word, whether it is inside there
 pub record AreTold (inside : ℕ → ℕ → Bool) (word : ℕ) (words : List ℕ) (runs : List (List Bool)) : Type 0 where
   pub some : 0 < length runs
   pub long : length words ≡ 64 * length (row runs 0)

@@ -1,5 +1,5 @@
--- Which points leave a path as it is.
--- And which loans a point overwrites: those with a prefix of their path overwritten there. Loans and points are numbers.
+-- Which points keep a path, and which loans a point overwrites: those with a prefix of their path that it overwrites. Loans and points are
+-- numbers.
 use Rattle.std.specs.Prelude.{◌≡◌, ◌<◌, ◌≤◌, ℕ, Bool, true, false, not, ◌==◌, List, [], length, slice_get, slice_index_or as get_or}
 use Rattle.std.specs.List.{All}
 use Rattle.std.specs.Option.{option_map_or}
@@ -30,21 +30,21 @@ projects loans depth projection loan =
 abbrev pub AreProjecting : List (ℕ × Loan) → ℕ → List (List Bool) → Type 0
 AreProjecting loans depth rows = (projection : Projection) → (l : ℕ) → holds rows (projection_number projection) l ≡ projects loans depth projection l
 
--- a table of that kind for each depth below their count, and no path goes on behind the last
+-- there is such a table for each depth below their number, and no path is longer
 pub record AreByDepth (loans : List (ℕ × Loan)) (tables : List (List (List Bool))) : Type 0 where
   pub projections : All (λ rows. length rows ≡ 257) tables
   pub sizes : All (λ rows. HaveSize (length loans) rows) tables
   pub projecting : (depth : ℕ) → depth < length tables → AreProjecting loans depth (get_or tables depth [])
   pub short : All (λ (made : ℕ × Loan). length made.1.path.projections ≤ length tables) loans
 
--- the loan's path has a prefix
+-- the loan's path has the prefix
 abbrev pub has_prefix : List (ℕ × Loan) → Place → ℕ → Bool
 has_prefix loans prefix loan = option_map_or (λ (made : ℕ × Loan). is_prefix prefix made.1.path) (slice_get loans loan) false
 
--- a prefix of the loan's path is overwritten
+-- the instruction overwrites a prefix of the loan's path
 abbrev pub is_overwritten : List (ℕ × Loan) → Instruction → ℕ → Bool
 is_overwritten loans here loan = option_map_or (λ (made : ℕ × Loan). kills made.1.path here) (slice_get loans loan) false
 
--- a prefix of the loan's path is overwritten at a point
+-- the point overwrites a prefix of the loan's path
 abbrev pub is_overwritten_at : List (ℕ × Loan) → List Step → ℕ → ℕ → Bool
 is_overwritten_at loans steps point loan = option_map_or (λ (step : Step). is_overwritten loans step.instruction loan) (slice_get steps point) false

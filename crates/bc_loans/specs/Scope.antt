@@ -10,9 +10,9 @@ use Rattle.bc_flow.specs.Flow.{holds}
 use Rattle.bc_solve.specs.Values.{Tells}
 use Rattle.bc_loans.specs.Loans.{loans_of}
 
--- A loan, by its number, is in scope on entry to a point, where `value` tells the points in the value of each region:
--- a path of at least one step goes there from the point that makes the loan, all its points after that one are in the
--- value of the loan's region, and none of its points before the last overwrites a prefix of the loan's path.
+-- The loan of this number is in scope on entry to a point: a path of at least one step leads there from the point that makes the loan. All
+-- points of the path after the first are in the value of the loan's region, by the test `value`, and none before the last overwrites a
+-- prefix of the loan's path (RFC 2094, "Borrow checker phase 1").
 pub record IsInScope (mir : Mir) (value : ℕ → ℕ → Bool) (loan point : ℕ) : Type 0 where
   pub made : ℕ × Loan
   pub is_loan : slice_get (loans_of mir) loan ≡ Some made
@@ -21,6 +21,6 @@ pub record IsInScope (mir : Mir) (value : ℕ → ℕ → Bool) (loan point : �
   pub inside : All (λ p. value (region_number mir.universals made.1.region) p ≡ true) (between ++ point ∷ [])
   pub kept : All (λ p. ¬ (Kills mir made.1.path p)) (made.0 ∷ between)
 
--- the scopes have, for each point, just the loans that are in scope on entry to it, within these values
+-- the scopes have, for each point, exactly the loans that are in scope on entry to it, within these values
 abbrev pub AreScopes : Mir → List (List Bool) → List (List Bool) → Type 0
 AreScopes mir values scopes = Tells (holds scopes) (λ point loan. IsInScope mir (holds values) loan point)

@@ -1,4 +1,4 @@
-//! With which local the paths of loans begin, and how they go on, as entries of tables of loans.
+//! The paths of loans as entries of tables: the local that each begins with, and its projections.
 ghost use Rattle.std.specs.Prelude.{◌≡◌, ◌<◌, ⊤, length, slice_get, IfOk, MatchOption};
 ghost use Rattle.bc_flow.specs.Flow.{AreEntriesWithin};
 ghost use Rattle.bc_loans.specs.Entries.{local_entries as at_locals, projection_number as number_of, entry_at as at_projection, projection_entries as at_projections};
@@ -8,7 +8,7 @@ use bc_points::Loan;
 use bc_syntax::Projection;
 use std::alloc::{AllocError, Global};
 
-/// Each loan at the local with which its path begins.
+/// Returns an entry for each loan at the local of its path.
 pub(crate) fn local_entries(
     alloc: Global,
     loans: &[(usize, Loan<'_>)],
@@ -25,7 +25,7 @@ pub(crate) fn local_entries(
     Ok(entries)
 }
 
-/// The number of a projection among all 257: 0 for a dereference, and one more than its own for a field.
+/// Returns the number of a projection among all 257: 0 for a dereference, and one more than its own for a field.
 pub(crate) fn projection_number(projection: &Projection) -> usize
     ensures number { result ≡ number_of projection.now }
     ensures within { result < 257 }
@@ -36,7 +36,7 @@ pub(crate) fn projection_number(projection: &Projection) -> usize
     }
 }
 
-/// A loan at the projection that its path has at a depth, if it is so long.
+/// Returns the entry of a loan at the projection that its path has at a depth, if it has one.
 fn entry_at(number: usize, loan: &Loan<'_>, depth: usize) -> Option<Entry>
     ensures entry { result ≡ at_projection number (slice_get loan.now.path.projections depth) }
     ensures within { MatchOption result ⊤ (λ entry. (entry.node < 257) × (entry.fact ≡ number)) }
@@ -50,7 +50,7 @@ fn entry_at(number: usize, loan: &Loan<'_>, depth: usize) -> Option<Entry>
     }
 }
 
-/// Each loan at the projection that its path has at a depth, if it is so long.
+/// Returns the entries of loans at the projections that their paths have at a depth, if they have one.
 pub(crate) fn projection_entries(
     alloc: Global,
     loans: &[(usize, Loan<'_>)],

@@ -1,4 +1,4 @@
-//! Which loans are inside at a point: those whose region's value has it. Told for 64 points and 64 loans at once.
+//! Which loans are inside at a point: those whose region's value has the point. Found for 64 points and 64 loans at once.
 ghost use Rattle.std.specs.Prelude.{◌≡◌, ◌*◌, ◌/◌, ◌%◌, ◌+◌, ◌<◌, ◌≤◌, ℕ, Bool, length, slice_index, IfOk, OnOk};
 ghost use Rattle.bc_flow.specs.Packed.{is_set};
 ghost use Rattle.bc_flow.specs.Flow.{row, holds};
@@ -11,7 +11,7 @@ use bc_points::region_number;
 use bc_solve::Values;
 use std::alloc::{AllocError, Global};
 
-/// Returns which of a run of 64 points the value of a region has. A number that is no region has none.
+/// Returns which of 64 points the value of a region has. It has none if there is no such region.
 fn value_word(values: &Values, region: usize, run: usize) -> u64
     ensures { (p : ℕ) → p / 64 ≡ run → is_set result (p % 64) ≡ holds values.now region p }
 {
@@ -21,7 +21,7 @@ fn value_word(values: &Values, region: usize, run: usize) -> u64
     }
 }
 
-/// Returns for each of a run of 64 points which of a run of 64 loans are inside there.
+/// Returns for each of 64 points which loans of a word are inside there.
 fn inside_block(flow: &LoanFlow<'_>, word: usize, run: usize) -> [u64; 64]
     requires { 64 * word < length flow.now.set.loans.now }
     ensures { (p l : ℕ) → p / 64 ≡ run → l / 64 ≡ word → is_set (slice_index result (p % 64)) (l % 64) ≡ inside flow.now p l }
@@ -37,7 +37,7 @@ fn inside_block(flow: &LoanFlow<'_>, word: usize, run: usize) -> [u64; 64]
     turned_words(&block)
 }
 
-/// Writes 64 words over those from a place on.
+/// Overwrites 64 words from index `first` on.
 fn write_words(words: &mut [u64], first: usize, block: &[u64; 64])
     requires { first + 64 ≤ length words.old }
     ensures { IsWritten first 64 block.now words.old words.new }
@@ -47,16 +47,16 @@ fn write_words(words: &mut [u64], first: usize, block: &[u64; 64])
     }
 }
 
-/// Which loans of a run of 64 are inside at points, as far as it was asked: a word for each point, and in one row the runs of 64 points whose
-/// words are told.
+/// Which loans of a word are inside at points, found on demand: a word for each point, and a row with the runs of 64 points whose words are
+/// known.
 #[derive(Drop)]
 pub(crate) struct InsideWords {
     words: Vec<u64>,
     runs: BitTable,
 }
 
-/// Returns a word for each of so many points, and for those that fill the last run of 64. Returns `AllocError` if memory was refused, and,
-/// without asking for any, if there would be 2^64 words or more: no body has so many points.
+/// Returns a word for each point, and for those that fill the last run of 64. Returns `AllocError` if out of memory. Returns it too,
+/// without asking for any, if there would be 2^64 words or more, but no body has that many points.
 fn point_words(alloc: Global, points: usize) -> Result<Vec<u64>, AllocError>
     ensures { IfOk result (λ words. length words.items ≡ 64 * ((points + 63) / 64)) }
 {
@@ -67,7 +67,7 @@ fn point_words(alloc: Global, points: usize) -> Result<Vec<u64>, AllocError>
 }
 
 impl InsideWords {
-    /// Returns words for so many points. Returns `AllocError` as `point_words` does.
+    /// Returns words for this number of points. Returns `AllocError` as `point_words` does.
     pub(crate) fn of(alloc: Global, points: usize) -> Result<InsideWords, AllocError>
         ensures { IfOk result (λ made. length made.words.items ≡ 64 * ((points + 63) / 64)) }
     {
@@ -76,7 +76,7 @@ impl InsideWords {
         Ok(InsideWords { words, runs })
     }
 
-    /// Forgets what was told, so that another run of loans can be asked for. Returns `AllocError` only if memory was refused.
+    /// Makes all words unknown, so that another word of loans can be asked for.
     pub(crate) fn forget(&mut self, alloc: Global, points: usize) -> Result<(), AllocError>
         requires long { length self.old.words.items ≡ 64 * ((points + 63) / 64) }
         ensures words { OnOk result (self.new.words.items ≡ self.old.words.items) }
@@ -86,7 +86,7 @@ impl InsideWords {
         Ok(())
     }
 
-    /// Tells of a point, and of those of its run, which loans of a run are inside there, unless that was told.
+    /// Finds which loans of a word are inside at a point, and at the others of its run, unless that is known.
     fn tell(&mut self, flow: &LoanFlow<'_>, word: usize, point: usize)
         requires word { 64 * word < length flow.now.set.loans.now }
         requires point { point < length self.old.words.items }
@@ -102,7 +102,7 @@ impl InsideWords {
         }
     }
 
-    /// Returns which loans of a run are inside at a point. With it, all points of its run are told.
+    /// Returns which loans of a word are inside at a point, and finds the words of all points of its run.
     pub(crate) fn word_at(&mut self, flow: &LoanFlow<'_>, word: usize, point: usize) -> u64
         requires word { 64 * word < length flow.now.set.loans.now }
         requires point { point < length self.old.words.items }

@@ -1,4 +1,4 @@
-//! What decides where the loans of a body go.
+//! What decides where the loans of a body flow.
 ghost use Rattle.std.specs.Prelude.{◌≡◌, ◌<◌, ℕ, length, IfOk};
 ghost use Rattle.std.specs.List.{All};
 ghost use Rattle.bc_flow.specs.Chains.{AreChains};
@@ -12,7 +12,7 @@ use bc_points::Loan;
 use bc_solve::Values;
 use std::alloc::{AllocError, Global};
 
-/// What decides where the loans of a body go: the loans, the values of their regions, the points, and the edges between these.
+/// What decides where the loans of a body flow: the loans, the values of their regions, the points, and the edges between points.
 #[derive(Drop)]
 pub(crate) struct LoanFlow<'a> {
     pub set: LoanSet<'a>,
@@ -27,8 +27,8 @@ pub(crate) struct LoanFlow<'a> {
 }
 
 impl<'a> LoanFlow<'a> {
-    /// Returns the flow of these loans along these edges, within the values of their regions. It asks that points make the loans, and that
-    /// edges lead between points. Returns `AllocError` only if memory was refused.
+    /// Returns the flow of these loans along these edges, within the values of their regions. Points must make the loans, and edges must
+    /// lead between points.
     pub(crate) fn of(
         alloc: Global,
         universals: u8,

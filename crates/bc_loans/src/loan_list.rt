@@ -7,7 +7,7 @@ use bc_mir::{Step, Typed};
 use bc_points::{Loan, loan_of};
 use std::alloc::{AllocError, Global};
 
-/// The loans that steps make.
+/// Returns the loans that steps make.
 fn loans_of_steps(alloc: Global, steps: &[Step]) -> Result<Vec<(usize, Loan<'_>)>, AllocError>
     ensures { IfOk result (λ loans. loans.items ≡ flat_map loans_of_step (enumerate_from 0 steps.now)) }
 {
@@ -21,9 +21,8 @@ fn loans_of_steps(alloc: Global, steps: &[Step]) -> Result<Vec<(usize, Loan<'_>)
     Ok(loans)
 }
 
-/// The loans of a unit, each with the number of the point that makes it, in the order of these points. Each borrow
-/// is one loan, and the number of a loan is its place in this list. Answers `AllocError` only where memory was
-/// refused (RFC 2094, "Borrow checker phase 1").
+/// Returns the loans of a unit, each with the number of the point that makes it, in the order of these points. Each borrow is one loan, and
+/// the number of a loan is its index in this list. (RFC 2094, "Borrow checker phase 1".)
 pub fn loans(alloc: Global, typed: &Typed) -> Result<Vec<(usize, Loan<'_>)>, AllocError>
     ensures { IfOk result (λ loans. loans.items ≡ loans_of typed.now) }
 {

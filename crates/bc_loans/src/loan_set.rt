@@ -1,4 +1,4 @@
-//! The loans of a body, found by their paths: which of them an instruction ends, by words of 64 loans.
+//! The loans of a body, indexed by their paths: which of them an instruction ends, in words of 64 loans.
 ghost use Rattle.std.specs.Prelude.{◌≡◌, ◌*◌, ◌/◌, ◌%◌, ◌<◌, ◌≤◌, ℕ, length, not, IfOk};
 ghost use Rattle.std.specs.List.{All};
 ghost use Rattle.bc_flow.specs.Packed.{is_set};
@@ -15,7 +15,7 @@ use bc_points::{Loan, PlaceRef, is_prefix};
 use bc_syntax::{Projection, Statement, Terminator};
 use std::alloc::{AllocError, Global};
 
-/// A number above those of the locals with which paths begin: one more than the greatest, or 0 without loans.
+/// Returns a bound of the locals of paths: one more than the greatest, or 0 if there are no loans.
 fn locals_bound(loans: &[(usize, Loan<'_>)]) -> usize
     ensures { All (λ (made : ℕ × LoanValue). made.1.path.local < result) loans.now }
 {
@@ -26,7 +26,7 @@ fn locals_bound(loans: &[(usize, Loan<'_>)]) -> usize
     bound
 }
 
-/// For each local up to the greatest that has any, the loans whose paths begin with it.
+/// Returns for each local, up to the greatest that has any, the loans whose paths begin with it.
 fn loans_by_local(alloc: Global, loans: &[(usize, Loan<'_>)]) -> Result<BitTable, AllocError>
     ensures sizes { IfOk result (λ rows. HaveSize (length loans.now) rows) }
     ensures loans { IfOk result (λ rows. (k l : ℕ) → holds rows k l ≡ begins_with loans.now k l) }
@@ -36,7 +36,7 @@ fn loans_by_local(alloc: Global, loans: &[(usize, Loan<'_>)]) -> Result<BitTable
     Ok(rows)
 }
 
-/// A number that no path of a loan has more projections than: as many as the longest has, or 0 without loans.
+/// Returns the number of projections of the longest path, or 0 if there are no loans.
 fn depth_bound(loans: &[(usize, Loan<'_>)]) -> usize
     ensures { All (λ (made : ℕ × LoanValue). length made.1.path.projections ≤ result) loans.now }
 {
@@ -47,7 +47,7 @@ fn depth_bound(loans: &[(usize, Loan<'_>)]) -> usize
     bound
 }
 
-/// For each projection the loans whose paths have it at a depth.
+/// Returns for each projection the loans whose paths have it at a depth.
 fn loans_by_projection(
     alloc: Global,
     loans: &[(usize, Loan<'_>)],
@@ -62,7 +62,7 @@ fn loans_by_projection(
     Ok(rows)
 }
 
-/// For each depth up to that of the longest path, and each projection, the loans whose paths have it there.
+/// Returns for each depth of the longest path, and each projection, the loans whose paths have it there.
 fn loans_by_depth(alloc: Global, loans: &[(usize, Loan<'_>)]) -> Result<Vec<BitTable>, AllocError>
     ensures loans { IfOk result (λ tables. AreByDepth loans.now tables.items) }
 {
@@ -105,8 +105,8 @@ pub(crate) fn keeps(path: &PlaceRef<'_>, instruction: &Instruction) -> bool
     }
 }
 
-/// The loans of a body, each with the number of the point that makes it, and tables from which it is told by words of 64 loans which of them
-/// have a place as a prefix of their path (after `BorrowSet` of `rustc_borrowck`).
+/// The loans of a body, each with the number of the point that makes it, and tables of their paths. These show in words of 64 loans which
+/// loans have a place as a prefix of their path (after `BorrowSet` of `rustc_borrowck`).
 #[derive(Drop)]
 pub(crate) struct LoanSet<'a> {
     pub loans: &'a [(usize, Loan<'a>)],
@@ -118,7 +118,7 @@ pub(crate) struct LoanSet<'a> {
 }
 
 impl<'a> LoanSet<'a> {
-    /// Returns the set of these loans. Returns `AllocError` only if memory was refused.
+    /// Returns the set of these loans.
     pub(crate) fn of(
         alloc: Global,
         loans: &'a [(usize, Loan<'a>)],
@@ -134,7 +134,7 @@ impl<'a> LoanSet<'a> {
         })
     }
 
-    /// Returns which of a run of 64 loans have paths that have a projection at a depth.
+    /// Returns which loans of a word have a projection at a depth of their path.
     fn projecting_word(&self, word: usize, depth: usize, projection: &Projection) -> u64
         requires word { 64 * word < length self.now.loans.now }
         ensures { (l : ℕ) → l / 64 ≡ word → is_set result (l % 64) ≡ projects self.now.loans.now depth projection.now l }
@@ -145,8 +145,8 @@ impl<'a> LoanSet<'a> {
         }
     }
 
-    /// Returns which of a run of 64 loans have paths that have a place as a prefix: those of its local, and of these, at one depth after
-    /// another, those that have its projection there.
+    /// Returns which loans of a word have a place as a prefix of their path: those of its local that have each of its projections at the
+    /// same depth.
     fn prefixed_word(&self, word: usize, place: &PlaceRef<'_>) -> u64
         requires word { 64 * word < length self.now.loans.now }
         ensures { (l : ℕ) → l / 64 ≡ word → is_set result (l % 64) ≡ has_prefix self.now.loans.now place.now l }
@@ -162,7 +162,7 @@ impl<'a> LoanSet<'a> {
         found
     }
 
-    /// Returns which of a run of 64 loans end at an instruction: it overwrites a prefix of their paths.
+    /// Returns which loans of a word an instruction ends: it overwrites a prefix of their path.
     pub(crate) fn overwritten_word(&self, word: usize, instruction: &Instruction) -> u64
         requires word { 64 * word < length self.now.loans.now }
         ensures { (l : ℕ) → l / 64 ≡ word → is_set result (l % 64) ≡ is_overwritten self.now.loans.now instruction.now l }

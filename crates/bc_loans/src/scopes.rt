@@ -13,8 +13,7 @@ use bc_solve::Values;
 use std::alloc::{AllocError, Global};
 use std::marker::Model;
 
-/// The loans in scope on entry to each point. Contracts see a set of loans for each point.
-/// (RFC 2094, "Borrow checker phase 1".)
+/// The loans in scope on entry to each point. Contracts see a row of loans for each point. (RFC 2094, "Borrow checker phase 1".)
 #[derive(Drop)]
 pub struct Scopes {
     rows: BitTable,
@@ -29,15 +28,15 @@ impl Model for Scopes {
 }
 
 impl Scopes {
-    /// Whether a loan is in scope on entry to a point. Both are numbers, the loan's its place in the list of loans; a
-    /// number that is none of the unit's points or loans gives false. It takes no memory.
+    /// Returns whether a loan is in scope on entry to a point, both by number. The number of a loan is its index in the list of loans.
+    /// Returns false if the unit has no such point or loan.
     pub fn on_entry(&self, point: usize, loan: usize) -> bool
         ensures { result ≡ holds self.now point loan }
     {
         self.rows.holds(point, loan)
     }
 
-    /// The loans in scope on entry to each point: one set for each point, in order.
+    /// Returns a set for each point, in order: the loans in scope on entry to it.
     pub fn rows(&self) -> &BitTable
         ensures { result.now ≡ self.now }
     {
@@ -45,10 +44,9 @@ impl Scopes {
     }
 }
 
-/// The loans in scope on entry to each point, over the values that are handed in. A loan is in scope where a path of at
-/// least one step leads from the point that makes it: all points of the path after the first are in the value of the
-/// loan's region, and none before the last overwrites a prefix of the loan's path. Answers `AllocError` only where memory
-/// was refused. (RFC 2094, "Borrow checker phase 1: computing loans in scope".)
+/// Returns the loans in scope on entry to each point, given the values of regions. A loan is in scope if a path of at least one step leads
+/// to the point from the one that makes it. All points of the path after the first are in the value of the loan's region, and none before
+/// the last overwrites a prefix of the loan's path. (RFC 2094, "Borrow checker phase 1: computing loans in scope".)
 pub fn in_scope(alloc: Global, typed: &Typed, values: &Values) -> Result<Scopes, AllocError>
     ensures points { IfOk result (λ scopes. length scopes ≡ length typed.now.steps) }
     ensures loans { IfOk result (λ scopes. HaveSize (length (loans_of typed.now)) scopes) }

@@ -1,4 +1,4 @@
-//! Where loans come to from the points that make them.
+//! Where loans flow from the points that make them.
 ghost use Rattle.std.specs.Prelude.{◌≡◌, ◌<◌, ◌⊎◌, ◌↔◌, ℕ, true, length, IfOk, OnOk};
 ghost use Rattle.std.specs.List.{All};
 ghost use Rattle.bc_flow.specs.Flow.{holds, HaveSize};
@@ -6,12 +6,12 @@ ghost use Rattle.bc_loans.specs.Flows.{IsSeedIn};
 
 use crate::loan_flow::LoanFlow;
 use crate::loan_set::keeps;
-use bc_flow::{BitTable, spread};
+use bc_flow::{BitTable, Entry, spread};
 use bc_points::region_number;
 use std::alloc::{AllocError, Global};
 
-/// Lets a loan, by its number, come to those points of its region's value to which edges lead from the one that makes it, unless that one
-/// overwrites it. Returns `AllocError` only if memory was refused.
+/// Lets a loan, by number, flow along the edges from the point that makes it, to points of its region's value. If that point overwrites its
+/// path, it flows nowhere.
 fn add_seed(
     coming: &mut BitTable,
     reached: &mut Vec<usize>,
@@ -32,22 +32,17 @@ fn add_seed(
     if keeps(&made.1.path, &flow.steps[made.0].instruction) {
         let region = region_number(flow.universals, made.1.region);
         if let Some(value) = flow.values.get(region) {
-            spread(
-                coming,
-                reached,
-                made.0,
-                number,
-                flow.edges,
-                &flow.chains,
-                &value,
-            )?;
+            let from = Entry {
+                node: made.0,
+                fact: number,
+            };
+            spread(coming, reached, from, flow.edges, &flow.chains, &value)?;
         }
     }
     Ok(())
 }
 
-/// Returns for each point the loans that come there from the point that makes them, within their regions' values. Returns `AllocError` only
-/// if memory was refused.
+/// Returns for each point the loans that flow there along an edge from the point that makes them, within the values of their regions.
 pub(crate) fn seed_rows(alloc: Global, flow: &LoanFlow<'_>) -> Result<BitTable, AllocError>
     ensures points { IfOk result (λ rows. length rows ≡ length flow.now.steps.now) }
     ensures loans { IfOk result (λ rows. HaveSize (length flow.now.set.loans.now) rows) }

@@ -1,5 +1,5 @@
-//! Loans that are in scope at points, a word of 64 of them at a time: by sweeps over the points that one of them got to, in their order, until
-//! none is new at a point that a sweep has passed.
+//! The points that loans reach, for a word of 64 loans at a time. Sweeps visit the points that one of them reached, in order, until none is
+//! new at a point that a sweep has passed.
 ghost use Rattle.std.specs.Prelude.{◌≡◌, ◌+◌, ◌*◌, ◌/◌, ◌%◌, ◌<◌, ◌≤◌, ◌↔◌, [], ◌∷◌, ℕ, true, false, length, IfOk, OnOk};
 ghost use Rattle.bc_flow.specs.Packed.{is_set, word_has};
 ghost use Rattle.bc_flow.specs.Graph.{HasEdge};
@@ -13,7 +13,7 @@ use crate::seeds::seed_rows;
 use bc_flow::{BitTable, Edge};
 use std::alloc::{AllocError, Global};
 
-/// Adds a point to the first row of a table if a new loan got to it.
+/// Adds a point to the first row of a table if a new loan reached it.
 fn note(reached: &mut BitTable, point: usize, grown: bool)
     requires point { point < length (row reached.old 0) }
     requires set { 0 < length reached.old }
@@ -26,7 +26,7 @@ fn note(reached: &mut BitTable, point: usize, grown: bool)
     }
 }
 
-/// How far loans have come: for each point the loans that come there; and of a run of 64 loans the points that one of them got to, and
+/// How far loans have flowed: for each point the loans that reached it; and for one word of loans, the points that one of them reached, and
 /// which of them are inside at points.
 #[derive(Drop)]
 struct Sweep {
@@ -36,8 +36,8 @@ struct Sweep {
 }
 
 impl Sweep {
-    /// Lets the loans of a word in at the point to which an edge leads, those that are inside there. Returns whether there was a new one and
-    /// that is the point which the edge leaves, or one before it.
+    /// Lets the loans of `here` that are inside at the target of an edge enter there. Returns whether one is new there, and the target is
+    /// the source of the edge or before it.
     fn enter(&mut self, flow: &LoanFlow<'_>, word: usize, edge: Edge, here: u64) -> bool
         requires word { 64 * word < length flow.now.set.loans.now }
         requires to { edge.to < length flow.now.steps.now }
@@ -53,7 +53,7 @@ impl Sweep {
         is_behind & grown
     }
 
-    /// Lets the loans of a word in where edges lead from a point. Returns whether a new one got to that point itself or to one before it.
+    /// Lets the loans of `here` flow along the edges from a point. Returns whether one is new at that point or at one before it.
     fn push_on(&mut self, flow: &LoanFlow<'_>, word: usize, point: usize, here: u64) -> bool
         requires word { 64 * word < length flow.now.set.loans.now }
         requires point { point < length flow.now.steps.now }
@@ -72,8 +72,8 @@ impl Sweep {
         again
     }
 
-    /// Lets the loans of a word that are at a point go on from there, but for those that the point overwrites. Returns whether a new one got
-    /// to that point itself or to one before it.
+    /// Lets the loans of a word that are at a point flow on from it, except for those that the point overwrites. Returns whether one is new
+    /// at that point or at one before it.
     fn visit(&mut self, flow: &LoanFlow<'_>, word: usize, point: usize) -> bool
         requires word { 64 * word < length flow.now.set.loans.now }
         requires point { point < length flow.now.steps.now }
@@ -88,8 +88,8 @@ impl Sweep {
         self.push_on(flow, word, point, here)
     }
 
-    /// Lets the loans of a word go on from the points that one of them got to, one point after another. Returns whether one is new at a point
-    /// that was passed, so that another sweep is needed.
+    /// Lets the loans of a word flow on from the points that one of them reached, in order. Returns whether one is new at a point that was
+    /// passed, so that another sweep is needed.
     fn sweep(&mut self, flow: &LoanFlow<'_>, word: usize) -> bool
         requires word { 64 * word < length flow.now.set.loans.now }
         requires sweep { IsSweep flow.now word self.old }
@@ -105,7 +105,7 @@ impl Sweep {
         again
     }
 
-    /// Lets the loans of a word go on by sweeps, until none is new at a point that was passed.
+    /// Lets the loans of a word flow on by sweeps, until none is new at a point that was passed.
     fn sweep_all(&mut self, flow: &LoanFlow<'_>, word: usize)
         requires word { 64 * word < length flow.now.set.loans.now }
         requires sweep { IsSweep flow.now word self.old }
@@ -116,8 +116,7 @@ impl Sweep {
         'sweeps: while self.sweep(flow, word) {}
     }
 
-    /// Returns the loans that come to each point from the one that makes them, and nothing told of any run. Returns `AllocError` only if
-    /// memory was refused.
+    /// Returns the state before all sweeps: each loan has flowed along the edges from the point that makes it, and no words are known.
     fn of(alloc: Global, flow: &LoanFlow<'_>) -> Result<Sweep, AllocError>
         ensures ready { IfOk result (IsReady flow.now) }
         ensures walked { IfOk result (λ sweep. AreWalkedIn flow.now 0 sweep.rows) }
@@ -132,8 +131,7 @@ impl Sweep {
         })
     }
 
-    /// Lets the loans of a word go on from the points to which they came from those that make them. Returns `AllocError` only if memory was
-    /// refused.
+    /// Lets the loans of a word flow from their first points to all that they reach.
     fn walk(&mut self, alloc: Global, flow: &LoanFlow<'_>, word: usize) -> Result<(), AllocError>
         requires word { 64 * word < length flow.now.set.loans.now }
         requires ready { IsReady flow.now self.old }
@@ -164,8 +162,7 @@ fn reach_from(reached: &mut BitTable, flow: &LoanFlow<'_>, point: usize)
     }
 }
 
-/// Returns, as the first row of a table, the points to which edges lead from the points that make the loans of a word. Returns `AllocError`
-/// only if memory was refused.
+/// Returns, as the first row of a table, the points to which edges lead from the points that make the loans of a word.
 fn first_reached(alloc: Global, flow: &LoanFlow<'_>, word: usize) -> Result<BitTable, AllocError>
     requires word { 64 * word < length flow.now.set.loans.now }
     ensures set { IfOk result (HasSet (length flow.now.steps.now)) }
@@ -180,7 +177,7 @@ fn first_reached(alloc: Global, flow: &LoanFlow<'_>, word: usize) -> Result<BitT
     Ok(reached)
 }
 
-/// Returns for each point the loans that walk there within their regions' values. Returns `AllocError` only if memory was refused.
+/// Returns for each point the loans that reach it within the values of their regions.
 pub(crate) fn swept_rows(alloc: Global, flow: &LoanFlow<'_>) -> Result<BitTable, AllocError>
     ensures points { IfOk result (λ rows. length rows ≡ length flow.now.steps.now) }
     ensures loans { IfOk result (λ rows. HaveSize (length flow.now.set.loans.now) rows) }

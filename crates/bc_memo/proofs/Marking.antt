@@ -1,4 +1,4 @@
--- What the steps of a change do to places, as the definitions say it.
+-- The steps of a change do to places what the definitions say.
 use Rattle.std.proofs.Common.{◌≡◌, ℕ, zero, suc, ◌+◌, ◌<◌, ◌≤◌, ◌&&◌, ◌||◌, Bool, true, false, true≢false, [], ◌∷◌, ◌++◌, length, get_or, set, take, cond, refl, ap, sym, subst, ◌∙◌, arith, Option, Some, None}
 use Rattle.std.specs.Prelude.{map, nat_lt}
 use Rattle.std.specs.Option.{option_map, option_or}
@@ -23,7 +23,7 @@ use Rattle.bc_memo.specs.declared.change.Change.TheVariants.{Put, Remove, Answer
 use Rattle.bc_memo.specs.Places.{Places, ShelfView, AreKept, AreOrdered, IsAbove, IsBelow, IsFoundAt, IsGapAt, answer_of, with_answer_at, changed, cleared, mark, marked, unanswered, with_answer, written}
 use Rattle.bc_memo.proofs.Places.{at_found, at_head, at_missed, at_name-map, at_name-take, at_tail, by_bool, by_ordering, greater_apart, less_apart, ordered-map, ordered-put, ordered-take, put_here, put_step, same_back}
 
--- ---- places stay kept
+-- ---- the invariant of places
 
 pub kept_none : AreKept []
 unfolding IsStrictlySortedBy
@@ -95,7 +95,7 @@ all_apart : (ps : Places) (n : NameParts) (a : Option Outcome) → AllByRecursio
 all_apart [] n a all = refl
 all_apart (p ∷ ps) n a all = λ j. sym (row_apart n a p (less_apart n p.0 all.0)) j ∷ all_apart ps n a all.1 j
 
--- a name with one
+-- a name with a place
 pub answered_found : (ps : Places) (n : NameParts) (a : Option Outcome) (i : ℕ) (x : NameParts × Place) → AreOrdered ps → i < length ps → IsAbove ps n i → ((d : NameParts × Place) → (get_or ps i d).0 ≡ n)
     → set ps i ((get_or ps i x).0, with_answer (get_or ps i x).1 a) ≡ with_answer_at n a ps
 unfolding IsStrictlySortedBy
@@ -105,13 +105,13 @@ answered_found (p ∷ ps) n a zero x ordered within above at =
 answered_found (p ∷ ps) n a (suc i) x ordered within above at =
     λ j. sym (row_apart n a p (greater_apart n p.0 (above 0 p (omega arith)))) j ∷ answered_found ps n a i x ordered.1 (omega arith) (λ k d less. above (suc k) d (omega arith)) (λ d. at d) j
 
--- ---- the answers of the beginnings of a name
+-- ---- the answers of the names above a name
 
--- a name begins with another that has fewer segments than this
+-- the name begins with another, up to a `/`, which has fewer segments than this
 abbrev pub clears_below : NameParts → ℕ → NameParts → Bool
 clears_below n depth m = is_within m n && nat_lt (length m.segments) depth
 
--- the places without the answers of those beginnings
+-- the places without the answers of those names
 abbrev pub cleared_below : NameParts → ℕ → Places → Places
 cleared_below n depth ps = map (λ (p : NameParts × Place). (p.0, cond (clears_below n depth p.0) (with_answer p.1 None) p.1)) ps
 
@@ -126,14 +126,14 @@ either_case : {P : Type 0} (a b : Bool) → (a || b) ≡ true → (a ≡ true �
 either_case true b e f g = f refl
 either_case false b e f g = g e
 
--- a beginning has no more segments than the name
+-- a name has no more segments than one that begins with it
 no_deeper : (n m : NameParts) → is_within m n ≡ true → length m.segments ≤ length n.segments
 no_deeper n m within =
     let long : length m.segments ≡ length (take (length m.segments) n.segments) = ap (λ (x : NameParts). length x.segments) (within_beginning m n within) in
     let few = length-take (length m.segments) n.segments in
     omega (arith, long, few)
 
--- the beginning of this many segments, and those with fewer
+-- the beginning with this many segments, and those with fewer
 one_more : (n m : NameParts) (depth : ℕ) → depth ≤ length n.segments → (is_same_name (beginning n depth) m || clears_below n depth m) ≡ clears_below n (depth + 1) m
 one_more n m depth few = both_ways _ _
     (λ is. either_case (is_same_name (beginning n depth) m) (clears_below n depth m) is
@@ -197,7 +197,7 @@ still_bare b None bare = refl
 still_bare true (Some p) bare = refl
 still_bare false (Some p) bare = bare
 
--- a name without an answer has none to lose
+-- removing the answer of a name that has none changes nothing
 answered_bare : (ps : Places) (n : NameParts) → AreOrdered ps → answer_of (at_name ps n) ≡ None → with_answer_at n None ps ≡ ps
 unfolding IsStrictlySortedBy
 answered_bare [] n ordered bare = refl
@@ -210,7 +210,7 @@ answered_bare (p ∷ ps) n ordered bare = by_bool (is_same_name n p.0)
     let apart : n ≡ p.0 → ⊥ = λ at. true≢false (sym ((name n p.0).1 at) ∙ other) in
     λ i. row_apart n None p apart i ∷ answered_bare ps n ordered.1 (sym (ap answer_of (at_tail n p.0 p.1 ps apart)) ∙ bare) i)
 
--- all beginnings are done, and the name itself has no answer
+-- after the beginnings, a name without an answer is done
 pub cleared_bare : (n : NameParts) (ps : Places) → AreOrdered ps → answer_of (at_name ps n) ≡ None → cleared_below n (length n.segments) ps ≡ cleared n ps
 cleared_bare n ps ordered bare =
     let depth = length n.segments in
@@ -246,7 +246,7 @@ pub marked_answer : (n : NameParts) (o : Outcome) (ps : Places) → with_answer_
 marked_answer n o [] = refl
 marked_answer n o (p ∷ ps) = λ i. (p.0, given (is_same_name n p.0) p.1 o i) ∷ marked_answer n o ps i
 
--- the last answer of many is given first, and then the others
+-- giving the last of many answers first, and then the others, has the same result
 last_answer : (rows : OutcomeRows) (r : NameParts × Outcome) (n : NameParts) (p : Place) → with_answer p (option_or (at_name (rows ++ r ∷ []) n) p.answer) ≡ mark (Answers rows) n (cond (is_same_name r.0 n) (with_answer p (Some r.1)) p)
 last_answer [] r n p = ap (λ (b : Bool). with_answer p (option_or (cond b (Some r.1) None) p.answer)) (same_back r.0 n) ∙ sym (given (is_same_name r.0 n) p r.1)
 last_answer (q ∷ rows) r n p = by_bool (is_at (name_order n) q.0)
@@ -284,7 +284,7 @@ marked_nothing (p ∷ ps) = λ i. p ∷ marked_nothing ps i
 pub changed_nothing : (s : ShelfView) (revision : ℕ) → s ≡ changed s Nothing revision
 changed_nothing s revision = λ i. record { types = s.types; types_revision = s.types_revision; places = marked_nothing s.places i }
 
--- ---- the answer of a name, by a search
+-- ---- a name's answer, set after a search
 
 pub answer_found : (ps : Places) (n : NameParts) (i : ℕ) (d : NameParts × Place) → IsFoundAt ps n i → answer_of (at_name ps n) ≡ (get_or ps i d).1.answer
 answer_found ps n i d f = ap answer_of (at_found ps n i d f.within f.above (f.at d))

@@ -1,4 +1,4 @@
--- A name's part of places stands together, and is a snapshot's.
+-- The places of a name's part are adjacent, and make a snapshot.
 use Rattle.std.proofs.Common.{◌≡◌, ℕ, zero, suc, ◌+◌, ◌-◌, ◌<◌, ◌≤◌, Bool, true, false, true≢false, List, [], ◌∷◌, length, get_or, take, drop, cond, refl, ap, sym, subst, ◌∙◌, inl, inr, arith}
 use Rattle.std.specs.Prelude.{map, filter}
 use Rattle.std.specs.List.{AllByRecursion}
@@ -19,7 +19,7 @@ use Rattle.bc_memo.specs.declared.place.Place.{Place}
 use Rattle.bc_memo.specs.Places.{Places, ShelfView, AreKept, AreOrdered, IsHeld, IsStartAt, part_in, units_in}
 use Rattle.bc_memo.proofs.Places.{by_bool, keys_of-map, ordered-filter, ordered_at, passes-filter}
 
--- ---- elements that pass a test and stand together
+-- ---- adjacent elements that pass a test
 
 none_pass : {X : Type 0} (test : X → Bool) (es : List X) → ((k : ℕ) (d : X) → k < length es → test (get_or es k d) ≡ false) → [] ≡ filter test es
 none_pass test [] none = refl
@@ -45,7 +45,7 @@ run_passes test (e ∷ es) (suc i) j within before bound inside outside =
 before_apart : (root n : NameParts) → name_order root n ≡ Greater → is_within root n ≡ false
 before_apart root n greater = by_bool (is_within root n) (λ is. absurd (true≢false (sym (ap is_gt greater) ∙ within_least root n is))) (λ is. is)
 
--- from the root on, no name within it comes behind one that is not
+-- from the start on, no name within the root comes after one that is not
 parted : {X : Type 0} (root : NameParts) (es : List (NameParts × X)) (i : ℕ) → AreOrdered es → IsStartAt es root i → IsPartitionedBy (λ (e : NameParts × X). is_within root e.0) (drop i es)
 parted {X} root es i ordered start a b d upto less within =
     subst (λ (e : NameParts × X). is_within root e.0 ≡ true) (sym (get_or-drop i es a d))
@@ -63,7 +63,7 @@ part_range {X} root es i j start bound parts =
     run_passes (λ (e : NameParts × X). is_within root e.0) es i j start.within (λ k d less. before_apart root (get_or es k d).0 (start.above k d less)) bound
     (λ k d less. parts.0 k d (omega arith) less) parts.1
 
--- the range that starts at the root and has all behind it that lie within
+-- the slice from the start, as long as names are within the root, is the part
 pub part_slice : {X : Type 0} (root : NameParts) (es : List (NameParts × X)) (i j : ℕ) → AreOrdered es → IsStartAt es root i → j ≤ length (take (length es - i) (drop i es))
     → (IsPartitionedBy (λ (e : NameParts × X). is_within root e.0) (take (length es - i) (drop i es)) → IsPartitionPoint (λ (e : NameParts × X). is_within root e.0 ≡ true) (λ (e : NameParts × X). is_within root e.0 ≡ false) (take (length es - i) (drop i es)) j)
     → take j (take (length es - i) (drop i es)) ≡ part_in root es
@@ -103,7 +103,7 @@ at_map f [] k d e less = absurd (omega arith)
 at_map f (x ∷ xs) zero d e less = refl
 at_map f (x ∷ xs) (suc k) d e less = at_map f xs k d e (omega arith)
 
--- ---- what is held of a snapshot
+-- ---- what the shelf has of a snapshot
 
 pub held_by : (s : ShelfView) (v : SnapshotView) (part : Places) (types_at : ℕ) (units_at : List ℕ) → part ≡ part_in v.root s.places → types_at ≡ s.types_revision → units_at ≡ map (λ (p : NameParts × Place). p.1.revision) part
     → v.types ≡ s.types → v.units ≡ map (λ (p : NameParts × Place). (p.0, p.1.unit)) part → IsHeld s v types_at units_at

@@ -39,7 +39,7 @@ pub by_bool : {P : Type 0} (b : Bool) → (b ≡ true → P) → (b ≡ false �
 by_bool true f g = f refl
 by_bool false f g = g refl
 
--- names that compare otherwise are not the same
+-- names that do not compare as equal differ
 pub greater_apart : (k m : NameParts) → name_order k m ≡ Greater → k ≡ m → ⊥
 greater_apart k m r same = true≢false (sym ((same_name k m).1 same) ∙ ap is_eq r)
 
@@ -52,11 +52,11 @@ same_tests k n = by_bool (is_same_name k n)
     (λ is. (same_name k n).1 ((name k n).0 is) ∙ sym is)
     (λ is. by_bool (is_at (name_order k) n) (λ at. absurd (true≢false (sym ((name k n).1 ((same_name k n).0 at)) ∙ is))) (λ at. at ∙ sym is))
 
--- whichever of the two comes first
+-- also with the two names swapped
 pub same_back : (k n : NameParts) → is_at (name_order n) k ≡ is_same_name k n
 same_back k n = both_ways _ _ (λ at. (name k n).1 (sym ((same_name n k).0 at))) (λ is. (same_name n k).1 (sym ((name k n).0 is)))
 
--- a list whose values are changed, each by its name
+-- the value at a name in a list whose values are changed, each by its name
 pub at_name-map : {X Y : Type 0} (f : NameParts → X → Y) (n : NameParts) (es : List (NameParts × X)) → at_name (map (λ (p : NameParts × X). (p.0, f p.0 p.1)) es) n ≡ option_map (f n) (at_name es n)
 at_name-map f n [] = refl
 at_name-map {X} {Y} f n (e ∷ es) = by_bool (is_at (name_order n) e.0)
@@ -100,13 +100,13 @@ put_there k v n (e ∷ es) apart = by_ordering (name_order k e.0)
     (λ r. ap (λ l. at_name l n) (put_step k v e es Greater r)
     ∙ ap (λ (o : Option _). cond (is_at (name_order n) e.0) (Some e.1) o) (put_there k v n es apart))
 
--- the value at a name, where one is put in
+-- the value at a name after one is put
 pub at_name-put : {X : Type 0} (k : NameParts) (v : X) (n : NameParts) (es : List (NameParts × X)) → at_name (insert_entry name_order es k v) n ≡ cond (is_same_name k n) (Some v) (at_name es n)
 at_name-put k v n es = by_bool (is_same_name k n)
     (λ is. put_here k v n es (sym ((name k n).0 is)) ∙ sym (ap (λ (b : Bool). cond b (Some v) (at_name es n)) is))
     (λ is. put_there k v n es (λ (e : n ≡ k). true≢false (sym ((name k n).1 (sym e)) ∙ is)) ∙ sym (ap (λ (b : Bool). cond b (Some v) (at_name es n)) is))
 
--- and where one is taken out
+-- and after one is taken out
 pub at_name-take : {X : Type 0} (k n : NameParts) (es : List (NameParts × X)) → AreOrdered es → at_name (remove_entry (is_at (name_order k)) es) n ≡ cond (is_same_name k n) None (at_name es n)
 at_name-take k n es ordered =
     lookup-remove_entry (eq_by_cmp_equiv names_total) (is_at (name_order k)) (λ x y is. ap (λ (z : NameParts). is_at (name_order z) y) ((same_name k x).0 is)) n es (IsDistinct-from_sorted name_order (keys_of es) ordered)
@@ -174,7 +174,7 @@ passes-filter {X} test (e ∷ es) = by_bool (test e.0)
 pub at_name-filter : {X : Type 0} (test : NameParts → Bool) (n : NameParts) (es : List (NameParts × X)) → test n ≡ true → at_name (filter (λ (p : NameParts × X). test p.0) es) n ≡ at_name es n
 at_name-filter test n es is = lookup-filter-keys (is_at (name_order n)) test true (λ k at. ap test (sym ((same_name n k).0 at)) ∙ is) es
 
--- ---- an edit at the place that a search found
+-- ---- a change at the index that a search found
 
 pub set_put : {X : Type 0} (es : List (NameParts × X)) (k : NameParts) (v : X) (i : ℕ) → i < length es → IsAbove es k i → ((d : NameParts × X) → (get_or es i d).0 ≡ k) → set es i (k, v) ≡ insert_entry name_order es k v
 set_put [] k v i within above at = absurd (omega arith)
@@ -219,7 +219,7 @@ head_below k [] i d within all = absurd (omega arith)
 head_below k (e ∷ es) zero d within all = all.0
 head_below k (e ∷ es) (suc i) d within all = head_below k es i d (omega arith) all.1
 
--- an earlier name is below a later one
+-- an earlier name is less than a later one
 pub ordered_at : {X : Type 0} (es : List (NameParts × X)) (i j : ℕ) (d : NameParts × X) → AreOrdered es → i < j → j < length es → name_order (get_or es i d).0 (get_or es j d).0 ≡ Less
 unfolding IsStrictlySortedBy
 ordered_at [] i j d ordered less within = absurd (omega arith)
@@ -231,7 +231,7 @@ ordered_at (e ∷ es) (suc i) (suc j) d ordered less within = ordered_at es i j 
 swapped : (a b : NameParts) → name_order a b ≡ Less → name_order b a ≡ Greater
 swapped a b less = names_total.antisymm b a ∙ ap ordering_reverse less
 
--- what is below a name is below those behind it
+-- a name that is less than an entry is less than all after it
 pub below_more : {X : Type 0} (es : List (NameParts × X)) (k : NameParts) (i : ℕ) (x : NameParts × X) → AreOrdered es → i < length es → name_order k (get_or es i x).0 ≡ Less → IsBelow es k i
 below_more {X} es k i x ordered within below j d from less =
     let here : name_order k (get_or es i d).0 ≡ Less = ap (λ (p : NameParts × X). name_order k p.0) (get_or_default es i d x within) ∙ below in
@@ -250,7 +250,7 @@ missed_none es k i f = ap is_some (at_missed es k i f.above f.below)
 pub ordered-map : {X Y : Type 0} (f : NameParts → X → Y) (es : List (NameParts × X)) → AreOrdered es → AreOrdered (map (λ (p : NameParts × X). (p.0, f p.0 p.1)) es)
 ordered-map f es ordered = subst (λ (ks : List NameParts). IsStrictlySortedBy name_order ks) (sym (keys_of-map f es)) ordered
 
--- ---- what a binary search answers
+-- ---- what a binary search returns
 
 pub rising : {X : Type 0} (es : List (NameParts × X)) (k : NameParts) → AreOrdered es → IsNonDecreasingBy (λ (e : NameParts × X). ordering_index (name_order e.0 k)) es
 rising {X} es k ordered i j d upto within = elim (cases_eq i j) [
@@ -300,7 +300,7 @@ start_found {X} es k i ordered f = record {
       | inr apart ↦ subst (λ (m : NameParts). is_gt (name_order m (get_or es j d).0) ≡ false) (f.at d) (ap is_gt (ordered_at es i j d ordered (omega arith) less))
     ]
 
--- what is taken where there is nothing
+-- taking an absent name out changes nothing
 pub take_missed : {X : Type 0} (es : List (NameParts × X)) (k : NameParts) (i : ℕ) → IsAbove es k i → IsBelow es k i → es ≡ remove_entry (is_at (name_order k)) es
 take_missed [] k i above below = refl
 take_missed (e ∷ es) k zero above below =
@@ -310,13 +310,13 @@ take_missed (e ∷ es) k (suc i) above below =
     ap (λ l. e ∷ l) (take_missed es k i (λ j d less. above (suc j) d (omega arith)) (λ j d from less. below (suc j) d (omega arith) (omega arith)))
     ∙ sym (ap (λ (b : Bool). cond b es (e ∷ remove_entry (is_at (name_order k)) es)) (ap is_eq (above 0 e (omega arith))))
 
--- what holds at each place holds of all
+-- what holds of all holds at each index
 pub index_of_all : {X : Type 0} (P : X → Type 0) (xs : List X) (k : ℕ) (d : X) → AllByRecursion P xs → k < length xs → P (get_or xs k d)
 index_of_all P [] k d all less = absurd (omega arith)
 index_of_all P (x ∷ xs) zero d all less = all.0
 index_of_all P (x ∷ xs) (suc k) d all less = index_of_all P xs k d all.1 (omega arith)
 
--- ---- how many there are
+-- ---- lengths
 
 pub length-put_le : {X : Type 0} (es : List (NameParts × X)) (k : NameParts) (v : X) → length (insert_entry name_order es k v) ≤ length es + 1
 length-put_le [] k v = omega arith
@@ -346,7 +346,7 @@ unit_option : (o : Option Place) → option_map (λ (p : Place). p.unit) o ≡ u
 unit_option None = refl
 unit_option (Some p) = refl
 
--- the units of a name's part are those of the places
+-- the part has the units that the places have
 pub units_at : (root : NameParts) (ps : Places) (n : NameParts) → is_within root n ≡ true → at_name (units_in root ps) n ≡ unit_of (at_name ps n)
 units_at root ps n within =
     at_name-map (λ (k : NameParts) (p : Place). p.unit) n (part_in root ps)
@@ -366,7 +366,7 @@ ordered-placed ps Nothing revision ordered = ordered
 pub ordered-changed : (s : ShelfView) (c : Change) (revision : ℕ) → AreOrdered s.places → AreOrdered (changed s c revision).places
 ordered-changed s c revision ordered = ordered-map (mark c) (placed s.places c revision) (ordered-placed s.places c revision ordered)
 
--- at each name the place stays but for its answer, or is gone, or is new; then no answer of its name stands
+-- at each name the place stays, or is gone, or is new, with this revision; then the change makes the name's answer void
 abbrev pub Placing : Places → Places → NameParts → Change → ℕ → Type 0
 Placing ps qs n c revision =
     (at_name qs n ≡ at_name ps n)

@@ -1,10 +1,10 @@
-//! What a call changes in what is held.
+//! What a call changes in what is stored.
 use bc_names::Name;
 use bc_prov::{Declared, Listing, Outcome, Shared};
 use bc_syntax::Unit;
 
-/// The change that a call makes to what is held: new declarations, a unit at a name, no unit there, an answer for it, answers for
-/// many names, or no change.
+/// What a call changes in what is stored: new declarations, a unit at a name, no unit there, an answer for it, answers for many names, or
+/// nothing.
 #[derive(Drop)]
 pub enum Change {
     Types(Shared<Declared>),

@@ -1,4 +1,4 @@
-//! What is held, with revisions, and answers that are remembered while all that they were found from has the revisions that it had.
+//! What is stored, with revisions, and outcomes that are remembered while all that they were found from keeps its revision.
 #![tactic(auto)]
 
 mod change;

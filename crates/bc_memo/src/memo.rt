@@ -15,7 +15,7 @@ use bc_prov::{Outcome, Shared};
 use std::alloc::{AllocError, Global};
 use std::marker::Model;
 
-/// A remembered outcome, with the revisions of the declarations and of each name that it was found from; an absent name has none.
+/// A remembered outcome, with the revisions of the declarations and of each name that it was found from. A name that held no body has none.
 pub struct Remembered {
     pub types: u32,
     pub used: Vec<(Name, Option<u32>)>,
@@ -32,13 +32,13 @@ impl Drop for Remembered {
     }
 }
 
-/// The remembered outcomes, one for each name at most. Contracts see the rows, in the order of their names, and for how many more
-/// names there is memory.
+/// The remembered outcomes, at most one for each name. A contract sees the rows in the order of their names, and for how many more names
+/// there is room.
 pub struct Memo {
     rows: Vec<(Name, Remembered)>,
 }
 
-// Written out: the crates above call this, and prove nothing of its parts again.
+// Handwritten, so that it is proved once: the crates above only call it.
 impl Drop for Memo {
     fn drop(self) {
         let Self { rows: _ } = self;
@@ -58,8 +58,7 @@ impl Model for Memo {
 }
 
 impl Remembered {
-    /// Records an outcome with the revisions that a shelf has of its declarations and of these names. Returns `AllocError` only
-    /// where memory was refused.
+    /// Records an outcome with the revisions that the shelf has of its declarations and of these names.
     pub fn of(
         alloc: Global,
         shelf: &Shelf,
@@ -87,11 +86,11 @@ impl Memo {
         }
     }
 
-    /// Returns the outcome that is remembered for a name, where the declarations and all names that it was found from still have
-    /// the revisions that they had; `None` exactly where nothing is remembered for the name or something changed since. It takes
-    /// no memory.
+    /// Returns the outcome that is remembered for a name, if the declarations and all names that it was found from still have their
+    /// revisions. Returns `None` exactly if nothing is remembered for the name or one of them changed since.
     pub fn lookup(&self, shelf: &Shelf, name: &Name) -> Option<&Shared<Outcome>>
-        ensures stands { IfSome result (λ outcome. (row : Remembered) × (at_name self.now.rows name.now ≡ Some row) × Stands shelf.now.held row × (outcome.now ≡ row.outcome)) }
+        ensures stands { IfSome result (λ outcome. (row : Remembered) × (at_name self.now.rows name.now ≡ Some row) × Stands shelf.now.held row ×
+            (outcome.now ≡ row.outcome)) }
         ensures none { IfNone result ((row : Remembered) → at_name self.now.rows name.now ≡ Some row → Stands shelf.now.held row → ⊥) }
     {
         match find(&self.rows, name) {
@@ -107,8 +106,7 @@ impl Memo {
         }
     }
 
-    /// Makes room for so many more names, and changes nothing else. It takes no memory where there is some for as many. Returns
-    /// `AllocError` only where memory was refused.
+    /// Makes room for at least `names` more names, and changes nothing else. It succeeds if there is room already.
     pub fn reserve(&mut self, names: usize) -> Result<(), AllocError>
         ensures same { self.new.rows ≡ self.old.rows }
         ensures room { OnOk result (names ≤ self.new.room) }
@@ -117,8 +115,7 @@ impl Memo {
         self.rows.reserve(names)
     }
 
-    /// Remembers a row for a name, in the place of what was remembered for it. It takes no memory: it asks for room for one name, and
-    /// leaves that for as many as before but for one.
+    /// Remembers a row for a name, in place of what was remembered for it. Requires room for one name, and takes no more than that.
     pub fn put(&mut self, name: Name, row: Remembered)
         requires { 0 < self.old.room }
         ensures rows { self.new.rows ≡ insert_entry name_order self.old.rows name row }
@@ -127,15 +124,15 @@ impl Memo {
         put(&mut self.rows, name, row);
     }
 
-    /// Forgets what is remembered for a name, if anything is. It takes no memory.
+    /// Forgets what is remembered for a name, if anything.
     pub fn forget(&mut self, name: &Name)
         ensures { self.new.rows ≡ remove_entry (is_at (name_order name.now)) self.old.rows }
     {
         take(&mut self.rows, name);
     }
 
-    /// Remembers an outcome for a name that is held, with the revisions that a shelf has of its declarations, of the name and of these
-    /// names. Returns `AllocError` only where memory was refused, and then remembers what it did before.
+    /// Remembers an outcome for a name that holds a body, with the revisions that the shelf has of its declarations, of the name and of
+    /// these names. If it returns `AllocError`, the memo remembers what it did before.
     pub fn install(
         &mut self,
         alloc: Global,
@@ -145,7 +142,8 @@ impl Memo {
         outcome: Shared<Outcome>,
     ) -> Result<(), AllocError>
         requires held { IsSome (at_name shelf.now.held.places name) }
-        ensures installed { OnOk result ((row : Remembered) × IsRowOf shelf.now.held (name ∷ names.now) outcome row × (self.new.rows ≡ insert_entry name_order self.old.rows name row)) }
+        ensures installed { OnOk result ((row : Remembered) × IsRowOf shelf.now.held (name ∷ names.now) outcome row ×
+            (self.new.rows ≡ insert_entry name_order self.old.rows name row)) }
         ensures refused { OnErr result (self.new.rows ≡ self.old.rows) }
     {
         let used = with_own(alloc, name, names)?;
@@ -156,14 +154,14 @@ impl Memo {
     }
 }
 
-// Whether the declarations and all names that are recorded have the revisions that they had.
+/// Returns whether the declarations and all recorded names still have their revisions.
 fn stands(shelf: &Shelf, row: &Remembered) -> bool
     ensures { IsTrue result ↔ Stands shelf.now.held row.now }
 {
     shelf.types_revision() == row.types && all_stand(shelf, &row.used)
 }
 
-// Whether all these names have these revisions.
+/// Returns whether all these names have these revisions.
 fn all_stand(shelf: &Shelf, used: &[(Name, Option<u32>)]) -> bool
     ensures { IsTrue result ↔ AllByRecursion (λ row. revision_at shelf.now.held row.0 ≡ row.1) used.now }
 {
@@ -175,7 +173,7 @@ fn all_stand(shelf: &Shelf, used: &[(Name, Option<u32>)]) -> bool
     true
 }
 
-// A name, and behind it these names.
+/// Returns a list of the name, then these names.
 fn with_own(alloc: Global, name: Name, names: &[Name]) -> Result<Vec<Name>, AllocError>
     ensures { IfOk result (λ all. all.items ≡ name ∷ names.now) }
 {
@@ -185,7 +183,7 @@ fn with_own(alloc: Global, name: Name, names: &[Name]) -> Result<Vec<Name>, Allo
     Ok(all)
 }
 
-// The names with the revisions that they have.
+/// Returns the names with their revisions.
 fn revisions(
     alloc: Global,
     shelf: &Shelf,

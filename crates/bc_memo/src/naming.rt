@@ -6,7 +6,7 @@ use bc_names::Name;
 use bc_syntax::{Unit, UnitKind};
 use std::alloc::{AllocError, Global};
 
-// Whether a unit of this kind may have the name.
+/// Returns whether a unit of this kind may have the name.
 fn suits_kind(kind: UnitKind, name: &Name) -> bool
     ensures { IsTrue result ↔ SuitsKind kind name.now }
 {
@@ -16,7 +16,7 @@ fn suits_kind(kind: UnitKind, name: &Name) -> bool
     }
 }
 
-// Whether there are names for the children of a unit.
+/// Returns whether the name leaves room for the names of the unit's children.
 fn has_room(alloc: Global, unit: &Unit, name: &Name) -> Result<bool, AllocError>
     ensures { IfOk result (λ room. IsTrue room ↔ HasRoom name.now unit.now) }
 {
@@ -27,8 +27,8 @@ fn has_room(alloc: Global, unit: &Unit, name: &Name) -> Result<bool, AllocError>
     Ok(children.is_empty())
 }
 
-/// Returns whether a unit may be held at a name: a function's name is a root, a closure's any other, and a name of seven segments
-/// suits no unit with a child. Returns `AllocError` only where memory was refused.
+/// Returns whether a unit may be stored at a name: a function at a root, a closure at any other name, and at a name of seven segments no
+/// unit with a child.
 pub fn suits(alloc: Global, unit: &Unit, name: &Name) -> Result<bool, AllocError>
     ensures { IfOk result (λ suits. IsTrue suits ↔ Suits unit.now name.now) }
 {

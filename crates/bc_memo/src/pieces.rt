@@ -1,4 +1,4 @@
-//! Pieces that are kept of bodies.
+//! The kept pieces of bodies.
 ghost use Rattle.std.specs.Prelude.{◌≡◌, ◌+◌, ◌<◌, ◌≤◌, [], IfOk, IsOk, OnErr, OnOk, length};
 ghost use Rattle.std.specs.BTreeMap.{insert_entry, is_at};
 ghost use Rattle.std.specs.Map.{remove_entry};
@@ -14,8 +14,8 @@ use bc_prov::{Piece, Pieces, Shared, share_pieces};
 use std::alloc::{AllocError, Global};
 use std::marker::Model;
 
-/// The kept pieces of bodies, one for each name at most. Contracts see them in the order of their names, and for how many more there is
-/// memory. (rustc-dev-guide, "Incremental compilation": what is found of a part stays valid while that part is unchanged.)
+/// The kept pieces of bodies, at most one for each name. A contract sees them in the order of their names, and for how many more there is
+/// room. (rustc-dev-guide, "Incremental compilation": what is found of a part stays valid while that part is unchanged.)
 pub struct PieceMemo {
     rows: Vec<(Name, Shared<Piece>)>,
 }
@@ -38,7 +38,7 @@ impl Model for PieceMemo {
 }
 
 impl PieceMemo {
-    /// Returns a memo that keeps no piece, with memory for so many. Returns `AllocError` only where memory was refused.
+    /// Returns a memo that keeps no piece, with room for at least `names` pieces.
     pub fn new(alloc: Global, names: usize) -> Result<PieceMemo, AllocError>
         ensures rows { IfOk result (λ memo. memo.rows ≡ []) }
         ensures room { IfOk result (λ memo. names ≤ memo.room) }
@@ -48,8 +48,8 @@ impl PieceMemo {
         })
     }
 
-    /// Keeps the piece of a name, in the place of one that was kept for it. It takes no memory where there is some for one piece more, and
-    /// gives none back. Returns `AllocError` only where memory was refused, and then keeps what it kept before.
+    /// Keeps the piece of a name, in place of one that was kept for it. It succeeds if there is room for one more piece, and the capacity
+    /// never shrinks. If it returns `AllocError`, the memo keeps what it kept before.
     pub fn keep(&mut self, name: Name, piece: Shared<Piece>) -> Result<(), AllocError>
         ensures kept { OnOk result (self.new.rows ≡ insert_entry name_order self.old.rows name piece) }
         ensures refused { OnErr result (self.new.rows ≡ self.old.rows) }
@@ -61,8 +61,8 @@ impl PieceMemo {
         Ok(())
     }
 
-    /// Makes room for so many pieces more, and changes nothing else. It takes no memory where there is some for as many, and gives none
-    /// back. Returns `AllocError` only where memory was refused.
+    /// Makes room for at least `count` more pieces, and changes nothing else. It succeeds if there is room already. The capacity never
+    /// shrinks.
     pub fn reserve(&mut self, count: usize) -> Result<(), AllocError>
         ensures rows { self.new.rows ≡ self.old.rows }
         ensures room { OnOk result (count ≤ self.new.room) }
@@ -72,8 +72,8 @@ impl PieceMemo {
         self.rows.reserve(count)
     }
 
-    /// Keeps each of these pieces, in their order, in the place of one that was kept for its name. It takes no memory and gives none back:
-    /// it asks for room for as many.
+    /// Keeps each of these pieces, in their order, in place of one that was kept for its name. Requires room for all of them. The capacity
+    /// stays the same.
     pub fn keep_all(&mut self, pieces: Pieces)
         requires room { length pieces.items ≤ self.old.room }
         ensures rows { self.new.rows ≡ pieces_with pieces.items self.old.rows }
@@ -84,7 +84,7 @@ impl PieceMemo {
         }
     }
 
-    // Keeps the piece of a name, in the place of one that was kept for it.
+    /// Keeps the piece of a name, in place of one that was kept for it. Requires room for it.
     fn keep_one(&mut self, name: Name, piece: Shared<Piece>)
         requires { 0 < self.old.room }
         ensures rows { self.new.rows ≡ insert_entry name_order self.old.rows name piece }
@@ -94,7 +94,7 @@ impl PieceMemo {
         put(&mut self.rows, name, piece);
     }
 
-    /// Returns the piece that is kept for a name, if one is. It takes no memory.
+    /// Returns the kept piece of a name, if there is one.
     pub fn kept(&self, name: &Name) -> Option<&Shared<Piece>>
         ensures { option_copied result ≡ at_name self.now.rows name.now }
     {
@@ -104,8 +104,7 @@ impl PieceMemo {
         }
     }
 
-    /// Returns one more owner of each piece that is kept for a name or for a name that begins with it and `/`. Returns `AllocError`
-    /// only where memory was refused.
+    /// Returns one more owner of each piece that is kept for a name or for one that begins with it and `/`.
     pub fn part(&self, alloc: Global, root: &Name) -> Result<Pieces, AllocError>
         ensures pieces { IfOk result (λ pieces. pieces.items ≡ part_in root.now self.now.rows) }
         ensures ordered { AreOrdered self.now.rows }
@@ -113,7 +112,7 @@ impl PieceMemo {
         share_pieces(alloc, within(&self.rows, root))
     }
 
-    /// Copies the memo, as one more owner of each piece that it keeps. Returns `AllocError` only where an owner or memory was refused.
+    /// Copies the memo, as one more owner of each kept piece. Returns `AllocError` also if a piece has too many owners.
     pub fn copy(&self, alloc: Global) -> Result<PieceMemo, AllocError>
         ensures rows { IfOk result (λ copy. copy.rows ≡ self.now.rows) }
         ensures ordered { AreOrdered self.now.rows }
@@ -123,7 +122,7 @@ impl PieceMemo {
         })
     }
 
-    /// Drops the piece of a name, if one is kept. It takes no memory, and leaves that for as many pieces as before.
+    /// Drops the piece of a name, if one is kept. The capacity stays the same.
     pub fn forget(&mut self, name: &Name)
         ensures rows { self.new.rows ≡ remove_entry (is_at (name_order name.now)) self.old.rows }
         ensures memory { most_rows self.new ≡ most_rows self.old }
@@ -131,7 +130,7 @@ impl PieceMemo {
         take(&mut self.rows, name);
     }
 
-    /// Drops all pieces. It takes no memory, and leaves that for as many pieces as before.
+    /// Drops all pieces. The capacity stays the same.
     pub fn forget_all(&mut self)
         ensures rows { self.new.rows ≡ [] }
         ensures memory { most_rows self.new ≡ most_rows self.old }
@@ -139,8 +138,8 @@ impl PieceMemo {
         self.rows.clear();
     }
 
-    /// Drops what a change drops: declarations drop all pieces, and a unit that is put or taken away the one of its name alone. It takes
-    /// no memory, and leaves that for as many pieces as before.
+    /// Drops the pieces that a change drops: declarations drop all, and a unit that is put or removed drops only the piece of its name. The
+    /// capacity stays the same.
     pub fn follow(&mut self, change: &Change)
         ensures rows { self.new.rows ≡ pieces_after change.now self.old.rows }
         ensures memory { most_rows self.new ≡ most_rows self.old }

@@ -1,12 +1,11 @@
-//! What is held under one name.
+//! What is stored under one name.
 ghost use Rattle.std.specs.Prelude.{◌≡◌, IfOk};
 
 use bc_prov::{Outcome, Shared};
 use bc_syntax::Unit;
 use std::alloc::AllocError;
 
-/// A body as it is held: the unit of a name, the revision at which it was put there, and the outcome that was found for the name,
-/// if there is one.
+/// A stored body: the unit of a name, the revision of the put that stored it, and the outcome that was found for the name, if there is one.
 pub struct Place {
     pub unit: Shared<Unit>,
     pub revision: u32,
@@ -24,7 +23,7 @@ impl Drop for Place {
 }
 
 impl Place {
-    /// Copies the place, as one more owner of the unit and of the outcome. Returns `AllocError` only where an owner was refused.
+    /// Copies the place, as one more owner of the unit and of the outcome.
     pub fn copy(&self) -> Result<Place, AllocError>
         ensures { IfOk result (λ copy. copy ≡ self.now) }
     {
@@ -36,7 +35,7 @@ impl Place {
     }
 }
 
-// One more owner of the outcome, if there is one.
+/// Returns one more owner of the outcome, if there is one.
 fn own_answer(answer: &Option<Shared<Outcome>>) -> Result<Option<Shared<Outcome>>, AllocError>
     ensures { IfOk result (λ copy. copy ≡ answer.now) }
 {

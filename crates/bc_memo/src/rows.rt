@@ -1,4 +1,4 @@
-//! Rows in the order of their names.
+//! Rows that are sorted by name.
 ghost use Rattle.std.specs.Prelude.{◌≡◌, ◌<◌, IfErr, IfOk, vec_capacity, vec_len};
 ghost use Rattle.std.specs.BTreeMap.{insert_entry, is_at};
 ghost use Rattle.std.specs.Map.{remove_entry};
@@ -7,7 +7,7 @@ ghost use Rattle.bc_memo.specs.Places.{AreOrdered, IsFoundAt, IsGapAt, IsStartAt
 
 use bc_names::Name;
 
-/// The row of a name, or the row before which it would stand.
+/// Returns the index of a name's row, or the index at which it would be inserted.
 pub(crate) fn find<T>(rows: &[(Name, T)], name: &Name) -> Result<usize, usize>
     requires { AreOrdered rows.now }
     ensures found { IfOk result (IsFoundAt rows.now name.now) }
@@ -16,7 +16,7 @@ pub(crate) fn find<T>(rows: &[(Name, T)], name: &Name) -> Result<usize, usize>
     rows.binary_search_by(|row| row.0.cmp(name))
 }
 
-/// The first row that does not come before a name.
+/// Returns the index of the first row that does not come before a name.
 pub(crate) fn start<T>(rows: &[(Name, T)], name: &Name) -> usize
     requires { AreOrdered rows.now }
     ensures { IsStartAt rows.now name.now result }
@@ -27,7 +27,7 @@ pub(crate) fn start<T>(rows: &[(Name, T)], name: &Name) -> usize
     }
 }
 
-/// Puts a value at a name. It takes no memory and gives none back.
+/// Puts a value at a name, in place of the one there. The capacity stays the same.
 pub(crate) fn put<T: Drop>(rows: &mut Vec<(Name, T)>, name: Name, value: T)
     requires ordered { AreOrdered rows.old.items }
     requires room { vec_len rows.old < vec_capacity rows.old }
@@ -44,7 +44,7 @@ pub(crate) fn put<T: Drop>(rows: &mut Vec<(Name, T)>, name: Name, value: T)
     }
 }
 
-/// Takes the value of a name out, if it has one. It takes no memory and gives none of the list's back.
+/// Removes the value of a name, if it has one. The capacity stays the same.
 pub(crate) fn take<T: Drop>(rows: &mut Vec<(Name, T)>, name: &Name)
     requires { AreOrdered rows.old.items }
     ensures rows { rows.new.items ≡ remove_entry (is_at (name_order name.now)) rows.old.items }
@@ -55,7 +55,7 @@ pub(crate) fn take<T: Drop>(rows: &mut Vec<(Name, T)>, name: &Name)
     }
 }
 
-/// The rows of a name and of those that begin with it and `/`, which stand together.
+/// Returns the rows of a name and of the names that begin with it and `/`. They are adjacent.
 pub(crate) fn within<'a, T>(rows: &'a [(Name, T)], root: &Name) -> &'a [(Name, T)]
     requires { AreOrdered rows.now }
     ensures { result.now ≡ part_in root.now rows.now }

@@ -1,4 +1,4 @@
-//! What is held: declarations, and units with their answers in the order of their names.
+//! The shelf: the stored declarations, and units with their answers in the order of their names.
 ghost use Rattle.std.specs.Prelude.{◌≡◌, ◌↔◌, ◌++◌, ◌<◌, ◌≤◌, [], IfOk, IsOk, IsTrue, None, OnOk, is_some, length, map, vec_capacity};
 ghost use Rattle.std.specs.Option.{option_copied};
 ghost use Rattle.bc_names.specs.Names.{NameParts};
@@ -16,9 +16,9 @@ use bc_syntax::Unit;
 use std::alloc::{AllocError, Global};
 use std::marker::Model;
 
-/// The stored declarations and bodies with their answers: all places, in the order of their names. Contracts see the declarations with
-/// their revision, the places in that order, the outcomes that are ready for a change, and for how many more places and outcomes there is
-/// memory. The type keeps that each unit suits its name.
+/// The stored declarations and bodies with their answers: all places, in the order of their names. A contract sees the declarations with
+/// their revision, these places, the outcomes that are ready for a change, and for how many more places and outcomes there is room. The
+/// type guarantees that each unit suits its name.
 pub struct Shelf {
     types: Shared<Declared>,
     types_revision: u32,
@@ -26,7 +26,7 @@ pub struct Shelf {
     ready: Vec<(Name, Shared<Outcome>)>,
 }
 
-// Written out: the crates above call this, and prove nothing of its parts again.
+// Handwritten, so that it is proved once: the crates above only call it.
 impl Drop for Shelf {
     fn drop(self) {
         let Self {
@@ -44,12 +44,17 @@ impl Model for Shelf {
 
     ghost Value = { ShelfRoom };
 
-    ghost view = { λ s. record { held = record { types = s.types; types_revision = s.types_revision; places = s.places.items }; room = vec_capacity s.places - s.places.len; ready = s.ready.items; ready_room = vec_capacity s.ready - s.ready.len } };
+    ghost view = { λ s. record {
+      held = record { types = s.types; types_revision = s.types_revision; places = s.places.items };
+      room = vec_capacity s.places - s.places.len;
+      ready = s.ready.items;
+      ready_room = vec_capacity s.ready - s.ready.len;
+    } };
 
     ghost invariant = { λ s. AreKept s.places.items };
 }
 
-/// A name's part of what is held: a snapshot, with the revisions of its declarations and of its units.
+/// A snapshot of a name's part of the shelf, with the revisions of its declarations and of its units.
 #[derive(Drop)]
 pub struct Part {
     pub snapshot: Snapshot,
@@ -58,8 +63,8 @@ pub struct Part {
 }
 
 impl Shelf {
-    /// Returns a shelf that holds these declarations, at revision 0, and no unit, with memory for so many places and for an outcome of
-    /// each. Returns `AllocError` only where memory was refused.
+    /// Returns a shelf with these declarations, at revision 0, and no unit. It has room for at least `places` places and an outcome of
+    /// each.
     pub fn new(alloc: Global, types: Shared<Declared>, places: usize) -> Result<Shelf, AllocError>
         ensures held { IfOk result (λ shelf. shelf.held ≡ empty_shelf types) }
         ensures room { IfOk result (λ shelf. places ≤ shelf.room) }
@@ -74,8 +79,7 @@ impl Shelf {
         })
     }
 
-    /// Makes room for one more place, and changes nothing else. It takes no memory where there is some for one place more, and gives none
-    /// back. Returns `AllocError` only where memory was refused.
+    /// Makes room for one more place, and changes nothing else. It succeeds if there is room already. The capacity never shrinks.
     pub fn reserve(&mut self) -> Result<(), AllocError>
         ensures same { self.new.held ≡ self.old.held }
         ensures room { OnOk result (0 < self.new.room) }
@@ -86,9 +90,9 @@ impl Shelf {
         self.places.reserve(1)
     }
 
-    /// Makes ready what a change moves into the places for many names: one more owner of each outcome, in the place of what was ready
-    /// before. Nothing else is changed, and no memory given back; it takes none where there is some for as many outcomes. Returns
-    /// `AllocError` only where an owner or memory was refused.
+    /// Makes ready what a change for many names needs: one more owner of each outcome, in place of what was ready before. Nothing else
+    /// changes, and the capacity never shrinks. It allocates only if there is no room for as many outcomes. Returns `AllocError` also if an
+    /// outcome has too many owners.
     pub fn prepare(&mut self, change: &Change) -> Result<(), AllocError>
         ensures same { self.new.held ≡ self.old.held }
         ensures ready { OnOk result (IsReady change.now self.new.ready) }
@@ -105,7 +109,7 @@ impl Shelf {
         }
     }
 
-    /// Returns whether a unit is held under a name.
+    /// Returns whether a name holds a unit.
     pub fn is_held(&self, name: &Name) -> bool
         ensures { result ≡ is_some (at_name self.now.held.places name.now) }
     {
@@ -115,7 +119,7 @@ impl Shelf {
         }
     }
 
-    /// Returns how many units are held.
+    /// Returns the number of stored units.
     pub fn count(&self) -> usize
         ensures count { result ≡ length self.now.held.places }
         ensures ordered { AreOrdered self.now.held.places }
@@ -123,7 +127,7 @@ impl Shelf {
         self.places.len()
     }
 
-    /// Returns the declarations, to be lent or shared.
+    /// Returns the declarations.
     pub fn types(&self) -> &Shared<Declared>
         ensures { result.now ≡ self.now.held.types }
     {
@@ -137,7 +141,7 @@ impl Shelf {
         self.types_revision
     }
 
-    /// Returns the revision of the unit of a name; `None` exactly where none is held.
+    /// Returns the revision of a name's unit, or `None` exactly if the name holds none.
     pub fn revision(&self, name: &Name) -> Option<u32>
         ensures { result ≡ revision_at self.now.held name.now }
     {
@@ -147,7 +151,7 @@ impl Shelf {
         }
     }
 
-    /// Returns the answer that is kept for a name, if one is. It takes no memory.
+    /// Returns the stored answer of a name, if there is one.
     pub fn answer(&self, name: &Name) -> Option<&Shared<Outcome>>
         ensures { option_copied result ≡ answer_of (at_name self.now.held.places name.now) }
     {
@@ -157,11 +161,13 @@ impl Shelf {
         }
     }
 
-    /// Returns a name's part: the declarations, and the units of the name and of the names that begin with it and `/`, all with their
-    /// revisions; no outcome and no piece is carried. Returns `AllocError` only where memory was refused.
+    /// Returns a name's part: the declarations, and the units at the name and at names that begin with it and `/`, all with their
+    /// revisions. The snapshot carries no outcome and no piece.
     pub fn part(&self, alloc: Global, root: &Name) -> Result<Part, AllocError>
-        ensures snapshot { IfOk result (λ part. (part.snapshot.types ≡ self.now.held.types) × (part.snapshot.root ≡ root.now) × (part.snapshot.units ≡ units_in root.now self.now.held.places)) }
-        ensures revisions { IfOk result (λ part. (part.types_revision ≡ self.now.held.types_revision) × (part.revisions.items ≡ revisions_in root.now self.now.held.places)) }
+        ensures snapshot { IfOk result (λ part. (part.snapshot.types ≡ self.now.held.types) × (part.snapshot.root ≡ root.now) ×
+            (part.snapshot.units ≡ units_in root.now self.now.held.places)) }
+        ensures revisions { IfOk result (λ part. (part.types_revision ≡ self.now.held.types_revision) ×
+            (part.revisions.items ≡ revisions_in root.now self.now.held.places)) }
         ensures bare { IfOk result (λ part. part.snapshot.carried ≡ None) }
     {
         let types = self.types.clone()?;
@@ -174,9 +180,8 @@ impl Shelf {
         })
     }
 
-    /// Returns whether a snapshot is what is held at its root and at names that begin with it and `/`, with the declarations that
-    /// are held, and whether these are all their revisions. It makes no list and takes no memory; values are compared only where the
-    /// revisions are the same.
+    /// Returns whether a snapshot has the stored declarations and the units at its root and at names that begin with it and `/`, and
+    /// whether these are all their revisions. It makes no list, and compares values only if the revisions are the same.
     pub fn holds(&self, snapshot: &Snapshot, types_revision: u32, revisions: &[u32]) -> bool
         ensures { IsTrue result ↔ IsHeld self.now.held snapshot.now types_revision revisions.now }
     {
@@ -187,11 +192,11 @@ impl Shelf {
             && are_units(part, snapshot.units())
     }
 
-    /// Applies a change to what is held, and gives what it writes this revision. Declarations make all answers void; a unit that is put
-    /// or taken away makes void the answers of its name and of those with which this begins, up to a `/`.
+    /// Applies a change, and gives what it writes this revision. Declarations make all answers void. A unit that is put or removed makes
+    /// void the answers of its name and of the names above it, such as `f` for `f/0`.
     ///
-    /// It takes no memory, and leaves that for as many places as before. It asks for room for one place, that a unit suits the name at
-    /// which it is put, as `suits` reports, and that answers for many names are ready, as `prepare` makes them.
+    /// It allocates nothing, and the capacity stays the same. Requires room for one place, that a unit suits the name at which it is put,
+    /// as `suits` reports, and that answers for many names are ready, as `prepare` makes them.
     pub fn change(&mut self, change: Change, revision: u32)
         requires room { 0 < self.old.room }
         requires suited { MayChange change }
@@ -225,7 +230,7 @@ impl Shelf {
         }
     }
 
-    /// Copies the shelf, as one more owner of all that is held. Returns `AllocError` only where an owner or memory was refused.
+    /// Copies the shelf, as one more owner of all that is stored. Returns `AllocError` also if something has too many owners.
     pub fn copy(&self, alloc: Global) -> Result<Shelf, AllocError>
         ensures held { IfOk result (λ copy. copy.held ≡ self.now.held) }
     {
@@ -237,7 +242,7 @@ impl Shelf {
         })
     }
 
-    /// Returns the names without segments that are held, in their order. Returns `AllocError` only where memory was refused.
+    /// Returns the roots that hold a body, in order.
     pub fn roots(&self, alloc: Global) -> Result<Vec<Name>, AllocError>
         ensures { IfOk result (λ names. names.items ≡ roots_in self.now.held.places) }
     {
@@ -245,7 +250,7 @@ impl Shelf {
     }
 }
 
-// Puts one more owner of each outcome behind what is ready.
+/// Appends one more owner of each outcome to what is ready.
 fn own_again(
     ready: &mut Vec<(Name, Shared<Outcome>)>,
     rows: &[(Name, Shared<Outcome>)],
@@ -261,7 +266,7 @@ fn own_again(
     Ok(())
 }
 
-// The places, as further owners of their units and answers.
+/// Copies the places, as one more owner of their units and answers.
 fn copies(alloc: Global, places: &[(Name, Place)]) -> Result<Vec<(Name, Place)>, AllocError>
     ensures { IfOk result (λ copies. copies.items ≡ places.now) }
 {
@@ -272,7 +277,7 @@ fn copies(alloc: Global, places: &[(Name, Place)]) -> Result<Vec<(Name, Place)>,
     Ok(copies)
 }
 
-// The names of places that have no segments, in their order.
+/// Returns the roots among the names of places, in order.
 fn roots(alloc: Global, places: &[(Name, Place)]) -> Result<Vec<Name>, AllocError>
     ensures { IfOk result (λ names. names.items ≡ roots_in places.now) }
 {
@@ -285,7 +290,7 @@ fn roots(alloc: Global, places: &[(Name, Place)]) -> Result<Vec<Name>, AllocErro
     Ok(names)
 }
 
-// The units of places, under their names.
+/// Returns the units of places, each with its name.
 fn units_of(
     alloc: Global,
     places: &[(Name, Place)],
@@ -300,7 +305,7 @@ fn units_of(
     Ok(units)
 }
 
-// The revisions of places.
+/// Returns the revisions of places.
 fn revisions_of(alloc: Global, places: &[(Name, Place)]) -> Result<Vec<u32>, AllocError>
     ensures { IfOk result (λ revisions. revisions.items ≡ map (λ (p : NameParts × Place). p.1.revision) places.now) }
 {
@@ -311,7 +316,7 @@ fn revisions_of(alloc: Global, places: &[(Name, Place)]) -> Result<Vec<u32>, All
     Ok(revisions)
 }
 
-// The units of places, under their names, and their revisions.
+/// Returns the units of places, each with its name, and their revisions.
 fn units(
     alloc: Global,
     places: &[(Name, Place)],
@@ -324,7 +329,7 @@ fn units(
     Ok((units, revisions))
 }
 
-// Whether the places have these revisions.
+/// Returns whether the places have these revisions.
 fn are_revisions(places: &[(Name, Place)], revisions: &[u32]) -> bool
     ensures { IsTrue result ↔ (revisions.now ≡ map (λ (p : NameParts × Place). p.1.revision) places.now) }
 {
@@ -339,7 +344,7 @@ fn are_revisions(places: &[(Name, Place)], revisions: &[u32]) -> bool
     true
 }
 
-// Whether the places have these units, under these names.
+/// Returns whether the places have these units, under these names.
 fn are_units(places: &[(Name, Place)], units: &[(Name, Shared<Unit>)]) -> bool
     ensures { IsTrue result ↔ (units.now ≡ map (λ (p : NameParts × Place). (p.0, p.1.unit)) places.now) }
 {
@@ -354,14 +359,14 @@ fn are_units(places: &[(Name, Place)], units: &[(Name, Shared<Unit>)]) -> bool
     true
 }
 
-// Whether the place has this unit, under this name.
+/// Returns whether the place has this unit, under this name.
 fn is_unit(row: &(Name, Place), unit: &(Name, Shared<Unit>)) -> bool
     ensures { IsTrue result ↔ (unit.now ≡ (row.now.0, row.now.1.unit)) }
 {
     unit.0 == row.0 && unit.1 == row.1.unit
 }
 
-// Gives the place of a name this answer, or none, if the name has a place.
+/// Gives the place of a name this answer, or none, if the name has a place.
 fn set_answer(places: &mut Vec<(Name, Place)>, name: &Name, answer: Option<Shared<Outcome>>)
     requires { AreOrdered places.old.items }
     ensures places { places.new.items ≡ with_answer_at name.now answer places.old.items }
@@ -372,7 +377,7 @@ fn set_answer(places: &mut Vec<(Name, Place)>, name: &Name, answer: Option<Share
     }
 }
 
-// Moves the outcomes that are ready to the places of their names, so that the first of a name is the one that it keeps.
+/// Moves the outcomes that are ready to the places of their names. If a name has several, it keeps the first.
 fn set_answers(places: &mut Vec<(Name, Place)>, ready: &mut Vec<(Name, Shared<Outcome>)>)
     requires { AreOrdered places.old.items }
     ensures places { places.new.items ≡ marked (Answers ready.old.items) places.old.items }
@@ -385,7 +390,7 @@ fn set_answers(places: &mut Vec<(Name, Place)>, ready: &mut Vec<(Name, Shared<Ou
     }
 }
 
-// Takes the answers of a name and of its beginnings away, where the name was just written or taken away: it has none itself.
+/// Removes the answers of a name and of the names above it. Requires that the name has none itself, since it was just written or removed.
 fn clear(places: &mut Vec<(Name, Place)>, name: &Name)
     requires ordered { AreOrdered places.old.items }
     requires bare { answer_of (at_name places.old.items name.now) ≡ None }
@@ -397,7 +402,7 @@ fn clear(places: &mut Vec<(Name, Place)>, name: &Name)
     }
 }
 
-// Takes all answers away.
+/// Removes all answers.
 fn clear_all(places: &mut Vec<(Name, Place)>)
     ensures places { places.new.items ≡ unanswered places.old.items }
     ensures memory { vec_capacity places.new ≡ vec_capacity places.old }
@@ -405,6 +410,7 @@ fn clear_all(places: &mut Vec<(Name, Place)>)
     clear_rows(places);
 }
 
+/// Removes the answer of each row.
 fn clear_rows(rows: &mut [(Name, Place)])
     ensures { rows.new ≡ unanswered rows.old }
 {

@@ -1,4 +1,4 @@
--- What the typing rules ask of a type does not change where its regions are blanked.
+-- Blanking the regions of a type does not change what the typing rules ask of it.
 use Rattle.std.proofs.Common.{◌≡◌, ℕ, Bool, true, false, not, is_some, Option, Some, None, option_and_then, List, [], ◌∷◌, map, refl, sym, ap, ◌∙◌}
 use Rattle.std.specs.Option.{option_map}
 use Rattle.bc_syntax.specs.declared.syntax.Region.{Region}
@@ -22,7 +22,7 @@ use Rattle.bc_mir.specs.Rules.{allowed, has_shape, of_one_shape, unless_closure}
 abbrev blanked_behind : List Declaration → List Projection → Ty → Option Ty
 blanked_behind types projections ty = option_map blanked (type_behind types projections ty.references ty.base)
 
--- replacing regions changes nothing behind projections but regions
+-- replacing regions changes only the regions of what projections lead to
 behind-replaced : (types : List Declaration) (arguments : List Region) (projections : List Projection) (references : List Reference) (base : Base) → option_map blanked (type_behind types projections (map (replaced_reference arguments) references) (replaced_base arguments base)) ≡ option_map blanked (type_behind types projections references base)
 behind-replaced types arguments [] references base = ap Some (blanked-replaced arguments (record { references = references; base = base }))
 behind-replaced types arguments (Deref ∷ projections) [] base = refl
@@ -67,7 +67,7 @@ of_one_shape-blanked (Some target) value = has_shape-expected target value
 
 -- ---- what is found, by its shape
 
--- the type of a declared field is blanked like that of the field
+-- a field and its declared type lead to the same shapes
 pub field-behind : (types : List Declaration) (projections : List Projection) (instance : Instance) (k : ℕ) (ty : Ty) → Some ty ≡ declared_field types instance.name k → option_map blanked (type_behind types projections ty.references ty.base) ≡ option_map blanked (type_behind types (Field k ∷ projections) [] (Struct instance))
 field-behind types projections instance k ty is =
     sym (behind-replaced types instance.regions projections ty.references ty.base)
@@ -89,12 +89,12 @@ borrow-blanked reference expected (Some ty) = referenced-left reference ty expec
 abbrev number_found : Option Ty → Option ℕ
 number_found found = option_map (λ (closure : ClosureInstance). closure.number) (option_and_then closure_of found)
 
--- the number of a closure is that of its shape
+-- a closure and its shape have the same number
 pub number_found-blanked : (found : Option Ty) → number_found (option_map blanked found) ≡ number_found found
 number_found-blanked None = refl
 number_found-blanked (Some ty) = number-blanked ty.references ty.base
 
--- a type is refused as a closure where its shape is
+-- `unless_closure` drops a type exactly if it drops the type's shape
 pub unless_closure-blanked : (found : Option Ty) → unless_closure (option_map blanked found) ≡ option_map blanked (unless_closure found)
 unless_closure-blanked None = refl
 unless_closure-blanked (Some ty) =

@@ -1,4 +1,4 @@
--- The regions of what well-formed types demand are declared.
+-- The regions in what well-formed types demand are declared.
 use Rattle.std.proofs.Common.{◌≡◌, ℕ, zero, suc, ◌+◌, ◌≤◌, inl, inr, Bool, true, false, cond, Option, Some, None, List, [], ◌∷◌, ◌++◌, map, take, drop, reverse, refl, sym, ◌∙◌, arith}
 use Rattle.std.specs.Prelude.{◌&&◌, nat_le, slice_get, length, unwrap_or}
 use Rattle.std.specs.List.{list_all, flat_map}
@@ -27,7 +27,7 @@ use Rattle.bc_shapes.specs.Forms.{closure_behind, closure_of}
 use Rattle.bc_bodies.specs.Children.{child_of, arguments_of, arguments_from, first_of, behind_first}
 use Rattle.bc_mir.specs.WellFormed.{capture_pairs, closure_pairs, type_pairs, is_declared_pair}
 
--- so many regions are universal, and `'static` is one
+-- there are `u` universal regions, and `'static` is one
 module _ (u : ℕ) (some : 1 ≤ u) where
   abbrev fit : List Region → Type 0
   fit regions = list_all (region_fits true u) regions ≡ true
@@ -160,7 +160,7 @@ module _ (u : ℕ) (some : 1 ≤ u) where
       (references-declared ty.references ty.base all) (base-declared (struct_pairs (reverse mir.types)) ty.base base))
       (behind-declared mir ty.references ty.base all)
 
-  -- what types of a unit demand is between declared regions
+  -- what the types of a unit demand relates declared regions
   pub types-declared : (mir : Mir) (types : List Ty) → list_all (let_fits u) types ≡ true → declared (flat_map (type_pairs mir) types)
   types-declared mir = of-each (is_declared_pair u) (let_fits u) (type_pairs mir) (type-declared mir)
 

@@ -15,11 +15,11 @@ passed true None none = refl
 passed true (Some point) none = cc
 passed false point none = cc
 
--- where a unit fits, no point is a misfit
+-- if a unit has no misfit, no point is one
 pub no_unfit : (mir : Mir) → HasNoMisfit mir → first_unfit mir mir.steps ≡ None
 no_unfit mir = passed (header_fits mir) (first_unfit mir mir.steps)
 
--- where no point is a misfit, each fits
+-- if no point breaks a rule, each fits
 pub fits_at-first_unfit : (mir : Mir) (steps : List Step) (i : ℕ) (step : Step) → first_unfit mir steps ≡ None → i < length steps → step ≡ get_or steps i step → fits_at mir step.instruction ≡ true
 fits_at-first_unfit mir [] i step none below is = absurd (omega arith)
 fits_at-first_unfit mir (first ∷ steps) zero step none below is =

@@ -30,7 +30,7 @@ use Rattle.bc_bodies.proofs.Mirs.{length-block_steps}
 use Rattle.bc_mir.proofs.Fitting.{test_passed, no_unfit}
 use Rattle.bc_mir.proofs.Wider.{let-wider, types-wider}
 
--- blocks have as many points as they have statements and terminators
+-- the points of blocks are their statements and terminators
 pub length-steps_from : (n : ℕ) (blocks : List Block) → length (steps_from n blocks) ≡ point_count blocks
 length-steps_from n [] = refl
 length-steps_from n (block ∷ blocks) =
@@ -140,7 +140,7 @@ captures-fit n Function [] fits = refl
 captures-fit n Function (capture ∷ captures) fits = absurd cc
 captures-fit n Closure captures fits = types-wider n captures (and_parts (list_all (ty_fits false n) captures) _ fits).0
 
--- the types of the locals name regions that may be named
+-- the regions in the types of the locals are variables or declared
 types-fit : (body : Body) → Fits body → list_all (let_fits (universal_count body.header.signature)) (locals_of body) ≡ true
 types-fit body sized =
     let n = universal_count body.header.signature in
@@ -154,7 +154,7 @@ types-fit body sized =
     (list_all-append (let_fits n) body.header.captures body.header.signature.parameters ∙ and_from _ _ captures (types-wider n body.header.signature.parameters parameters))
     sized.lets)
 
--- a unit that fits is typed
+-- a valid unit without misfits is typed
 pub typed : (types : List Declaration) (children : List Child) (body : Body) → Fits body → HasNoMisfit (mir_of types children body) → IsTyped (mir_of types children body)
 typed types children body sized fits =
     let mir = mir_of types children body in
@@ -176,7 +176,7 @@ typed types children body sized fits =
       edges = edges-within mir 0 mir.steps (λ label below. omega (arith, count, entries-within 0 label body.blocks below)) (omega arith) (steps-go-on 0 body.blocks) (no_unfit mir fits);
     }
 
--- every edge of a body that fits joins two of its points
+-- every edge of a unit without misfits joins two of its points
 pub edges-join : (types : List Declaration) (children : List Child) (body : Body) → HasNoMisfit (mir_of types children body) → AreWithin (edges_of (mir_of types children body)) (length (mir_of types children body).steps)
 edges-join types children body fits =
     let mir = mir_of types children body in

@@ -1,4 +1,4 @@
--- What is allowed where no region variable is, is allowed where variables are.
+-- What is valid without region variables is valid with them.
 use Rattle.std.proofs.Common.{◌≡◌, ℕ, Bool, true, false, ◌&&◌, nat_le, ◌||◌, List, [], ◌∷◌, length, refl, ap}
 use Rattle.std.specs.List.{list_all}
 use Rattle.std.proofs.lemmas.Bool.{and_from, and_parts}
@@ -34,7 +34,7 @@ ty-wider n ty fits =
     let references = list-wider (reference_fits false n) (reference_fits true n) (λ reference. region-wider n reference.region) ty.references inner.0 in
     and_from _ _ (and_from _ _ references inner.1) (base-wider n ty.base outer.1)
 
--- a type of a header may be that of a `let` local
+-- a type that a header may have, a `let` local may have
 pub let-wider : (n : ℕ) (ty : Ty) → ty_fits false n ty ≡ true → let_fits n ty ≡ true
 let-wider n ty fits = ap (λ b. b || whole_closure_fits n ty.references ty.base) (ty-wider n ty fits)
 

@@ -1,4 +1,4 @@
--- What follows from the definitions, and later promises rest on.
+-- Consequences of the definitions, on which later contracts rest.
 use Rattle.std.specs.Prelude.{◌≡◌, ℕ, ◌<◌, Some, List, length, slice_get, slice_index}
 use Rattle.std.specs.Option.{option_map}
 use Rattle.bc_syntax.specs.declared.syntax.Body.{Body}
@@ -9,7 +9,7 @@ use Rattle.bc_bodies.specs.Mir.{mir_of, edges_of}
 use Rattle.bc_mir.specs.Typing.{HasNoMisfit}
 use Rattle.bc_syntax.specs.declared.syntax.Declaration.{Declaration}
 
--- every edge of a body that fits joins two of its points
+-- every edge of a unit without misfits joins two of its points
 abbrev pub EdgesJoinPoints : Type 0
 EdgesJoinPoints =
     (types : List Declaration) (children : List Child) (body : Body) → HasNoMisfit (mir_of types children body) →

@@ -1,4 +1,4 @@
--- The typing rules. A type that exists is one for which the rules of its form hold.
+-- The typing rules. An operand or an rvalue has a type only if the rules of its form hold.
 use Rattle.std.specs.Prelude.{ℕ, Bool, true, false, not, ◌&&◌, ◌==◌, nat_lt, if◌then◌else◌, Option, Some, None, option_and_then, is_some, List, [], ◌∷◌, length, reverse}
 use Rattle.std.specs.List.{list_all}
 use Rattle.std.specs.Option.{option_map, option_map_or}
@@ -30,7 +30,7 @@ use Rattle.bc_shapes.specs.Forms.{int_type, struct_type, type_referenced, closur
 use Rattle.bc_bodies.specs.PlaceTypes.{type_of_place, references_of_place}
 use Rattle.bc_shapes.specs.Shapes.{one_shape, is_int_type, is_copyable_type}
 
--- the value, where a rule allows it
+-- the value, if a rule allows it
 abbrev pub allowed : {A : Type 0} → Bool → Option A → Option A
 allowed holds value = if holds then value else None
 
@@ -41,17 +41,19 @@ type_of_operand mir (Copy place) =
 type_of_operand mir (Move place) = allowed (has_no_deref place) (type_of_place mir place)
 type_of_operand mir (Number n) = Some int_type
 
--- the type exists and has a shape
+-- the type exists and has the expected shape
 abbrev pub has_shape : Ty → Option Ty → Bool
 has_shape expected found = option_map_or (λ ty. one_shape ty expected) found false
 
+-- the type exists and is `int`
 abbrev pub is_int_found : Option Ty → Bool
 is_int_found found = option_map_or is_int_type found false
 
+-- the operand is an `int`
 abbrev pub is_operand_int : Mir → Operand → Bool
 is_operand_int mir operand = is_int_found (type_of_operand mir operand)
 
--- as many operands as expected, and each has the shape of what is expected in its place
+-- there are as many operands as expected types, and each has the shape of its type
 abbrev pub have_shapes : Mir → List Operand → List Ty → Bool
 have_shapes mir [] [] = true
 have_shapes mir [] (ty ∷ expected) = false
@@ -64,11 +66,11 @@ abbrev pub type_to_write : Mir → Place → Option Ty
 type_to_write mir place =
     allowed (are_mutable (references_of_place mir place)) (type_of_place mir place)
 
--- a type that is no closure
+-- the type, unless it is a closure
 abbrev pub unless_closure : Option Ty → Option Ty
 unless_closure found = option_and_then (λ ty. allowed (not (is_some (closure_of ty))) (Some ty)) found
 
--- the type of a place, which for a mutable borrow may be written
+-- the type of a place that is borrowed; for a mutable borrow, the place may be written
 abbrev pub type_reached : Mir → Mutability → Place → Option Ty
 type_reached mir Shared place = type_of_place mir place
 type_reached mir Mutable place = type_to_write mir place
@@ -77,7 +79,7 @@ type_reached mir Mutable place = type_to_write mir place
 abbrev pub type_to_borrow : Mir → Mutability → Place → Option Ty
 type_to_borrow mir mutability place = unless_closure (type_reached mir mutability place)
 
--- a struct is declared, the numbers of its regions and operands are its own, and each operand has the shape of its field
+-- the aggregate keeps its rules: the struct is declared with this number of regions, and there is one operand for each field, of its shape
 abbrev pub can_create : Mir → Making → Bool
 can_create mir aggregate =
     option_map_or
@@ -85,8 +87,8 @@ can_create mir aggregate =
     (struct_of mir.types aggregate.instance.name)
     false
 
--- a closure is a child, the numbers of its regions and operands are those of the child's external regions and captures, and
--- each operand has the shape of its capture
+-- the creation keeps its rules: the closure is a child, it has as many regions as the child has external ones, and there is one operand for
+-- each capture, of its shape
 abbrev pub can_capture : Mir → Creation → Bool
 can_capture mir creation =
     option_map_or
@@ -104,7 +106,7 @@ type_of_rvalue mir (Aggregate aggregate) =
 type_of_rvalue mir (Closure creation) = allowed (can_capture mir creation) (Some (closure_type creation.closure))
 type_of_rvalue mir (Calc operands) = allowed (list_all (is_operand_int mir) operands) (Some int_type)
 
--- both types exist and have one shape
+-- both types exist and have the same shape
 abbrev pub of_one_shape : Option Ty → Option Ty → Bool
 of_one_shape None value = false
 of_one_shape (Some target) value = has_shape target value
@@ -113,7 +115,8 @@ of_one_shape (Some target) value = has_shape target value
 abbrev pub can_drop : Mir → Place → Bool
 can_drop mir place = has_no_deref place && is_some (type_of_place mir place)
 
--- an assignment fits if its target may be written and has the shape of the rvalue; a local that dies exists
+-- a statement keeps the rules: the target of an assignment may be written and has the shape of the value, `dead` names a declared local,
+-- and `drop` a place that may be dropped
 abbrev pub statement_keeps_rules : Mir → Simple → Bool
 statement_keeps_rules mir (Assign assignment) =
     of_one_shape (type_to_write mir assignment.target) (type_of_rvalue mir assignment.value)
@@ -121,8 +124,8 @@ statement_keeps_rules mir (Dead local) = nat_lt local (length mir.locals)
 statement_keeps_rules mir (Drop place) = can_drop mir place
 statement_keeps_rules mir Nop = true
 
--- a call: the numbers of its regions and operands are those of the function, each operand has the shape of its parameter,
--- and the result has the shape of the destination
+-- the call keeps its rules: it gives as many regions as the function declares, there is one operand for each parameter, of its shape, and
+-- the result has the shape of the destination
 abbrev pub can_call : Mir → Calling → ExternDeclaration → Bool
 can_call mir call d =
     length d.signature.regions == length call.function.regions
@@ -133,6 +136,7 @@ can_call mir call d =
 abbrev pub closure_in : Mir → Place → Option ClosureInstance
 closure_in mir place = allowed (has_no_deref place) (option_and_then closure_of (type_of_place mir place))
 
+-- the number of the closure in a place that may be invoked
 abbrev pub number_in : Mir → Place → Option ℕ
 number_in mir place = option_map (λ (closure : ClosureInstance). closure.number) (closure_in mir place)
 
@@ -140,16 +144,16 @@ number_in mir place = option_map (λ (closure : ClosureInstance). closure.number
 abbrev pub child_in : Mir → Place → Option Header
 child_in mir place = option_and_then (child_of mir.children) (number_in mir place)
 
--- a closure is invoked: the numbers of the regions and operands are those of the child's local regions and parameters, each
--- operand has the shape of its parameter, and the result has the shape of the destination
+-- the invocation keeps its rules: it gives as many regions as the child has local ones, there is one operand for each parameter, of its
+-- shape, and the result has the shape of the destination
 abbrev pub can_invoke : Mir → Invocation → Header → Bool
 can_invoke mir invocation header =
     takes_locals invocation.regions header
     && (have_shapes mir invocation.operands header.signature.parameters
     && of_one_shape (type_to_write mir invocation.destination) (Some header.signature.result))
 
--- a terminator fits if each of its labels is a block, what it tests is an `int`, what it calls is declared, and what it
--- invokes is a child
+-- a terminator keeps the rules: its labels are blocks, its condition is an `int`, and its call or invocation keeps the rules of a declared
+-- function or of a child
 abbrev pub terminator_keeps_rules : Mir → Ending → Bool
 terminator_keeps_rules mir (Goto label) = nat_lt label (length mir.entries)
 terminator_keeps_rules mir (If condition) =
@@ -161,8 +165,8 @@ terminator_keeps_rules mir (Invoke invocation) =
 terminator_keeps_rules mir Return = true
 terminator_keeps_rules mir Stop = true
 
--- no header rule fails: each struct that a local's type mentions is declared and has its number of regions, and each closure
--- is a child and has as many regions as that has external ones
+-- no header rule fails: each struct in the type of a local is declared with its number of regions, and each closure is a child and has as
+-- many regions as the child has external ones
 abbrev pub header_keeps_rules : Mir → Bool
 header_keeps_rules mir =
     list_all (has_declared_base (reverse mir.types)) mir.locals && list_all (is_known mir.children) mir.locals

@@ -1,4 +1,4 @@
--- What every typed unit keeps.
+-- What holds of every typed unit.
 use Rattle.std.specs.Prelude.{◌≡◌, ℕ, ◌≤◌, Bool, true, List, length}
 use Rattle.std.specs.List.{list_all}
 use Rattle.bc_syntax.specs.Fits.{clause_fits, let_fits, statement_fits, terminator_fits}
@@ -9,15 +9,16 @@ use Rattle.bc_bodies.specs.declared.mir.Instruction.TheVariants.{Statement, Term
 use Rattle.bc_bodies.specs.Mir.{Mir, edges_of}
 use Rattle.bc_mir.specs.Typing.{HasNoMisfit}
 
--- what happens at a point is within its limits where so many regions are universal and so many locals declared
+-- the instruction is within its limits, given the numbers of universal regions and of locals
 abbrev pub instruction_fits : (universals locals : ℕ) → Instruction → Bool
 instruction_fits universals locals (Statement statement) = statement_fits universals locals statement
 instruction_fits universals locals (Terminator terminator) = terminator_fits universals locals terminator
 
+-- each instruction of these points is within its limits
 abbrev pub steps_fit : (universals locals : ℕ) → List Step → Bool
 steps_fit universals locals steps = list_all (λ (step : Step). instruction_fits universals locals step.instruction) steps
 
--- it fits, its numbers are within their limits, its regions are declared, and its edges join its points
+-- the unit has no misfit, its numbers are within limits, its regions are declared, and edges join its points
 pub record IsTyped (mir : Mir) : Type 0 where
   pub fits : HasNoMisfit mir
   pub some_universal : 1 ≤ mir.universals

@@ -1,4 +1,4 @@
--- Where a unit breaks a typing rule first.
+-- Where a unit first breaks a typing rule.
 use Rattle.std.specs.Prelude.{◌≡◌, Bool, if◌then◌else◌, Option, Some, None, List, [], ◌∷◌, length}
 use Rattle.std.specs.Option.{option_map}
 use Rattle.bc_bodies.specs.declared.mir.Point.{Point}
@@ -10,7 +10,7 @@ use Rattle.bc_mir.specs.declared.typed.Where.TheVariants.{Header, At}
 use Rattle.bc_bodies.specs.Mir.{Mir}
 use Rattle.bc_mir.specs.Rules.{statement_keeps_rules, terminator_keeps_rules, header_keeps_rules}
 
--- no rule fails at a point where this happens
+-- no rule fails at a point with this instruction
 abbrev pub fits_at : Mir → Instruction → Bool
 fits_at mir (Statement statement) = statement_keeps_rules mir statement
 fits_at mir (Terminator terminator) = terminator_keeps_rules mir terminator
@@ -24,9 +24,11 @@ abbrev pub first_unfit : Mir → List Step → Option Point
 first_unfit mir [] = None
 first_unfit mir (step ∷ steps) = if fits_at mir step.instruction then first_unfit mir steps else Some step.point
 
--- the header if one of its rules fails, else the least point at which a rule fails
+-- the place where a unit first breaks a typing rule, if it breaks one: the header if one of its rules fails, otherwise the least point at
+-- which one does
 abbrev pub misfit : Mir → Option Where
 misfit mir = if header_fits mir then option_map At (first_unfit mir mir.steps) else Some Header
 
+-- the unit breaks no typing rule
 abbrev pub HasNoMisfit : Mir → Type 0
 HasNoMisfit mir = misfit mir ≡ None

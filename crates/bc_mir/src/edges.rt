@@ -81,9 +81,8 @@ fn push_edges(
 }
 
 impl Typed {
-    /// Returns the edges between points, each of which joins two of the unit's points: from a point to the next of its block, and
-    /// from a terminator to the first point of each of its labels. Returns `AllocError` only where memory was refused. (RFC 2094,
-    /// "Control-flow graph".)
+    /// Returns the edges of the unit, each of which joins two of its points: from a statement to the next point of its block, and from a
+    /// terminator to the first point of each of its labels. (RFC 2094, "Control-flow graph".)
     pub fn edges(&self, alloc: Global) -> Result<Vec<Edge>, AllocError>
         ensures value { IfOk result (λ edges. edges.items ≡ edges_of self.now) }
         ensures within { AreWithin (edges_of self.now) (length self.now.steps) }

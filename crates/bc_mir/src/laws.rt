@@ -1,7 +1,7 @@
 //! Laws of the definitions, each the contract of a function that does nothing.
 ghost use Rattle.bc_mir.specs.Laws.{EdgesJoinPoints, EntriesBegin};
 
-/// States that every edge of a body that fits joins two of its points.
+/// States that every edge of a unit without misfits joins two of its points.
 pub fn edges_join_points()
     ensures { EdgesJoinPoints }
 {}

@@ -1,4 +1,4 @@
-//! Units with their points in one list: the typing rules, and the edges.
+//! Typed units: the typing rules, the edges between points, and what types demand.
 #![tactic(auto)]
 
 mod edges;

@@ -1,4 +1,4 @@
-//! What is found in a typed unit: types of places, of operands and of rvalues, and closures.
+//! Lookups in a typed unit: the types of places, operands and rvalues, and the closures in places.
 ghost use Rattle.std.specs.Prelude.{◌≡◌, ◌++◌, ⊤, true, Some, IfOk, OnOk, MatchOption};
 ghost use Rattle.bc_bodies.specs.Places.{has_no_field, takes_no_field};
 ghost use Rattle.std.specs.List.{list_any};
@@ -25,16 +25,16 @@ fn any_holds_drop(types: &GoodTypes, captures: &[Ty]) -> bool
 }
 
 impl Typed {
-    /// Returns the type of a place: that of its local, behind each projection in turn; `None` where it has none. Returns
-    /// `AllocError` only where memory was refused. (rustc-dev-guide, "The MIR".)
+    /// Returns the type of a place, or `None` if it has none. It is the type of the local, followed through each projection.
+    /// (rustc-dev-guide, "The MIR".)
     pub fn place_type(&self, alloc: Global, place: &Place) -> Result<Option<Ty>, AllocError>
         ensures { IfOk result (λ ty. ty ≡ place_there self.now place.now) }
     {
         type_of_place(alloc, &self.draft, place)
     }
 
-    /// Returns the type of a place that has one and goes through no field, borrowed from the type of its local; `None` for any
-    /// other place. It takes no memory. (rustc-dev-guide, "The MIR".)
+    /// Returns the type of a place without fields, borrowed from the type of its local. Returns `None` if the place has no type or has a
+    /// field. (rustc-dev-guide, "The MIR".)
     pub fn lent_type_of_place(&self, place: &Place) -> Option<TyRef<'_>>
         ensures value { MatchOption result ⊤ (λ ty. place_there self.now place.now ≡ Some ty) }
         ensures found { has_no_field place.now ≡ true → result ≡ place_there self.now place.now }
@@ -42,8 +42,8 @@ impl Typed {
         lent_type_of_place(&self.draft, place)
     }
 
-    /// Appends the references that a place dereferences, the first dereference first; none for a local that is not declared.
-    /// Returns `AllocError` only where memory was refused. (RFC 2094, "Reborrow constraints".)
+    /// Appends the references that a place dereferences, in order, and none if its local is not declared. (RFC 2094, "Reborrow
+    /// constraints".)
     pub fn push_references_of_place(
         &self,
         alloc: Global,
@@ -55,7 +55,7 @@ impl Typed {
         push_references_of_place(alloc, out, &self.draft, place)
     }
 
-    /// Returns the type of an operand, or `None` where it breaks a rule. Returns `AllocError` only where memory was refused.
+    /// Returns the type of an operand, or `None` if it breaks a rule.
     pub fn type_of_operand(
         &self,
         alloc: Global,
@@ -66,8 +66,8 @@ impl Typed {
         type_of_operand(alloc, &self.draft, operand)
     }
 
-    /// Returns the type of an operand that copies or moves a place which goes through no field, borrowed from the type of its
-    /// local; `None` for any other operand, and where it breaks a rule. It takes no memory.
+    /// Returns the type of an operand that copies or moves a place without fields, borrowed from the type of the local. Returns `None` for
+    /// any other operand, and if the operand breaks a rule.
     pub fn lent_type_of_operand(&self, operand: &Operand) -> Option<TyRef<'_>>
         ensures value { MatchOption result ⊤ (λ ty. operand_there self.now operand.now ≡ Some ty) }
         ensures found { takes_no_field operand.now ≡ true → result ≡ operand_there self.now operand.now }
@@ -75,8 +75,8 @@ impl Typed {
         lent_type_of_operand(&self.draft, operand)
     }
 
-    /// Returns the type of a place that is borrowed, where it goes through no field, borrowed from the type of its local; `None`
-    /// for any other place, and where the borrow breaks a rule. It takes no memory.
+    /// Returns the type of a borrowed place without fields, borrowed from the type of its local. Returns `None` for any other place, and if
+    /// the borrow breaks a rule.
     pub fn lent_type_to_borrow(&self, borrow: &Borrow) -> Option<TyRef<'_>>
         ensures value { MatchOption result ⊤ (λ ty. borrowed_there self.now borrow.now.reference.mutability borrow.now.place ≡ Some ty) }
         ensures found { has_no_field borrow.now.place ≡ true → result ≡ borrowed_there self.now borrow.now.reference.mutability borrow.now.place }
@@ -84,22 +84,21 @@ impl Typed {
         lent_type_to_borrow(&self.draft, borrow)
     }
 
-    /// Returns the type of a borrow, or `None` where it breaks a rule. Returns `AllocError` only where memory was refused.
+    /// Returns the type of a borrow, or `None` if it breaks a rule.
     pub fn type_of_borrow(&self, alloc: Global, borrow: &Borrow) -> Result<Option<Ty>, AllocError>
         ensures { IfOk result (λ ty. ty ≡ rvalue_there self.now (Rvalue.Borrow borrow.now)) }
     {
         type_of_borrow(alloc, &self.draft, borrow)
     }
 
-    /// Returns the type of an rvalue, or `None` where it breaks a rule. Returns `AllocError` only where memory was refused.
+    /// Returns the type of an rvalue, or `None` if it breaks a rule.
     pub fn type_of_rvalue(&self, alloc: Global, rvalue: &Rvalue) -> Result<Option<Ty>, AllocError>
         ensures { IfOk result (λ ty. ty ≡ rvalue_there self.now rvalue.now) }
     {
         type_of_rvalue(alloc, &self.draft, rvalue)
     }
 
-    /// Returns the closure in a place that may be invoked, or `None` where there is none. Returns `AllocError` only where memory
-    /// was refused.
+    /// Returns the closure in a place that may be invoked, or `None` if there is none.
     pub fn closure_in(
         &self,
         alloc: Global,
@@ -119,7 +118,7 @@ impl Typed {
         }
     }
 
-    /// Returns whether a type holds a drop: it is a struct that does, or a closure that captures a value of a type that does.
+    /// Returns whether a type needs drop: it is a struct that does, or a closure with a capture whose type does.
     pub fn holds_drop(&self, ty: &Ty) -> bool
         ensures { result ≡ type_holds_drop self.now ty.now }
     {

@@ -1,4 +1,4 @@
-//! Shapes of places. No rule looks at a region, so a field is taken as it is declared.
+//! Shapes of places. No typing rule depends on regions, so a field has its declared type.
 ghost use Rattle.std.specs.Prelude.{◌≡◌};
 ghost use Rattle.std.specs.Option.{option_map};
 ghost use Rattle.bc_shapes.specs.Shapes.{blanked};
@@ -10,7 +10,7 @@ use bc_shapes::Shape;
 use bc_syntax::{Base, Mutability, Place, Projection, Reference};
 use bc_types::GoodTypes;
 
-/// The shape behind projections in turn.
+/// Returns the shape that projections lead to.
 fn shape_behind<'a>(
     types: &'a GoodTypes,
     projections: &[Projection],
@@ -38,7 +38,7 @@ fn shape_behind<'a>(
     }
 }
 
-/// The shape of a place, or `None` where it has no type.
+/// Returns the shape of a place, or `None` if it has no type.
 pub(crate) fn shape_of_place<'a>(draft: &'a Draft, place: &Place) -> Option<Shape<'a>>
     ensures { result ≡ option_map blanked (type_of_place draft.now place.now) }
 {
@@ -53,7 +53,7 @@ pub(crate) fn shape_of_place<'a>(draft: &'a Draft, place: &Place) -> Option<Shap
     }
 }
 
-/// The shape of a place that may be written.
+/// Returns the shape of a place, if it may be written.
 pub(crate) fn shape_to_write<'a>(draft: &'a Draft, place: &Place) -> Option<Shape<'a>>
     ensures { result ≡ option_map blanked (type_to_write draft.now place.now) }
 {
@@ -64,7 +64,7 @@ pub(crate) fn shape_to_write<'a>(draft: &'a Draft, place: &Place) -> Option<Shap
     }
 }
 
-/// What is no closure.
+/// Returns the shape, unless it is a closure.
 fn unless_closure(found: Option<Shape<'_>>) -> Option<Shape<'_>>
     ensures { result ≡ closure_refused found.entry }
 {
@@ -76,7 +76,7 @@ fn unless_closure(found: Option<Shape<'_>>) -> Option<Shape<'_>>
     }
 }
 
-/// The shape of a place, which for a mutable borrow may be written.
+/// Returns the shape of a place; for a mutable borrow, if it may be written.
 fn shape_reached<'a>(draft: &'a Draft, mutability: Mutability, place: &Place) -> Option<Shape<'a>>
     ensures { result ≡ option_map blanked (type_reached draft.now mutability place.now) }
 {
@@ -86,7 +86,7 @@ fn shape_reached<'a>(draft: &'a Draft, mutability: Mutability, place: &Place) ->
     }
 }
 
-/// The shape of a place that may be borrowed.
+/// Returns the shape of a place, if it may be borrowed.
 pub(crate) fn shape_to_borrow<'a>(
     draft: &'a Draft,
     mutability: Mutability,

@@ -14,7 +14,7 @@ use bc_syntax::{
 };
 use bc_types::takes_regions;
 
-/// Whether a place has the shape of what is expected.
+/// Returns whether a place has the expected shape.
 fn place_has_shape(draft: &Draft, place: &Place, expected: &Shape<'_>) -> bool
     ensures { result ≡ shape_found expected.now (place_there draft.now place.now) }
 {
@@ -24,7 +24,7 @@ fn place_has_shape(draft: &Draft, place: &Place, expected: &Shape<'_>) -> bool
     }
 }
 
-/// Whether a place has the type `int`.
+/// Returns whether a place has the type `int`.
 fn is_place_int(draft: &Draft, place: &Place) -> bool
     ensures { result ≡ int_found (place_there draft.now place.now) }
 {
@@ -52,7 +52,7 @@ pub(crate) fn are_operands_int(draft: &Draft, operands: &[Operand]) -> bool
         .all(|operand| is_operand_int(draft, operand))
 }
 
-/// Whether `copy` may take a place, which has the shape of what is expected.
+/// Returns whether `copy` may take a place, and the place has the expected shape.
 fn copy_has_shape(draft: &Draft, place: &Place, expected: &Shape<'_>) -> bool
     ensures { result ≡ shape_found expected.now (operand_there draft.now (Operand.Copy place.now)) }
 {
@@ -62,7 +62,7 @@ fn copy_has_shape(draft: &Draft, place: &Place, expected: &Shape<'_>) -> bool
     }
 }
 
-/// Whether an operand breaks no rule and has the shape of what is expected.
+/// Returns whether an operand breaks no rule and has the expected shape.
 fn operand_has_shape(draft: &Draft, operand: &Operand, expected: &Shape<'_>) -> bool
     ensures { result ≡ shape_found expected.now (operand_there draft.now operand.now) }
 {
@@ -73,14 +73,14 @@ fn operand_has_shape(draft: &Draft, operand: &Operand, expected: &Shape<'_>) -> 
     }
 }
 
-/// Whether an operand breaks no rule and has the shape of a type.
+/// Returns whether an operand breaks no rule and has the shape of a type.
 fn operand_has_shape_of(draft: &Draft, operand: &Operand, ty: &Ty) -> bool
     ensures { result ≡ shape_found ty.now (operand_there draft.now operand.now) }
 {
     operand_has_shape(draft, operand, &Shape::of(ty))
 }
 
-/// Whether there are as many operands as expected, and each has the shape of what is expected in its place.
+/// Returns whether there are as many operands as expected types, and each has the shape of its type.
 fn have_shapes(draft: &Draft, operands: &[Operand], expected: &[Ty]) -> bool
     ensures { result ≡ shapes_found draft.now operands.now expected.now }
 {
@@ -98,7 +98,7 @@ fn have_shapes(draft: &Draft, operands: &[Operand], expected: &[Ty]) -> bool
     }
 }
 
-/// Whether a struct may be made: it is declared, and the regions and operands are in number and shape its own.
+/// Returns whether a struct may be made: it is declared with this number of regions, and the operands fit its fields.
 pub(crate) fn can_create(draft: &Draft, aggregate: &Aggregate) -> bool
     ensures { result ≡ creatable draft.now aggregate.now }
 {
@@ -112,8 +112,7 @@ pub(crate) fn can_create(draft: &Draft, aggregate: &Aggregate) -> bool
     }
 }
 
-/// Whether a closure may be made: it is a child, and the regions and operands are in number and shape the child's external
-/// regions and captures.
+/// Returns whether a closure may be made: it is a child, and the regions and operands fit its external regions and captures.
 pub(crate) fn can_capture(draft: &Draft, creation: &Creation) -> bool
     ensures { result ≡ capturable draft.now creation.now }
 {
@@ -127,7 +126,7 @@ pub(crate) fn can_capture(draft: &Draft, creation: &Creation) -> bool
     }
 }
 
-/// Whether what is borrowed may be, and a reference to it has the shape of a target.
+/// Returns whether a borrow breaks no rule and has the shape of a target.
 fn takes_borrow(draft: &Draft, target: &Shape<'_>, borrow: &Borrow) -> bool
     ensures { result ≡ shape_found target.now (rvalue_there draft.now (Rvalue.Borrow borrow.now)) }
 {
@@ -138,7 +137,7 @@ fn takes_borrow(draft: &Draft, target: &Shape<'_>, borrow: &Borrow) -> bool
     }
 }
 
-/// Whether an rvalue breaks no rule and has the shape of a target.
+/// Returns whether an rvalue breaks no rule and has the shape of a target.
 fn takes_value(draft: &Draft, target: &Shape<'_>, value: &Rvalue) -> bool
     ensures { result ≡ shape_found target.now (rvalue_there draft.now value.now) }
 {
@@ -172,7 +171,7 @@ fn can_drop(draft: &Draft, place: &Place) -> bool
     has_no_deref(place) && shape_of_place(draft, place).is_some()
 }
 
-/// Whether no rule fails at a statement.
+/// Returns whether a statement keeps the typing rules.
 pub(crate) fn statement_keeps_rules(draft: &Draft, statement: &Statement) -> bool
     ensures { result ≡ statement_kept draft.now statement.now }
 {
@@ -184,7 +183,7 @@ pub(crate) fn statement_keeps_rules(draft: &Draft, statement: &Statement) -> boo
     }
 }
 
-/// Whether a place may be written and has the shape of what a function returns.
+/// Returns whether a place may be written and has the shape of a function's result.
 fn takes_result(draft: &Draft, destination: &Place, returned: &Ty) -> bool
     ensures { result ≡ of_one_shape (written_there draft.now destination.now) (Some returned.now) }
 {
@@ -224,7 +223,7 @@ fn call_keeps_rules(draft: &Draft, call: &Call) -> bool
     }
 }
 
-/// The number of the closure in a place that may be invoked.
+/// Returns the number of the closure in a place that may be invoked.
 fn number_in(draft: &Draft, place: &Place) -> Option<u8>
     ensures { result ≡ number_there draft.now place.now }
 {
@@ -237,7 +236,7 @@ fn number_in(draft: &Draft, place: &Place) -> Option<u8>
     }
 }
 
-/// The header of the child whose closure is in a place.
+/// Returns the header of the child whose closure is in a place.
 fn child_in<'a>(draft: &'a Draft, place: &Place) -> Option<&'a Header>
     ensures { option_copied result ≡ child_there draft.now place.now }
 {
@@ -269,7 +268,7 @@ fn invocation_keeps_rules(draft: &Draft, invocation: &Invocation) -> bool
     }
 }
 
-/// Whether no rule fails at a terminator.
+/// Returns whether a terminator keeps the typing rules.
 pub(crate) fn terminator_keeps_rules(draft: &Draft, terminator: &Terminator) -> bool
     ensures { result ≡ terminator_kept draft.now terminator.now }
 {
@@ -283,8 +282,8 @@ pub(crate) fn terminator_keeps_rules(draft: &Draft, terminator: &Terminator) -> 
     }
 }
 
-/// Whether each struct that the locals' types mention is declared with its number of regions, and each closure is a child and
-/// has as many regions as that has external ones.
+/// Returns whether each struct in the types of the locals is declared with its number of regions, and each closure is a child and has as
+/// many regions as the child has external ones.
 pub(crate) fn header_keeps_rules(draft: &Draft) -> bool
     ensures { result ≡ header_kept draft.now }
 {

@@ -9,8 +9,7 @@ use bc_types::{Constraint, push_sub};
 use std::alloc::AllocError;
 
 impl Typed {
-    /// Appends what makes the first type a subtype of the second, where both have one shape. Returns `AllocError` only where
-    /// memory was refused. (RFC 2094, "Subtyping".)
+    /// Appends the constraints that make the first type a subtype of the second, if both have the same shape. (RFC 2094, "Subtyping".)
     pub fn push_subtype(
         &self,
         constraints: &mut Vec<Constraint>,

@@ -21,14 +21,14 @@ use std::marker::Model;
 use std::sync::Arc;
 use thiserror::Error;
 
-/// Where a unit breaks a typing rule first: its header, else its least point.
+/// Where a unit first breaks a typing rule: its header, otherwise its least point.
 #[derive(Clone, Copy, Debug, PartialEq, Eq)]
 pub enum Where {
     Header,
     At(Point),
 }
 
-/// Why a unit is not typed.
+/// Why `type_unit` did not type a unit.
 #[derive(Clone, Copy, Debug, PartialEq, Eq, Error)]
 pub enum IllFault {
     #[error("a typing rule fails")]
@@ -58,7 +58,7 @@ fn first_unfit(draft: &Draft) -> Option<Point>
     None
 }
 
-/// Where a unit breaks a typing rule, if it does.
+/// Returns where a unit first breaks a typing rule, if it does.
 fn misfit(draft: &Draft) -> Option<Where>
     ensures { result ≡ misfit_of draft.now }
 {
@@ -73,7 +73,7 @@ pub struct Typed {
     pub(crate) draft: Draft,
 }
 
-// Written out: the crates above call this, and prove nothing of its parts again.
+// Handwritten, so that it is proved once, and not again in each crate above.
 impl Drop for Typed {
     fn drop(self) {
         let Self { draft: _ } = self;
@@ -92,7 +92,7 @@ impl Model for Typed {
 }
 
 impl Typed {
-    /// Returns how many universal regions there are, 1 to 16: `'static` and the declared ones.
+    /// Returns the number of universal regions, 1 to 16: `'static` and the declared ones.
     pub fn universals(&self) -> u8
         ensures value { result ≡ self.now.universals }
         ensures typed { IsTyped self.now }
@@ -107,14 +107,14 @@ impl Typed {
         self.draft.types()
     }
 
-    /// Returns the headers of the children, ascending by their numbers.
+    /// Returns the children with their headers, ascending by number.
     pub fn children(&self) -> &[Child]
         ensures { result.now ≡ self.now.children }
     {
         self.draft.children()
     }
 
-    /// Returns the header of the child of a number, or `None` where it is no child.
+    /// Returns the header of the child of a number, or `None` if there is no such child.
     pub fn child(&self, number: u8) -> Option<&Header>
         ensures { option_copied result ≡ child_of self.now.children number }
     {
@@ -128,7 +128,7 @@ impl Typed {
         self.draft.kind()
     }
 
-    /// Returns the external regions of a closure, by number, ascending: the declared ones in the types of its captures.
+    /// Returns the numbers of a closure's external regions, ascending: those that occur in the types of its captures.
     pub fn externals(&self) -> &[usize]
         ensures { result.now ≡ self.now.externals }
     {
@@ -143,7 +143,7 @@ impl Typed {
         self.draft.clauses()
     }
 
-    /// Returns the types of the locals, 1 to 256, in which each region is declared.
+    /// Returns the types of the locals, 1 to 256. Each region in them is a variable or declared.
     pub fn locals(&self) -> &[Ty]
         ensures value { result.now ≡ self.now.locals }
         ensures some { 1 ≤ length result.now }
@@ -169,7 +169,7 @@ impl Typed {
         &self.draft.locals()[self.draft.first_let()..]
     }
 
-    /// Returns the points in order, 1 to 4,096, each with what happens there. No rule fails at any of them.
+    /// Returns the points in order, 1 to 4,096, each with its instruction. Each instruction keeps the typing rules.
     pub fn steps(&self) -> &[Step]
         ensures value { result.now ≡ self.now.steps }
         ensures some { 1 ≤ length result.now }
@@ -181,16 +181,16 @@ impl Typed {
     }
 }
 
-/// One more owner of declarations.
+/// Returns one more owner of declarations.
 fn share(types: &Arc<GoodTypes, Global>) -> Result<Arc<GoodTypes, Global>, AllocError>
     ensures { IfOk result (λ shared. arc_value shared ≡ arc_value types.now) }
 {
     Arc::try_clone(types)
 }
 
-/// Types a unit over declarations and the headers of its children, one for each closure that the unit names, ascending. Returns
-/// `Ill` with the place of the first misfit where a rule fails: the header if a header rule fails, else the least point at which
-/// a rule fails; and `NoMemory` only where memory was refused. (The language is that of the rustc-dev-guide, "The MIR".)
+/// Types a unit over declarations and the headers of its children: one for each closure that the unit names, ascending. Returns `Ill` if
+/// the unit breaks a typing rule: at the header if a header rule fails, otherwise at the least point where a rule fails. Returns `NoMemory`
+/// if out of memory. (The language is that of the rustc-dev-guide, "The MIR".)
 pub fn type_unit(
     alloc: Global,
     types: &Arc<GoodTypes, Global>,

@@ -24,7 +24,7 @@ fn int_type(alloc: Global) -> Ty
     }
 }
 
-/// The type of an operand, or `None` where it breaks a rule.
+/// Returns the type of an operand, or `None` if it breaks a rule.
 pub(crate) fn type_of_operand(
     alloc: Global,
     draft: &Draft,
@@ -54,7 +54,7 @@ pub(crate) fn type_of_operand(
     }
 }
 
-/// The type of an operand that copies or moves a place which goes through no field, as it stands in the type of its local.
+/// Returns the type of an operand that copies or moves a place without fields, borrowed from the type of its local.
 pub(crate) fn lent_type_of_operand<'a>(draft: &'a Draft, operand: &Operand) -> Option<TyRef<'a>>
     ensures value { MatchOption result ⊤ (λ ty. operand_there draft.now operand.now ≡ Some ty) }
     ensures found { takes_no_field operand.now ≡ true → result ≡ operand_there draft.now operand.now }
@@ -74,7 +74,7 @@ pub(crate) fn lent_type_of_operand<'a>(draft: &'a Draft, operand: &Operand) -> O
     }
 }
 
-/// What is no closure, lent.
+/// Returns the type, unless it is a closure.
 fn lent_unless_closure(ty: TyRef<'_>) -> Option<TyRef<'_>>
     ensures { result ≡ closure_refused (Some ty.entry) }
 {
@@ -85,7 +85,7 @@ fn lent_unless_closure(ty: TyRef<'_>) -> Option<TyRef<'_>>
     }
 }
 
-/// The type of a place that is borrowed, where it goes through no field, as it stands in the type of its local.
+/// Returns the type of a place that may be borrowed and has no fields, borrowed from the type of its local.
 pub(crate) fn lent_type_to_borrow<'a>(draft: &'a Draft, borrow: &Borrow) -> Option<TyRef<'a>>
     ensures value { MatchOption result ⊤ (λ ty. borrowed_there draft.now borrow.now.reference.mutability borrow.now.place ≡ Some ty) }
     ensures found { has_no_field borrow.now.place ≡ true → result ≡ borrowed_there draft.now borrow.now.reference.mutability borrow.now.place }
@@ -102,7 +102,7 @@ pub(crate) fn lent_type_to_borrow<'a>(draft: &'a Draft, borrow: &Borrow) -> Opti
     }
 }
 
-/// The type of a place that may be written.
+/// Returns the type of a place, if it may be written.
 fn type_to_write(alloc: Global, draft: &Draft, place: &Place) -> Result<Option<Ty>, AllocError>
     ensures { IfOk result (λ ty. ty ≡ written_there draft.now place.now) }
 {
@@ -113,7 +113,7 @@ fn type_to_write(alloc: Global, draft: &Draft, place: &Place) -> Result<Option<T
     }
 }
 
-/// The type of a place, which for a mutable borrow may be written.
+/// Returns the type of a place; for a mutable borrow, if it may be written.
 fn type_reached(
     alloc: Global,
     draft: &Draft,
@@ -128,7 +128,7 @@ fn type_reached(
     }
 }
 
-/// The type of a place that may be borrowed.
+/// Returns the type of a place, if it may be borrowed.
 fn type_to_borrow(
     alloc: Global,
     draft: &Draft,
@@ -149,7 +149,7 @@ fn type_to_borrow(
     }
 }
 
-/// The type of a reference to a type.
+/// Returns the type of a reference to a type.
 fn type_referenced(alloc: Global, reference: Reference, ty: Ty) -> Result<Ty, AllocError>
     ensures { IfOk result (λ whole. whole ≡ referenced reference ty) }
 {
@@ -160,7 +160,7 @@ fn type_referenced(alloc: Global, reference: Reference, ty: Ty) -> Result<Ty, Al
     Ok(Ty { references, base })
 }
 
-/// The type of a borrow, or `None` where it breaks a rule.
+/// Returns the type of a borrow, or `None` if it breaks a rule.
 pub(crate) fn type_of_borrow(
     alloc: Global,
     draft: &Draft,
@@ -205,7 +205,7 @@ fn closure_type(alloc: Global, closure: &ClosureInstance) -> Result<Ty, AllocErr
     })
 }
 
-/// The closure in a place that may be invoked, or `None` where there is none.
+/// Returns the closure in a place that may be invoked, or `None` if there is none.
 pub(crate) fn closure_in(
     alloc: Global,
     draft: &Draft,
@@ -225,7 +225,7 @@ pub(crate) fn closure_in(
     }
 }
 
-/// The type of a struct that is made, or `None` where that breaks a rule.
+/// Returns the type of a struct that is made, or `None` if that breaks a rule.
 fn type_of_aggregate(
     alloc: Global,
     draft: &Draft,
@@ -240,7 +240,7 @@ fn type_of_aggregate(
     }
 }
 
-/// The type of a closure that is made, or `None` where that breaks a rule.
+/// Returns the type of a closure that is made, or `None` if that breaks a rule.
 fn type_of_creation(
     alloc: Global,
     draft: &Draft,
@@ -255,7 +255,7 @@ fn type_of_creation(
     }
 }
 
-/// The type of what is computed from operands, or `None` where one of them is no `int`.
+/// Returns `int`, the type of `calc`, or `None` if an operand is no `int`.
 fn type_of_calc(alloc: Global, draft: &Draft, operands: &[Operand]) -> Option<Ty>
     ensures { result ≡ rvalue_there draft.now (Rvalue.Calc operands.now) }
 {
@@ -266,7 +266,7 @@ fn type_of_calc(alloc: Global, draft: &Draft, operands: &[Operand]) -> Option<Ty
     }
 }
 
-/// The type of an rvalue, or `None` where it breaks a rule.
+/// Returns the type of an rvalue, or `None` if it breaks a rule.
 pub(crate) fn type_of_rvalue(
     alloc: Global,
     draft: &Draft,

@@ -60,9 +60,9 @@ impl Typed {
         Ok(())
     }
 
-    /// Appends what the types of the `let` locals demand, whatever is live or reached: each region that is written behind a
-    /// reference outlives that of the reference, a struct demands what the types of its fields do, and a closure what the types
-    /// of its captures do. Returns `AllocError` only where memory was refused. (RFC 1214.)
+    /// Appends what the types of the `let` locals demand, whether or not they are live or reached. Each region in the pointee of a
+    /// reference outlives the region of the reference. A struct demands what the types of its fields do, and a closure what the types of
+    /// its captures do. (RFC 1214.)
     pub fn push_let_pairs(
         &self,
         alloc: Global,
@@ -73,8 +73,8 @@ impl Typed {
         self.push_pairs_of_types(alloc, constraints, self.lets())
     }
 
-    /// Returns what the types of the captures and the parameters demand of whoever calls the unit, so that its body may count on
-    /// it. Each region is declared. Returns `AllocError` only where memory was refused. (RFC 1214, "implied bounds".)
+    /// Returns what the types of the captures and the parameters demand. The body may rely on it, since each caller has to meet it. Each
+    /// region is a variable or declared. (RFC 1214, "implied bounds".)
     pub fn implied_pairs(&self, alloc: Global) -> Result<Vec<Constraint>, AllocError>
         ensures value { IfOk result (λ pairs. pairs.items ≡ implied_pairs self.now) }
         ensures declared { IfOk result (λ pairs. list_all (is_declared_pair self.now.universals) pairs.items ≡ true) }

@@ -1,4 +1,4 @@
--- What stays true of a name's cells as a name is made.
+-- What stays true of the cells of a name while it is made.
 use Rattle.std.proofs.Common.{◌≡◌, ℕ, zero, suc, ◌+◌, ◌-◌, ◌<◌, ◌≤◌, true, List, [], ◌∷◌, ◌++◌, length, take, drop, set, replicate, refl, sym, ap, ◌∙◌, subst, append_assoc, arith}
 use Rattle.std.specs.List.{AllByRecursion}
 use Rattle.std.proofs.lemmas.List.{length-append, length-replicate, take_more_set, length_push, length-take, length-take-le, take_at, take-take, drop-replicate}
@@ -11,7 +11,7 @@ pub fits-push : (xs : List ℕ) (n : ℕ) → AllByRecursion (λ number. number 
 fits-push [] n h le = (le, tt)
 fits-push (x ∷ xs) n h le = (h.0, fits-push xs n h.1 le)
 
--- a write just behind what is used
+-- a write just after the used cells
 seam : (xs : List ℕ) (n : ℕ) → length xs < 7 → set (padded 7 xs) (length xs) n ≡ padded 7 (xs ++ n ∷ [])
 seam xs n few =
     let k : 7 - length xs ≡ suc (7 - length (xs ++ n ∷ [])) = omega (arith, length_push xs n) in
@@ -61,7 +61,7 @@ all-take zero xs h = tt
 all-take (suc n) [] h = tt
 all-take (suc n) (x ∷ xs) h = (h.0, all-take n xs h.1)
 
--- cells with the first segments alone
+-- the cells with the first segments alone
 pub beginning_stored : (a : Inside) (n : ℕ) → IsStored a → n ≤ a.depth → IsStored (cells a.root a.root_len (take n a.segments ++ drop n (replicate 7 0)) n)
 beginning_stored a n h within =
     let long : length (take n a.segments) ≡ n = length-take-le n a.segments (omega (arith, h.depth, length-take a.depth a.segments)) in

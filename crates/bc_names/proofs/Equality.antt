@@ -1,4 +1,4 @@
--- `==` on names decides `≡`, and their order tells them apart.
+-- `==` on names decides `≡`, and only equal names compare as equal.
 use Rattle.std.proofs.Common.{◌≡◌, refl, ap}
 use Rattle.std.specs.Bool.{Decides}
 use Rattle.std.proofs.lemmas.Bool.Decides.{Decides-and, Decides-like, Decides-eqb}
@@ -22,7 +22,7 @@ both_equal Less y e = absurd (cc)
 both_equal Equal y e = (refl, e)
 both_equal Greater y e = absurd (cc)
 
--- the order of names tells all names apart
+-- names that compare as equal are one name
 pub exact_names : (a b : NameParts) → name_order a b ≡ Equal → a ≡ b
 exact_names a b e =
     let p = both_equal (slice_cmp nat_cmp a.root b.root) (slice_cmp nat_cmp a.segments b.segments) e in

@@ -1,4 +1,4 @@
--- A name's text is read back segment by segment.
+-- The text of a name is read back segment by segment.
 use Rattle.std.proofs.Common.{◌≡◌, ℕ, ◌+◌, ◌-◌, ◌*◌, ◌/◌, ◌%◌, ◌<◌, ◌≤◌, Bool, true, false, not, ◌&&◌, ◌||◌, cond, eqb, List, [], ◌∷◌, ◌++◌, length, drop, slice_index, refl, sym, ap, ◌∙◌, subst, inl, inr, append_assoc, nat_le, nat_lt, ◌==◌, arith}
 use Rattle.std.specs.Prelude.{decimal, Option, Some, None, IfSome}
 use Rattle.std.specs.Bool.{then_some}
@@ -119,7 +119,7 @@ run_and_rest bytes =
 abbrev pub with_segments : NameParts → List ℕ → NameParts
 with_segments name segments = record { root = name.root; segments = segments }
 
--- the name goes on to `whole` by what the rest spells
+-- the name becomes `whole` with the segments that the rest spells
 abbrev pub GoesOn : NameParts → List ℕ → NameParts → Type 0
 GoesOn name rest whole = (more : List ℕ) × (whole ≡ with_segments name (name.segments ++ more)) × (rest ≡ flat_map segment_text more)
 
@@ -147,7 +147,7 @@ fits-behind : (xs : List ℕ) (k : ℕ) (ks : List ℕ) → AllByRecursion (λ n
 fits-behind [] k ks h = h.0
 fits-behind (x ∷ xs) k ks h = fits-behind xs k ks h.1
 
--- where a segment comes next, it is that of the whole name
+-- the next segment is one of the whole name
 abbrev Next : NameParts → List ℕ → NameParts → ℕ × ℕ → Type 0
 Next name rest whole s = (ks : List ℕ) × (whole ≡ with_segments name (name.segments ++ s.0 ∷ ks)) × (drop s.1 rest ≡ flat_map segment_text ks)
 
@@ -199,7 +199,7 @@ reads_all bytes rest name h f whole is e = by (h.only whole is e)
         let one : first_segment rest ≡ Some (k, length (segment_text k)) = ap first_segment r ∙ segment_first k (flat_map segment_text ks) le (no_digit ks) in
         absurd cc
 
--- ---- what the calls of `read` answered
+-- ---- what the calls in `read` returned
 
 none_test : {A : Type 0} (b : Bool) (x : A) → cond b (Some x) None ≡ None → b ≡ false
 none_test true x e = absurd cc

@@ -13,7 +13,7 @@ use Rattle.std.proofs.lemmas.Map.Lookups.{exact_bytes}
 use Rattle.std.proofs.lemmas.Slice.Eq.{slice_eq-Decides, starts_is}
 use Rattle.bc_names.specs.Names.{NameParts, is_within, name_order}
 
--- two tests that both hold, and each of two that do
+-- both tests hold if each does
 pub both : (a b : Bool) → a ≡ true → b ≡ true → (a && b) ≡ true
 both a b p q = ap (λ x. x && b) p ∙ q
 
@@ -39,7 +39,7 @@ within_child root name number within =
     ((starts_is Decides-eqb (name.segments ++ number ∷ []) root.segments _ refl).1 (drop (length root.segments) name.segments ++ number ∷ [])
     (ap (λ l. l ++ number ∷ []) front ∙ append_assoc root.segments (drop (length root.segments) name.segments) (number ∷ [])))
 
--- ---- a name begins with its beginnings, and with no other
+-- ---- a name begins with its beginnings and with no other name
 
 same_root : (root name : NameParts) → is_within root name ≡ true → root.root ≡ name.root
 same_root root name within = (slice_eq-Decides Decides-eqb root.root name.root _ refl).0 (first_of (pointwise ◌==◌ root.root name.root) (starts_with ◌==◌ name.segments root.segments) within)
@@ -51,7 +51,7 @@ within_by : (root name : NameParts) (rest : List ℕ) → root.root ≡ name.roo
 within_by root name rest roots segments =
     both _ _ ((slice_eq-Decides Decides-eqb root.root name.root _ refl).1 roots) ((starts_is Decides-eqb name.segments root.segments _ refl).1 rest segments)
 
--- the name that has the first segments alone, so many
+-- the name that has the first `depth` segments alone
 abbrev pub beginning : NameParts → ℕ → NameParts
 beginning name depth = record { root = name.root; segments = take depth name.segments }
 
@@ -64,9 +64,9 @@ within_beginning root name within =
     ap (take (length root.segments)) (goes_on root name within) ∙ take_at root.segments (drop (length root.segments) name.segments) (length root.segments) refl in
     λ i. record { root = same_root root name within i; segments = sym first i }
 
--- ---- names that begin with one stand together among names that ascend
+-- ---- names that begin with one name are neighbours among ascending names
 
--- what goes on from a list comes no earlier
+-- a list does not come after those that begin with it
 no_later : (xs ys : List ℕ) → is_gt (slice_cmp nat_cmp xs (xs ++ ys)) ≡ false
 no_later [] [] = refl
 no_later [] (y ∷ ys) = refl
@@ -77,7 +77,7 @@ no_later (x ∷ xs) ys = by_rank (nat_cmp x x) (ranked x x _ refl) (no_later xs 
     by_rank Equal h rest = rest
     by_rank Greater h rest = absurd (omega (arith, h))
 
--- what lies between a list and one that goes on from it goes on from it
+-- what lies between a list and one that begins with it also begins with it
 between : (xs ys zs : List ℕ) → is_gt (slice_cmp nat_cmp xs ys) ≡ false → is_gt (slice_cmp nat_cmp ys (xs ++ zs)) ≡ false → (rest : List ℕ) × (ys ≡ xs ++ rest)
 between [] ys zs low high = (ys, refl)
 between (x ∷ xs) [] zs low high = absurd (true≢false low)
@@ -94,14 +94,14 @@ between (x ∷ xs) (y ∷ ys) zs low high = by_ranks (nat_cmp x y) (nat_cmp y x)
     by_ranks Equal Less h k low' high' rest = absurd (omega (arith, h, k))
     by_ranks Equal Equal h k low' high' rest = let found = rest low' high' in (found.0, λ i. sym h i ∷ found.1 i)
 
--- a name comes no later than those that begin with it
+-- a name does not come after those that begin with it
 pub within_least : (root name : NameParts) → is_within root name ≡ true → is_gt (name_order root name) ≡ false
 within_least root name within =
     subst (λ (n : NameParts). is_gt (name_order root n) ≡ false) (λ i. record { root = same_root root name within i; segments = sym (goes_on root name within) i })
     (ap (λ o. is_gt (ordering_then o (slice_cmp nat_cmp root.segments (root.segments ++ drop (length root.segments) name.segments)))) (tied_itself nat_list_cmp_total root.root)
     ∙ no_later root.segments (drop (length root.segments) name.segments))
 
--- what lies between a name and one that begins with it begins with it too
+-- what lies between a name and one that begins with it also begins with it
 pub within_between : (root name last : NameParts) → is_gt (name_order root name) ≡ false → is_gt (name_order name last) ≡ false → is_within root last ≡ true → is_within root name ≡ true
 within_between root name last low high within =
     by_roots (slice_cmp nat_cmp root.root name.root) refl low

@@ -1,4 +1,4 @@
-//! Names of bodies: a root, and the numbers of the closures behind it.
+//! Names of bodies: a root and its segments.
 #![tactic(auto)]
 
 mod laws;

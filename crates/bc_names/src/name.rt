@@ -1,4 +1,4 @@
-//! Names: a root, and the numbers of the closures behind it.
+//! Names: a root and its segments, and how they are ordered.
 ghost use Rattle.std.specs.Prelude.{◌≡◌, ◌+◌, ◌≤◌, ◌<◌, ℕ, List, [], ◌∷◌, ◌++◌, IfSome, IsSome, Some, None, length, take, drop, slice_index, false, true, nat_le, nat_lt, ◌&&◌, if◌then◌else◌};
 ghost use Rattle.std.proofs.Common.{rules};
 ghost use Rattle.std.specs.Char.{is_ascii_digit};
@@ -12,9 +12,9 @@ use std::cmp::Ordering;
 use std::fmt;
 use std::marker::Model;
 
-/// A name: a root of 1 to 32 letters, digits and `_` that does not begin with a digit, and up to seven segments,
-/// numbers from 0 to 63. Names are ordered by root bytes, then by segments as numbers, a beginning before what goes
-/// on.
+/// The name of a body. Its root is 1 to 32 letters, digits and `_`, and does not begin with a digit. Up to seven segments follow, closure
+/// numbers from 0 to 63. Names are ordered by the bytes of the root, then by the segments as numbers; a name comes before those that begin
+/// with it.
 #[derive(Clone, Copy, Debug)]
 pub struct Name {
     root: [u8; 32],
@@ -51,7 +51,7 @@ fn is_root(bytes: &[u8]) -> bool
     1 <= bytes.len() && bytes.len() <= 32 && begins_root(byte_at(bytes, 0)) && are_run_bytes(bytes)
 }
 
-/// The number of the segment that stands at the front, and how many bytes it is spelled in.
+/// Returns the number of the segment at the front and the length of its spelling, or `None` if there is no segment.
 fn first_segment(bytes: &[u8]) -> Option<(u8, usize)>
     ensures { result ≡ first_segment bytes.now }
 {
@@ -67,12 +67,11 @@ fn first_segment(bytes: &[u8]) -> Option<(u8, usize)>
 }
 
 impl Name {
-    /// Returns the name that the bytes spell: a root, then a `/` and a number for each segment. Returns `None` exactly where they
-    /// spell none.
+    /// Returns the name that the bytes spell: a root, then a `/` and a number for each segment. Returns `None` exactly if they spell none.
     pub fn read(bytes: &[u8]) -> Option<Name>
-        // What is answered is spelled so.
+        // The bytes spell the name that is returned.
         ensures found { IfSome result (λ name. IsName name × (bytes.now ≡ name_text name)) }
-        // What is spelled so is answered.
+        // A name that the bytes spell is returned.
         ensures only { (name : NameParts) → IsName name → bytes.now ≡ name_text name → result ≡ Some name }
     {
         let root = run(bytes);
@@ -85,7 +84,7 @@ impl Name {
         rest.is_empty().then_some(name)
     }
 
-    /// The name that has the bytes as its root and no segment, or `None` exactly where they are no root.
+    /// Returns the name with this root and no segments, or `None` exactly if the bytes are not a root.
     fn of_root(bytes: &[u8]) -> Option<Name>
         ensures { result ≡ (if is_root bytes.now then Some (record { root = bytes.now; segments = [] }) else None) }
     {
@@ -102,10 +101,11 @@ impl Name {
         })
     }
 
-    /// Returns the name of a closure of this one, by its number, or `None` exactly where the number is above 63 or this name has
-    /// seven segments.
+    /// Returns the name of a closure of this one, by the closure's number. Returns `None` exactly if the number is above 63 or this name
+    /// has seven segments.
     pub fn child(self, number: u8) -> Option<Name>
-        ensures { result ≡ (if nat_le number 63 && nat_lt (length self.segments) 7 then Some (record { root = self.root; segments = self.segments ++ number ∷ [] }) else None) }
+        ensures { result ≡ (if nat_le number 63 && nat_lt (length self.segments) 7
+            then Some (record { root = self.root; segments = self.segments ++ number ∷ [] }) else None) }
     {
         let mut child = self;
         if number > 63 || child.depth >= 7 {
@@ -131,14 +131,14 @@ impl Name {
         str::from_utf8(self.root()).unwrap()
     }
 
-    /// Returns the segments, as numbers.
+    /// Returns the segments as numbers.
     pub fn segments(&self) -> &[u8]
         ensures { result.now ≡ self.now.segments }
     {
         &self.segments[..usize::from(self.depth)]
     }
 
-    /// Returns how many segments the name has.
+    /// Returns the number of segments.
     pub fn depth(&self) -> usize
         ensures { result ≡ length self.now.segments }
     {
@@ -152,7 +152,7 @@ impl Name {
         self.root() == other.root() && other.segments().starts_with(self.segments())
     }
 
-    /// Returns the name with its first `depth` segments alone, or with all where it has no more.
+    /// Returns the name with its first `depth` segments alone, or with all if it has no more.
     pub fn beginning(&self, depth: usize) -> Name
         ensures { result ≡ record { root = self.now.root; segments = take depth self.now.segments } }
     {

@@ -1,4 +1,4 @@
--- What a fault is.
+-- What a fault can be.
 use Rattle.std.proofs.Common.{◌≡◌, ℕ, zero, suc, List, [], ◌∷◌, subst, Option, Some, None}
 use Rattle.std.specs.Option.{option_map, option_or}
 use Rattle.bc_names.specs.Names.{NameParts}
@@ -13,7 +13,7 @@ use Rattle.bc_prov.specs.Outcome.{absent_among, own_fault, first_among, fault_ov
 use Rattle.bc_prov.specs.Pieces.{PieceView}
 use Rattle.bc_outcomes.specs.Reported.{ArePiecesOf}
 
--- an absent child or a misfit, if anything
+-- the fault is an absent child or a misfit, if there is one
 abbrev IsFault : Option Outcome → Type 0
 IsFault None = Unit {0}
 IsFault (Some NoBody) = ⊥
@@ -61,6 +61,6 @@ no_pieces state root (BadTypes index) pieces is e = e
 no_pieces state root (Ill name place) pieces is e = e
 no_pieces state root (Report found) pieces is e = absurd is
 
--- with a fault come no pieces
+-- a fault comes without pieces
 pub pieces_of_fault : (state : State) (root : NameParts) (fault : Outcome) (pieces : List (NameParts × PieceView)) → fault_at state root ≡ Some fault → pieces ≡ [] → ArePiecesOf state root None fault pieces
 pieces_of_fault state root fault pieces is e = no_pieces state root fault pieces (subst IsFault is (at_fault state root)) e

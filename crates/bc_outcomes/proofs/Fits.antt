@@ -14,9 +14,9 @@ use Rattle.bc_prov.proofs.Sets.{some_all}
 use Rattle.bc_outcomes.specs.Reported.{ArePiecesOf, IsPieceAt}
 use Rattle.bc_outcomes.proofs.Folding.{all-append}
 
--- ---- the bodies of a visit are held
+-- ---- the bodies of a visit are stored
 
--- the body stands at its name
+-- the body is stored at its name
 abbrev IsThere : State → NameParts × Body → Type 0
 IsThere state unit = state.bodies unit.0 ≡ Some unit.1
 
@@ -60,7 +60,7 @@ outcome_fits types units root (BadTypes index) pieces are = none_fit types units
 outcome_fits types units root (Ill name place) pieces are = none_fit types units pieces are
 outcome_fits types units root (Report found) pieces are = pieces_fit (state_of types units) (units_at (state_of types units) root) pieces (held_at (state_of types units) root) are.0
 
--- some of the pieces that come with an outcome
+-- some of the pieces that come with an outcome are of the bodies at their names
 pub some_fit : (types : List Declaration) (units : List (NameParts × Body)) (root : NameParts) (outcome : Outcome) (all left : List (NameParts × PieceView)) → ArePiecesOf (state_of types units) root None outcome all → AreSomeOf all left
     → ArePieces types units left
 some_fit types units root outcome all left are some =

@@ -1,4 +1,4 @@
--- Bodies that are judged from the last to the first.
+-- Judging bodies from the last to the first.
 use Rattle.std.proofs.Common.{◌≡◌, ℕ, Bool, true, false, suc, ◌<◌, ◌≤◌, ⊎_elim, List, [], ◌∷◌, ◌++◌, length, refl, sym, ap, ◌∙◌, subst, append_assoc, append-nil, arith, Some, None, Option, length-append}
 use Rattle.std.specs.Prelude.{map, fold, is_none, if◌then◌else◌}
 use Rattle.std.specs.List.{AllZip, AllByRecursion, flat_map, zip}
@@ -36,7 +36,7 @@ flat_map-map : {A B C : Type 0} (f : B → List C) (g : A → B) (xs : List A) �
 flat_map-map f g [] = refl
 flat_map-map f g (x ∷ xs) = ap (λ zs. f (g x) ++ zs) (flat_map-map f g xs)
 
--- the last of a list that a map gives
+-- the last element of a mapped list
 map-snoc : {A B : Type 0} (f : A → B) (xs : List A) (ys : List B) (y : B) → ys ++ y ∷ [] ≡ map f xs → (front : List A) × (x : A) × (xs ≡ front ++ x ∷ []) × (ys ≡ map f front) × (y ≡ f x)
 map-snoc f [] [] y e = absurd (cc)
 map-snoc f [] (z ∷ ys) y e = absurd (cc)
@@ -54,7 +54,7 @@ length-zip-all R [] (y ∷ ys) h = absurd h
 length-zip-all R (x ∷ xs) [] h = absurd h
 length-zip-all R (x ∷ xs) (y ∷ ys) h = ap suc (length-zip-all R xs ys h.1)
 
--- pairs that are cut where their first parts are
+-- a relation between two lists that are cut at the same index
 AllZip-cut : {A B : Type 0} (R : A → B → Type 0) (xs xs' : List A) (ys ys' : List B) → length xs ≡ length ys → AllZip R (xs ++ xs') (ys ++ ys') → AllZip R xs ys × AllZip R xs' ys'
 AllZip-cut R [] xs' [] ys' e h = (tt, h)
 AllZip-cut R [] xs' (y ∷ ys) ys' e h = absurd (omega (arith, e))
@@ -122,14 +122,14 @@ sound_kids state name s = over (children_of s.body) refl
         some : (n : ℕ) (ns : List ℕ) → n ∷ ns ≡ [] → ⊥
         some n ns h = cc
 
--- ---- the names whose bodies come next, at each body of a visit
+-- ---- the names whose bodies come next, after each body of a visit
 
--- what comes next once a body is visited: its closures, then what came next before
+-- what comes next after a body is visited: its closures, then what came next before
 abbrev pub next : List NameParts → NameParts × Body → List NameParts
 next [] unit = []
 next (name ∷ names) unit = map (child unit.0) (children_of unit.1) ++ names
 
--- what comes next behind these bodies
+-- what comes next after these bodies
 abbrev pub open_after : NameParts → List (NameParts × Body) → List NameParts
 open_after root before = fold next (root ∷ []) before
 
@@ -157,15 +157,14 @@ split state (u ∷ before) rest (r ∷ rs) sound e =
 abbrev pub Entry : Type 0
 Entry = NameParts × PieceView
 
--- a verdict at the name requires this, which its creator can be asked to meet
+-- a verdict at the name requires this, and its creator can be asked to meet it
 pub record HasRequired (state : State) (name : NameParts) (required : Requirements) : Type 0 where
   pub verdict : Verdict
   pub is_verdict : IsVerdictAt state name verdict
   pub requires : verdict.requirements ≡ required
   pub goes_up : (body : Body) → state.bodies name ≡ Some body → MayGoUp (external_regions body.header) required
 
--- These visits are left. The bodies behind them are judged: their pieces are found, and what those that come next
--- require is there.
+-- These visits are left. The bodies after them are judged: their pieces are found, and what the bodies that come next require is there.
 pub record Folds (state : State) (root : NameParts) (left : List VisitView) (required : List Requirements) (found : List Entry) : Type 0 where
   pub before : List (NameParts × Body)
   pub is_left : left ≡ map (visit_of state) before
@@ -173,7 +172,7 @@ pub record Folds (state : State) (root : NameParts) (left : List VisitView) (req
   pub judged : AllZip (HasRequired state) (open_after root before) required
   pub reported : AllZip (IsPieceAt state) (flat_map (units_at state) (open_after root before)) found
 
--- the last of the visits that are left
+-- this visit is the last of those that are left
 pub record Turn (state : State) (root : NameParts) (left : List VisitView) (visit : VisitView) (required : List Requirements) (found : List Entry) : Type 0 where
   pub before : List (NameParts × Body)
   pub name : NameParts
@@ -234,12 +233,12 @@ length-map-of : {A B : Type 0} (f : A → B) (xs : List A) → length (map f xs)
 length-map-of f [] = refl
 length-map-of f (x ∷ xs) = ap suc (length-map-of f xs)
 
--- where all closures are held, each has its header
+-- if all closures are stored, each has its header
 header-numbers : (state : State) (name : NameParts) (numbers : List ℕ) → AllByRecursion (IsSound state) (map (child name) numbers) → map number_of_child (children_at state name numbers) ≡ numbers
 header-numbers state name [] sound = refl
 header-numbers state name (n ∷ ns) sound = rw sound.0.held (ap (λ ms. n ∷ ms) (header-numbers state name ns sound.1))
 
--- what these closures require, each under its number
+-- what these closures require, each with its number
 of_children : (state : State) (name : NameParts) (numbers : List ℕ) (taken : List (ℕ × Requirements)) → AllByRecursion (IsSound state) (map (child name) numbers) → map (λ (k : ℕ × Requirements). k.0) taken ≡ numbers
     → AllZip (HasRequired state) (map (child name) numbers) (map (λ (k : ℕ × Requirements). k.1) taken) → AreOfChildren (children_at state name numbers) taken
 of_children state name [] [] sound is h = tt
@@ -250,7 +249,7 @@ of_children state name (n ∷ ns) (k ∷ ks) sound is h =
     let tails : map (λ (k : ℕ × Requirements). k.0) ks ≡ ns = cc in
     rw sound.0.held (record { number = heads; may_go_up = h.0.goes_up sound.0.body sound.0.held }, of_children state name ns ks sound.1 tails h.1)
 
--- the verdicts by which so much is required
+-- the verdicts with these requirements
 verdicts_of : (state : State) (name : NameParts) (numbers : List ℕ) (required : List Requirements) → AllZip (HasRequired state) (map (child name) numbers) required
     → (verdicts : List Verdict) × AllZip (λ number. IsVerdictAt state (child name number)) numbers verdicts × (map (λ (v : Verdict). v.requirements) verdicts ≡ required)
 verdicts_of state name [] [] h = ([], tt, refl)
@@ -349,7 +348,7 @@ folded state root left visit required after found taken entry types same t numbe
           ));
     }
 
--- one piece more, which is kept or not
+-- one piece more, kept or not
 pub some_more : (all unkept : List Entry) (entry : Entry) (is_kept : Bool) → AreSomeOf all unkept → AreSomeOf (entry ∷ all) (if is_kept then unkept else entry ∷ unkept)
 some_more all unkept entry true some = (false ∷ some.0, some.1)
 some_more all unkept entry false some = (true ∷ some.0, ap (λ (ps : List Entry). entry ∷ ps) some.1)
@@ -375,7 +374,7 @@ folds_none state root visits sound are =
         e ∙ ap (λ us. us ++ flat_map (units_at state) rs) (units-step state r s.body s.short s.held) in
         absurd (cc)
 
--- with no visit left all bodies are judged
+-- when no visit is left, all bodies are judged
 pub folds_all : (state : State) (root : NameParts) (required : List Requirements) (found : List Entry) → Folds state root [] required found → AllZip (IsPieceAt state) (units_at state root) found
 folds_all state root required found folds = all folds.before folds.is_left folds.whole folds.reported
   where
@@ -391,7 +390,7 @@ reported_by state [] (p ∷ ps) h = absurd h
 reported_by state (u ∷ us) [] h = absurd h
 reported_by state (u ∷ us) (p ∷ ps) h = (record { named = h.0.named; verdict = p.1.verdict; is_verdict = h.0.is_verdict; errors = refl }, reported_by state us ps h.1)
 
--- the report of all bodies is the outcome, where there is no fault
+-- if there is no fault, the outcome is the report of all bodies
 pub report_of : (state : State) (root : NameParts) (fault : Option Outcome) (pieces : List Entry) (found : List BodyErrors) → fault ≡ None → AllZip (IsPieceAt state) (units_at state root) pieces → found ≡ map errors_in pieces
     → IsOutcomeAfter state root fault (Report found)
 report_of state root fault pieces found none are is =

@@ -1,4 +1,4 @@
--- Closures that are gathered, number by number.
+-- Finding closures, number by number.
 use Rattle.std.proofs.Common.{◌≡◌, ℕ, suc, ◌+◌, ◌<◌, ◌≤◌, List, [], ◌∷◌, ◌++◌, length, drop, get_or, refl, sym, ap, ◌∙◌, subst, append_assoc, append-nil, arith, length-append, Some}
 use Rattle.std.specs.List.{AllZip}
 use Rattle.std.proofs.Math.Seq.{drop-cons}
@@ -13,7 +13,7 @@ use Rattle.bc_prov.specs.Outcome.{absent_among}
 use Rattle.bc_outcomes.specs.Visits.{IsKid}
 use Rattle.bc_outcomes.specs.declared.walk.Kid.{Kid}
 
--- the closures before place i are these, and none of them is absent
+-- the closures before index i are these, and all are stored
 pub record Gathers (state : State) (name : NameParts) (numbers : List ℕ) (i : ℕ) (kids : List Kid) : Type 0 where
   pub held : (rest : List Kid) → AllZip (IsKid state name) (drop i numbers) rest → AllZip (IsKid state name) numbers (kids ++ rest)
   pub absent : absent_among state name (drop i numbers) ≡ absent_among state name numbers
@@ -39,18 +39,18 @@ gathers_all state name numbers i kids past all =
     subst (AllZip (IsKid state name) numbers) (append-nil kids)
     (all.held [] (subst (λ (ns : List ℕ). AllZip (IsKid state name) ns []) (sym (drop_all i numbers past)) tt))
 
--- a child's name, where there is one: its number is at most 63, and there is room for it
+-- if a child has a name, it is the wanted one: the child's number is at most 63, and there is room for it
 pub child_found : (low few : Bool) (found wanted : NameParts) → Some found ≡ (if low && few then Some wanted else None) → (low ≡ true) × (few ≡ true) × (found ≡ wanted)
 child_found true true found wanted e = (refl, refl, cc)
 child_found true false found wanted e = absurd (cc)
 child_found false few found wanted e = absurd (cc)
 
--- what suits the name of a child is a closure
+-- a body that suits the name of a child is a closure
 is_closure : (kind : UnitKind) (segments : List ℕ) (number : ℕ) (name : NameParts) → name.segments ≡ segments ++ number ∷ [] → SuitsKind kind name → kind ≡ Closure
 is_closure Closure segments number name is suits = refl
 is_closure Function segments number name is suits = let none = sym is ∙ suits in let size = ap length none in absurd (omega (arith, size, length-append segments (number ∷ [])))
 
--- what is held at a child's name is that child
+-- the body at a child's name is that child
 pub kid_found : (state : State) (name : NameParts) (number : ℕ) (found : NameParts) (kid : Kid) → AreSuited state.bodies → Some found ≡ (if nat_le number 63 && nat_lt (length name.segments) 7 then Some (child name number) else None)
     → kid.number ≡ number → state.bodies found ≡ Some kid.unit.now → IsKid state name number kid
 kid_found state name number found kid suited is numbered held =

@@ -1,4 +1,4 @@
--- The outcome of a name is that of its part of what is held: all names on which it rests are in that part.
+-- The outcome of a name depends only on its part of what is stored, since that has all names that are used.
 use Rattle.std.proofs.Common.{◌≡◌, sym, subst, true, inl, inr}
 use Rattle.bc_names.specs.Names.{NameParts, is_within}
 use Rattle.bc_prov.specs.declared.outcome.Outcome.{Outcome}

@@ -16,7 +16,7 @@ use Rattle.bc_prov.specs.State.{State, AreSuited, children_at, mir_at, number_of
 use Rattle.bc_prov.specs.Outcome.{absent_among, own_fault}
 use Rattle.bc_outcomes.specs.Visits.{IsKid, AreKids, ChildKid, child_of_kid}
 use Rattle.bc_outcomes.specs.declared.walk.Kids.{Kids}
-use Rattle.bc_outcomes.specs.declared.walk.Kids.TheVariants.{Held}
+use Rattle.bc_outcomes.specs.declared.walk.Kids.TheVariants.{Stored}
 use Rattle.bc_outcomes.specs.declared.walk.Kid.{Kid}
 
 pub kid_headers : (state : State) (name : NameParts) (numbers : List ℕ) (kids : List Kid) → AllZip (IsKid state name) numbers kids → children_at state name numbers ≡ map child_of_kid kids
@@ -32,7 +32,7 @@ kid_numbers state name [] (k ∷ ks) h = absurd h
 kid_numbers state name (n ∷ ns) [] h = absurd h
 kid_numbers state name (n ∷ ns) (k ∷ ks) h = λ i. h.0.numbered i ∷ kid_numbers state name ns ks h.1 i
 
--- each closure that was found is one
+-- each closure that was found is a child
 pub kids_are : (state : State) (name : NameParts) (numbers : List ℕ) (kids : List Kid) → AllZip (IsKid state name) numbers kids → AllByRecursion ChildKid kids
 kids_are state name [] [] h = tt
 kids_are state name [] (k ∷ ks) h = absurd h
@@ -45,25 +45,25 @@ none_absent state name [] (k ∷ ks) h = absurd h
 none_absent state name (n ∷ ns) [] h = absurd h
 none_absent state name (n ∷ ns) (k ∷ ks) h = rw h.0.held (none_absent state name ns ks h.1)
 
--- the unit as it was typed
+-- a unit over the headers of the found closures is the MIR at its name
 pub typed_there : (state : State) (name : NameParts) (body : Body) (types : List Declaration) (children : List Child) (kids : List Kid) → types ≡ state.types → children ≡ map child_of_kid kids
     → AllZip (IsKid state name) (children_of body) kids → mir_of types children body ≡ mir_at state name body
 typed_there state name body types children kids same are held =
     let all : children ≡ children_at state name (children_of body) = are ∙ sym (kid_headers state name (children_of body) kids held) in
     λ i. mir_of (same i) (all i) body
 
--- the fault of a body all of whose children are held
+-- if all children of a body are stored, its fault is its misfit
 pub fault_of_held : (state : State) (name : NameParts) (body : Body) (kids : List Kid) (place : Option Where) → AllZip (IsKid state name) (children_of body) kids
     → misfit (mir_at state name body) ≡ place → own_fault state name body ≡ option_map (Ill name) place
 fault_of_held state name body kids place held is =
     ap (λ (o : Option NameParts). option_or (option_map Missing o) (option_map (Ill name) (misfit (mir_at state name body)))) (none_absent state name (children_of body) kids held)
     ∙ ap (option_map (Ill name)) is
 
-pub kids_here : (state : State) (name : NameParts) (body : Body) (numbers : List ℕ) (found : Kids) (kids : Vec Kid Global) → numbers ≡ children_of body → found ≡ Held kids
+pub kids_here : (state : State) (name : NameParts) (body : Body) (numbers : List ℕ) (found : Kids) (kids : Vec Kid Global) → numbers ≡ children_of body → found ≡ Stored kids
     → AreKids state name numbers found → AllZip (IsKid state name) (children_of body) kids.items
 kids_here state name body numbers found kids are is h = subst (λ (p : List ℕ × Kids). AreKids state name p.0 p.1) (λ i. (are i, is i)) h
 
--- where a name has closures, it has fewer than seven segments
+-- a name whose body has closures has fewer than seven segments
 pub room : (state : State) (name : NameParts) (body : Body) (numbers : List ℕ) → AreSuited state.bodies → state.bodies name ≡ Some body → numbers ≡ children_of body
     → (numbers ≡ [] → ⊥) → length name.segments < 7
 room state name body numbers suited held are some =

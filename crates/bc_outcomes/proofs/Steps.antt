@@ -1,4 +1,4 @@
--- The definitions by levels, one name at a time.
+-- The definitions by levels, unfolded at one name.
 use Rattle.std.proofs.Common.{◌≡◌, ℕ, suc, ◌≤◌, List, [], ◌∷◌, length, sym, ap, ◌∙◌, subst, arith, length-append}
 use Rattle.std.specs.Prelude.{Option, Some}
 use Rattle.std.specs.List.{flat_map}
@@ -12,7 +12,7 @@ use Rattle.bc_prov.specs.State.{State, child, levels_from}
 use Rattle.bc_prov.specs.Verdicts.{IsVerdictAt, IsVerdictWithin, IsVerdictOver}
 use Rattle.bc_prov.specs.Outcome.{own_fault, first_among, fault_over, fault_within, fault_at, units_over, units_within, units_at}
 
--- one level fewer at a child
+-- a child has one level fewer
 levels : (name : NameParts) (number : ℕ) → length name.segments ≤ 7 → levels_from name ≡ suc (levels_from (child name number))
 levels name number short = omega (arith, short, length-append name.segments (number ∷ []))
 

@@ -1,4 +1,4 @@
--- A name has one verdict and one outcome at most.
+-- A name has at most one verdict and one outcome.
 use Rattle.std.proofs.Common.{◌≡◌, ℕ, zero, suc, ◌+◌, ◌<◌, Bool, true, false, List, [], ◌∷◌, ◌++◌, refl, sym, ap, ◌∙◌, subst, arith, Option, Some, None}
 use Rattle.std.specs.List.{AllZip}
 use Rattle.bc_syntax.specs.declared.syntax.Body.{Body}
@@ -26,7 +26,7 @@ use Rattle.bc_prov.specs.State.{State, child, levels_from, mir_at}
 use Rattle.bc_prov.specs.Verdicts.{IsVerdictOf, IsVerdictOver, IsVerdictWithin, IsVerdictAt, requirements_by}
 use Rattle.bc_prov.specs.Outcome.{IsReported, IsOutcomeAfter, IsOutcomeOf, IsOutcomeBehind, IsOutcomeIn, fault_at, units_at}
 
--- two tests that tell of the same fact
+-- two tests that decide the same fact are equal
 both_ways : (s t : Bool) → (s ≡ true → t ≡ true) → (t ≡ true → s ≡ true) → s ≡ t
 both_ways true t f g = sym (f refl)
 both_ways false true f g = g refl

@@ -1,4 +1,4 @@
--- The outcome of a name is that of what stands at the names on which it rests.
+-- The outcome of a name depends only on what is stored at the names that are used.
 use Rattle.std.proofs.Common.{◌≡◌, ℕ, zero, suc, ◌<◌, List, [], ◌∷◌, ◌++◌, length, get_or, map, cond, refl, sym, ap, ◌∙◌, subst, arith, Bool, true, false, Option, Some, None, inl, inr}
 use Rattle.std.specs.Prelude.{is_none, if◌then◌else◌}
 use Rattle.std.specs.List.{AllZip, AllByRecursion, Contains, cons_option, filter_map, flat_map}
@@ -65,19 +65,19 @@ all_zip_members F G [] (y ∷ ys) each h = absurd h
 all_zip_members F G (x ∷ xs) [] each h = absurd h
 all_zip_members F G (x ∷ xs) (y ∷ ys) each h = (each.0 y h.0, all_zip_members F G xs ys each.1 h.1)
 
--- ---- the outcome of a name rests on the names that are used
+-- ---- the outcome of a name depends on the names that are used
 
--- the name is from the root on, and used
+-- the name is the root or below it, and used
 record IsReached (root : NameParts) (state : State) (name : NameParts) : Type 0 where
   from : is_within root name ≡ true
   used : IsUsed root state name
 
 module _ (a b : State) (root : NameParts) (same : HaveSameUsed root a b) where
-  -- all bodies of a list are from the root on, and used
+  -- all bodies of a list are at the root or below it, and used
   abbrev AllReached : List (NameParts × Body) → Type 0
   AllReached units = AllByRecursion (λ (u : NameParts × Body). IsReached root a u.0) units
 
-  -- the closures of a body have the same bodies in both states
+  -- the names of the closures hold the same bodies in both states
   abbrev SameKids : NameParts → List ℕ → Type 0
   SameKids name numbers = AllByRecursion (λ number. a.bodies (child name number) ≡ b.bodies (child name number)) numbers
 
@@ -207,7 +207,7 @@ module _ (a b : State) (root : NameParts) (same : HaveSameUsed root a b) where
 pub outcome_used : (a b : State) (root : NameParts) (o : Outcome) → HaveSameUsed root a b → IsOutcomeIn a root o → IsOutcomeIn b root o
 outcome_used a b root o same h = subst (λ (types : List Declaration). IsOutcomeBehind (first_bad types) b root o) same.types (behind_used a b root same (first_bad a.types) o h)
 
--- ---- the list of a snapshot has all names that are used
+-- ---- a snapshot lists all names that are used
 
 child_listed : (units : List (NameParts × Body)) (creator : NameParts) (body : Body) (number : ℕ) → at_name units creator ≡ Some body → Contains (children_of body) number → Contains (flat_map children_named units) (child creator number)
 child_listed [] creator body number held among = absurd cc

@@ -1,4 +1,4 @@
--- The bodies that were visited, closure by closure.
+-- Visiting bodies, closure by closure.
 use Rattle.std.proofs.Common.{◌≡◌, ℕ, zero, suc, ◌+◌, ◌<◌, ◌≤◌, List, [], ◌∷◌, ◌++◌, length, drop, get_or, refl, sym, ap, ◌∙◌, subst, append_assoc, append-nil, arith, length-append, Some, None, Vec, Global}
 use Rattle.std.specs.Prelude.{map, Option, is_some, Bool, true, false, if◌then◌else◌}
 use Rattle.std.specs.List.{AllZip, flat_map}
@@ -12,8 +12,8 @@ use Rattle.bc_prov.specs.State.{State, child}
 use Rattle.bc_prov.specs.Outcome.{fault_at, units_at, first_among, own_fault}
 use Rattle.bc_outcomes.specs.Visits.{IsKid, IsLooked, visit_of}
 use Rattle.bc_outcomes.specs.declared.walk.Kid.{Kid}
-use Rattle.bc_outcomes.specs.declared.walk.Looked.{Looked}
-use Rattle.bc_outcomes.specs.declared.walk.Looked.TheVariants.{Fitting, Faulty}
+use Rattle.bc_outcomes.specs.declared.walk.BodyVisit.{BodyVisit}
+use Rattle.bc_outcomes.specs.declared.walk.BodyVisit.TheVariants.{Fitting, Faulty}
 use Rattle.bc_outcomes.specs.Visited.{VisitView}
 use Rattle.std.specs.Option.{IsSome}
 use Rattle.std.specs.Prelude.{◌&&◌, nat_le, nat_lt}
@@ -33,12 +33,12 @@ fault_among state name numbers = first_among (λ number. fault_at state (child n
 abbrev pub visits_among : State → NameParts → List ℕ → List VisitView
 visits_among state name numbers = map (visit_of state) (flat_map (λ number. units_at state (child name number)) numbers)
 
--- the closures before place i have no fault, and the visits from them on are made
+-- the closures before index i have no fault, and the visits from them on are made
 pub record Walks (state : State) (name : NameParts) (kids : List Kid) (i : ℕ) (first visits : List VisitView) : Type 0 where
   pub faults : fault_among state name (numbers_of (drop i kids)) ≡ fault_among state name (numbers_of kids)
   pub visited : visits ++ visits_among state name (numbers_of (drop i kids)) ≡ first ++ visits_among state name (numbers_of kids)
 
--- the closure is held, and its name has at most seven segments, whose last is its number
+-- the closure is stored, and its name has at most seven segments, whose last is its number
 pub record IsHeld (state : State) (name : NameParts) (kid : Kid) : Type 0 where
   pub low : kid.number ≤ 63
   pub short : length (child name kid.number).segments ≤ 7
@@ -64,19 +64,19 @@ numbers-same state name [] (k ∷ ks) h = absurd h
 numbers-same state name (n ∷ ns) [] h = absurd h
 numbers-same state name (n ∷ ns) (k ∷ ks) h = λ i. h.0.numbered i ∷ numbers-same state name ns ks h.1 i
 
--- what a look found
-pub looked_fitting : (state : State) (name : NameParts) (body : Body) (found : Looked) (visit : VisitView) (kids : Vec Kid Global) → found ≡ Fitting visit kids → IsLooked state name body found
+-- what a look at a body returns
+pub looked_fitting : (state : State) (name : NameParts) (body : Body) (found : BodyVisit) (visit : VisitView) (kids : Vec Kid Global) → found ≡ Fitting visit kids → IsLooked state name body found
     → (own_fault state name body ≡ None) × (visit ≡ visit_of state (name, body)) × AllZip (IsKid state name) (children_of body) kids.items
 looked_fitting state name body found visit kids is h = subst (IsLooked state name body) is h
 
-pub looked_faulty : (state : State) (name : NameParts) (body : Body) (found : Looked) (fault : Outcome) → found ≡ Faulty fault → IsLooked state name body found → length name.segments ≤ 7 → state.bodies name ≡ Some body
+pub looked_faulty : (state : State) (name : NameParts) (body : Body) (found : BodyVisit) (fault : Outcome) → found ≡ Faulty fault → IsLooked state name body found → length name.segments ≤ 7 → state.bodies name ≡ Some body
     → fault_at state name ≡ Some fault
 looked_faulty state name body found fault is h short held =
     let own : own_fault state name body ≡ Some fault = subst (IsLooked state name body) is h in
     fault-step state name body short held
     ∙ ap (λ (o : Option Outcome). option_or o (first_among (λ number. fault_at state (child name number)) (children_of body))) own
 
--- where the body alone has no fault, the first fault is its closures'
+-- if the body alone has no fault, the first fault from it on is the first from its closures on
 pub fault_below : (state : State) (name : NameParts) (body : Body) (kids : List Kid) → length name.segments ≤ 7 → state.bodies name ≡ Some body → own_fault state name body ≡ None → AllZip (IsKid state name) (children_of body) kids
     → fault_at state name ≡ fault_among state name (numbers_of kids)
 fault_below state name body kids short held none are =
@@ -88,7 +88,7 @@ or_some : (a b : Option Outcome) → is_some a ≡ true → option_or a b ≡ a
 or_some None b e = absurd (cc)
 or_some (Some x) b e = refl
 
--- the first fault among closures, where that of the closure at place i is the first there
+-- if the closure at index i has a fault and none before it does, that is the first fault among the closures
 pub fault_here : (state : State) (name : NameParts) (kids : List Kid) (i : ℕ) (kid : Kid) (first visits : List VisitView) (below : Option Outcome) → i < length kids → kid ≡ get_or kids i kid → Walks state name kids i first visits
     → below ≡ fault_at state (child name kid.number) → is_some below ≡ true → fault_among state name (numbers_of kids) ≡ below
 fault_here state name kids i kid first visits below within is walks found some =
@@ -100,7 +100,7 @@ fault_here state name kids i kid first visits below within is walks found some =
 pub fault_past : (state : State) (name : NameParts) (kids : List Kid) (i : ℕ) (first visits : List VisitView) → length kids ≤ i → Walks state name kids i first visits → fault_among state name (numbers_of kids) ≡ None
 fault_past state name kids i first visits past walks = sym walks.faults ∙ ap (λ (ks : List Kid). fault_among state name (numbers_of ks)) (drop_all i kids past)
 
--- all visits from a name on
+-- after the last closure all bodies from the name on are visited
 pub visits_past : (state : State) (name : NameParts) (body : Body) (visit : VisitView) (kids : List Kid) (i : ℕ) (old first visits : List VisitView) → length kids ≤ i → Walks state name kids i first visits
     → first ≡ old ++ visit ∷ [] → visit ≡ visit_of state (name, body) → AllZip (IsKid state name) (children_of body) kids → length name.segments ≤ 7 → state.bodies name ≡ Some body
     → visits ≡ old ++ map (visit_of state) (units_at state name)
@@ -113,7 +113,7 @@ visits_past state name body visit kids i old first visits past walks pushed is a
     ∙ (λ j. old ++ is j ∷ visits_among state name (numbers-same state name (children_of body) kids are j))
     ∙ ap (λ (us : List (NameParts × Body)). old ++ map (visit_of state) us) (sym (units-step state name body short held))
 
--- a child's name, where there is one
+-- if a child has a name, it is the wanted one
 pub child_is : (few : Bool) (found wanted : NameParts) → Some found ≡ (if few then Some wanted else None) → found ≡ wanted
 child_is true found wanted e = cc
 child_is false found wanted e = absurd (cc)
@@ -126,7 +126,7 @@ or_none : (a b : Option Outcome) → is_some a ≡ false → option_or a b ≡ b
 or_none None b e = refl
 or_none (Some x) b e = absurd (cc)
 
--- one closure more was visited
+-- one closure more is visited
 pub walks_more : (state : State) (name : NameParts) (kids : List Kid) (i : ℕ) (kid : Kid) (first visits new : List VisitView) (below : Option Outcome) → i < length kids → kid ≡ get_or kids i kid → below ≡ fault_at state (child name kid.number) → is_some below ≡ false
     → new ≡ visits ++ map (visit_of state) (units_at state (child name kid.number)) → Walks state name kids i first visits → Walks state name kids (i + 1) first new
 walks_more state name kids i kid first visits new below within is found none added walks =
@@ -144,7 +144,7 @@ walks_more state name kids i kid first visits new below within is found none add
           ∙ walks.visited;
     }
 
--- there is a name for a closure that is held
+-- a stored closure has a name
 pub child_there : (name : NameParts) (number : ℕ) (found : Option NameParts) → found ≡ (if nat_le number 63 && nat_lt (length name.segments) 7 then Some (child name number) else None) → number ≤ 63 → length (child name number).segments ≤ 7 → IsSome found
 child_there name number found is low short =
     let one = le-leb number 63 low in

@@ -1,4 +1,4 @@
--- The pieces of the bodies that a report is about.
+-- The pieces of the bodies in a report.
 use Rattle.std.specs.Prelude.{◌≡◌, ℕ, List, [], map, Option, Some, None}
 use Rattle.std.specs.List.{AllZip}
 use Rattle.bc_syntax.specs.declared.syntax.Body.{Body}
@@ -15,21 +15,21 @@ use Rattle.bc_prov.specs.Verdicts.{IsVerdictAt, requirements_by}
 use Rattle.bc_prov.specs.Outcome.{units_at}
 use Rattle.bc_prov.specs.Pieces.{PieceView, AreSomeOf, IsPieceFor}
 
--- a child as it is handed in with what it requires: its header
+-- the header of a child that comes with what it requires
 abbrev pub kid_header : Child × Requirements → Child
 kid_header kid = kid.0
 
--- its number, and what it requires
+-- the number of a child, and what it requires
 abbrev pub kid_requirements : Child × Requirements → ℕ × Requirements
 kid_requirements kid = (kid.0.number, kid.1)
 
--- so much is required by the closures of a body at a name, each by the verdict on it
+-- the closures of a body at a name require this, each by the verdict on it
 pub record AreKidsAt (state : State) (name : NameParts) (body : Body) (kids : List (ℕ × Requirements)) : Type 0 where
   pub verdicts : List Verdict
   pub judged : AllZip (λ number. IsVerdictAt state (child name number)) (children_of body) verdicts
   pub required : kids ≡ requirements_by (children_of body) verdicts
 
--- these are the errors and the requirements of a body that is visited, with all that they were found from
+-- the entry is a piece of the visited body, and has the verdict at that name
 pub record IsPieceAt (state : State) (unit : NameParts × Body) (entry : NameParts × PieceView) : Type 0 where
   pub named : entry.0 ≡ unit.0
   pub held : IsPieceFor state.types (Some unit.1) entry.1
@@ -41,8 +41,8 @@ pub record IsPieceAt (state : State) (unit : NameParts × Body) (entry : NamePar
 abbrev pub errors_in : NameParts × PieceView → BodyErrors
 errors_in entry = record { name = entry.0; errors = entry.1.verdict.errors }
 
--- With a report that was not carried come the pieces of its bodies, one for each, whose errors are its own; with any other
--- outcome none.
+-- a report that is not carried comes with the pieces of its bodies, one for each, which have the reported errors; any other outcome comes
+-- with none
 abbrev pub ArePiecesOf : State → NameParts → Option Outcome → Outcome → List (NameParts × PieceView) → Type 0
 ArePiecesOf state root (Some carried) outcome pieces = pieces ≡ []
 ArePiecesOf state root None NoBody pieces = pieces ≡ []
@@ -51,6 +51,6 @@ ArePiecesOf state root None (BadTypes index) pieces = pieces ≡ []
 ArePiecesOf state root None (Ill name place) pieces = pieces ≡ []
 ArePiecesOf state root None (Report found) pieces = AllZip (IsPieceAt state) (units_at state root) pieces × (found ≡ map errors_in pieces)
 
--- some of the pieces that come with an outcome
+-- these are some of the pieces that come with an outcome
 abbrev pub AreAmongPiecesOf : State → NameParts → Option Outcome → Outcome → List (NameParts × PieceView) → Type 0
 AreAmongPiecesOf state root carried outcome pieces = (all : List (NameParts × PieceView)) × ArePiecesOf state root carried outcome all × AreSomeOf all pieces

@@ -1,7 +1,7 @@
-//! The outcome of a name: what the definition finds in a snapshot, from its bodies to their errors.
+//! Finding the outcome of a snapshot, and the pieces of its bodies.
 #![tactic(auto)]
 
-mod held;
+mod checked;
 mod laws;
 mod making;
 mod reporting;
@@ -12,4 +12,4 @@ mod walk;
 
 pub use laws::{outcomes_are_local, outcomes_are_unique, outcomes_rest_on_used_names};
 pub use making::piece;
-pub use reporting::{Found, find_outcome, report, report_pieces};
+pub use reporting::{AskResult, find_outcome, report, report_pieces};

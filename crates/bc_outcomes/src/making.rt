@@ -1,4 +1,4 @@
-//! Pieces that are made by themselves.
+//! Making the piece of one unit.
 ghost use Rattle.std.specs.Prelude.{◌≡◌, Err, None, Some, IfOk, OnOk, length, map};
 ghost use Rattle.bc_syntax.specs.Children.{children_of};
 ghost use Rattle.bc_types.specs.Declarations.{first_bad};
@@ -18,14 +18,14 @@ use bc_prov::{Check, Declared, Piece, Providers, Shared, piece_of, share};
 use bc_syntax::Unit;
 use std::alloc::{AllocError, Global};
 
-/// The header of a child, lent once more.
+/// Copies a child's header, which stays borrowed.
 fn lent_again<'a>(header: &KidHeader<'a>) -> Result<KidHeader<'a>, AllocError>
     ensures { IfOk result (λ again. again ≡ header.now) }
 {
     header.clone()
 }
 
-/// The headers of children, lent once more.
+/// Copies the headers of children, which stay borrowed.
 fn headers_of<'a>(
     alloc: Global,
     kids: &[(KidHeader<'a>, Requirements)],
@@ -39,7 +39,7 @@ fn headers_of<'a>(
     Ok(headers)
 }
 
-/// Copies of what children require.
+/// Copies what each child requires.
 fn requirements_of(
     alloc: Global,
     kids: &[(KidHeader<'_>, Requirements)],
@@ -53,7 +53,7 @@ fn requirements_of(
     Ok(requirements)
 }
 
-/// The headers of children, lent once more, and copies of what the children require, apart.
+/// Copies the headers of children, and what they require, into two lists.
 fn apart<'a>(
     alloc: Global,
     kids: &[(KidHeader<'a>, Requirements)],
@@ -66,8 +66,8 @@ fn apart<'a>(
     Ok((headers, requirements))
 }
 
-/// A unit as it is typed over declarations of which none is bad, and over the headers of its children. Returns `Ill` with the place of
-/// the first misfit where a typing rule fails, and `NoMemory` only where memory was refused.
+/// Types a unit over good declarations and the headers of its children. Returns `Ill` with the place of the first misfit if a typing rule
+/// fails.
 fn typed_over(
     alloc: Global,
     types: &Shared<Declared>,
@@ -87,7 +87,7 @@ fn typed_over(
     Ok(share(alloc, typed)?)
 }
 
-/// What children require, each with its child's number. It asks for as many as there are children.
+/// Returns what children require, each with its child's number. Requires that there are as many as children.
 fn numbered(
     alloc: Global,
     children: &[Child],
@@ -101,7 +101,7 @@ fn numbered(
     take_kids(alloc, children, &mut required)
 }
 
-/// The piece of a unit as it was typed, whose children require so much: one more owner of the declarations and of the unit.
+/// Returns the piece of a typed unit, given what each child requires. The piece is one more owner of the declarations and of the unit.
 fn piece_over(
     alloc: Global,
     providers: &Providers,
@@ -117,11 +117,11 @@ fn piece_over(
     piece_of(alloc, providers, types.clone()?, unit.clone()?, typed, kids)
 }
 
-/// Types and judges a unit over declarations of which none is bad, with the header of each child, ascending, and what the child
-/// requires, and returns its piece. It asks that a child requires nothing of its local regions. Returns `Ill` with the place of the
-/// first misfit where a typing rule fails: the header if a header rule fails, else the least point at which a rule fails; and
-/// `NoMemory` only where memory was refused, as a provider may return too. (The errors are those of RFC 2094, "Borrow checker phase
-/// 2" and "Named lifetimes", the requirements those of the rustc-dev-guide, "Propagating closure constraints".)
+/// Types and judges a unit over good declarations, given the header of each child, ascending, and what the child requires, and returns its
+/// piece. Requires that a child requires nothing of its local regions. Returns `Ill` if a typing rule fails: with the header if a header
+/// rule fails, otherwise with the first point at which a rule fails. Returns `NoMemory` also if a provider returns `AllocError`. (The
+/// errors are those of RFC 2094, "Borrow checker phase 2" and "Named lifetimes", the requirements those of the rustc-dev-guide,
+/// "Propagating closure constraints".)
 pub fn piece(
     alloc: Global,
     providers: &Providers,

@@ -1,4 +1,4 @@
-//! The pieces of visited bodies, from the last to the first.
+//! Judging visited bodies, from the last to the first.
 ghost use Rattle.std.specs.Prelude.{◌≡◌, ◌≤◌, [], ◌∷◌, ◌++◌, if◌then◌else◌, length, map, IfOk, OnOk};
 ghost use Rattle.std.specs.List.{AllZip};
 ghost use Rattle.bc_prov.specs.Outcome.{units_at};
@@ -7,7 +7,7 @@ ghost use Rattle.bc_outcomes.specs.Reported.{IsPieceAt, errors_in};
 ghost use Rattle.bc_prov.specs.State.{number_of_child};
 ghost use Rattle.bc_outcomes.specs.Visits.{IsSound, state_in, visit_of};
 
-use crate::held::Held;
+use crate::checked::CheckedSnapshot;
 use crate::stack::Stack;
 use crate::visit::Visit;
 use bc_cons::Requirements;
@@ -16,27 +16,27 @@ use bc_names::Name;
 use bc_prov::{BodyErrors, Piece, Pieces, Providers, Shared};
 use std::alloc::{AllocError, Global};
 
-/// The pieces of bodies, one for each, in the order of a visit, and those of them that the snapshot does not keep, in that order.
+/// The pieces of bodies, one for each, in the order of a visit, and those of them that the snapshot does not keep.
 #[derive(Drop)]
-pub(crate) struct Judged {
+pub(crate) struct PieceLists {
     pub(crate) all: Pieces,
     pub(crate) unkept: Pieces,
 }
 
-impl Judged {
-    /// No pieces. It takes no memory.
-    pub(crate) fn none(alloc: Global) -> Judged
+impl PieceLists {
+    /// Returns no pieces.
+    pub(crate) fn none(alloc: Global) -> PieceLists
         ensures all { result.all.items ≡ [] }
         ensures unkept { AreSomeOf result.all.items result.unkept.items }
     {
-        Judged {
+        PieceLists {
             all: Vec::new(alloc),
             unkept: Vec::new(alloc),
         }
     }
 }
 
-/// Takes what the children of a body require, the least child's first.
+/// Takes from the front what each child of a body requires, the least child's first, and returns it with the child's number.
 pub(crate) fn take_kids(
     alloc: Global,
     children: &[Child],
@@ -62,7 +62,7 @@ pub(crate) fn copy_requirements(requirements: &Requirements) -> Result<Requireme
     })
 }
 
-/// Puts a body's piece at the front, as one more owner of it, unless the snapshot keeps it.
+/// Puts one more owner of a body's piece at the front, unless the snapshot keeps the piece.
 fn push_unkept(
     unkept: &mut Stack<(Name, Shared<Piece>)>,
     piece: &(Name, Shared<Piece>),
@@ -77,7 +77,7 @@ fn push_unkept(
     unkept.push((piece.0, again))
 }
 
-/// Puts the piece of a judged body at the front, under its name, and so what it requires. Unless the snapshot keeps the piece, it comes to
+/// Puts a judged body's piece, and what the body requires, at the front of their lists. Unless the snapshot keeps the piece, it comes to
 /// the front of the unkept ones, too.
 fn push_judged(
     required: &mut Stack<Requirements>,
@@ -97,11 +97,10 @@ fn push_judged(
     Ok(())
 }
 
-impl Held<'_> {
-    /// Judges the bodies that were visited from the root on, and puts their pieces in two empty lists: all, and those that the snapshot
-    /// does not keep. A body comes after its creator, so they are judged from the last on: what they require, and no creator took
-    /// yet, lies in a list with that of the next one in front. Returns `AllocError` only where memory was refused, as a provider
-    /// may answer too.
+impl CheckedSnapshot<'_> {
+    /// Judges the bodies that were visited from the root on, and puts their pieces into two empty lists: all, and those that the snapshot
+    /// does not keep. A body is visited after its creator, so the last is judged first. What bodies require stays in a list until their
+    /// creator takes it, that of the next body in front. Returns `AllocError` also if a provider does.
     fn judge_visits(
         &self,
         alloc: Global,
@@ -127,30 +126,30 @@ impl Held<'_> {
         Ok(())
     }
 
-    /// The pieces of the bodies that were visited from the root on, in that order. Returns `AllocError` only where memory was refused, as
-    /// a provider may answer too.
+    /// Returns the pieces of the bodies that were visited from the root on, in that order. Returns `AllocError` also if a provider does.
     pub(crate) fn pieces_of(
         &self,
         alloc: Global,
         providers: &Providers,
         visits: Vec<Visit>,
-    ) -> Result<Judged, AllocError>
+    ) -> Result<PieceLists, AllocError>
         requires sound { IsSound (state_in self.now) self.now.snapshot.now.root }
         requires visits { visits.items ≡ map (visit_of (state_in self.now)) (units_at (state_in self.now) self.now.snapshot.now.root) }
-        ensures pieces { IfOk result (λ judged. AllZip (IsPieceAt (state_in self.now)) (units_at (state_in self.now) self.now.snapshot.now.root) judged.all.items) }
-        ensures unkept { IfOk result (λ judged. AreSomeOf judged.all.items judged.unkept.items) }
+        ensures pieces { IfOk result (λ lists. AllZip (IsPieceAt (state_in self.now))
+            (units_at (state_in self.now) self.now.snapshot.now.root) lists.all.items) }
+        ensures unkept { IfOk result (λ lists. AreSomeOf lists.all.items lists.unkept.items) }
     {
         let mut found = Stack::new(alloc);
         let mut unkept = Stack::new(alloc);
         self.judge_visits(alloc, providers, visits, &mut found, &mut unkept)?;
-        Ok(Judged {
+        Ok(PieceLists {
             all: found.into_vec(),
             unkept: unkept.into_vec(),
         })
     }
 }
 
-/// The errors of bodies, as one more owner of those that their pieces have.
+/// Returns the errors of each body, as one more owner of the list in its piece.
 pub(crate) fn errors_of(
     alloc: Global,
     pieces: &[(Name, Shared<Piece>)],

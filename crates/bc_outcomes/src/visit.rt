@@ -1,4 +1,4 @@
-//! Bodies that are visited.
+//! The visit of a body.
 ghost use Rattle.std.specs.Prelude.{◌≡◌, ◌↔◌, IfOk, IfSome, IsTrue, Some};
 ghost use Rattle.bc_cons.specs.Requirements.{AreOfChildren};
 ghost use Rattle.bc_prov.specs.Pieces.{IsFitted, IsFoundFrom, IsPiece, IsPieceFor};
@@ -12,7 +12,7 @@ use bc_syntax::Unit;
 use std::alloc::{AllocError, Global};
 use std::marker::Model;
 
-/// A visited body: its name, its unit, and the unit as it was typed.
+/// A visited body: its name, its unit, and the typed unit.
 pub(crate) struct Visit {
     name: Name,
     unit: Shared<Unit>,
@@ -40,21 +40,21 @@ impl Model for Visit {
     ghost invariant = { λ v. IsFitted v.typed.types v.unit v.typed };
 }
 
-/// A piece that a snapshot has of a body, and whether the snapshot keeps it; else it is carried.
+/// A piece of a body that a snapshot has, and whether the snapshot keeps it. Otherwise it is carried.
 #[derive(Clone, Copy)]
-struct Had<'a> {
+struct CandidatePiece<'a> {
     piece: &'a Shared<Piece>,
     is_kept: bool,
 }
 
-/// Returns whether children have the same number and the same header.
+/// Returns whether two children have the same number and the same header.
 fn same_child(one: &Child, other: &Child) -> bool
     ensures { IsTrue result ↔ (one.now ≡ other.now) }
 {
     one.number == other.number && one.header == other.header
 }
 
-/// Returns whether children have the same numbers and the same headers, in the same order.
+/// Returns whether two lists have children with the same numbers and headers, in the same order.
 fn same_children(one: &[Child], other: &[Child]) -> bool
     ensures { IsTrue result ↔ (one.now ≡ other.now) }
 {
@@ -67,7 +67,7 @@ fn same_children(one: &[Child], other: &[Child]) -> bool
     }
 }
 
-/// Returns whether a piece was found from these children, of which each required so much.
+/// Returns whether a piece was found from these children, with these requirements.
 fn is_from(piece: &Shared<Piece>, children: &[Child], kids: &[(u8, Requirements)]) -> bool
     ensures from { IsTrue result ↔ ((piece.now.mir.children ≡ children.now) × (piece.now.kids ≡ kids.now)) }
     ensures right { IsPiece piece.now }
@@ -76,21 +76,21 @@ fn is_from(piece: &Shared<Piece>, children: &[Child], kids: &[(u8, Requirements)
     piece.is_from(kids) && same_children(piece.typed().get().children(), children)
 }
 
-/// Returns a piece of the body at a name, if the snapshot has one that was found from these children, of which each required so much: the one
-/// that it keeps, else the first such one of those that are carried.
+/// Returns a piece of the body at a name that was found from these children, with these requirements, if the snapshot has one: the kept
+/// piece, otherwise the first such carried one.
 fn piece_from<'a>(
     snapshot: &'a Snapshot,
     name: &Name,
     children: &[Child],
     kids: &[(u8, Requirements)],
-) -> Option<Had<'a>>
+) -> Option<CandidatePiece<'a>>
     ensures over { IfSome result (λ had. IsPieceFor snapshot.now.types (at_name snapshot.now.units name.now) had.piece.now) }
     ensures from { IfSome result (λ had. (had.piece.now.mir.children ≡ children.now) × (had.piece.now.kids ≡ kids.now)) }
     ensures right { IfSome result (λ had. IsPiece had.piece.now) }
 {
     if let Some(piece) = snapshot.kept_piece(name) {
         if is_from(piece, children, kids) {
-            return Some(Had {
+            return Some(CandidatePiece {
                 piece,
                 is_kept: true,
             });
@@ -98,7 +98,7 @@ fn piece_from<'a>(
     }
     for entry in snapshot.carried_pieces(name) {
         if is_from(&entry.1, children, kids) {
-            return Some(Had {
+            return Some(CandidatePiece {
                 piece: &entry.1,
                 is_kept: false,
             });
@@ -108,7 +108,7 @@ fn piece_from<'a>(
 }
 
 impl Visit {
-    /// Returns the visit of a body that was typed.
+    /// Makes the visit of a typed body.
     pub(crate) fn of(name: Name, unit: Shared<Unit>, typed: Shared<Typed>) -> Visit
         requires { IsFitted typed.types unit typed }
         ensures { result ≡ record { name = name; unit = unit; typed = typed } }
@@ -116,7 +116,7 @@ impl Visit {
         Visit { name, unit, typed }
     }
 
-    /// Returns the visit of a body as a piece of it has it. Returns `AllocError` only where one more owner was refused.
+    /// Makes the visit of a body from a piece, which has its unit typed.
     pub(crate) fn of_piece(name: Name, piece: &Shared<Piece>) -> Result<Visit, AllocError>
         ensures { IfOk result (λ visit. visit ≡ record { name = name; unit = piece.now.unit; typed = piece.now.mir }) }
     {
@@ -125,16 +125,15 @@ impl Visit {
         Ok(Visit { name, unit, typed })
     }
 
-    /// Returns the headers of the children, ascending by their numbers.
+    /// Returns the children with their headers, ascending by number.
     pub(crate) fn children(&self) -> &[Child]
         ensures { result.now ≡ self.now.typed.children }
     {
         self.typed.get().children()
     }
 
-    /// Returns the piece of the body, whose children require so much, under its name: one that the snapshot has, where all that it was found
-    /// from is there, else a new one; and whether the snapshot keeps it. Returns `AllocError` only where memory was refused, as a provider
-    /// may too.
+    /// Returns the body's piece with its name, given what each child requires, and whether the snapshot keeps it. A piece of the snapshot
+    /// is reused if all that it was found from is there; otherwise a new one is made. Returns `AllocError` also if a provider does.
     pub(crate) fn judged(
         self,
         alloc: Global,

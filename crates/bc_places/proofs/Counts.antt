@@ -34,7 +34,7 @@ one_each text u = length-map (before_each u) (place_behind (tokens 0 0 text)) �
 same_unit : (answer : Result Body ReadFault) (u v : Body) → answer ≡ Ok u → answer ≡ Ok v → u ≡ v
 same_unit answer u v is other = cc
 
--- the same of the unit that a text is read as
+-- one place for each point of the unit that is read
 pub one_each_read : (text places : List ℕ) (answer : Result Body ReadFault) (u v : Body) → answer ≡ Ok u → places ≡ places_of text u → answer ≡ Ok v → length places ≡ point_count v.blocks
 one_each_read text places answer u v is are other =
     let same : u ≡ v = same_unit answer u v is other in

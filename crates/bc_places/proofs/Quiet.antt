@@ -1,4 +1,4 @@
--- Headers, types, statements and terminators are spelled without a `;` and without a `{`.
+-- The spellings of headers, types, statements and terminators have no `;` and no `{`.
 use Rattle.std.proofs.Common.{◌≡◌, ℕ, Bool, true, List, [], ◌∷◌, ◌++◌, refl}
 use Rattle.std.specs.Prelude.{not, ◌||◌}
 use Rattle.std.specs.List.{flat_map}
@@ -46,7 +46,7 @@ abbrev pub AllQuiet : List Token → Type 0
 AllQuiet [] = Unit {0}
 AllQuiet (t ∷ ts) = (is_quiet t ≡ true) × AllQuiet ts
 
--- some tokens, of which the first begins a point
+-- quiet tokens, of which the first begins a point
 abbrev pub BeginsPoint : List Token → Type 0
 BeginsPoint [] = ⊥
 BeginsPoint (t ∷ ts) = (begins_point t ≡ true) × AllQuiet (t ∷ ts)
@@ -179,7 +179,7 @@ module _ (regions : List RegionName) where
   rvalue (rvalue_kinds.Closure c) = joined (spell.closure_instance regions c.closure) (spell.operands c.operands) (closure c.closure) (operands c.operands)
   rvalue (rvalue_kinds.Calc os) = (refl, operands os)
 
-  -- a place and what is put there
+  -- a place, and what is assigned to it
   placed : (p : Place) (rest : List Token) → AllQuiet rest → BeginsPoint (spell.place p ++ (spell.symbol s.Equals ++ rest))
   unfolding same same_numbering
   placed p rest quiet = (refl, (refl, joined (flat_map spell.step p.projections) (spell.symbol s.Equals ++ rest) (steps p.projections) (refl, quiet)))

@@ -1,4 +1,4 @@
--- The tokens that begin the points of a unit are those that the walk notes.
+-- The walk notes exactly the tokens that begin the points of a unit.
 use Rattle.std.proofs.Common.{◌≡◌, ℕ, suc, ◌+◌, Bool, true, false, List, [], ◌∷◌, ◌++◌, length, map, drop, refl, sym, ap, ◌∙◌, append_assoc, append-nil, inl, inr, arith}
 use Rattle.std.specs.Prelude.{if◌then◌else◌}
 use Rattle.std.specs.List.{flat_map}
@@ -22,7 +22,7 @@ use Rattle.bc_places.specs.Walk.{opens_points, begins_point, note, noted}
 use Rattle.bc_places.specs.Places.{before_points, before_blocks, opening, before_each, place_behind}
 use Rattle.bc_places.proofs.Quiet.{is_quiet, AllQuiet, BeginsPoint, ty, statement, terminator, header}
 
--- ---- tokens that begin points, by how many stand in front of them
+-- ---- tokens that begin points, by the number of tokens before them
 
 abbrev started : Bool → ℕ → Token → List ℕ → List ℕ
 started false count token rest = rest
@@ -44,7 +44,7 @@ note_started true found t all count rest at =
       | inr other ↦ rw other refl
     ]
 
--- the places that the walk notes are those of the tokens that begin points
+-- the walk notes the places of the tokens that begin points
 noted_starts : (all : Tokens) (count : ℕ) (opened : Bool) (found : List ℕ) (ts : Tokens) → drop count all ≡ ts
     → noted opened found ts ≡ found ++ map (place_behind all) (starts opened count (map token_of ts))
 noted_starts all count opened found [] is = sym (append-nil found)
@@ -73,7 +73,7 @@ quiet_parts t quiet =
       ]
     ]
 
--- none behind a token that opens nothing
+-- quiet tokens after one that opens nothing begin no point
 quiet_starts : (count : ℕ) (xs ys : List Token) → AllQuiet xs → starts false count (xs ++ ys) ≡ starts false (count + length xs) ys
 quiet_starts count [] ys quiet = let e : count ≡ count + 0 = omega arith in ap (λ k. starts false k ys) e
 quiet_starts count (x ∷ xs) ys quiet =
@@ -89,7 +89,7 @@ point_starts count (x ∷ xs) ys point =
     let e : (count + 1) + length xs ≡ count + suc (length xs) = omega arith in
     rw (p.0, p.1, point.0) (ap (λ (l : List ℕ). count ∷ l) (quiet_starts (count + 1) xs ys point.1.1 ∙ ap (λ k. starts false k ys) e))
 
--- the same with a `;` behind them
+-- the first of some tokens before a `;` begins a point, and no other
 line_starts : (count : ℕ) (xs ys : List Token) → BeginsPoint xs → starts true count (xs ++ (Fixed s.Semicolon ∷ ys)) ≡ count ∷ starts true (count + length (xs ++ (Fixed s.Semicolon ∷ []))) ys
 unfolding same
 line_starts count xs ys point =

@@ -11,27 +11,27 @@ use Rattle.bc_syntax.specs.Spelling.{symbol, line, label, block, lets, header}
 use Rattle.bc_tokens.specs.Token.{Tokens, tokens}
 use Rattle.bc_tokens.specs.Parser.{position}
 
--- How many tokens stand in front of each point of a block, the terminator last, where so many stand in front of the first.
+-- how many tokens come before each point of a block, the terminator last, if `count` come before the first point
 abbrev pub before_points : List RegionName → ℕ → List Statement → List ℕ
 before_points regions count [] = count ∷ []
 before_points regions count (st ∷ sts) = count ∷ before_points regions (count + length (line regions st)) sts
 
--- How many tokens stand in front of each point of blocks, the first of which has this label, where so many stand in front of it.
+-- how many tokens come before each point of these blocks, if the first block has the given number and `count` tokens come before it
 abbrev pub before_blocks : List RegionName → (count number : ℕ) → List Block → List ℕ
 before_blocks regions count number [] = []
 before_blocks regions count number (b ∷ bs) =
     before_points regions (count + length (label number ++ symbol OpenBrace)) b.statements
     ++ before_blocks regions (count + length (block regions number b)) (number + 1) bs
 
--- what stands in front of the blocks of a unit
+-- the tokens before the blocks of a unit
 abbrev pub opening : Body → List Token
 opening u = header u.header ++ (symbol OpenBrace ++ lets u.header.signature.regions (first_let u.header) u.lets)
 
--- how many tokens of a unit's spelling stand in front of each of its points
+-- how many tokens of a unit's spelling come before each of its points
 abbrev pub before_each : Body → List ℕ
 before_each u = before_blocks u.header.signature.regions (length (opening u)) 0 u.blocks
 
--- the place of the token in front of which so many stand
+-- the place of the token that has the given number of tokens before it
 abbrev pub place_behind : Tokens → ℕ → ℕ
 place_behind ts count = position (drop count ts)
 

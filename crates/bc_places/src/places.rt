@@ -9,10 +9,9 @@ use crate::walk::noted_places;
 use bc_text::{ReadFault, read_unit};
 use std::alloc::Global;
 
-/// Returns where the points of the unit begin that a text spells: for each the byte at which its first token begins, counted from
-/// 0, block by block, the statements of a block in their order and its terminator behind them. Returns the fault of `read_unit`
-/// where the text is refused, and `NoMemory` also where there is no room for the places. (A textual form of the MIR of the
-/// rustc-dev-guide, "The MIR".)
+/// Returns the places in a text at which the points of its unit begin, as bytes counted from 0: block by block, the statements of each and
+/// then its terminator. Returns the fault of `read_unit` if that refuses the text, and `NoMemory` also if out of memory for the places. (A
+/// textual form of the MIR of the rustc-dev-guide, "The MIR".)
 pub fn point_places(alloc: Global, text: &[u8]) -> Result<Vec<usize>, ReadFault>
     ensures found { IfOk result (λ places. (u : Body) × (read text.now ≡ Ok u) × (places.items ≡ places_of text.now u)) }
     // One place for each point.

@@ -1,4 +1,4 @@
-//! One walk over the tokens of a text, which notes where points begin by the tokens that stand in front of them.
+//! A walk over the tokens of a text, which finds the beginnings of points by the tokens before them.
 ghost use Rattle.std.specs.Prelude.{◌≡◌, ◌<◌, ◌^◌, [], false, length, OnOk, IfOk};
 ghost use Rattle.bc_tokens.specs.Parser.{first, is_end};
 ghost use Rattle.bc_tokens.specs.Token.{tokens};
@@ -8,7 +8,7 @@ use bc_syntax::{Numbering, Symbol};
 use bc_tokens::Cursor;
 use std::alloc::{AllocError, Global};
 
-/// Whether no token comes but the end.
+/// Returns whether the next token is the end.
 #[tactic(auto, unfolding(bc_tokens::specs::Parser::at_end))]
 fn is_end(cursor: &Cursor<'_>) -> bool
     ensures { result ≡ is_end (first cursor.now).token }
@@ -19,7 +19,7 @@ fn is_end(cursor: &Cursor<'_>) -> bool
     }
 }
 
-/// Whether a point may begin behind the next token.
+/// Returns whether a point may begin after the next token.
 #[tactic(auto, unfolding(bc_tokens::specs::Parser::sees))]
 fn opens_points(cursor: &Cursor<'_>) -> bool
     ensures { result ≡ opens_points (first cursor.now).token }
@@ -27,7 +27,7 @@ fn opens_points(cursor: &Cursor<'_>) -> bool
     cursor.sees(Symbol::Semicolon) || cursor.sees(Symbol::OpenBrace)
 }
 
-/// Whether the next token begins a point, where one may begin.
+/// Returns whether the next token begins a point, if one may begin there.
 #[tactic(auto, unfolding(bc_tokens::specs::Parser::sees, bc_tokens::specs::Parser::sees_numbered))]
 fn begins_point(cursor: &Cursor<'_>) -> bool
     ensures { result ≡ begins_point (first cursor.now).token }
@@ -37,7 +37,7 @@ fn begins_point(cursor: &Cursor<'_>) -> bool
         || cursor.sees_numbered(Numbering::Label))
 }
 
-/// Puts the place of the next token behind the others, if it begins a point.
+/// Appends the place of the next token if a point may begin there and does.
 fn note(cursor: &Cursor<'_>, opened: bool, places: &mut Vec<usize>) -> Result<(), AllocError>
     ensures { OnOk result (places.new.items ≡ note opened (first cursor.now) places.old.items) }
 {
@@ -47,8 +47,7 @@ fn note(cursor: &Cursor<'_>, opened: bool, places: &mut Vec<usize>) -> Result<()
     Ok(())
 }
 
-/// Returns the places of the tokens that begin points, found by the tokens before them in one walk over the text. Returns
-/// `AllocError` only where memory was refused.
+/// Returns the places of the tokens that begin points, found in one walk over the text by the tokens before them.
 pub fn noted_places(alloc: Global, text: &[u8]) -> Result<Vec<usize>, AllocError>
     requires { length text.now < 2 ^ 64 }
     ensures { IfOk result (λ places. places.items ≡ noted false [] (tokens 0 0 text.now)) }

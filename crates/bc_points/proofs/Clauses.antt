@@ -1,4 +1,4 @@
--- What is appended in turns.
+-- Lists that are appended in turn.
 use Rattle.std.proofs.Common.{◌≡◌, suc, ◌-◌, ◌≤◌, List, [], ◌∷◌, ◌++◌, length, get_or, take, drop, ap, ◌∙◌, append_assoc, arith}
 use Rattle.std.proofs.lemmas.List.{take_all}
 use Rattle.bc_syntax.specs.declared.syntax.Region.{Region}
@@ -8,11 +8,11 @@ use Rattle.bc_types.specs.declared.subtype.Constraint.{Constraint}
 use Rattle.bc_bodies.specs.Mir.{Mir}
 use Rattle.bc_points.specs.Pairs.{operand_pair, operand_pairs}
 
--- what is appended in two turns
+-- two lists that are appended in turn
 pub appended-both : {A : Type 0} (old mid new one two : List A) → mid ≡ old ++ one → new ≡ mid ++ two → new ≡ old ++ (one ++ two)
 appended-both old mid new one two first second = second ∙ ap (λ l. l ++ two) first ∙ append_assoc old one two
 
--- what the first of both lists give, and then what the others do
+-- the pairs of the first operand, and then those of the others
 pub operand-pairs : (mir : Mir) (arguments : List Region) (operands : List Operand) (expected : List Ty) (operand : Operand) (ty : Ty) (old mid new : List Constraint) → 1 ≤ length operands → 1 ≤ length expected
     → operand ≡ get_or operands 0 operand → ty ≡ get_or expected 0 ty → mid ≡ old ++ operand_pair mir arguments operand ty
     → new ≡ mid ++ operand_pairs mir arguments (take (length operands - 1) (drop 1 operands)) (take (length expected - 1) (drop 1 expected)) → new ≡ old ++ operand_pairs mir arguments operands expected

@@ -4,6 +4,6 @@ use Rattle.bc_points.specs.declared.access.Depth.TheVariants.{Shallow}
 use Rattle.bc_points.specs.declared.access.AccessKind.TheVariants.{Write}
 use Rattle.bc_points.specs.Accesses.{return_accesses, access_of, local_place}
 
--- `return` writes one local more
+-- one more local adds one write
 pub return_accesses-more : (n : ℕ) → return_accesses (n + 1) ≡ return_accesses n ++ access_of Shallow Write (local_place n) ∷ []
 return_accesses-more n = map-range_with_len_more _ 0 n n (omega arith)

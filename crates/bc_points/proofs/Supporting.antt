@@ -1,4 +1,4 @@
--- What is taken as declared tells of supporting prefixes.
+-- Supporting prefixes are decided by the declared fields.
 use Rattle.std.proofs.Common.{◌≡◌, Bool, false, Option, Some, None, option_and_then, List, [], ◌∷◌, map, slice_get, refl, sym, ◌∙◌}
 use Rattle.std.specs.Option.{option_map, option_map_or}
 use Rattle.bc_syntax.specs.declared.syntax.Region.{Region}
@@ -17,7 +17,7 @@ use Rattle.bc_bodies.specs.PlaceTypes.{type_behind, leads_mutable}
 use Rattle.bc_points.specs.Supports.{goes_on_mutable, supports_behind, supports_from}
 use Rattle.bc_bodies.proofs.Replacing.{mutable_replaced, mutable_tells}
 
--- the type behind the first projections is one from which the rest dereference no shared reference
+-- the first projections lead to a type from which the rest dereference no shared reference
 abbrev leads_behind : List Declaration → List Projection → List Projection → List Reference → Base → Bool
 leads_behind types projections rest references base =
     option_map_or (leads_mutable types rest) (type_behind types projections references base) false

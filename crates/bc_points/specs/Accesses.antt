@@ -29,10 +29,11 @@ use Rattle.bc_bodies.specs.PlaceTypes.{type_of_place}
 abbrev pub local_place : ℕ → Place
 local_place local = record { local = local; projections = [] }
 
+-- an access of this depth and this kind to a place
 abbrev pub access_of : Depth → AccessKind → Place → Access
 access_of depth kind place = record { place = place; depth = depth; kind = kind }
 
--- `copy` reads, `move` writes, and a number has no access
+-- `copy` reads deeply, `move` writes deeply, and a number has no access
 abbrev pub operand_accesses : Operand → List Access
 operand_accesses (Copy place) = access_of Deep Read place ∷ []
 operand_accesses (Move place) = access_of Deep Write place ∷ []
@@ -43,6 +44,7 @@ abbrev pub borrow_access : Mutability → AccessKind
 borrow_access Shared = Read
 borrow_access Mutable = Write
 
+-- the accesses of an rvalue, in order
 abbrev pub rvalue_accesses : Rvalue → List Access
 rvalue_accesses (Use operand) = operand_accesses operand
 rvalue_accesses (Borrow borrow) = access_of Deep (borrow_access borrow.reference.mutability) borrow.place ∷ []
@@ -50,20 +52,20 @@ rvalue_accesses (Aggregate aggregate) = flat_map operand_accesses aggregate.oper
 rvalue_accesses (Closure creation) = flat_map operand_accesses creation.operands
 rvalue_accesses (Calc operands) = flat_map operand_accesses operands
 
--- the type of a place holds a drop
+-- the type of the place needs drop
 abbrev pub runs_drop : Mir → Place → Bool
 runs_drop mir place = option_map_or (type_holds_drop mir) (type_of_place mir place) false
 
--- where the type holds a drop, dropping the place writes what is behind it too
+-- dropping a place writes it: deeply if its type needs drop, otherwise shallowly
 abbrev pub drop_access : Mir → Place → Access
 drop_access mir place =
     if runs_drop mir place then access_of Deep Write place else access_of Shallow Write place
 
--- where the type holds a drop, dropping the place uses its local
+-- dropping a place uses its local if its type needs drop
 abbrev pub drop_uses : Mir → Place → List ℕ
 drop_uses mir place = if runs_drop mir place then place.local ∷ [] else []
 
--- the access of a target is the last of its point
+-- the accesses of a statement, in order; the access of the target is the last
 abbrev pub statement_accesses : Mir → Simple → List Access
 statement_accesses mir (Assign assignment) =
     rvalue_accesses assignment.value ++ access_of Shallow Write assignment.target ∷ []
@@ -75,6 +77,7 @@ statement_accesses mir Nop = []
 abbrev pub return_accesses : ℕ → List Access
 return_accesses locals = map (λ local. access_of Shallow Write (local_place local)) (range_with_len 0 locals)
 
+-- the accesses of a terminator, in order, in a body with this many locals
 abbrev pub terminator_accesses : ℕ → Ending → List Access
 terminator_accesses locals (Goto label) = []
 terminator_accesses locals (If condition) = operand_accesses condition.operand
@@ -86,12 +89,12 @@ terminator_accesses locals (Invoke invocation) =
 terminator_accesses locals Return = return_accesses locals
 terminator_accesses locals Stop = []
 
--- the accesses of a point in order, where this happens
+-- the accesses of a point, in order (RFC 2094, "Borrow checker phase 2")
 abbrev pub accesses_of : Mir → Instruction → List Access
 accesses_of mir (Statement statement) = statement_accesses mir statement
 accesses_of mir (Terminator terminator) = terminator_accesses (length mir.locals) terminator
 
--- the place that a point overwrites
+-- the place that a point overwrites, if it overwrites one
 abbrev pub overwritten : Instruction → Option Place
 overwritten (Statement (Assign assignment)) = Some assignment.target
 overwritten (Statement (Dead local)) = Some (local_place local)
@@ -110,6 +113,7 @@ operand_uses (Copy place) = place.local ∷ []
 operand_uses (Move place) = place.local ∷ []
 operand_uses (Number n) = []
 
+-- the locals that an rvalue uses
 abbrev pub rvalue_uses : Rvalue → List ℕ
 rvalue_uses (Use operand) = operand_uses operand
 rvalue_uses (Borrow borrow) = borrow.place.local ∷ []
@@ -117,22 +121,24 @@ rvalue_uses (Aggregate aggregate) = flat_map operand_uses aggregate.operands
 rvalue_uses (Closure creation) = flat_map operand_uses creation.operands
 rvalue_uses (Calc operands) = flat_map operand_uses operands
 
--- a place without projections
+-- there are no projections
 abbrev pub are_none : List Projection → Bool
 are_none [] = true
 are_none (projection ∷ projections) = false
 
+-- the place is a local alone
 abbrev pub is_whole_local : Place → Bool
 is_whole_local place = are_none place.projections
 
--- a target uses its local where it has a projection, and else defines it
+-- the local that a write to a place uses: the place's local, if the place has a projection
 abbrev pub target_uses : Place → List ℕ
 target_uses place = if is_whole_local place then [] else place.local ∷ []
 
+-- the local that a write to a place defines: the place's local, if the place is that local alone
 abbrev pub target_defines : Place → Option ℕ
 target_defines place = if is_whole_local place then Some place.local else None
 
--- the locals that a point uses
+-- the locals that a point uses (RFC 2094, "Liveness")
 abbrev pub uses_of : Mir → Instruction → List ℕ
 uses_of mir (Statement (Assign assignment)) = rvalue_uses assignment.value ++ target_uses assignment.target
 uses_of mir (Statement (Dead local)) = []
@@ -146,7 +152,7 @@ uses_of mir (Terminator (Invoke invocation)) =
 uses_of mir (Terminator Return) = 0 ∷ []
 uses_of mir (Terminator Stop) = []
 
--- the local that a point defines
+-- the local that a point defines, if it defines one (RFC 2094, "Liveness")
 abbrev pub defines_of : Instruction → Option ℕ
 defines_of (Statement (Assign assignment)) = target_defines assignment.target
 defines_of (Statement (Dead local)) = Some local

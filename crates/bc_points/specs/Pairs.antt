@@ -1,4 +1,4 @@
--- What each point demands of regions, beside reborrows.
+-- What each point demands of regions, apart from reborrows.
 use Rattle.std.specs.Prelude.{Bool, not, Option, Some, List, [], ◌∷◌, ◌++◌, map, filter}
 use Rattle.std.specs.Option.{option_map_or}
 use Rattle.bc_syntax.specs.declared.syntax.Region.{Region}
@@ -29,18 +29,20 @@ use Rattle.bc_types.specs.Subtype.{outlives}
 use Rattle.bc_types.specs.Subtyping.{sub}
 use Rattle.bc_types.specs.WellFormed.{replaced_well_formed}
 
--- what makes a type that exists a subtype of another
+-- a type, if there is one, is a subtype of another
 abbrev pub sub_found : List Declaration → Option Ty → Ty → List Constraint
 sub_found types value target = option_map_or (λ ty. sub types ty target) value []
 
+-- a value of this type is a subtype of the type of a place
 abbrev pub sub_place : Mir → Option Ty → Place → List Constraint
 sub_place mir value place = option_map_or (λ target. sub_found mir.types value target) (type_of_place mir place) []
 
+-- the operand is a subtype of this type, with the declared regions replaced by arguments
 abbrev pub operand_pair : Mir → List Region → Operand → Ty → List Constraint
 operand_pair mir arguments operand expected =
     sub_found mir.types (type_of_operand mir operand) (replaced_ty arguments expected)
 
--- each operand is a subtype of what is expected in its place, with the declared regions replaced by arguments
+-- each operand is a subtype of its expected type, with the declared regions replaced by arguments
 abbrev pub operand_pairs : Mir → List Region → List Operand → List Ty → List Constraint
 operand_pairs mir arguments [] expected = []
 operand_pairs mir arguments (operand ∷ operands) [] = []
@@ -52,23 +54,24 @@ abbrev pub parameter_pairs : Mir → List Region → List Operand → List Ty �
 parameter_pairs mir arguments operands parameters =
     operand_pairs mir arguments operands parameters ++ replaced_well_formed mir.types arguments parameters
 
--- a clause of a declaration, with its regions replaced
+-- a clause of a declaration, with its regions replaced by arguments
 abbrev pub replaced_clause : List Region → Outlives → Constraint
 replaced_clause arguments clause =
     outlives (replaced_region arguments (Universal clause.longer)) (replaced_region arguments (Universal clause.shorter))
 
--- those of the clauses that pass a test
+-- the clauses that pass a test, with their regions replaced by arguments
 abbrev pub clauses_where : (Outlives → Bool) → List Region → List Outlives → List Constraint
 clauses_where test arguments clauses = map (replaced_clause arguments) (filter test clauses)
 
--- the operands are subtypes of the captures, and the clauses hold that are between external regions and `'static` alone,
--- with the external regions replaced by those of the closure
+-- the operands are subtypes of the captures, and the clauses between external regions and `'static` alone hold, with the external regions
+-- replaced by those of the closure
 abbrev pub captured_pairs : Mir → Creation → Header → List Constraint
 captured_pairs mir creation header =
     operand_pairs mir (arguments_of header creation.closure.regions []) creation.operands header.captures
     ++ clauses_where (is_outer_clause header.captures) (arguments_of header creation.closure.regions []) header.signature.clauses
 
--- the fields of a struct that is made, or the captures of a closure and the clauses that its creation meets
+-- the pairs of what an rvalue makes: the operands of a struct are subtypes of its fields; for a closure, those of its captures and of the
+-- clauses that its creation demands
 abbrev pub field_pairs : Mir → Rvalue → List Constraint
 field_pairs mir (Use operand) = []
 field_pairs mir (Borrow borrow) = []
@@ -81,36 +84,39 @@ field_pairs mir (Closure creation) =
     option_map_or (captured_pairs mir creation) (child_of mir.children creation.closure.number) []
 field_pairs mir (Calc operands) = []
 
--- what is made asks that of its parts, and the value is a subtype of the target
+-- the pairs of an assignment: those of the fields or captures of what it makes, and the value is a subtype of the target (RFC 2094,
+-- "Subtyping"; RFC 1214)
 abbrev pub assignment_pairs : Mir → Assignment → List Constraint
 assignment_pairs mir assignment =
     field_pairs mir assignment.value
     ++ sub_place mir (type_of_rvalue mir assignment.value) assignment.target
 
--- the operands are taken for the parameters, the clauses hold, and the result is a subtype of the destination, with the
--- function's regions replaced
+-- the operands are passed for the parameters, the clauses hold, and the result is a subtype of the destination, with the function's regions
+-- replaced by arguments
 abbrev pub called_pairs : Mir → Calling → ExternDeclaration → List Constraint
 called_pairs mir call d =
     parameter_pairs mir call.function.regions call.operands d.signature.parameters
     ++ (map (replaced_clause call.function.regions) d.signature.clauses
     ++ sub_place mir (Some (replaced_ty call.function.regions d.signature.result)) call.destination)
 
+-- the pairs of a call (RFC 2094, "Subtyping"; RFC 1214)
 abbrev pub call_pairs : Mir → Calling → List Constraint
 call_pairs mir call = option_map_or (called_pairs mir call) (extern_of mir.types call.function.name) []
 
--- what the creation of a closure leaves to its calls
+-- the creation of a closure does not demand the clause, so each invocation does
 abbrev pub is_inner_clause : Header → Outlives → Bool
 is_inner_clause header clause = not (is_outer_clause header.captures clause)
 
--- the operands are taken for the parameters, the clauses hold that did not at the creation, and the result is a subtype of
--- the destination, with a child's regions replaced by arguments
+-- the operands are passed for the parameters, the clauses that the creation does not demand hold, and the result is a subtype of the
+-- destination, with the child's regions replaced by arguments
 abbrev pub passed_pairs : Mir → List Region → Invocation → Header → List Constraint
 passed_pairs mir arguments invocation header =
     parameter_pairs mir arguments invocation.operands header.signature.parameters
     ++ (clauses_where (is_inner_clause header) arguments header.signature.clauses
     ++ sub_place mir (Some (replaced_ty arguments header.signature.result)) invocation.destination)
 
--- the external regions are those of the closure, and the local ones those of the call
+-- the pairs of an invocation of this closure: its external regions are those that the closure has, its local ones those that the invocation
+-- gives
 abbrev pub invoked_pairs : Mir → Invocation → ClosureInstance → List Constraint
 invoked_pairs mir invocation closure =
     option_map_or
@@ -118,5 +124,6 @@ invoked_pairs mir invocation closure =
     (child_of mir.children closure.number)
     []
 
+-- the pairs of an invocation (RFC 2094, "Subtyping"; RFC 1214)
 abbrev pub invocation_pairs : Mir → Invocation → List Constraint
 invocation_pairs mir invocation = option_map_or (invoked_pairs mir invocation) (closure_in mir invocation.closure) []

@@ -13,7 +13,7 @@ use Rattle.bc_bodies.specs.Mir.{Mir}
 use Rattle.bc_points.specs.Prefixes.{is_prefix}
 use Rattle.bc_points.specs.Accesses.{uses_of, defines_of, overwritten}
 
--- something that holds of what happens at a point
+-- `P` holds of the instruction at a point
 abbrev pub HappensAt : Mir → (Instruction → Type 0) → ℕ → Type 0
 HappensAt mir P p = MatchOption (slice_get mir.steps p) ⊥ (λ step. P step.instruction)
 
@@ -25,6 +25,7 @@ Uses mir local = HappensAt mir (λ here. Contains (uses_of mir here) local)
 abbrev pub Defines : Mir → ℕ → ℕ → Type 0
 Defines mir local = HappensAt mir (λ here. defines_of here ≡ Some local)
 
+-- the loan that an rvalue makes: a borrow makes one of its region, its mutability and its place
 abbrev pub loan_of_rvalue : Rvalue → Option Loan
 loan_of_rvalue (Use operand) = None
 loan_of_rvalue (Borrow borrow) =
@@ -33,7 +34,7 @@ loan_of_rvalue (Aggregate aggregate) = None
 loan_of_rvalue (Closure creation) = None
 loan_of_rvalue (Calc operands) = None
 
--- the loan that a point makes: each borrow is a loan
+-- the loan that an instruction makes, if it makes one: each borrow does
 abbrev pub loan_of : Instruction → Option Loan
 loan_of (Statement (Assign assignment)) = loan_of_rvalue assignment.value
 loan_of (Statement (Dead local)) = None
@@ -41,7 +42,7 @@ loan_of (Statement (Drop place)) = None
 loan_of (Statement Nop) = None
 loan_of (Terminator terminator) = None
 
--- what happens overwrites a prefix of a path
+-- the instruction overwrites a prefix of a path
 abbrev pub kills : Place → Instruction → Bool
 kills path here = option_map_or (λ place. is_prefix place path) (overwritten here) false
 

@@ -14,16 +14,15 @@ use Rattle.bc_types.specs.Fields.{declared_field}
 use Rattle.bc_bodies.specs.Mir.{Mir}
 use Rattle.bc_bodies.specs.PlaceTypes.{type_of_place, leads_mutable, mutable_behind}
 
--- from a place on, projections dereference no shared reference
+-- these projections of a place dereference no shared reference
 abbrev pub goes_on_mutable : Mir → Place → List Projection → Bool
 goes_on_mutable mir prefix rest = option_map_or (leads_mutable mir.types rest) (type_of_place mir prefix) false
 
--- a prefix for which no dereference of a shared reference was taken away
+-- a supporting prefix of a place: what is taken away from the place dereferences no shared reference (RFC 2094, "Reborrow constraints")
 abbrev pub supports : Mir → Place → Place → Bool
 supports mir prefix place = option_map_or (goes_on_mutable mir prefix) (rest_of prefix place) false
 
--- behind the first projections is a type from which the rest dereference no shared reference, each field being taken as
--- its struct declares it
+-- the first projections lead to a type from which the rest dereference no shared reference; each field has its declared type
 abbrev pub supports_behind : List Declaration → List Projection → List Projection → List Reference → Base → Bool
 supports_behind types [] rest references base = mutable_behind types rest references base
 supports_behind types (Deref ∷ projections) rest [] base = false
@@ -35,6 +34,7 @@ supports_behind types (Field k ∷ projections) rest [] (Closure closure) = fals
 supports_behind types (Field k ∷ projections) rest [] (Struct instance) =
     option_map_or (λ (ty : Ty). supports_behind types projections rest ty.references ty.base) (declared_field types instance.name k) false
 
+-- these projections of a place dereference no shared reference; each field has its declared type
 abbrev pub supports_from : Mir → Place → List Projection → Bool
 supports_from mir prefix rest =
     option_map_or (λ (local : Ty). supports_behind mir.types prefix.projections rest local.references local.base) (slice_get mir.locals prefix.local) false

@@ -8,23 +8,21 @@ use bc_mir::{Instruction, Typed};
 use bc_syntax::{Mutability, Operand, Place, Rvalue, Statement, Terminator};
 use std::alloc::{AllocError, Global};
 
-/// Whether an access reaches what is behind the place too (RFC 2094, "Borrow checker phase 2").
+/// Whether an access also reaches what its place points to (RFC 2094, "Borrow checker phase 2").
 #[derive(Clone, Copy, Debug, PartialEq, Eq)]
 pub enum Depth {
     Shallow,
     Deep,
 }
 
-/// What an access does to its place.
-/// (RFC 2094, "Borrow checker phase 2: reporting errors".)
+/// Whether an access reads or writes its place. (RFC 2094, "Borrow checker phase 2: reporting errors".)
 #[derive(Clone, Copy, Debug, PartialEq, Eq)]
 pub enum AccessKind {
     Read,
     Write,
 }
 
-/// An access of a point to a place.
-/// (RFC 2094, "Borrow checker phase 2: reporting errors".)
+/// An access of a point to a place. (RFC 2094, "Borrow checker phase 2: reporting errors".)
 #[derive(Drop)]
 pub struct Access<'a> {
     pub place: PlaceRef<'a>,
@@ -103,14 +101,14 @@ fn push_rvalue<'a>(accesses: &mut Vec<Access<'a>>, rvalue: &'a Rvalue) -> Result
     }
 }
 
-/// Appends the access of what overwrites a place.
+/// Appends the access that overwrites a place.
 fn push_write<'a>(accesses: &mut Vec<Access<'a>>, place: PlaceRef<'a>) -> Result<(), AllocError>
     ensures { OnOk result (accesses.new.items ≡ accesses.old.items ++ access_of Depth.Shallow AccessKind.Write place.entry ∷ []) }
 {
     push_access(accesses, Depth::Shallow, AccessKind::Write, place)
 }
 
-/// Whether the type of a place holds a drop.
+/// Returns whether the type of a place needs drop.
 pub(crate) fn runs_drop(alloc: Global, typed: &Typed, place: &Place) -> Result<bool, AllocError>
     ensures { IfOk result (λ runs. runs ≡ drop_run typed.now place.now) }
 {
@@ -120,7 +118,7 @@ pub(crate) fn runs_drop(alloc: Global, typed: &Typed, place: &Place) -> Result<b
     }
 }
 
-/// Appends the access of a drop: it reaches what is behind the place where the place's type holds a drop.
+/// Appends the access of a drop: a deep write if the type of the place needs drop, otherwise a shallow one.
 fn push_drop<'a>(
     alloc: Global,
     accesses: &mut Vec<Access<'a>>,
@@ -198,8 +196,8 @@ fn push_terminator<'a>(
     }
 }
 
-/// Appends the accesses of a point of a unit in order, by what happens there, so that a list serves many points. Returns
-/// `AllocError` only where memory was refused. (RFC 2094, "Borrow checker phase 2: reporting errors".)
+/// Appends the accesses of a point, given its instruction, in order. One list can serve many points. (RFC 2094, "Borrow checker phase 2:
+/// reporting errors".)
 pub fn push_accesses<'a>(
     alloc: Global,
     accesses: &mut Vec<Access<'a>>,
@@ -216,8 +214,8 @@ pub fn push_accesses<'a>(
     }
 }
 
-/// Returns the accesses of a point of a unit in order, by what happens there. The number of an access is its place in this list.
-/// Returns `AllocError` only where memory was refused. (RFC 2094, "Borrow checker phase 2: reporting errors".)
+/// Returns the accesses of a point, given its instruction, in order. The number of an access is its index in this list. (RFC 2094, "Borrow
+/// checker phase 2: reporting errors".)
 pub fn accesses<'a>(
     alloc: Global,
     typed: &Typed,

@@ -1,5 +1,5 @@
-//! What each point of a typed unit does: its accesses, what it uses and defines, the loan that it makes, what it demands of
-//! regions; and the prefixes of places.
+//! What each point of a typed unit does: its accesses, its uses and definitions, its loan, and what it demands of regions; and the prefixes
+//! of places.
 #![tactic(auto)]
 
 mod access;

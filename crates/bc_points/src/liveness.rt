@@ -57,7 +57,7 @@ fn push_target(locals: &mut Vec<u8>, place: &Place) -> Result<(), AllocError>
     Ok(())
 }
 
-/// Appends the local that a drop uses: its place's, where the place's type holds a drop.
+/// Appends the local that a drop uses: its place's, if the type of the place needs drop.
 fn push_drop(
     alloc: Global,
     used: &mut Vec<u8>,
@@ -72,8 +72,8 @@ fn push_drop(
     Ok(())
 }
 
-/// Appends the locals that a point of a unit uses, in the order in which it does; a local is listed as often as it is used. A
-/// list serves many points. Returns `AllocError` only where memory was refused. (RFC 2094, "Liveness".)
+/// Appends the locals that a point uses, given its instruction, in order. A local occurs as often as the point uses it. One list can serve
+/// many points. (RFC 2094, "Liveness".)
 pub fn push_uses(
     alloc: Global,
     used: &mut Vec<u8>,

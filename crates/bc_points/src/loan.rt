@@ -6,8 +6,7 @@ use crate::place_ref::PlaceRef;
 use bc_mir::Instruction;
 use bc_syntax::{Mutability, Region, Rvalue, Statement};
 
-/// What a borrow makes: its region, whether it is shared or mutable, and the path that is borrowed (RFC 2094,
-/// "Borrow checker phase 1").
+/// What a borrow makes: its region, its mutability, and the path that is borrowed (RFC 2094, "Borrow checker phase 1").
 #[derive(Drop)]
 pub struct Loan<'a> {
     pub region: Region,
@@ -15,8 +14,7 @@ pub struct Loan<'a> {
     pub path: PlaceRef<'a>,
 }
 
-/// Returns the loan that a point makes, or `None` where it is no borrow. It takes no memory. (RFC 2094, "Borrow checker phase 1:
-/// computing loans in scope".)
+/// Returns the loan that a point makes, or `None` if it does not borrow. (RFC 2094, "Borrow checker phase 1: computing loans in scope".)
 pub fn loan_of(instruction: &Instruction) -> Option<Loan<'_>>
     ensures { result ≡ loan_made instruction.now }
 {

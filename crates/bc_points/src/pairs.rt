@@ -1,4 +1,4 @@
-//! What points demand of regions, beside reborrows.
+//! What points demand of regions, apart from reborrows.
 ghost use Rattle.std.specs.Prelude.{◌≡◌, ◌++◌, ◌∷◌, [], Some, map, OnOk};
 ghost use Rattle.bc_shapes.specs.Forms.{type_referenced};
 ghost use Rattle.bc_mir.specs.Rules.{type_of_operand as operand_type, type_of_rvalue as rvalue_type};
@@ -15,7 +15,7 @@ use bc_syntax::{
 use bc_types::{Constraint, push_outlives, push_sub, push_sub_reference};
 use std::alloc::{AllocError, Global};
 
-/// Appends what makes a value a subtype of the type of a place.
+/// Appends the constraints that make a type a subtype of that of a place.
 fn push_sub_place(
     alloc: Global,
     constraints: &mut Vec<Constraint>,
@@ -34,7 +34,7 @@ fn push_sub_place(
     }
 }
 
-/// Appends what makes a reference to a value a subtype of the type of a place, if the place has a type.
+/// Appends the constraints that make the type of a reference a subtype of that of a place, if the place has one.
 fn push_sub_place_reference(
     alloc: Global,
     constraints: &mut Vec<Constraint>,
@@ -63,7 +63,7 @@ fn push_sub_place_reference(
     }
 }
 
-/// Appends what makes a value that was built, if there is one, a subtype of the type of a place, if it has one.
+/// Appends the constraints that make a type, if there is one, a subtype of that of a place, if the place has one.
 fn push_sub_place_found(
     alloc: Global,
     constraints: &mut Vec<Constraint>,
@@ -79,7 +79,7 @@ fn push_sub_place_found(
     }
 }
 
-/// Appends what makes the type of an operand a subtype of the type of a place, if both have one.
+/// Appends the constraints that make the type of an operand a subtype of that of a place, if both have one.
 fn push_sub_place_operand(
     alloc: Global,
     constraints: &mut Vec<Constraint>,
@@ -99,7 +99,7 @@ fn push_sub_place_operand(
     }
 }
 
-/// Appends what makes the type of a borrow a subtype of the type of a place, if both have one.
+/// Appends the constraints that make the type of a borrow a subtype of that of a place, if both have one.
 fn push_sub_place_borrow(
     alloc: Global,
     constraints: &mut Vec<Constraint>,
@@ -127,7 +127,7 @@ fn push_sub_place_borrow(
     }
 }
 
-/// Appends what makes the type of an rvalue a subtype of the type of a place, if both have one.
+/// Appends the constraints that make the type of an rvalue a subtype of that of a place, if both have one.
 fn push_sub_place_rvalue(
     alloc: Global,
     constraints: &mut Vec<Constraint>,
@@ -152,7 +152,7 @@ fn push_sub_place_rvalue(
     }
 }
 
-/// Appends what makes an operand a subtype of a type.
+/// Appends the constraints that make an operand a subtype of a type.
 fn push_sub_operand(
     alloc: Global,
     constraints: &mut Vec<Constraint>,
@@ -172,7 +172,7 @@ fn push_sub_operand(
     }
 }
 
-/// Appends what makes an operand a subtype of what is expected, with the declared regions replaced by arguments.
+/// Appends the constraints that make an operand a subtype of the expected type, with the declared regions replaced by arguments.
 fn push_operand_pair(
     alloc: Global,
     constraints: &mut Vec<Constraint>,
@@ -223,9 +223,8 @@ fn push_clause(
     push_outlives(constraints, longer, shorter)
 }
 
-/// Appends clauses of a function or a closure, or what a closure requires, with the declared regions replaced by arguments.
-/// Returns `AllocError` only where memory was refused. (RFC 2094, "Subtyping"; rustc-dev-guide, "Propagating closure
-/// constraints".)
+/// Appends clauses of a function or a closure, or what a closure requires, with the declared regions replaced by arguments. (RFC 2094,
+/// "Subtyping"; rustc-dev-guide, "Propagating closure constraints".)
 pub fn push_clauses(
     constraints: &mut Vec<Constraint>,
     arguments: &[Region],
@@ -239,7 +238,7 @@ pub fn push_clauses(
     Ok(())
 }
 
-/// Appends the clauses of a child that are known where its closure is created.
+/// Appends the clauses of a child that the creation of its closure demands.
 fn push_outer_clauses(
     constraints: &mut Vec<Constraint>,
     captures: &[Ty],
@@ -257,7 +256,7 @@ fn push_outer_clauses(
     Ok(())
 }
 
-/// Appends the others, which each call of the closure is to keep.
+/// Appends the clauses of a child that only its invocations demand.
 fn push_inner_clauses(
     constraints: &mut Vec<Constraint>,
     header: &Header,
@@ -330,9 +329,9 @@ fn push_field_pairs(
     }
 }
 
-/// Appends what an assignment demands, beside what its reborrow does: the fields of a struct that is made, or the captures of a
-/// closure and those of its clauses that its creation meets, and that the value is a subtype of the target. Returns `AllocError`
-/// only where memory was refused. (RFC 2094, "Subtyping"; the clauses: rustc-dev-guide, "Propagating closure constraints".)
+/// Appends what an assignment demands, apart from reborrows. The operands of a new struct are subtypes of its fields. The operands of a new
+/// closure are subtypes of its captures, and the clauses hold that a creation demands. The value is a subtype of the target. (RFC 2094,
+/// "Subtyping"; the clauses: rustc-dev-guide, "Propagating closure constraints".)
 pub fn push_assignment_pairs(
     alloc: Global,
     constraints: &mut Vec<Constraint>,
@@ -351,7 +350,7 @@ pub fn push_assignment_pairs(
     )
 }
 
-/// Appends what makes a result, with the declared regions replaced by arguments, a subtype of the type of a place.
+/// Appends the constraints that make a result, with the declared regions replaced by arguments, a subtype of the type of a place.
 fn push_returned_pairs(
     alloc: Global,
     constraints: &mut Vec<Constraint>,
@@ -367,8 +366,8 @@ fn push_returned_pairs(
     push_sub_place(alloc, constraints, typed, &TyRef::of(&returned), place)
 }
 
-/// Appends what makes operands subtypes of parameters, and what the parameters' types demand to be well-formed, with the declared
-/// regions replaced by arguments.
+/// Appends the constraints that make operands subtypes of parameters, and what the parameters' types demand, with the declared regions
+/// replaced by arguments.
 fn push_parameter_pairs(
     alloc: Global,
     constraints: &mut Vec<Constraint>,
@@ -411,9 +410,8 @@ fn push_called_pairs(
     )
 }
 
-/// Appends what a call demands: the operands are subtypes of the parameters, the parameters' types are well-formed, the
-/// function's clauses hold, and the result is a subtype of the destination. Returns `AllocError` only where memory was refused.
-/// (RFC 2094, "Subtyping"; RFC 1214.)
+/// Appends what a call demands: the operands are subtypes of the parameters, the parameters' types are well-formed, the clauses of the
+/// function hold, and the result is a subtype of the destination. (RFC 2094, "Subtyping"; RFC 1214.)
 pub fn push_call_pairs(
     alloc: Global,
     constraints: &mut Vec<Constraint>,
@@ -428,7 +426,7 @@ pub fn push_call_pairs(
     }
 }
 
-/// Appends what a call of a child demands, with the child's regions replaced by arguments.
+/// Appends what an invocation of a child demands, with the child's regions replaced by arguments.
 fn push_passed_pairs(
     alloc: Global,
     constraints: &mut Vec<Constraint>,
@@ -474,10 +472,9 @@ fn push_invoked_pairs(
     }
 }
 
-/// Appends what the call of a closure demands: the operands are subtypes of the parameters, the parameters' types are
-/// well-formed, the clauses of the closure hold that its creation does not demand, and the result is a subtype of the
-/// destination. Returns `AllocError` only where memory was refused. (RFC 2094, "Subtyping"; RFC 1214; rustc-dev-guide,
-/// "Propagating closure constraints".)
+/// Appends what an invocation demands: the operands are subtypes of the parameters, the parameters' types are well-formed, the clauses of
+/// the closure that its creation does not demand hold, and the result is a subtype of the destination. (RFC 2094, "Subtyping"; RFC 1214;
+/// rustc-dev-guide, "Propagating closure constraints".)
 pub fn push_invocation_pairs(
     alloc: Global,
     constraints: &mut Vec<Constraint>,

@@ -1,12 +1,12 @@
-//! Places that are lent.
+//! Borrowed places.
 ghost use Rattle.std.specs.Prelude.{◌≡◌};
 ghost use Rattle.bc_points.specs.Accesses.{local_place};
 
 use bc_syntax::{Place, Projection};
 use std::marker::Model;
 
-/// A place that is borrowed: its local, and its projections from where they are stored. It takes no memory, and contracts see it
-/// as the place. (After `PlaceRef` of rustc; rustc-dev-guide, "The MIR".)
+/// A borrowed place: its local, and a slice of its projections. In contracts it is the place itself. (After `PlaceRef` of rustc;
+/// rustc-dev-guide, "The MIR".)
 #[derive(Drop)]
 pub struct PlaceRef<'a> {
     local: u8,
@@ -32,7 +32,7 @@ impl<'a> PlaceRef<'a> {
         }
     }
 
-    /// Makes the place that is a local alone.
+    /// Returns the place that is a local alone.
     pub fn of_local(local: u8) -> PlaceRef<'a>
         ensures { result ≡ local_place local }
     {
@@ -42,14 +42,14 @@ impl<'a> PlaceRef<'a> {
         }
     }
 
-    /// Returns the local that the place begins with.
+    /// Returns the local of the place.
     pub fn local(&self) -> u8
         ensures { result ≡ self.now.local }
     {
         self.local
     }
 
-    /// Returns what is projected from the local, in order.
+    /// Returns the projections of the place, in order.
     pub fn projections(&self) -> &'a [Projection]
         ensures { result.now ≡ self.now.projections }
     {

@@ -17,8 +17,8 @@ fn are_mutable(references: &[Reference]) -> bool
         .all(|reference| is_mutable(reference.mutability))
 }
 
-/// Returns the references from the last shared one on, or all where none is shared. Of the references that a place dereferences
-/// these are the ones that its supporting prefixes dereference (RFC 2094, "Reborrow constraints").
+/// Returns the references from the last shared one on, or all if none is shared. Of the references that a place dereferences, its
+/// supporting prefixes dereference these (RFC 2094, "Reborrow constraints").
 pub fn from_last_shared(references: &[Reference]) -> &[Reference]
     ensures { result.now ≡ since_last_shared references.now }
 {
@@ -61,7 +61,7 @@ fn rest_after<'a>(
     Some(rest)
 }
 
-/// What a place has after one of its prefixes, or `None` where the first is no prefix of the second.
+/// Returns the projections that `place` has after `prefix`, or `None` if that is no prefix of it.
 pub(crate) fn rest_of<'a>(prefix: &PlaceRef<'_>, place: &PlaceRef<'a>) -> Option<&'a [Projection]>
     ensures { option_copied result ≡ what_follows prefix.now place.now }
 {
@@ -71,16 +71,15 @@ pub(crate) fn rest_of<'a>(prefix: &PlaceRef<'_>, place: &PlaceRef<'a>) -> Option
     rest_after(prefix.projections(), place.projections())
 }
 
-/// Returns whether the first place is the second, or what taking away last projections of the second gives. (RFC 2094, "Reborrow
-/// constraints".)
+/// Returns whether the first place is the second with none or some of its last projections taken away. (RFC 2094, "Reborrow constraints".)
 pub fn is_prefix(prefix: &PlaceRef<'_>, place: &PlaceRef<'_>) -> bool
     ensures { result ≡ prefix_test prefix.now place.now }
 {
     rest_of(prefix, place).is_some()
 }
 
-/// Returns whether the first place is a prefix of the second for which fields alone were taken away (RFC 2094, "Borrow checker
-/// phase 2": shallow prefixes).
+/// Returns whether the first place is left when only fields at the end of the second are taken away (RFC 2094, "Borrow checker phase 2":
+/// shallow prefixes).
 pub fn is_shallow_prefix(prefix: &PlaceRef<'_>, place: &PlaceRef<'_>) -> bool
     ensures { result ≡ shallow_test prefix.now place.now }
 {

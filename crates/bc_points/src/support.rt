@@ -8,8 +8,8 @@ use bc_mir::{Typed, passes_only_mutable};
 use bc_syntax::{Base, Projection, Reference};
 use bc_types::GoodTypes;
 
-/// Whether behind projections is a type from which the rest dereference mutable references alone. Regions do not tell, so
-/// a field is taken as it is declared.
+/// Returns whether `projections` lead to a type from which `rest` dereferences only mutable references. Regions do not matter for this, so
+/// a field has its declared type.
 fn supports_behind(
     types: &GoodTypes,
     projections: &[Projection],
@@ -61,8 +61,8 @@ fn goes_on_mutable(typed: &Typed, prefix: &PlaceRef<'_>, rest: &[Projection]) ->
     supports_from(typed, prefix, rest)
 }
 
-/// Returns whether the first place is a prefix of the second for which no dereference of a shared reference was taken away. (RFC
-/// 2094, "Reborrow constraints".)
+/// Returns whether the first place is a prefix of the second, and the second dereferences no shared reference after it. (RFC 2094,
+/// "Reborrow constraints".)
 pub fn supports(typed: &Typed, prefix: &PlaceRef<'_>, place: &PlaceRef<'_>) -> bool
     ensures { result ≡ support typed.now prefix.now place.now }
 {

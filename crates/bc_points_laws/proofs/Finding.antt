@@ -27,7 +27,7 @@ pub allowed-some : {A : Type 0} (test : Bool) (value : Option A) (x : A) → con
 allowed-some true value x some = (refl, some)
 allowed-some false value x some = cc
 
--- what follows a beginning, both ways
+-- `rest_after` finds exactly what follows a beginning
 pub rest_after-is : (beginning projections rest : List Projection) → rest_after beginning projections ≡ Some rest → projections ≡ beginning ++ rest
 rest_after-is [] projections rest some = cc
 rest_after-is (x ∷ beginning) [] rest some = cc
@@ -64,7 +64,7 @@ pub and_then-some : {A B : Type 0} (f : A → Option B) (value : Option A) (y : 
 and_then-some f None y some = cc
 and_then-some f (Some x) y some = (x, refl)
 
--- a place by its projections turned round twice
+-- reversing projections twice gives the same place
 pub same-place : (local : ℕ) (place : Place) → local ≡ place.local → place_of local (reverse place.projections) ≡ place
 same-place local place same =
     ap (λ n. place_of n (reverse place.projections)) same

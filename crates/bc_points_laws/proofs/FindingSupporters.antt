@@ -45,7 +45,7 @@ found-along : (types : List Declaration) (found : Option Ty) (first second : Lis
 found-along types None first second = refl
 found-along types (Some ty) first second = along_append types first second ty.references ty.base
 
--- the type of a place is that of its prefix, behind what was taken away
+-- a place has the type of its prefix, followed through what was taken away
 behind-type : (mir : Mir) (local : ℕ) (taken before : List Projection) → type_of_place mir (place_of local (taken ++ before)) ≡ option_and_then (along mir.types (reverse taken)) (type_of_place mir (place_of local before))
 behind-type mir local taken before =
     ap (λ projections. option_and_then (λ (ty : Ty). along mir.types projections ty) (slice_get mir.locals local)) (reverse-append taken before)
@@ -76,7 +76,7 @@ starts : (mir : Mir) (local : ℕ) (before : List Projection) → Contains (supp
 starts mir local [] = Contains-head (place_of local []) []
 starts mir local (last ∷ before) = Contains-head (place_of local (last ∷ before)) _
 
--- a place from which no dereference of a shared reference was taken away is found
+-- a prefix is found if what was taken away dereferences no shared reference
 found : (mir : Mir) (local : ℕ) (taken before : List Projection) → none_shared mir local taken before ≡ true → Contains (supporters_from mir local (taken ++ before)) (place_of local before)
 found mir local [] before none = starts mir local before
 found mir local (last ∷ taken) before none =
@@ -85,7 +85,7 @@ found mir local (last ∷ taken) before none =
     Contains-later (place_of local (last ∷ (taken ++ before))) (cond shared [] (supporters_from mir local (taken ++ before))) (place_of local before)
     (goes-on shared (place_of local before) (supporters_from mir local (taken ++ before)) (not-true shared parts.1) (found mir local taken before parts.0))
 
--- a place that was found, by what was taken away
+-- a place that was found, with what was taken away
 record IsTaken (mir : Mir) (local : ℕ) (projections : List Projection) (place : Place) : Type 0 where
   taken : List Projection
   before : List Projection
@@ -146,7 +146,7 @@ is-supporting mir place ty taken before typed parts none =
     ∙ ap (λ found. option_map_or (λ ty. are_mutable (leads mir.types (reverse taken) ty)) found false) at
     ∙ sym (none_shared-is mir place.local taken before inner at) ∙ none
 
--- the prefixes that the test calls supporting are those that taking away last projections finds
+-- the test accepts exactly the prefixes that are found by taking away last projections
 pub supporting-is-found : (mir : Mir) (prefix place : Place) (ty : Ty) → type_of_place mir place ≡ Some ty → (supports mir prefix place ≡ true) ↔ Contains (supporters mir place) prefix
 supporting-is-found mir prefix place ty typed = (
   finds mir prefix place,

@@ -1,4 +1,4 @@
--- From the last shared reference on.
+-- `from_last_shared` of one more reference.
 use Rattle.std.proofs.Common.{◌≡◌, Bool, true, false, ◌&&◌, cond, List, [], ◌∷◌, ◌++◌, refl, ap, ◌∙◌}
 use Rattle.std.proofs.lemmas.List.Folds.{list_all-append}
 use Rattle.bc_syntax.specs.declared.syntax.Reference.{Reference}
@@ -16,7 +16,7 @@ choose-none : (mutable : Bool) (reference : Reference) → reference ∷ [] ≡ 
 choose-none true reference = refl
 choose-none false reference = refl
 
--- a shared reference behind the others is what is left, and a mutable one is kept behind what was left
+-- if the last reference is shared, it alone is left; if it is mutable, it follows what was left
 pub from_last_shared-more : (references : List Reference) (reference : Reference) → from_last_shared (references ++ reference ∷ []) ≡ cond (is_mutable reference.mutability) (from_last_shared references ++ reference ∷ []) (reference ∷ [])
 from_last_shared-more [] reference = choose-none (is_mutable reference.mutability) reference
 from_last_shared-more (first ∷ references) reference =

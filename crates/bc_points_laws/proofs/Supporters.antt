@@ -25,7 +25,7 @@ along types projections ty = type_behind types projections ty.references ty.base
 abbrev pub leads : List Declaration → List Projection → Ty → List Reference
 leads types projections ty = references_behind types projections ty.references ty.base
 
--- one projection more dereferences one reference more, or none
+-- one more projection dereferences one more reference, or none
 pub leads_more : (types : List Declaration) (projections : List Projection) (last : Projection) (references : List Reference) (base : Base) → references_behind types (projections ++ last ∷ []) references base ≡ references_behind types projections references base ++ option_to_list (option_and_then (reference_taken last) (type_behind types projections references base))
 leads_more types [] Deref [] base = refl
 leads_more types [] Deref (reference ∷ references) base = refl

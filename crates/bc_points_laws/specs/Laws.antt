@@ -1,4 +1,4 @@
--- What follows from the definitions, and later promises rest on.
+-- Consequences of the definitions, on which later contracts rest.
 use Rattle.std.specs.Prelude.{◌≡◌, ℕ, ◌↔◌, true, Some, reverse}
 use Rattle.std.specs.List.{Contains, flat_map}
 use Rattle.std.specs.Option.{option_to_list}
@@ -18,25 +18,24 @@ abbrev pub PrefixesChain : Type 0
 PrefixesChain =
     (first second third : Place) → is_prefix first second ≡ true → is_prefix second third ≡ true → is_prefix first third ≡ true
 
--- through the fields of structs, the references that the supporting prefixes of a place dereference are those from the
--- last shared one on
+-- through the fields of structs, the supporting prefixes of a place dereference the references from the last shared one on
 abbrev pub TakenReferences : Type 0
 TakenReferences =
     (mir : Mir) (place : Place) →
     reverse (flat_map (λ prefix. option_to_list (last_taken mir prefix)) (supporters mir place))
     ≡ from_last_shared (references_of_place mir place)
 
--- through the fields of structs, the prefixes that the test calls supporting are those that taking away last projections
--- finds
+-- for a place that has a type, the test accepts exactly the prefixes that are found by taking away last projections
 abbrev pub SupportersAreFound : Type 0
 SupportersAreFound =
     (mir : Mir) (prefix place : Place) (ty : Ty) → type_of_place mir place ≡ Some ty →
     (supports mir prefix place ≡ true) ↔ Contains (supporters mir place) prefix
 
--- a number is that of its region, and each region of a unit is that of its number
+-- the region of a number has this number
 abbrev pub NumbersHaveRegions : Type 0
 NumbersHaveRegions = (universals number : ℕ) → region_number universals (region_of_number universals number) ≡ number
 
+-- the number of a region of a unit has this region
 abbrev pub RegionsHaveNumbers : Type 0
 RegionsHaveNumbers =
     (universals : ℕ) (region : Region) → region_fits true universals region ≡ true → region_of_number universals (region_number universals region) ≡ region

@@ -6,20 +6,19 @@ pub fn prefixes_chain()
     ensures { PrefixesChain }
 {}
 
-/// States that the prefixes that `supports` accepts are those that are found by taking away fields and dereferences, the last
-/// first.
+/// States that, for a place that has a type, `supports` accepts exactly the prefixes that are found by taking away projections, up to a
+/// dereference of a shared reference.
 pub fn supporters_are_found()
     ensures { SupportersAreFound }
 {}
 
-/// States that the references that the supporting prefixes of a place dereference are those that a reborrow of it lists, also
-/// through the fields of structs.
+/// States that `from_last_shared` lists the references that the supporting prefixes of a place dereference, also through the fields of
+/// structs.
 pub fn reborrows_list_taken_references()
     ensures { TakenReferences }
 {}
 
-/// States that `region_of_number` takes back what `region_number` does: a number is that of its region, and each region of a unit
-/// is that of its number.
+/// States that `region_number` and `region_of_number` are inverse, for all numbers and for all regions of a unit.
 pub fn region_numbers_are_taken_back()
     ensures numbers { NumbersHaveRegions }
     ensures regions { RegionsHaveNumbers }

@@ -1,4 +1,4 @@
-//! What the definitions of prefixes, of supporting prefixes and of the numbers of regions keep.
+//! Laws of prefixes, of supporting prefixes and of the numbers of regions.
 #![tactic(auto)]
 
 mod laws;

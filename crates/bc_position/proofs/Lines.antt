@@ -14,7 +14,7 @@ ended : (lines b : ℕ) (text : List ℕ) → lines ≢ 0 → b == 10 ≡ true �
 ended zero b text some feed = absurd (some refl)
 ended (suc lines) b text some feed = rw feed (simp unary_clauses (sym (one-add (length (first_lines lines text)))))
 
--- another byte ends none
+-- another byte ends no line
 goes_on : (lines b : ℕ) (text : List ℕ) → lines ≢ 0 → b == 10 ≡ false → length (first_lines lines (b ∷ text)) ≡ 1 + length (first_lines lines text)
 goes_on zero b text some other = absurd (some refl)
 goes_on (suc lines) b text some other = rw other (sym (one-add (length (first_lines (suc lines) text))))
@@ -22,7 +22,7 @@ goes_on (suc lines) b text some other = rw other (sym (one-add (length (first_li
 next : (text : List ℕ) (i : ℕ) → i < length text → drop i text ≡ get_or text i 0 ∷ drop (i + 1) text
 next text i within = rw (add-one i) (drop-cons text i 0 within)
 
--- what is counted up to a line feed, and up to another byte
+-- the count after a line feed, and after another byte
 pub count_end : (text : List ℕ) (i left left' all : ℕ) → i < length text → left ≢ 0 → get_or text i 0 ≡ 10 → left' ≡ left - 1
     → all ≡ i + length (first_lines left (drop i text)) → all ≡ (i + 1) + length (first_lines left' (drop (i + 1) text))
 count_end text i left left' all within some feed less h =

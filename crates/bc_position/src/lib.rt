@@ -1,4 +1,4 @@
-//! Places in a text, as people count them.
+//! The line and the column of a place in a text.
 #![tactic(auto)]
 
 mod position;

@@ -9,14 +9,14 @@ pub struct Position {
     pub column: usize,
 }
 
-/// How many line feeds some bytes have.
+/// Returns the number of line feeds.
 fn count_line_feeds(bytes: &[u8]) -> usize
     ensures { result ≡ count_by is_line_feed bytes.now }
 {
     bytes.iter().filter(|byte| **byte == b'\n').count()
 }
 
-/// How many bytes are behind the last line feed of some bytes; all, where they have no line feed.
+/// Returns the number of bytes after the last line feed, or of all if there is none.
 fn count_last_line(bytes: &[u8]) -> usize
     ensures { result ≡ length (last_line bytes.now) }
 {
@@ -27,8 +27,8 @@ fn count_last_line(bytes: &[u8]) -> usize
         .count()
 }
 
-/// Returns the line and the column of the byte that has `at` bytes of the text in front of it, or of the text's end where there is no
-/// such byte. A line feed belongs to the line that it ends.
+/// Returns the line and the column of the byte at offset `at`, or of the end of the text if it is shorter. A line feed belongs to the line
+/// that it ends.
 pub fn position_of(text: &[u8], at: usize) -> Position
     ensures { result ≡ position_in text.now at }
 {
@@ -39,7 +39,7 @@ pub fn position_of(text: &[u8], at: usize) -> Position
     }
 }
 
-/// How many bytes so many first lines of a text have, each with the line feed that ends it.
+/// Returns the length of the first `lines` lines of a text, each with the line feed that ends it.
 fn count_first_lines(text: &[u8], lines: usize) -> usize
     ensures value { result ≡ length (first_lines lines text.now) }
     ensures within { result ≤ length text.now }
@@ -56,8 +56,8 @@ fn count_first_lines(text: &[u8], lines: usize) -> usize
     text.len()
 }
 
-/// Returns the line and the column, in a text, of the byte that has `at` bytes between it and the end of this line, or of the text's end
-/// where there is no such byte. Line 0 ends where the text begins.
+/// Returns the line and the column of the byte at offset `at` after the end of line `line`, or of the end of the text if it is shorter.
+/// Line 0 ends where the text begins.
 pub fn position_below(text: &[u8], line: usize, at: usize) -> Position
     ensures { result ≡ position_below text.now line at }
 {

@@ -1,4 +1,4 @@
--- What is written by parts is written as a whole.
+-- What is written in parts is written as a whole.
 use Rattle.std.proofs.Common.{◌≡◌, true, false, ℕ, zero, suc, ◌+◌, ◌<◌, ◌≤◌, List, [], ◌∷◌, ◌++◌, Option, length, take, get_or, refl, sym, ap, ◌∙◌, subst, append_assoc, append-nil, arith}
 use Rattle.std.specs.Io.KnownBytes.{Appends}
 use Rattle.std.proofs.KnownBytes.{Appends-nil, Appends-trans}
@@ -32,12 +32,12 @@ writes_both a b c x y p q = subst (λ l. Appends a c l) (sym (spaced-append x y)
 pub writes_token : (a b c : Option (List ℕ)) (t : Token) (y : List Token) → Writes a b (t ∷ []) → Writes b c y → Writes a c (t ∷ y)
 writes_token a b c t y p q = writes_both a b c (t ∷ []) y p q
 
--- the first token, which no space is before, others, and a line feed
+-- the first token without a space, more tokens, and a line feed
 pub prints : (a b c d e : Option (List ℕ)) (t : Token) (x y : List Token) → Appends a b (token_text t) → Writes b c x → Writes c d y → Appends d e (codes "\n") → Appends a e (printed (t ∷ (x ++ y)))
 prints a b c d e t x y p q r last =
     Appends-trans a d e (token_text t ++ spaced (x ++ y)) (codes "\n") (Appends-trans a b d (token_text t) (spaced (x ++ y)) p (writes_both b c d x y q r)) last
 
--- ---- items one behind the other
+-- ---- items in order
 
 module _ {A : Type 0} (item : A → List Token) where
   pub one_more_item : (xs : List A) (i : ℕ) (d : A) → i < length xs → flat_map item (take (i + 1) xs) ≡ flat_map item (take i xs) ++ item (get_or xs i d)
@@ -105,7 +105,7 @@ module _ {A : Type 0} (item : A → List Token) where
   writes_angled a b c d [] e p q r = absurd cc
   writes_angled a b c d (x ∷ xs) e p q r = writes_both a b d (symbol s.Less) (commas item (x ∷ xs) ++ symbol s.Greater) p (writes_both b c d (commas item (x ∷ xs)) (symbol s.Greater) q r)
 
--- ---- items with their commas, one after the other
+-- ---- items with their commas, in order
 
 module _ {A : Type 0} (item : A → List Token) where
   one_more_behind : (x : A) (xs : List A) (i : ℕ) (d : A) → i < length (x ∷ xs) → commas item (take (i + 1) (x ∷ xs)) ≡ commas item (take i (x ∷ xs)) ++ (comma_before i ++ item (get_or (x ∷ xs) i d))

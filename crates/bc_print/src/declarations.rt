@@ -1,4 +1,4 @@
-//! The text of declarations.
+//! Prints declarations.
 #![tactic(auto, using(crate::proofs::Printings::writes_both, crate::proofs::Printings::writes_token, crate::proofs::Printings::writes_nothing))]
 
 ghost use Rattle.std.specs.Prelude.{◌≡◌, ◌∷◌, OnOk, length, [], true};
@@ -18,7 +18,7 @@ use bc_syntax::{
 use bc_writer::{WriterFault, write_bytes};
 use std::io::Write;
 
-/// Writes a comma, but not before the first item.
+/// Writes a comma, except before item 0.
 fn write_comma_before<W: Write>(index: usize, out: &mut W) -> Result<(), WriterFault>
     ensures { OnOk result (Writes (W.contents out.old) (W.contents out.new) (comma_before index)) }
 {
@@ -37,7 +37,7 @@ fn write_variance<W: Write>(variance: Variance, out: &mut W) -> Result<(), Write
     }
 }
 
-/// Writes regions with their variances, with commas between.
+/// Writes regions with their variances, separated by commas.
 fn write_marks<W: Write>(
     variances: &[Variance],
     names: &[RegionName],
@@ -54,7 +54,7 @@ fn write_marks<W: Write>(
     Ok(())
 }
 
-/// Writes regions with their variances in `<` and `>`, or nothing where there is none.
+/// Writes regions with their variances in `<` and `>`, or nothing if there are none.
 fn write_angled_marks<W: Write>(
     variances: &[Variance],
     names: &[RegionName],
@@ -110,7 +110,7 @@ fn write_braced_fields<W: Write>(
     write_symbol(Symbol::CloseBrace, out)
 }
 
-/// Writes a struct behind its first word.
+/// Writes what follows the word `struct`.
 fn write_struct_rest<W: Write>(
     declaration: &StructDeclaration,
     out: &mut W,
@@ -128,7 +128,7 @@ fn write_struct_rest<W: Write>(
     write_braced_fields(declaration, out)
 }
 
-/// Writes an extern function behind its first word.
+/// Writes what follows the word `extern`.
 fn write_extern_rest<W: Write>(
     declaration: &ExternDeclaration,
     out: &mut W,
@@ -173,7 +173,7 @@ fn write_declarations<W: Write>(
     Ok(())
 }
 
-/// Writes declarations, without a space before the first.
+/// Writes declarations, with no space before the first.
 fn write_all_declarations<W: Write>(
     declarations: &[Declaration],
     out: &mut W,
@@ -189,8 +189,8 @@ fn write_all_declarations<W: Write>(
     Ok(())
 }
 
-/// Writes the text of declarations: exactly the tokens of their spelling, with one space between two and a line feed behind the
-/// last. Returns `WriterFault` only where a write failed. It takes no memory.
+/// Writes the text of declarations: exactly the tokens of their spelling, with one space between two and a line feed after the last.
+/// Returns `WriterFault` only if a write fails.
 pub fn print_types<W: Write>(types: &Types, out: &mut W) -> Result<(), WriterFault>
     ensures { OnOk result (Appends (W.contents out.old) (W.contents out.new) (printed (spell.types types.now))) }
 {

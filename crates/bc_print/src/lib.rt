@@ -1,4 +1,4 @@
-//! How units and declarations are printed: token by token, as they are spelled.
+//! Prints units and declarations, token by token.
 #![tactic(auto)]
 
 mod declarations;

@@ -1,4 +1,4 @@
-//! How regions, declared names, references and types are written.
+//! Prints regions, names, references and types.
 #![tactic(auto, using(crate::proofs::Printings::writes_both, crate::proofs::Printings::writes_token, crate::proofs::Printings::writes_nothing))]
 
 ghost use Rattle.std.specs.Prelude.{◌≡◌, OnOk, get_or, []};
@@ -15,7 +15,7 @@ use bc_syntax::{
 use bc_writer::WriterFault;
 use std::io::Write;
 
-/// The name of a universal region.
+/// Returns the name of a universal region.
 fn universal_name(regions: &[RegionName], number: u8) -> &[u8]
     ensures { result.now ≡ get_or (universal_names regions.now) number [] }
 {
@@ -98,7 +98,7 @@ impl Spelled for Outlives {
     }
 }
 
-/// Writes a declared item with regions for its own.
+/// Writes the name and the region arguments of a struct or of an extern function.
 pub fn write_instance<W: Write>(
     regions: &[RegionName],
     instance: &Instance,
@@ -110,7 +110,7 @@ pub fn write_instance<W: Write>(
     write_angled(regions, instance.regions.as_slice(), out)
 }
 
-/// Writes the number of a closure with regions for its own.
+/// Writes the number of a closure, with its region arguments.
 fn write_closure_number<W: Write>(
     regions: &[RegionName],
     closure: &ClosureInstance,
@@ -122,7 +122,7 @@ fn write_closure_number<W: Write>(
     write_angled(regions, closure.regions.as_slice(), out)
 }
 
-/// Writes a closure of the unit with regions for its own.
+/// Writes `closure` and the number of a closure, with its region arguments.
 pub fn write_closure_instance<W: Write>(
     regions: &[RegionName],
     closure: &ClosureInstance,
@@ -143,7 +143,7 @@ fn write_mutability<W: Write>(mutability: Mutability, out: &mut W) -> Result<(),
     }
 }
 
-/// Writes a reference without its `&`: a region, and `mut` or not.
+/// Writes a reference without its `&`: a region, and `mut` or nothing.
 pub fn write_reference<W: Write>(
     regions: &[RegionName],
     reference: Reference,

@@ -1,4 +1,4 @@
-//! How places, operands, points and blocks are written.
+//! Prints places, operands, points and blocks.
 #![tactic(auto, using(crate::proofs::Printings::writes_both, crate::proofs::Printings::writes_token, crate::proofs::Printings::writes_nothing))]
 
 ghost use Rattle.std.specs.Prelude.{◌≡◌, OnOk, [], ◌∷◌};
@@ -193,7 +193,7 @@ fn write_condition<W: Write>(condition: &Condition, out: &mut W) -> Result<(), W
     write_label(condition.otherwise, out)
 }
 
-/// Writes what is called, and where it returns to.
+/// Writes the function, operands and label of a `call`.
 fn write_called<W: Write>(
     regions: &[RegionName],
     call: &Call,
@@ -215,7 +215,7 @@ fn write_call<W: Write>(regions: &[RegionName], call: &Call, out: &mut W) -> Res
     write_called(regions, call, out)
 }
 
-/// Writes which closure is called, and where it returns to.
+/// Writes the closure, regions, operands and label of an `invoke`.
 fn write_invoked<W: Write>(
     regions: &[RegionName],
     invocation: &Invocation,
@@ -289,7 +289,7 @@ fn write_braced<W: Write>(
     write_symbol(Symbol::CloseBrace, out)
 }
 
-/// Writes blocks, the first of which has label 0.
+/// Writes blocks, with labels from `bb0` on.
 pub fn write_blocks<W: Write>(
     regions: &[RegionName],
     blocks: &[Block],

@@ -1,4 +1,4 @@
-//! How tokens are written, and lists of what has a spelling.
+//! Prints tokens, and lists of printable values.
 ghost use Rattle.std.specs.Prelude.{◌≡◌, ◌∷◌, [], OnOk};
 ghost use Rattle.bc_print.specs.Printing.{Writes, mark};
 ghost use Rattle.bc_syntax.specs.Token.{Numbered, Word, Region};
@@ -18,7 +18,7 @@ pub fn write_symbol<W: Write>(symbol: Symbol, out: &mut W) -> Result<(), WriterF
     write_bytes(symbol.text(), out)
 }
 
-/// A space, and what stands before a number of this kind.
+/// Returns a space and what comes before a number of this kind.
 #[tactic(auto)]
 fn spaced_mark(numbering: Numbering) -> &'static [u8]
     ensures { result.now ≡ 32 ∷ mark numbering }
@@ -31,7 +31,7 @@ fn spaced_mark(numbering: Numbering) -> &'static [u8]
     }
 }
 
-/// Writes a space and a number, local, label or region variable.
+/// Writes a space and a number, a local, a label or a variable.
 #[tactic(auto, unfolding(crate::specs::Printing::spaced))]
 pub fn write_numbered<W: Write>(
     numbering: Numbering,
@@ -62,7 +62,7 @@ pub fn write_named<W: Write>(name: &[u8], out: &mut W) -> Result<(), WriterFault
     write_bytes(name, out)
 }
 
-/// A value that has a spelling where these regions are declared.
+/// A value that can be printed, given the declared regions.
 pub trait Spelled {
     ghost use Rattle.std.specs.Prelude.{List};
     ghost use Rattle.bc_syntax.specs.declared.syntax.RegionName.{RegionName};
@@ -89,7 +89,7 @@ fn write_next<T: Spelled, W: Write>(
     Ok(())
 }
 
-/// Writes items with commas between.
+/// Writes items, separated by commas.
 pub fn write_commas<T: Spelled, W: Write>(
     regions: &[RegionName],
     items: &[T],
@@ -104,7 +104,7 @@ pub fn write_commas<T: Spelled, W: Write>(
     Ok(())
 }
 
-/// Writes items with commas between, in `<` and `>`, or nothing where there is none.
+/// Writes items in `<` and `>`, separated by commas, or nothing if there are none.
 pub fn write_angled<T: Spelled, W: Write>(
     regions: &[RegionName],
     items: &[T],

@@ -1,4 +1,4 @@
-//! The text of a unit.
+//! Prints units.
 #![tactic(auto, using(crate::proofs::Printings::writes_both, crate::proofs::Printings::writes_token, crate::proofs::Printings::writes_nothing))]
 
 ghost use Rattle.std.specs.Prelude.{◌≡◌, ◌+◌, ◌≤◌, OnOk, length, []};
@@ -16,7 +16,7 @@ use bc_syntax::{
 use bc_writer::{WriterFault, write_bytes};
 use std::io::Write;
 
-/// Writes `where` and the clauses, or nothing where there are none.
+/// Writes `where` and the clauses, or nothing if there are none.
 pub fn write_clauses<W: Write>(
     regions: &[RegionName],
     clauses: &[Outlives],
@@ -31,7 +31,7 @@ pub fn write_clauses<W: Write>(
     write_commas(regions, clauses, out)
 }
 
-/// Writes the types of parameters, with their parentheses.
+/// Writes the types of parameters, in parentheses.
 pub fn write_parameters<W: Write>(
     regions: &[RegionName],
     parameters: &[Ty],
@@ -44,7 +44,7 @@ pub fn write_parameters<W: Write>(
     write_symbol(Symbol::CloseParen, out)
 }
 
-/// Writes what a function takes and what it returns.
+/// Writes the parameters, `->` and the result of a signature.
 fn write_function_ty<W: Write>(signature: &Signature, out: &mut W) -> Result<(), WriterFault>
     ensures { OnOk result (Writes (W.contents out.old) (W.contents out.new) (spell.function_ty signature.now)) }
 {
@@ -54,7 +54,7 @@ fn write_function_ty<W: Write>(signature: &Signature, out: &mut W) -> Result<(),
     write_ty(regions, &signature.result, out)
 }
 
-/// Writes the signature of an extern function, which comes after its name.
+/// Writes the signature of an extern function, after its name.
 pub fn write_signature<W: Write>(signature: &Signature, out: &mut W) -> Result<(), WriterFault>
     ensures { OnOk result (Writes (W.contents out.old) (W.contents out.new) (spell.signature signature.now)) }
 {
@@ -73,7 +73,7 @@ fn kind_word(kind: UnitKind) -> Symbol
     }
 }
 
-/// Writes the types that a closure captures, with their brackets.
+/// Writes the types of captures, in brackets.
 fn write_bracketed<W: Write>(
     regions: &[RegionName],
     captures: &[Ty],
@@ -86,7 +86,7 @@ fn write_bracketed<W: Write>(
     write_symbol(Symbol::CloseBracket, out)
 }
 
-/// Writes what a closure captures, and nothing for a function.
+/// Writes the captures of a closure, or nothing for a function.
 fn write_captures<W: Write>(header: &Header, out: &mut W) -> Result<(), WriterFault>
     ensures { OnOk result (Writes (W.contents out.old) (W.contents out.new) (spell.captures header.now)) }
 {
@@ -99,7 +99,7 @@ fn write_captures<W: Write>(header: &Header, out: &mut W) -> Result<(), WriterFa
     }
 }
 
-/// Writes what stands behind the first word of a unit, up to its body.
+/// Writes what follows the first word of a unit, up to its body.
 fn write_header_rest<W: Write>(header: &Header, out: &mut W) -> Result<(), WriterFault>
     ensures { OnOk result (Writes (W.contents out.old) (W.contents out.new) (spell.header_rest header.now)) }
 {
@@ -127,7 +127,7 @@ fn write_let<W: Write>(
     write_symbol(Symbol::Semicolon, out)
 }
 
-/// Writes the types of the locals from this one on.
+/// Writes `let` locals, numbered from `first` on.
 fn write_lets<W: Write>(
     regions: &[RegionName],
     first: usize,
@@ -143,7 +143,7 @@ fn write_lets<W: Write>(
     Ok(())
 }
 
-/// Writes what stands behind a header.
+/// Writes the body after a header.
 fn write_body<W: Write>(body: &Body, out: &mut W) -> Result<(), WriterFault>
     requires { length (locals_of body.now) ≤ 256 }
     ensures { OnOk result (Writes (W.contents out.old) (W.contents out.new) (spell.body body.now)) }
@@ -156,8 +156,8 @@ fn write_body<W: Write>(body: &Body, out: &mut W) -> Result<(), WriterFault>
     write_symbol(Symbol::CloseBrace, out)
 }
 
-/// Writes the text of a unit: exactly the tokens of its spelling, with one space between two and a line feed behind the last.
-/// Returns `WriterFault` only where a write failed. It takes no memory.
+/// Writes the text of a unit: exactly the tokens of its spelling, with one space between two and a line feed after the last. Returns
+/// `WriterFault` only if a write fails.
 pub fn print_unit<W: Write>(unit: &Unit, out: &mut W) -> Result<(), WriterFault>
     ensures { OnOk result (Appends (W.contents out.old) (W.contents out.new) (printed (spell.unit unit.now))) }
 {

@@ -18,7 +18,7 @@ use Rattle.bc_names.specs.Names.{NameParts, name_order}
 use Rattle.bc_names.proofs.Equality.{exact_names, names_total}
 use Rattle.bc_prov.specs.State.{AreSuited, Suits, at_name}
 
--- an order to a third name, of two names that ascend
+-- if x comes before y, then x compares to n no higher than y does
 pub index_le : (x y n : NameParts) (a b : Ordering) → name_order x n ≡ a → name_order y n ≡ b → name_order x y ≡ Less → ordering_index a ≤ ordering_index b
 index_le x y n Less b xn yn xy = omega arith
 index_le x y n Equal Less xn yn xy = absurd (let e = names_total.trans x y n xy yn in cc)
@@ -33,7 +33,7 @@ equal_only Less e = absurd cc
 equal_only Equal e = refl
 equal_only Greater e = absurd cc
 
--- only the name itself is found at a name
+-- nothing but the name itself is found at a name
 pub at_itself : (n name : NameParts) → is_at (name_order n) name ≡ true → n ≡ name
 at_itself n name at = exact_names n name (equal_only (name_order n name) at)
 
@@ -59,7 +59,7 @@ module _ {V : Type 0} where
   rising (u ∷ us) n h (suc i) zero d upto within = absurd (omega (arith, upto))
   rising (u ∷ us) n h (suc i) (suc j) d upto within = rising us n (sorted_tail name_order u.0 (keys_of us) h) i j d (omega (arith, upto)) (omega (arith, within))
 
-  -- the entry at a place is that of its name
+  -- a search that ends at an entry of this name finds that entry
   pub found : (entries : List (NameParts × V)) (n : NameParts) (i : ℕ) (d : NameParts × V) → IsStrictlySortedBy name_order (keys_of entries) → i < length entries → name_order (get_or entries i d).0 n ≡ Equal
       → at_name entries n ≡ Some (get_or entries i d).1
   found entries n i d sorted within is =
@@ -72,7 +72,7 @@ module _ {V : Type 0} where
       lookup_tail (is_at (name_order n)) u us (not_at u.0 n (apart zero u (omega arith)))
       ∙ none_found us n (λ i d within. apart (suc i) d (omega (arith, within)))
 
-  -- where the search gives a place between names before and names behind this one
+  -- a search that ends between the names before this one and those after it finds nothing
   pub none_at : (entries : List (NameParts × V)) (n : NameParts) (i : ℕ) → IsStrictlySortedBy name_order (keys_of entries)
       → (IsNonDecreasingBy (λ (u : NameParts × V). ordering_index (name_order u.0 n)) entries → IsPartitionPoint (λ (u : NameParts × V). name_order u.0 n ≡ Less) (λ (u : NameParts × V). name_order u.0 n ≡ Greater) entries i)
       → at_name entries n ≡ None
@@ -85,12 +85,12 @@ module _ {V : Type 0} where
       by_cases k d within is low high (inl before) = let e = low k d (omega arith) before in absurd (cc)
       by_cases k d within is low high (inr behind) = let e = high k d behind within in absurd (cc)
 
--- what holds at each place holds of all
+-- what holds at each index holds of all
 pub all_by_index : {X : Type 0} (P : X → Type 0) (xs : List X) → ((k : ℕ) (d : X) → k < length xs → P (get_or xs k d)) → AllByRecursion P xs
 all_by_index P [] f = tt
 all_by_index P (x ∷ xs) f = (f 0 x (omega arith), all_by_index P xs (λ k d less. f (suc k) d (omega arith)))
 
--- each body in a list whose bodies all suit their names suits its name
+-- if all bodies of a list suit their names, then each body that is found by its name does
 pub all_suited : (units : List (NameParts × Body)) → AllByRecursion (λ (u : NameParts × Body). Suits u.1 u.0) units → AreSuited (at_name units)
 all_suited [] h n body held = absurd cc
 all_suited (u ∷ us) h n body held = by_cases (is_at (name_order n) u.0) refl held (λ is. all_suited us h.1 n body is)

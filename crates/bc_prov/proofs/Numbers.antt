@@ -1,4 +1,4 @@
--- Children have numbers that a text may give them.
+-- The numbers of children are at most 63, so that children have names.
 use Rattle.std.proofs.Common.{◌≡◌, ◌≢◌, ℕ, ◌<◌, Bool, true, ◌&&◌, List, [], length, get_or, refl, ap, ◌∙◌, arith, inl, inr, Option, Some, None}
 use Rattle.std.specs.Prelude.{nat_le, nat_lt, if◌then◌else◌}
 use Rattle.std.specs.List.{list_all, range_with_len}
@@ -16,7 +16,7 @@ children_low body =
     list_all-from_AllPass (λ number. nat_le number 63) _
     (All-filter (is_among (closures_of body)) (λ number. nat_le number 63 ≡ true) (range_with_len 0 64) (AllPass-from_list_all (λ number. nat_le number 63) (range_with_len 0 64) refl))
 
--- the child of a number in a list of such numbers, where the name has room for one
+-- a child with one of these numbers has a name, if its creator's name has room for one
 pub child_made : (name : NameParts) (numbers : List ℕ) (i : ℕ) (made : Option NameParts) → i < length numbers → (numbers ≢ [] → length name.segments < 7) → list_all (λ number. nat_le number 63) numbers ≡ true
     → made ≡ (if nat_le (get_or numbers i 0) 63 && nat_lt (length name.segments) 7 then Some (child name (get_or numbers i 0)) else None) → made ≡ Some (child name (get_or numbers i 0))
 child_made name numbers i made within few low is =

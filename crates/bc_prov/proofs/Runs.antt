@@ -1,4 +1,4 @@
--- Pieces of one name stand together in a list whose names ascend.
+-- The pieces of one name are adjacent in a list whose names ascend.
 use Rattle.std.proofs.Common.{◌≡◌, ℕ, zero, suc, ◌+◌, ◌-◌, ◌<◌, ◌≤◌, Bool, true, false, true≢false, List, [], ◌∷◌, length, get_or, take, drop, cond, refl, sym, ap, ◌∙◌, subst, arith}
 use Rattle.std.specs.Prelude.{filter}
 use Rattle.std.specs.Ordering.{is_eq, is_lt, ordering_index, ordering_reverse}
@@ -17,7 +17,7 @@ use Rattle.bc_prov.specs.Pieces.{PieceView, AreAscending, ArePieces, IsPieceFor,
 use Rattle.bc_prov.specs.State.{at_name}
 use Rattle.bc_prov.proofs.Lookup.{equal_only}
 
--- ---- elements that pass a test and stand together
+-- ---- adjacent elements that pass a test
 
 none_pass : {X : Type 0} (test : X → Bool) (es : List X) → ((k : ℕ) (d : X) → k < length es → test (get_or es k d) ≡ false) → [] ≡ filter test es
 none_pass test [] none = refl
@@ -40,7 +40,7 @@ run_passes test (e ∷ es) (suc i) j within before bound inside outside =
 
 -- ---- names that ascend, compared with one name
 
--- an order to a third name, of two names of which the second does not come first
+-- if y does not come before x, then x compares to n no higher than y does
 index_up : (x y n : NameParts) (a b : Ordering) → name_order x n ≡ a → name_order y n ≡ b → is_lt (name_order y x) ≡ false → ordering_index a ≤ ordering_index b
 index_up x y n Less b xn yn up = omega arith
 index_up x y n Equal Less xn yn up = absurd (true≢false (sym (ap is_lt (alike_right names_total x n y xn ∙ yn)) ∙ up))
@@ -98,7 +98,7 @@ module _ (name : NameParts) where
       run_passes (λ (e : NameParts × PieceView). is_eq (name_order e.0 name)) es i j within (λ k d less. less_apart _ (start.0 k d (omega arith) less)) bound
       (λ k d less. parts.0 k d (omega arith) less) parts.1
 
-  -- the range that starts where no name comes before this one, and goes on while they are this one
+  -- the slice from the first name that is not before this one, as long as the names equal it, has the pieces of this name
   pub pieces_slice : (es : List (NameParts × PieceView)) (i j : ℕ) → AreAscending es → i ≤ length es
       → (IsPartitionedBy (λ (e : NameParts × PieceView). is_lt (name_order e.0 name)) es → IsPartitionPoint (λ (e : NameParts × PieceView). is_lt (name_order e.0 name) ≡ true) (λ (e : NameParts × PieceView). is_lt (name_order e.0 name) ≡ false) es i)
       → j ≤ length (take (length es - i) (drop i es))
@@ -109,7 +109,7 @@ module _ (name : NameParts) where
       subst (λ (l : List (NameParts × PieceView)). j ≤ length l → (IsPartitionedBy (λ (e : NameParts × PieceView). is_eq (name_order e.0 name)) l → IsPartitionPoint (λ (e : NameParts × PieceView). is_eq (name_order e.0 name) ≡ true) (λ (e : NameParts × PieceView). is_eq (name_order e.0 name) ≡ false) l j) → take j l ≡ pieces_at name es)
       (sym (take_rest es i)) (λ bound point. run es i j within there bound (point (run_parted es i up there)))
 
-  -- those of pieces of bodies that are of a name are of its body
+  -- the pieces of a name are of its body
   pub pieces_at_for : (types : List Declaration) (units : List (NameParts × Body)) (pieces : List (NameParts × PieceView)) → ArePieces types units pieces
       → AllByRecursion (λ (p : NameParts × PieceView). IsPieceFor types (at_name units name) p.1) (pieces_at name pieces)
   pieces_at_for types units [] are = tt

@@ -1,4 +1,4 @@
--- Values, and the errors within them, over the same start elements and constraints are the same.
+-- Values, and the errors within them, are the same over the same start elements and constraints.
 use Rattle.std.proofs.Common.{◌≡◌, ℕ, Bool, List, subst}
 use Rattle.bc_syntax.specs.declared.syntax.Region.{Region}
 use Rattle.bc_cons.specs.declared.facts.NumberedConstraint.{NumberedConstraint}

@@ -1,4 +1,4 @@
--- What liveness, region values and loans in scope have to say of a body.
+-- What the providers may return: liveness, region values and loans in scope.
 use Rattle.std.specs.Prelude.{Bool, List, Result}
 use Rattle.std.specs.Result.{ForOk}
 use Rattle.std.proofs.Common.{Bor}
@@ -11,20 +11,20 @@ use Rattle.bc_live.specs.Live.{IsLive}
 use Rattle.bc_solve.specs.Values.{Tells, AreValues}
 use Rattle.bc_loans.specs.Scope.{AreScopes}
 
--- the sets have, for each local, just the points on whose entry it is live
+-- the sets have, for each local, exactly the points on entry to which it is live
 abbrev pub AreLive : Mir → List (List Bool) → Type 0
 AreLive mir sets = Tells (holds sets) (IsLive mir)
 
--- what a closure returns for a body is its liveness, or `AllocError`; `post` says what it may return
+-- the closure returns the liveness of a body, or `AllocError`; `post` says what it may return
 abbrev pub AnswersLiveness : (Global → Bor Mir → Result (List (List Bool)) AllocError → Type 0) → Type 0
 AnswersLiveness post = (alloc : Global) (typed : Bor Mir) (sets : Result (List (List Bool)) AllocError) → post alloc typed sets → ForOk sets (AreLive typed.now)
 
--- what a closure returns for facts of regions is their values, or `AllocError`; `post` says what it may return
+-- the closure returns the values of regions, given their facts, or `AllocError`; `post` says what it may return
 abbrev pub AnswersValues : (Global → Bor RegionFacts → Result (List (List Bool)) AllocError → Type 0) → Type 0
 AnswersValues post =
     (alloc : Global) (facts : Bor RegionFacts) (values : Result (List (List Bool)) AllocError) → post alloc facts values → ForOk values (AreValues facts.now)
 
--- what a closure returns for a body and values is the body's loans in scope within these, or `AllocError`; `post` says what it may return
+-- the closure returns the loans in scope of a body, given the values of its regions, or `AllocError`; `post` says what it may return
 abbrev pub AnswersScopes : (Global → Bor Mir → Bor (List (List Bool)) → Result (List (List Bool)) AllocError → Type 0) → Type 0
 AnswersScopes post =
     (alloc : Global) (typed : Bor Mir) (values : Bor (List (List Bool))) (scopes : Result (List (List Bool)) AllocError) → post alloc typed values scopes

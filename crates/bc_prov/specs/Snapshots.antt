@@ -1,4 +1,4 @@
--- A part of what is held, as a snapshot has it.
+-- Snapshots: the part of a state on which the outcome of one name depends.
 use Rattle.std.specs.Prelude.{◌≡◌, ◌<◌, ℕ, true, List, ◌∷◌, length, map, slice_index_or, Option, Some, None, Vec, IfSome}
 use Rattle.std.specs.List.{AllByRecursion, flat_map}
 use Rattle.std.specs.List.Sorted.{IsStrictlySortedBy}
@@ -13,7 +13,7 @@ use Rattle.bc_prov.specs.Outcome.{IsOutcomeIn}
 use Rattle.bc_prov.specs.Pieces.{PieceView, AreAscending, ArePieces}
 use Rattle.std.specs.declared.alloc.Global.{Global}
 
--- declarations, a name, bodies under their names, and an outcome, if one is carried
+-- declarations, a name, bodies under their names, and the outcome that is carried, if any
 pub record SnapshotView : Type 0 where
   pub types : List Declaration
   pub root : NameParts
@@ -31,13 +31,13 @@ pub record IsSnapshot (root : NameParts) (units : List (NameParts × Body)) : Ty
 abbrev pub PieceList : Type 0
 PieceList = Option (Vec (NameParts × PieceView) Global)
 
--- the piece stands among these, under its name
+-- the piece is among these, under its name
 abbrev pub IsAmongPieces : PieceList → NameParts → PieceView → Type 0
 IsAmongPieces None name piece = ⊥
 IsAmongPieces (Some pieces) name piece = (place : ℕ) × (place < length pieces.items) × (slice_index_or pieces.items place (name, piece) ≡ (name, piece))
 
--- The names and the bodies are as they should be. What is carried, if it is, is the outcome of the name, and each piece that is
--- kept or carried is of the body at its name; those that are carried stand in the order of their names.
+-- The names and bodies make a snapshot. A carried outcome is the outcome of the name. Each piece that is kept or carried is of the body at
+-- its name, and the carried ones are sorted by name.
 pub record IsKept (types : List Declaration) (root : NameParts) (units : List (NameParts × Body)) (carried : Option Outcome) (kept offered : PieceList) : Type 0 where
   pub snapshot : IsSnapshot root units
   pub outcome : IfSome carried (IsOutcomeIn (state_of types units) root)
@@ -45,11 +45,11 @@ pub record IsKept (types : List Declaration) (root : NameParts) (units : List (N
   pub offered_pieces : IfSome offered (λ (pieces : Vec (NameParts × PieceView) Global). ArePieces types units pieces.items)
   pub offered_ascend : IfSome offered (λ (pieces : Vec (NameParts × PieceView) Global). AreAscending pieces.items)
 
--- the names of the closures of a body at a name
+-- the names of the closures that a body at a name has
 abbrev pub children_named : NameParts × Body → List NameParts
 children_named unit = map (child unit.0) (children_of unit.1)
 
--- the names on which the outcome of a name rests: its own, and that of each closure that one of its bodies has, held or absent
+-- the names that the outcome of a name depends on: its own, and that of each closure that one of its bodies names, stored or not
 abbrev pub names_used : NameParts → List (NameParts × Body) → List NameParts
 names_used root units = root ∷ flat_map children_named units
 

@@ -1,4 +1,4 @@
--- Declarations and a map from names to bodies, and what a body is there.
+-- The state: declarations, and a map from names to bodies.
 use Rattle.std.specs.Prelude.{◌≡◌, ◌≢◌, ◌==◌, ◌⊎◌, ◌<◌, ℕ, ◌-◌, Bool, List, [], ◌∷◌, ◌++◌, length, Option, Some}
 use Rattle.std.specs.Option.{option_map}
 use Rattle.std.specs.List.{filter_map}
@@ -17,20 +17,20 @@ use Rattle.bc_bodies.specs.Mir.{Mir, mir_of}
 abbrev pub Bodies : Type 0
 Bodies = NameParts → Option Body
 
--- what is held: declarations, and bodies under their names
+-- what is stored: declarations, and bodies under their names
 pub record State : Type 0 where
   pub types : List Declaration
   pub bodies : Bodies
 
--- what a list of entries has at a name, if the name is in it
+-- what a list has under a name, if the name is in it
 abbrev pub at_name : {V : Type 0} → List (NameParts × V) → NameParts → Option V
 at_name entries name = lookup (is_at (name_order name)) entries
 
--- declarations, and the bodies that a list has under their names: a name that is not in it is absent
+-- the state that has these declarations, and the bodies that a list has under their names; any other name holds none
 abbrev pub state_of : List Declaration → List (NameParts × Body) → State
 state_of types units = record { types = types; bodies = at_name units }
 
--- a name without segments, as a function has
+-- the name has no segments, so it is a root
 abbrev pub is_root : NameParts → Bool
 is_root name = length name.segments == 0
 
@@ -38,25 +38,25 @@ is_root name = length name.segments == 0
 abbrev pub child : NameParts → ℕ → NameParts
 child name number = record { root = name.root; segments = name.segments ++ number ∷ [] }
 
--- a name of seven segments has none for a child
+-- the body has no children, or the name has fewer than seven segments, so that its children have names
 abbrev pub HasRoom : NameParts → Body → Type 0
 HasRoom name body = (children_of body ≡ []) ⊎ (length name.segments < 7)
 
--- a function has a root as its name, and a closure any other
+-- a function is stored under a root, and a closure under any other name
 abbrev pub SuitsKind : UnitKind → NameParts → Type 0
 SuitsKind Function name = name.segments ≡ []
 SuitsKind Closure name = name.segments ≢ []
 
--- a body may be held at this name
+-- the body may be stored under this name
 pub record Suits (body : Body) (name : NameParts) : Type 0 where
   pub kind : SuitsKind body.header.kind name
   pub room : HasRoom name body
 
--- each body is held at a name that suits it
+-- each body is stored at a name that suits it
 abbrev pub AreSuited : Bodies → Type 0
 AreSuited bodies = (name : NameParts) (body : Body) → bodies name ≡ Some body → Suits body name
 
--- how many levels there are from a name on, its own among them: a name has at most seven segments
+-- how many levels of closures there are from a name on, its own included: a name has at most seven segments
 abbrev pub levels_from : NameParts → ℕ
 levels_from name = 8 - length name.segments
 
@@ -64,11 +64,11 @@ levels_from name = 8 - length name.segments
 abbrev pub number_of_child : Child → ℕ
 number_of_child child = child.number
 
--- the headers of these closures of a name, of each one that is held
+-- the number and the header of each of the name's closures with these numbers that is stored
 abbrev pub children_at : State → NameParts → List ℕ → List Child
 children_at state name numbers =
     filter_map (λ number. option_map (λ (body : Body). record { number = number; header = body.header }) (state.bodies (child name number))) numbers
 
--- a body at a name, over the declarations and the headers of its children
+-- the body at a name as the analysis sees it, over the declarations and the headers of its children
 abbrev pub mir_at : State → NameParts → Body → Mir
 mir_at state name body = mir_of state.types (children_at state name (children_of body)) body

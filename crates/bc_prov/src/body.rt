@@ -9,9 +9,8 @@ use bc_judge::{Verdict, judge};
 use bc_mir::Typed;
 use std::alloc::{AllocError, Global};
 
-/// The verdict on a typed body, where each child, ascending, requires so much: liveness, outlives constraints, region values,
-/// loans in scope, and what conflicts or fails. Returns `AllocError` only where memory was refused, as a provider may answer
-/// too. (RFC 2094 as a whole.)
+/// Returns the verdict on a typed body, given what each child requires, ascending. It finds liveness, outlives constraints, region values,
+/// loans in scope, then what conflicts or fails. Returns `AllocError` also if a provider does. (RFC 2094 as a whole.)
 pub(crate) fn verdict_on(
     alloc: Global,
     providers: &Providers,

@@ -1,4 +1,4 @@
-//! Declarations that were checked.
+//! Declarations with the result of their check.
 ghost use Rattle.std.specs.Prelude.{◌≡◌, IfOk};
 ghost use Rattle.bc_prov.specs.Checks.{IsCheckOf};
 
@@ -9,7 +9,7 @@ use std::alloc::{AllocError, Global};
 use std::marker::Model;
 use std::sync::Arc;
 
-/// The result of checking declarations: none of them is bad, or the first bad one, counted from 0.
+/// The result of checking declarations: all are good, or the index of the first bad one, from 0.
 pub enum Check {
     Good(Arc<GoodTypes, Global>),
     Bad(usize),
@@ -24,13 +24,13 @@ impl Drop for Check {
     }
 }
 
-/// Declarations with the result of their check, so that they are checked once. Contracts see the declarations.
+/// Declarations with the result of their check, so that they are checked once. A contract sees the declarations.
 pub struct Declared {
     types: Shared<Types>,
     check: Check,
 }
 
-// Written out: the crates above call this, and prove nothing of its parts again.
+// Handwritten, so that it is proved once: the crates above only call it.
 impl Drop for Declared {
     fn drop(self) {
         let Self { types: _, check: _ } = self;
@@ -57,12 +57,13 @@ impl PartialEq for Declared {
 
     ghost laws = { laws-law };
 
-    /// Returns whether the declarations are equal, and so the results of their check.
+    /// Returns whether the declarations are equal. Then the results of their checks are, too.
     fn eq(&self, other: &Declared) -> bool {
         self.types == other.types
     }
 }
 
+/// Returns the result of checking declarations.
 fn first_bad(alloc: Global, types: &Types) -> Result<Check, AllocError>
     ensures { IfOk result (IsCheckOf types.now) }
 {
@@ -77,7 +78,7 @@ fn first_bad(alloc: Global, types: &Types) -> Result<Check, AllocError>
 }
 
 impl Declared {
-    /// Checks declarations, and returns them with the result. Returns `AllocError` only where memory was refused.
+    /// Checks declarations, and returns them with the result.
     pub fn of(alloc: Global, types: Shared<Types>) -> Result<Declared, AllocError>
         ensures { IfOk result (λ declared. declared ≡ types) }
     {

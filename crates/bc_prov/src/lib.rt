@@ -1,5 +1,5 @@
-//! What is found of bodies: snapshots of what is stored, the providers of the analyses, and the pieces that they give. A piece has
-//! the errors of one body with all that these were found from.
+//! Snapshots of what is stored, the providers of the three analyses, and pieces. A piece has the errors of one body, with all that they
+//! were found from.
 #![tactic(auto)]
 
 mod body;

@@ -1,13 +1,13 @@
-//! What an Ask finds.
+//! What an ask finds.
 use crate::shared::Shared;
 use bc_judge::BorrowError;
 use bc_mir::Where;
 use bc_names::Name;
 use bc_syntax::Sequence;
 
-/// The errors of one body, with its name. The conflicts come first, by point, access and loan, then the lifetime errors, each with
-/// the chain that explains it. The list is shared with the piece that it was found in. (RFC 2094, "Borrow checker phase 2:
-/// reporting errors" and "Named lifetimes".)
+/// The errors of one body, with its name. Conflicts come first, by point, access and loan, then lifetime errors, each with the chain that
+/// explains it. The list is shared with the piece that it was found in. (RFC 2094, "Borrow checker phase 2: reporting errors" and "Named
+/// lifetimes".)
 #[derive(Clone, PartialEq)]
 pub struct BodyErrors {
     pub name: Name,
@@ -20,9 +20,8 @@ impl Drop for BodyErrors {
     }
 }
 
-/// The result of an Ask. No body is held; a child is not held, and which is the first; a declaration is bad, and which is the
-/// first, counted from 0; a unit breaks a typing rule, and where; or the bodies with their errors, each body before its closures,
-/// and these ascending.
+/// The result of an ask: no body is stored under the name; the first child that is not stored; the first bad declaration, from 0; a body
+/// that breaks a typing rule, and where; or the errors of each body, a body before its closures, and these ascending.
 #[derive(Clone, PartialEq)]
 pub enum Outcome {
     NoBody,

@@ -1,4 +1,4 @@
-//! What is found of one body, with all that it was found from.
+//! Pieces: what was found of one body, with all that it was found from.
 ghost use Rattle.std.specs.Prelude.{◌≡◌, ◌↔◌, ◌++◌, true, nat_le, IfOk, IsTrue, OnErr, OnOk};
 ghost use Rattle.std.specs.List.{list_all};
 ghost use Rattle.bc_syntax.specs.Children.{children_of};
@@ -17,13 +17,12 @@ use bc_syntax::{Sequence, Unit};
 use std::alloc::{AllocError, Global};
 use std::marker::Model;
 
-/// Pieces of bodies, each under its body's name.
+/// Pieces, each with the name of its body.
 pub type Pieces = Vec<(Name, Shared<Piece>)>;
 
-/// The errors and the requirements of one body, with all that they were found from: the declarations, the unit, copies of the
-/// headers of its children (the unit was typed over them), and what these require. Its type keeps that they are those of the body by
-/// definition, and nothing else makes one. (rustc-dev-guide, "Queries": a query's result is taken again where all that it was found
-/// from is the same.)
+/// The errors and the requirements of one body, with all that they were found from: the declarations, the unit, copies of the headers of
+/// its children (the unit was typed over them), and what these require. The type guarantees that they are the body's by definition. Only
+/// `piece_of` makes one. (rustc-dev-guide, "Queries": a query's result is reused if all that it was found from is the same.)
 pub struct Piece {
     types: Shared<Declared>,
     unit: Shared<Unit>,
@@ -33,13 +32,13 @@ pub struct Piece {
     requirements: Requirements,
 }
 
-/// Pieces of bodies that were found from the same declarations, with these, so that whoever takes them compares the declarations once.
+/// Pieces that were found from the same declarations, with these, so that they are compared once for all pieces.
 pub struct PieceSet {
     types: Shared<Declared>,
     rows: Pieces,
 }
 
-/// Makes one more owner of each of these pieces, in their order. Returns `AllocError` only where memory was refused.
+/// Returns one more owner of each of these pieces, in their order.
 pub fn share_pieces(alloc: Global, pieces: &[(Name, Shared<Piece>)]) -> Result<Pieces, AllocError>
     ensures { IfOk result (λ shares. shares.items ≡ pieces.now) }
 {
@@ -51,7 +50,7 @@ pub fn share_pieces(alloc: Global, pieces: &[(Name, Shared<Piece>)]) -> Result<P
     Ok(shares)
 }
 
-// Written out: the crates above call this, and prove nothing of its parts again.
+// Handwritten, so that it is proved once: the crates above only call it.
 impl Drop for Piece {
     fn drop(self) {
         let Self {
@@ -70,12 +69,24 @@ impl Model for Piece {
 
     ghost Value = { PieceView };
 
-    ghost view = { λ p. record { types = p.types; unit = p.unit; mir = p.typed; kids = p.kids.items; verdict = record { errors = p.errors; requirements = p.requirements } } };
+    ghost view = { λ p. record {
+      types = p.types;
+      unit = p.unit;
+      mir = p.typed;
+      kids = p.kids.items;
+      verdict = record { errors = p.errors; requirements = p.requirements };
+    } };
 
-    ghost invariant = { λ p. IsPiece (record { types = p.types; unit = p.unit; mir = p.typed; kids = p.kids.items; verdict = record { errors = p.errors; requirements = p.requirements } }) };
+    ghost invariant = { λ p. IsPiece (record {
+      types = p.types;
+      unit = p.unit;
+      mir = p.typed;
+      kids = p.kids.items;
+      verdict = record { errors = p.errors; requirements = p.requirements };
+    }) };
 }
 
-// Written out: the crates above call this, and prove nothing of its parts again.
+// Handwritten, so that it is proved once: the crates above only call it.
 impl Drop for PieceSet {
     fn drop(self) {
         let Self { types: _, rows: _ } = self;
@@ -93,7 +104,7 @@ impl Model for PieceSet {
 }
 
 impl PieceSet {
-    /// Makes a set of these pieces with these declarations. It asks that each piece was found from them. It takes no memory.
+    /// Makes a set of pieces with their declarations. Requires that each piece was found from these.
     pub fn of(types: Shared<Declared>, rows: Pieces) -> PieceSet
         requires { AreOver types rows.items }
         ensures { result ≡ record { types = types; rows = rows.items } }
@@ -101,14 +112,14 @@ impl PieceSet {
         PieceSet { types, rows }
     }
 
-    /// Returns whether the pieces were found from these declarations, which are compared as values. It takes no memory.
+    /// Returns whether the pieces were found from these declarations, compared as values.
     pub fn is_over(&self, types: &Shared<Declared>) -> bool
         ensures { IsTrue result ↔ (self.now.types ≡ types.now) }
     {
         self.types == *types
     }
 
-    /// Returns the pieces, each under its body's name.
+    /// Returns the pieces, each with the name of its body.
     pub fn rows(&self) -> &[(Name, Shared<Piece>)]
         ensures rows { result.now ≡ self.now.rows }
         ensures over { AreOver self.now.types self.now.rows }
@@ -116,7 +127,7 @@ impl PieceSet {
         &self.rows
     }
 
-    /// Takes the pieces out of the set. It takes no memory.
+    /// Consumes the set, and returns its pieces.
     pub fn into_rows(self) -> Pieces
         ensures rows { result.items ≡ self.rows }
         ensures over { AreOver self.types self.rows }
@@ -125,8 +136,8 @@ impl PieceSet {
         rows
     }
 
-    /// Appends the pieces of another set to this one. It asks that both sets are over the same declarations. Returns `AllocError` only
-    /// where memory was refused, and then the set is unchanged.
+    /// Appends the pieces of another set. Requires that both sets are over the same declarations. If it returns `AllocError`, the set is
+    /// unchanged.
     pub fn append(&mut self, other: PieceSet) -> Result<(), AllocError>
         requires { other.types ≡ self.old.types }
         ensures taken { OnOk result (self.new ≡ record { types = self.old.types; rows = self.old.rows ++ other.rows }) }
@@ -137,7 +148,7 @@ impl PieceSet {
         Ok(())
     }
 
-    /// Copies the set, as one more owner of the declarations and of each piece. Returns `AllocError` only where memory was refused.
+    /// Copies the set, as one more owner of the declarations and of each piece.
     pub fn copy(&self, alloc: Global) -> Result<PieceSet, AllocError>
         ensures { IfOk result (λ copy. copy ≡ self.now) }
     {
@@ -148,21 +159,21 @@ impl PieceSet {
 }
 
 impl Piece {
-    /// Returns the declarations.
+    /// Returns the declarations that the piece was found from.
     pub fn types(&self) -> &Shared<Declared>
         ensures { result.now ≡ self.now.types }
     {
         &self.types
     }
 
-    /// Returns the unit.
+    /// Returns the unit that the piece was found from.
     pub fn unit(&self) -> &Shared<Unit>
         ensures { result.now ≡ self.now.unit }
     {
         &self.unit
     }
 
-    /// Returns the errors of the body, in order, to be lent or shared.
+    /// Returns the errors of the body, in order.
     pub fn errors(&self) -> &Shared<Sequence<BorrowError>>
         ensures value { result.now ≡ self.now.verdict.errors }
         ensures right { IsPiece self.now }
@@ -178,7 +189,7 @@ impl Piece {
         &self.requirements
     }
 
-    /// Returns the unit as it was typed.
+    /// Returns the typed unit.
     pub fn typed(&self) -> &Shared<Typed>
         ensures value { result.now ≡ self.now.mir }
         ensures right { IsPiece self.now }
@@ -186,14 +197,14 @@ impl Piece {
         &self.typed
     }
 
-    /// Returns whether the piece was found from these declarations and this unit. They are compared as values.
+    /// Returns whether the piece was found from these declarations and this unit, compared as values.
     pub fn is_over(&self, types: &Shared<Declared>, unit: &Shared<Unit>) -> bool
         ensures { IsTrue result ↔ ((self.now.types ≡ types.now) × (self.now.unit ≡ unit.now)) }
     {
         self.types == *types && self.unit == *unit
     }
 
-    /// Returns the numbers of the unit's children, ascending. Returns `AllocError` only where memory was refused.
+    /// Returns the numbers of the unit's children, ascending.
     pub fn children(&self, alloc: Global) -> Result<Vec<u8>, AllocError>
         ensures value { IfOk result (λ numbers. numbers.items ≡ children_of self.now.unit) }
         ensures low { IfOk result (λ numbers. list_all (λ number. nat_le number 63) numbers.items ≡ true) }
@@ -221,7 +232,7 @@ fn same_kid(one: &(u8, Requirements), other: &(u8, Requirements)) -> bool
     one.0 == other.0 && one.1.pairs == other.1.pairs
 }
 
-/// Whether children of the same numbers require the same, in the same order.
+/// Returns whether the same children require the same, in the same order.
 fn same_kids(one: &[(u8, Requirements)], other: &[(u8, Requirements)]) -> bool
     ensures { IsTrue result ↔ (one.now ≡ other.now) }
 {
@@ -234,9 +245,9 @@ fn same_kids(one: &[(u8, Requirements)], other: &[(u8, Requirements)]) -> bool
     }
 }
 
-/// Judges a unit that was typed over declarations and the headers of its children, where these require so much, and returns its
-/// piece. It asks that the unit was typed so, and that a child requires nothing of its local regions. Returns `AllocError` only where
-/// memory was refused, as a provider may too. (The errors are those of RFC 2094, "Borrow checker phase 2" and "Named lifetimes".)
+/// Judges a typed unit, given what each of its children requires, and returns its piece. Requires that the unit was typed over these
+/// declarations and the headers of its children, and that no child requires anything of its local regions. Returns `AllocError` also if a
+/// provider does. (The errors are those of RFC 2094, "Borrow checker phase 2" and "Named lifetimes".)
 pub fn piece_of(
     alloc: Global,
     providers: &Providers,

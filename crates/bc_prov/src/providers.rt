@@ -1,4 +1,4 @@
-//! The analyses of a body, as closures that are stored.
+//! The three analyses of a body, as stored closures.
 ghost use Rattle.std.specs.Prelude.{IfOk};
 ghost use Rattle.bc_solve.specs.Values.{AreValues};
 ghost use Rattle.bc_loans.specs.Scope.{AreScopes};
@@ -11,19 +11,19 @@ use bc_mir::Typed;
 use bc_solve::Values;
 use std::alloc::{AllocError, Global};
 
-/// A stored closure that finds the points on whose entry each local of a body is live. (RFC 2094, "Liveness".)
+/// A stored closure that finds, for each local of a body, the points on entry to which it is live. (RFC 2094, "Liveness".)
 pub type Liveness = Box<dyn Fn(Global, &Typed) -> Result<LiveSets, AllocError> + Send + Sync>;
 
 /// A stored closure that finds the values of regions. (RFC 2094, "Solving constraints".)
 pub type Solver = Box<dyn Fn(Global, &Facts) -> Result<Values, AllocError> + Send + Sync>;
 
-/// A stored closure that finds the loans in scope within the values of regions. (RFC 2094, "Borrow checker phase 1: computing
-/// loans in scope".)
+/// A stored closure that finds the loans in scope, given the values of regions. (RFC 2094, "Borrow checker phase 1: computing loans in
+/// scope".)
 pub type Scoping = Box<dyn Fn(Global, &Typed, &Values) -> Result<Scopes, AllocError> + Send + Sync>;
 
-/// The three analyses of a body, as stored closures. The type keeps that each may be called on every value of its input, and
-/// returns only what its definition says, or `AllocError`. Threads share one by reference. (rustc-dev-guide, "Queries":
-/// providers, which are installed from outside.)
+/// The three analyses of a body, as stored closures. The type guarantees that each may be called on every value of its input, and returns
+/// only what its definition says, or `AllocError`. Threads share one by reference. (rustc-dev-guide, "Queries": providers, which are
+/// installed from outside.)
 #[derive(Drop)]
 pub struct Providers {
     live: Liveness,
@@ -38,8 +38,8 @@ pub struct Providers {
 }
 
 impl Providers {
-    /// Stores these closures as providers. It takes no memory. It asks that each closure may be called on every value of its
-    /// input, and returns only liveness, values or loans in scope as they are defined, or `AllocError`.
+    /// Stores these closures as providers. Requires that each may be called on every value of its input, and returns only liveness, values
+    /// or loans in scope as they are defined, or `AllocError`.
     pub fn new(live: Liveness, solve: Solver, in_scope: Scoping) -> Providers
         requires live_callable { Liveness.IsAlwaysCallable live }
         requires live_right { AnswersLiveness (Liveness.post live) }
@@ -55,21 +55,21 @@ impl Providers {
         }
     }
 
-    /// The liveness of a body, by the closure.
+    /// Returns the liveness of a body.
     pub(crate) fn live(&self, alloc: Global, typed: &Typed) -> Result<LiveSets, AllocError>
         ensures { IfOk result (AreLive typed.now) }
     {
         (self.live)(alloc, typed)
     }
 
-    /// The values over facts of regions, by the closure.
+    /// Returns the values of regions, given their facts.
     pub(crate) fn solve(&self, alloc: Global, facts: &Facts) -> Result<Values, AllocError>
         ensures { IfOk result (AreValues facts.now) }
     {
         (self.solve)(alloc, facts)
     }
 
-    /// The loans in scope of a body within values, by the closure.
+    /// Returns the loans in scope of a body, given the values of its regions.
     pub(crate) fn in_scope(
         &self,
         alloc: Global,

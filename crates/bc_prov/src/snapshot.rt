@@ -1,4 +1,4 @@
-//! Snapshots: the part of what is stored that the outcome of one name rests on.
+//! Snapshots: the part of what is stored that the outcome of one name depends on.
 ghost use Rattle.std.specs.Prelude.{◌≡◌, ◌≢◌, ◌<◌, ◌++◌, [], true, length, map, nat_le, Some, None, IfOk, IfSome, IsTrue, OnOk};
 ghost use Rattle.std.specs.List.{AllByRecursion, list_all};
 ghost use Rattle.std.specs.List.Sorted.{IsPermutation};
@@ -18,8 +18,8 @@ use bc_syntax::Unit;
 use std::alloc::{AllocError, Global};
 use std::marker::Model;
 
-/// The declarations and the units that the outcome of one name rests on: the units held at that name and at names that begin with
-/// it and `/`. A name that is not in the list is absent. A snapshot may carry the outcome of its name, and pieces of its bodies.
+/// The declarations and units that the outcome of one name depends on: the units stored at that name and at names that begin with it and
+/// `/`. A name that is not in the list holds no body. A snapshot may carry the outcome of its name, and pieces of its bodies.
 pub struct Snapshot {
     types: Shared<Declared>,
     root: Name,
@@ -29,7 +29,7 @@ pub struct Snapshot {
     offered: Option<Pieces>,
 }
 
-// Written out: the crates above call this, and prove nothing of its parts again.
+// Handwritten, so that it is proved once: the crates above only call it.
 impl Drop for Snapshot {
     fn drop(self) {
         let Self {
@@ -53,7 +53,7 @@ impl Model for Snapshot {
     ghost invariant = { λ s. IsKept s.types s.root s.units.items s.carried s.kept s.offered };
 }
 
-/// Adds the names of the closures that have these numbers. On an error the list has some of them.
+/// Appends the names of the closures of `name` that have these numbers. On an error the list has some of them.
 fn push_children(names: &mut Vec<Name>, name: Name, numbers: &[u8]) -> Result<(), AllocError>
     requires few { numbers.now ≢ [] → length name.segments < 7 }
     requires low { list_all (λ number. nat_le number 63) numbers.now ≡ true }
@@ -66,7 +66,7 @@ fn push_children(names: &mut Vec<Name>, name: Name, numbers: &[u8]) -> Result<()
     Ok(())
 }
 
-/// Returns the piece of a name, if it is found among pieces.
+/// Returns the piece of a name, if a binary search finds one.
 fn piece_of_name<'a>(pieces: &'a Option<Pieces>, name: &Name) -> Option<&'a Shared<Piece>>
     ensures { IfSome result (λ piece. IsAmongPieces pieces.now name.now piece.now) }
 {
@@ -77,7 +77,7 @@ fn piece_of_name<'a>(pieces: &'a Option<Pieces>, name: &Name) -> Option<&'a Shar
     }
 }
 
-/// Returns those pieces that are of a name. They stand together, since the names ascend.
+/// Returns the pieces of a name. They are adjacent, since the names ascend.
 fn pieces_of_name<'a>(
     pieces: &'a [(Name, Shared<Piece>)],
     name: &Name,
@@ -92,9 +92,9 @@ fn pieces_of_name<'a>(
 }
 
 impl Snapshot {
-    /// Makes the snapshot of a name from these declarations and these units. It takes no memory. It asks that the names ascend
-    /// strictly, that each is the root or begins with it and `/`, that a function has a name without segments and a closure any
-    /// other, and that no unit at a name of seven segments has a child. The list may be empty. No outcome is carried.
+    /// Makes the snapshot of a name from these declarations and units. It carries no outcome and no pieces. Requires that the names ascend
+    /// strictly, that each is the root or begins with it and `/`, that a function is at a root and a closure at any other name, and that no
+    /// unit at a name of seven segments has a child. The list may be empty.
     pub fn of(types: Shared<Declared>, root: Name, units: Vec<(Name, Shared<Unit>)>) -> Snapshot
         requires { IsSnapshot root units.items }
         ensures { result ≡ record { types = types; root = root; units = units.items; carried = None } }
@@ -109,8 +109,8 @@ impl Snapshot {
         }
     }
 
-    /// Adds pieces that are kept of the snapshot's bodies, in the place of those that it kept before. It takes no memory. It asks that each
-    /// was found from the declarations and from the unit at its name; `kept_piece` finds one where their names ascend.
+    /// Adds kept pieces of the snapshot's bodies, in place of those that it kept before. Requires that each was found from the declarations
+    /// and from the unit at its name. `kept_piece` finds them if their names ascend.
     pub fn keep_pieces(self, pieces: Pieces) -> Snapshot
         requires { ArePieces self.types self.units pieces.items }
         ensures { result ≡ self }
@@ -133,10 +133,9 @@ impl Snapshot {
         }
     }
 
-    /// Adds pieces that a report takes, as it takes those that are kept, where all that they were found from is there. They come in the place
-    /// of those that were carried before. It takes no memory, and asks nothing of its caller: those that were found from other declarations
-    /// or from another unit than that at their name are left out. The others are put in the order of their names, in whatever order they
-    /// were handed in, and one name may have several.
+    /// Adds pieces, in place of those that were carried before. A report reuses them as it reuses kept ones, if all that they were found
+    /// from is there. Pieces that were found from other declarations, or from another unit than the one at their name, are left out. The
+    /// pieces may come in any order, and a name may have several.
     pub fn carry_pieces(self, pieces: Pieces) -> Snapshot
         ensures { result ≡ self }
     {
@@ -144,10 +143,9 @@ impl Snapshot {
         self.with_offered(pieces)
     }
 
-    /// Adds the pieces of a set, which a report takes, as it takes those that are kept, where all that they were found from is there. It takes
-    /// no memory, and asks nothing of its caller. A set over other declarations changes nothing. Of one over the snapshot's own those that
-    /// were found from the unit at their name come in the place of those that were carried before. They are put in the order of their names,
-    /// in whatever order the set has them, and one name may have several.
+    /// Adds the pieces of a set, in place of those that were carried before. A report reuses them as it reuses kept ones, if all that they
+    /// were found from is there. A set over other declarations changes nothing. Pieces that were found from another unit than the one at
+    /// their name are left out. The pieces may come in any order, and a name may have several.
     pub fn offer(self, set: PieceSet) -> Snapshot
         ensures { result ≡ self }
     {
@@ -158,7 +156,7 @@ impl Snapshot {
         self.with_offered(pieces)
     }
 
-    /// Returns the snapshot with these pieces of its bodies, in the order of their names, in the place of those that it carried.
+    /// Returns the snapshot with these pieces of its bodies, sorted by name, in place of those that it carried.
     fn with_offered(self, pieces: Pieces) -> Snapshot
         requires { ArePieces self.types self.units pieces.items }
         ensures { result ≡ self }
@@ -182,7 +180,7 @@ impl Snapshot {
         }
     }
 
-    /// Returns these pieces of its bodies in the order of their names. It takes no memory.
+    /// Returns these pieces of its bodies, sorted by name.
     fn in_order(&self, pieces: Pieces) -> Pieces
         requires { ArePieces self.now.types self.now.units pieces.items }
         ensures pieces { ArePieces self.now.types self.now.units result.items }
@@ -194,7 +192,7 @@ impl Snapshot {
         pieces
     }
 
-    /// Returns those pieces that were found from its declarations and from the unit at their name.
+    /// Returns the pieces that were found from its declarations and from the unit at their name.
     fn fitting(&self, pieces: Pieces) -> Pieces
         ensures { ArePieces self.now.types self.now.units result.items }
     {
@@ -213,7 +211,7 @@ impl Snapshot {
         }
     }
 
-    /// Returns those pieces of a set over its declarations that were found from the unit at their name.
+    /// Returns the pieces of a set over its declarations that were found from the unit at their name.
     fn of_units(&self, set: PieceSet) -> Pieces
         requires { set.types ≡ self.now.types }
         ensures { ArePieces self.now.types self.now.units result.items }
@@ -233,14 +231,14 @@ impl Snapshot {
         }
     }
 
-    /// Returns the piece that is kept of the body at a name, if one is. It takes no memory.
+    /// Returns the kept piece of the body at a name, if there is one.
     pub fn kept_piece(&self, name: &Name) -> Option<&Shared<Piece>>
         ensures { IfSome result (λ piece. IsPieceFor self.now.types (at_name self.now.units name.now) piece.now) }
     {
         piece_of_name(&self.kept, name)
     }
 
-    /// Returns the pieces that are carried of the body at a name. It takes no memory.
+    /// Returns the carried pieces of the body at a name.
     pub fn carried_pieces(&self, name: &Name) -> &[(Name, Shared<Piece>)]
         ensures { AllByRecursion (λ entry. IsPieceFor self.now.types (at_name self.now.units name.now) entry.1) result.now }
     {
@@ -250,7 +248,7 @@ impl Snapshot {
         }
     }
 
-    /// Returns a piece of the body at a name, if one is kept or carried: the kept one, else the first that is carried. It takes no memory.
+    /// Returns a piece of the body at a name, if the snapshot has one: the kept piece, otherwise the first carried one.
     fn any_piece(&self, name: &Name) -> Option<&Shared<Piece>>
         ensures { IfSome result (λ piece. IsPieceFor self.now.types (at_name self.now.units name.now) piece.now) }
     {
@@ -263,7 +261,7 @@ impl Snapshot {
         }
     }
 
-    /// Adds the outcome of the snapshot's name, which its caller knows. It takes no memory. It asks that this is the outcome.
+    /// Adds the outcome of the snapshot's name. Requires that this is the outcome.
     pub fn carry(self, outcome: Shared<Outcome>) -> Snapshot
         requires { IsOutcomeIn (state_of self.types self.units) self.root outcome }
         ensures { result ≡ record self { carried = Some outcome } }
@@ -286,7 +284,7 @@ impl Snapshot {
         }
     }
 
-    /// Returns the outcome of its name that the snapshot carries, if it does. It takes no memory.
+    /// Returns the outcome that the snapshot carries for its name, if any.
     pub fn carried(&self) -> Option<&Shared<Outcome>>
         ensures value { option_copied result ≡ self.now.carried }
         ensures right { IfSome result (λ outcome. IsOutcomeIn (state_of self.now.types self.now.units) self.now.root outcome.now) }
@@ -301,14 +299,14 @@ impl Snapshot {
         &self.types
     }
 
-    /// Returns the name whose outcome rests on this snapshot.
+    /// Returns the name that this is a snapshot of.
     pub fn root(&self) -> &Name
         ensures { result.now ≡ self.now.root }
     {
         &self.root
     }
 
-    /// Returns the units, each under its name, in the order of the names.
+    /// Returns the units, each with its name, in the order of the names.
     pub fn units(&self) -> &[(Name, Shared<Unit>)]
         ensures units { result.now ≡ self.now.units }
         ensures snapshot { IsSnapshot self.now.root self.now.units }
@@ -316,7 +314,7 @@ impl Snapshot {
         &self.units
     }
 
-    /// Returns the unit of a name, if it is in the list. It takes no memory.
+    /// Returns the unit at a name, if there is one.
     pub fn unit(&self, name: &Name) -> Option<&Shared<Unit>>
         ensures unit { option_copied result ≡ at_name self.now.units name.now }
         ensures suited { AreSuited (at_name self.now.units) }
@@ -327,9 +325,8 @@ impl Snapshot {
         }
     }
 
-    /// Returns the numbers of the children of a unit, each once, ascending: those that a piece of the unit has, if one is kept
-    /// or carried, else those that are found in the unit. It asks that this unit is held under this name. Returns `AllocError` only
-    /// where memory was refused.
+    /// Returns the numbers of the children of a unit, each once, ascending. They come from a piece of the unit if the snapshot has one, and
+    /// otherwise from the unit. Requires that the unit is stored under this name.
     pub fn children_of(
         &self,
         alloc: Global,
@@ -346,8 +343,8 @@ impl Snapshot {
         }
     }
 
-    /// Returns the names on which the snapshot's outcome rests: its own, and that of each closure that one of its units has, held
-    /// or absent, in the order of the units. Returns `AllocError` only where memory was refused.
+    /// Returns the names that the snapshot's outcome depends on: its own, then each closure that a unit names, stored or not, in the order
+    /// of the units.
     pub fn used(&self, alloc: Global) -> Result<Vec<Name>, AllocError>
         ensures { IfOk result (λ names. names.items ≡ names_used self.now.root self.now.units) }
     {

@@ -1,6 +1,6 @@
 -- Lines of text.
 use Rattle.std.specs.Prelude.{ℕ, List, [], ◌∷◌, ◌++◌}
 
--- a line ends with one line feed
+-- a line: a text, and one line feed at its end
 abbrev pub line : List ℕ → List ℕ
 line text = text ++ 10 ∷ []

@@ -1,10 +1,10 @@
-//! A line is built backwards, from its last byte to its first: the digits of a number are found in that order, so that each stands in
-//! its place at once.
+//! A line is built backwards, from its last byte to its first: the digits of a number are found in that order, so each goes straight into
+//! its place.
 ghost use Rattle.std.specs.Prelude.{◌≡◌, ◌≤◌, ◌+◌, ◌++◌, length, drop, decimal};
 
 use itoa::write_digits;
 
-/// Puts a text right before `end`, and gives where it begins.
+/// Writes a text right before `end`, and returns where it begins.
 #[inline(always)]
 pub(crate) fn put(text: &[u8], line: &mut [u8], end: usize) -> usize
     requires { (length text.now ≤ end) × (end ≤ length line.old) }
@@ -16,7 +16,7 @@ pub(crate) fn put(text: &[u8], line: &mut [u8], end: usize) -> usize
     start
 }
 
-/// Puts a number right before `end`, and gives where it begins. It has at most 20 digits.
+/// Writes a number right before `end`, and returns where it begins. A number has at most 20 digits.
 #[inline(always)]
 #[tactic(auto, using(crate::proofs::Numbers::decimal_has_20_digits))]
 pub(crate) fn put_number(number: u64, line: &mut [u8], end: usize) -> usize

@@ -1,4 +1,4 @@
-//! The line of a body, and those of outcomes that are no report.
+//! The line of a body, and the lines of outcomes that are no report.
 ghost use Rattle.std.specs.Prelude.{◌++◌, OnOk, codes, decimal};
 ghost use Rattle.std.specs.Io.KnownBytes.{Appends};
 ghost use Rattle.bc_names.specs.Names.{name_text};
@@ -13,7 +13,7 @@ use bc_prov::BodyErrors;
 use bc_writer::{WriterFault, write_bytes};
 use std::io::Write;
 
-/// Writes the line of a body, its name and the number of its errors. Returns `WriterFault` only where a write failed. It takes no memory.
+/// Writes the line of a body: its name and the number of its errors. Returns `WriterFault` only if a write fails.
 pub fn write_body_line<W: Write>(body: &BodyErrors, out: &mut W) -> Result<(), WriterFault>
     ensures { OnOk result (Appends (W.contents out.old) (W.contents out.new) (body_line body.now)) }
 {
@@ -25,7 +25,7 @@ pub fn write_body_line<W: Write>(body: &BodyErrors, out: &mut W) -> Result<(), W
     write_bytes(b"\n", out)
 }
 
-/// Writes the line that tells which body is missing.
+/// Writes the line that says which body is missing.
 pub(crate) fn write_missing<W: Write>(name: &Name, out: &mut W) -> Result<(), WriterFault>
     ensures { OnOk result (Appends (W.contents out.old) (W.contents out.new) (line (codes "missing " ++ name_text name.now))) }
 {
@@ -34,7 +34,7 @@ pub(crate) fn write_missing<W: Write>(name: &Name, out: &mut W) -> Result<(), Wr
     write_bytes(b"\n", out)
 }
 
-/// Writes the line that tells which declaration is bad.
+/// Writes the line that says which declaration is bad.
 pub(crate) fn write_bad_declaration<W: Write>(index: usize, out: &mut W) -> Result<(), WriterFault>
     ensures { OnOk result (Appends (W.contents out.old) (W.contents out.new) (line (codes "bad declaration " ++ decimal index))) }
 {
@@ -43,7 +43,7 @@ pub(crate) fn write_bad_declaration<W: Write>(index: usize, out: &mut W) -> Resu
     write_bytes(b"\n", out)
 }
 
-/// Writes the line that tells which body is ill, and where.
+/// Writes the line that says which body breaks a typing rule, and where.
 pub(crate) fn write_ill<W: Write>(name: &Name, place: Where, out: &mut W) -> Result<(), WriterFault>
     ensures { OnOk result (Appends (W.contents out.old) (W.contents out.new) (line (codes "ill " ++ name_text name.now ++ codes " at " ++ place_text place))) }
 {

@@ -12,17 +12,17 @@ use bc_writer::{WriterFault, write_bytes};
 use itoa::Buffer;
 use std::io::Write;
 
-/// How many bytes a point has at most.
+/// The most bytes of a point.
 const POINT: usize = 44;
 
-/// Writes the digits of a number. Returns `WriterFault` only where a write failed. It takes no memory.
+/// Writes the digits of a number. Returns `WriterFault` only if a write fails.
 pub fn write_number<W: Write>(number: u128, out: &mut W) -> Result<(), WriterFault>
     ensures { OnOk result (Appends (W.contents out.old) (W.contents out.new) (decimal number)) }
 {
     write_bytes(Buffer::new().format(number).as_bytes(), out)
 }
 
-/// Writes a segment of a name.
+/// Writes a segment of a name, with the `/` before it.
 fn write_segment<W: Write>(number: u8, out: &mut W) -> Result<(), WriterFault>
     ensures { OnOk result (Appends (W.contents out.old) (W.contents out.new) (segment_text number)) }
 {
@@ -30,7 +30,7 @@ fn write_segment<W: Write>(number: u8, out: &mut W) -> Result<(), WriterFault>
     write_number(u128::from(number), out)
 }
 
-/// Writes a name as it is spelled.
+/// Writes a name in its one spelling.
 pub(crate) fn write_name<W: Write>(name: &Name, out: &mut W) -> Result<(), WriterFault>
     ensures { OnOk result (Appends (W.contents out.old) (W.contents out.new) (name_text name.now)) }
 {
@@ -42,7 +42,7 @@ pub(crate) fn write_name<W: Write>(name: &Name, out: &mut W) -> Result<(), Write
     Ok(())
 }
 
-/// Writes a point.
+/// Writes a point, such as `bb0[2]`.
 fn write_point<W: Write>(point: Point, out: &mut W) -> Result<(), WriterFault>
     ensures { OnOk result (Appends (W.contents out.old) (W.contents out.new) (point_text point)) }
 {
@@ -51,7 +51,7 @@ fn write_point<W: Write>(point: Point, out: &mut W) -> Result<(), WriterFault>
     write_bytes(&text[start..], out)
 }
 
-/// Writes the place of a misfit: the header, or a point.
+/// Writes the place of a misfit: `header`, or a point.
 pub(crate) fn write_place<W: Write>(place: Where, out: &mut W) -> Result<(), WriterFault>
     ensures { OnOk result (Appends (W.contents out.old) (W.contents out.new) (place_text place)) }
 {

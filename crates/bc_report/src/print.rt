@@ -13,19 +13,19 @@ use bc_syntax::Region;
 use bc_writer::{WriterFault, write_bytes};
 use std::io::Write;
 
-/// How many bytes the line of an error has at most.
+/// The most bytes of an error's line.
 const ERROR: usize = 134;
 
-/// How many bytes are kept for a region of a chain: 3 before its number, and 20 digits.
+/// The bytes that are kept for a region of a chain: 3 before its number, and 20 digits.
 const REGION: usize = 23;
 
-/// How many regions a chain may have to be written together with its error.
+/// The most regions of a chain that is written together with its error.
 const TOGETHER: usize = 8;
 
-/// How many bytes an error and such a chain have at most, with the 10 between them.
+/// The most bytes of an error and such a chain, with the 10 between them.
 const LINES: usize = ERROR + 10 + 8 * TOGETHER;
 
-/// Writes the line of an error and that of its chain, which has at most eight regions, by one call of the writer.
+/// Writes the line of an error and that of its chain, of at most eight regions, by one call of the writer.
 #[tactic(auto, unfolding(crate::specs::Report::error_line, crate::specs::Report::chain_line))]
 fn write_together<W: Write>(
     error: &BorrowError,
@@ -56,7 +56,7 @@ fn write_error<W: Write>(error: &BorrowError, out: &mut W) -> Result<(), WriterF
     write_bytes(&line[start..], out)
 }
 
-/// Writes a region of a chain, and a space before it.
+/// Writes a space and a region of a chain.
 fn write_region<W: Write>(region: Region, out: &mut W) -> Result<(), WriterFault>
     ensures { OnOk result (Appends (W.contents out.old) (W.contents out.new) (next_region region)) }
 {
@@ -77,7 +77,7 @@ fn write_chain<W: Write>(regions: &[Region], out: &mut W) -> Result<(), WriterFa
     write_bytes(b"\n", out)
 }
 
-/// Writes the line of an error, and behind it that of its chain. Returns `WriterFault` only where a write failed. It takes no memory.
+/// Writes the line of an error, then that of its chain. Returns `WriterFault` only if a write fails.
 #[tactic(auto, unfolding(crate::specs::Report::error_lines))]
 pub fn write_explained<W: Write>(error: &BorrowError, out: &mut W) -> Result<(), WriterFault>
     ensures { OnOk result (Appends (W.contents out.old) (W.contents out.new) (error_lines error.now)) }
@@ -90,7 +90,7 @@ pub fn write_explained<W: Write>(error: &BorrowError, out: &mut W) -> Result<(),
     write_chain(chain, out)
 }
 
-/// Writes the line of a body, and the lines of each of its errors.
+/// Writes the line of a body, then the lines of each of its errors.
 fn write_body<W: Write>(body: &BodyErrors, out: &mut W) -> Result<(), WriterFault>
     ensures { OnOk result (Appends (W.contents out.old) (W.contents out.new) (body_lines body.now)) }
 {
@@ -102,8 +102,7 @@ fn write_body<W: Write>(body: &BodyErrors, out: &mut W) -> Result<(), WriterFaul
     Ok(())
 }
 
-/// Writes the text form of an outcome, exactly the bytes of its report. Returns `WriterFault` only where a write failed. It takes no
-/// memory.
+/// Writes an outcome as text, as `check` prints it after `ask NAME`. Returns `WriterFault` only if a write fails.
 pub fn write_report<W: Write>(outcome: &Outcome, out: &mut W) -> Result<(), WriterFault>
     ensures { OnOk result (Appends (W.contents out.old) (W.contents out.new) (report outcome.now)) }
 {

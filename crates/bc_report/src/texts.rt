@@ -9,7 +9,7 @@ use bc_judge::BorrowError;
 use bc_mir::Point;
 use bc_syntax::Region;
 
-/// Puts a point right before `end`, and gives where it begins. It has at most 44 bytes.
+/// Writes a point right before `end`, and returns where it begins. A point has at most 44 bytes.
 #[inline(always)]
 pub(crate) fn put_point(point: Point, line: &mut [u8], end: usize) -> usize
     requires { (44 ≤ end) × (end ≤ length line.old) }
@@ -23,7 +23,7 @@ pub(crate) fn put_point(point: Point, line: &mut [u8], end: usize) -> usize
     put(b"bb", line, end)
 }
 
-/// Puts an error right before `end`, and gives where it begins. It has at most 131 bytes.
+/// Writes an error right before `end`, and returns where it begins. An error has at most 131 bytes.
 #[inline(always)]
 pub(crate) fn put_error(error: &BorrowError, line: &mut [u8], end: usize) -> usize
     requires { (131 ≤ end) × (end ≤ length line.old) }
@@ -57,7 +57,7 @@ pub(crate) fn put_error(error: &BorrowError, line: &mut [u8], end: usize) -> usi
     }
 }
 
-/// Puts a region of a chain, and a space before it, right before `end`, and gives where the space is. They have at most 8 bytes.
+/// Writes a space and a region of a chain right before `end`, and returns where the space is. They have at most 8 bytes.
 #[inline(always)]
 #[tactic(auto, using(crate::proofs::Numbers::decimal_has_5_digits))]
 pub(crate) fn put_region(region: Region, line: &mut [u8], end: usize) -> usize
@@ -77,8 +77,8 @@ pub(crate) fn put_region(region: Region, line: &mut [u8], end: usize) -> usize
     }
 }
 
-/// Puts regions of a chain in order, and a space before each, right before `end`, and gives where they begin. Each has at most 8 bytes;
-/// 15 more are asked for, since a number is put where 20 digits have room.
+/// Writes regions of a chain in order, a space before each, right before `end`, and returns where they begin. Each has at most 8 bytes; 15
+/// more are required, since a number needs room for 20 digits.
 #[inline(always)]
 pub(crate) fn put_regions(regions: &[Region], line: &mut [u8], end: usize) -> usize
     requires { (8 * length regions.now + 15 ≤ end) × (end ≤ length line.old) }

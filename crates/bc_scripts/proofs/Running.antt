@@ -7,17 +7,13 @@ use Rattle.bc_share.specs.Sessions.{SessionView, IsSame, Stays}
 use Rattle.bc_scripts.specs.declared.run.End.{End}
 use Rattle.bc_scripts.specs.declared.run.End.TheVariants.{Done}
 use Rattle.bc_scripts.specs.Runs.{AreRuns, seats}
-use Rattle.bc_share.proofs.Noting.{stays_again}
+use Rattle.bc_share.proofs.Noting.{same_of, stays_again}
 
--- what stays is the same session
-pub same_of : (old new : SessionView) → Stays old new → IsSame old new
-same_of old new stays = record { tag = stays.tag; number = stays.number; own = stays.own; later = stays.later }
-
--- and so is what stays, and stays again
+-- a session that stays twice is the same
 pub same_again : (old mid new : SessionView) → Stays old mid → Stays mid new → IsSame old new
 same_again old mid new first second = same_of old new (stays_again old mid new first second)
 
--- ---- sessions that go to their places
+-- ---- moving sessions to their places
 
 pub seats_begin : (ran : List (SessionView × End)) (left sessions : List SessionView) → ran ≡ [] → left ≡ sessions → ran ++ seats left ≡ seats sessions
 seats_begin ran left sessions none same = ap (λ (l : List (SessionView × End)). l ++ seats left) none ∙ ap seats same
@@ -33,7 +29,7 @@ firsts : (sessions : List SessionView) → map (λ (s : SessionView × End). s.0
 firsts [] = refl
 firsts (s ∷ sessions) = ap (λ (l : List SessionView). s ∷ l) (firsts sessions)
 
--- what ran is all that there was
+-- all have run
 all_ran : {X : Type 0} (before new : List X) (n : ℕ) → n ≡ length before → length new ≡ length before → take n (new ++ drop (length new) before) ≡ new
 all_ran {X} before new n long same =
     ap (λ (l : List X). take n (new ++ l)) (drop_all (length new) before (omega (arith, same)))

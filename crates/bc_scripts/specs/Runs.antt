@@ -7,8 +7,8 @@ use Rattle.bc_scripts.specs.declared.run.End.{End}
 use Rattle.bc_scripts.specs.declared.run.End.TheVariants.{Done, Stopped}
 use Rattle.bc_share.specs.Sessions.{SessionView}
 
--- the session made these calls, in their order: its own list is longer by them, each with a reply, it is the same session, and what it
--- has seen begins with what it had seen
+-- The session made these calls, in their order: its own list is longer by them, each with a reply. It is the same session, and what it has
+-- seen begins with what it had seen.
 pub record HasMade (old new : SessionView) (calls : List Call) : Type 0 where
   pub tag : new.tag ≡ old.tag
   pub number : new.number ≡ old.number
@@ -17,7 +17,7 @@ pub record HasMade (old new : SessionView) (calls : List Call) : Type 0 where
   pub made : map call_of events ≡ calls
   pub later : StartsWith new.seen old.seen
 
--- the session made all calls of its script, or those before the one that was refused
+-- the session made all calls of its script, or those before the one that failed
 abbrev pub IsRun : SessionView → SessionView → List Call → End → Type 0
 IsRun old new script Done = HasMade old new script
 IsRun old new script (Stopped number refusal) = (number < length script) × HasMade old new (take number script)
@@ -26,7 +26,7 @@ IsRun old new script (Stopped number refusal) = (number < length script) × HasM
 abbrev pub seats : List SessionView → List (SessionView × End)
 seats sessions = map (λ (s : SessionView). (s, Done)) sessions
 
--- each session, in the order of the sessions, made the calls of its own script
+-- each session made the calls of its own script
 pub record AreRuns (sessions : List SessionView) (scripts : List (List Call)) (ran : List (SessionView × End)) : Type 0 where
   pub sized : length ran ≡ length sessions
   pub each : (k : ℕ) (s : SessionView) (c : List Call) (r : SessionView × End) → k < length sessions

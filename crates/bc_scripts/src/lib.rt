@@ -1,4 +1,4 @@
-//! Scripts of calls: what sessions of a database make on threads of their own.
+//! Scripts of calls, which sessions of a database make on threads of their own.
 #![tactic(auto)]
 
 mod run;

@@ -17,21 +17,21 @@ use std::sync::Wait;
 use std::thread;
 use std::thread::Threads;
 
-/// The stages at which an Ask of a script, of one name or for all, pauses: once it has begun, and once its work is done. No lock
-/// is held then.
+/// The stages at which an ask of a script, of one name or for all, pauses: once it has begun, and once its work is done. No lock is held
+/// then.
 #[derive(Clone, Copy, Debug, PartialEq, Eq)]
 pub enum Stage {
     Begun,
     Worked,
 }
 
-/// A hook at which the Asks of scripts pause. A test holds them up there; the program does not.
+/// A hook at which the asks of scripts pause. A test holds them up there; the program does not.
 pub trait Gate {
-    /// Pauses a session, by its number, at this stage of an Ask.
+    /// Pauses the session of this number at this stage of an ask.
     fn pause(&self, session: u8, stage: Stage);
 }
 
-/// The calls that a session is to make, in their order. Contracts see them.
+/// The calls that a session is to make, in their order. A contract sees them.
 pub struct Script {
     calls: Vec<Call>,
 }
@@ -52,7 +52,7 @@ impl Model for Script {
 }
 
 impl Script {
-    /// Returns the script of these calls. It takes no memory.
+    /// Returns the script of these calls.
     pub fn new(calls: Vec<Call>) -> Script
         ensures { result ≡ calls.items }
     {
@@ -67,19 +67,19 @@ impl Script {
     }
 }
 
-/// The end of a script: all its calls were made; or the one at this place, from 0, was refused, and the rest was not made.
+/// The end of a script: all its calls were made; or the call at this place, from 0, failed, and the later ones were not made.
 #[derive(Clone, Copy, Debug, PartialEq, Eq)]
 pub enum End {
     Done,
     Stopped { number: usize, refusal: Refusal },
 }
 
-/// Has each session make the calls of its script, on a thread of its own, or one session after another if no thread can be made.
-/// It returns the sessions in their order, each with how its script ended. It asks for as many scripts as sessions, and that the
-/// database, which these are sessions of, is open meanwhile.
+/// Has each session make the calls of its script, on a thread of its own, or one session after another if no thread can be made. Returns
+/// the sessions in their order, each with the end of its script. Requires as many scripts as sessions. `_db` is their database, so that it
+/// is open meanwhile.
 ///
-/// Room for the result is made first: if memory for it is refused, no call was made, and the sessions come back as the `Err`. A
-/// call that is refused ends its own script alone.
+/// Room for the result is made first. If out of memory then, no call was made, and the sessions come back as the `Err`. A call that fails
+/// ends only its own script.
 pub fn run_sessions<R: AllocGlobal + Threads + Wait + Sync, E: Ending + Send, G: Gate + Sync>(
     rt: &R,
     _db: &Db<E>,
@@ -101,7 +101,7 @@ pub fn run_sessions<R: AllocGlobal + Threads + Wait + Sync, E: Ending + Send, G:
     Ok(ran)
 }
 
-/// Moves the sessions to places where they run.
+/// Moves the sessions to the places where they run.
 fn seat_all<E: Ending>(sessions: Vec<Session<E>>, ran: &mut Vec<(Session<E>, End)>)
     requires empty { ran.old.items ≡ [] }
     requires room { length sessions.items ≤ vec_capacity ran.old }
@@ -145,7 +145,7 @@ fn run_all<R: Threads + Wait + Sync, E: Ending + Send, G: Gate + Sync>(
     );
 }
 
-/// Makes the calls of a script in their order, until one is refused.
+/// Makes the calls of a script in their order, until one fails. Returns how the script ended.
 fn run_script<R: Wait, E: Ending, G: Gate>(
     rt: &R,
     alloc: Global,
@@ -164,7 +164,7 @@ fn run_script<R: Wait, E: Ending, G: Gate>(
     End::Done
 }
 
-/// Makes a call.
+/// Makes one call of a script.
 fn make_call<R: Wait, E: Ending, G: Gate>(
     rt: &R,
     alloc: Global,
@@ -192,7 +192,7 @@ fn make_call<R: Wait, E: Ending, G: Gate>(
     Ok(())
 }
 
-/// Asks a name, and pauses once it has begun, and once the work is done.
+/// Asks for a name, and pauses once it has begun, and once the work is done.
 fn ask_pausing<R: Wait, E: Ending, G: Gate>(
     rt: &R,
     alloc: Global,

@@ -1,4 +1,4 @@
--- What is asked of a type's shape does not change where its regions are blanked.
+-- Blanking the regions of a type does not change what its shape says.
 use Rattle.std.proofs.Common.{◌≡◌, ℕ, zero, suc, Bool, ◌&&◌, ◌==◌, is_some, Option, List, [], ◌∷◌, map, length, refl, sym, ap, ◌∙◌}
 use Rattle.std.proofs.lemmas.List.{length-map}
 use Rattle.std.specs.Option.{option_map}
@@ -36,7 +36,7 @@ base-again arguments (Struct instance) =
 base-again arguments (Closure closure) =
     ap (λ (regions : List Region). Closure (record { number = closure.number; regions = regions })) (map-again (replaced_region []) (replaced_region arguments) (region-again arguments) closure.regions)
 
--- regions that are replaced and then blanked are blanked
+-- blanking a type gives the same with its regions replaced
 pub blanked-replaced : (arguments : List Region) (ty : Ty) → blanked (replaced_ty arguments ty) ≡ blanked ty
 blanked-replaced arguments ty =
     ap (λ (references : List Reference). record { references = references; base = replaced_base [] (replaced_base arguments ty.base) }) (map-again (replaced_reference []) (replaced_reference arguments) (reference-again arguments) ty.references)
@@ -80,7 +80,7 @@ types-right (reference ∷ references) base [] other = refl
 types-right (reference ∷ references) base (one ∷ others) other =
     ap (λ b. same_mutability reference.mutability one.mutability && b) (types-right references base others other)
 
--- one shape, once the regions of either are blanked
+-- blanking either type does not change whether both have one shape
 pub one_shape-left : (first second : Ty) → one_shape (blanked first) second ≡ one_shape first second
 one_shape-left first second = types-left first.references first.base second.references second.base
 

@@ -1,4 +1,4 @@
-//! Types by themselves, without declarations: mutability, shapes, regions replaced, types that are lent.
+//! Types without declarations: mutability, shapes, replaced regions, borrowed types.
 #![tactic(auto)]
 
 mod mutabilities;

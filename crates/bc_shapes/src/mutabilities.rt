@@ -1,4 +1,4 @@
-//! Shared and mutable.
+//! Mutability of references.
 ghost use Rattle.std.specs.Prelude.{◌≡◌};
 ghost use Rattle.bc_shapes.specs.Mutabilities.{is_mutable as mutable};
 

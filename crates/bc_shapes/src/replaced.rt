@@ -1,4 +1,4 @@
-//! A declaration's regions replaced by arguments.
+//! Replaces a declaration's regions by arguments.
 ghost use Rattle.std.specs.Prelude.{◌≡◌, ◌++◌, ◌∷◌, map, IfOk, OnOk};
 ghost use Rattle.std.specs.List.{Contains};
 ghost use Rattle.bc_shapes.specs.Replaced.{replaced_region, replaced_reference, replaced_instance, replaced_closure, replaced_base, replaced_ty};
@@ -6,7 +6,7 @@ ghost use Rattle.bc_shapes.specs.Replaced.{replaced_region, replaced_reference, 
 use bc_syntax::{Base, ClosureInstance, Instance, ItemName, Reference, Region, ShortSequence, Ty};
 use std::alloc::{AllocError, Global};
 
-/// Returns the argument for a region of a declaration by number: `'static` has 0, and so has a region behind the last argument.
+/// Returns the argument for a declared region by its number: `'static` for 0, and for a number past the last argument.
 pub fn argument_of(arguments: &[Region], number: usize) -> Region
     ensures value { result ≡ replaced_region arguments.now (Region.Universal number) }
     ensures given { Contains (Region.Universal 0 ∷ arguments.now) result }
@@ -21,8 +21,8 @@ pub fn argument_of(arguments: &[Region], number: usize) -> Region
     }
 }
 
-/// Returns the region by which a region of a declaration is replaced: the first declared one by the first argument, and so on;
-/// `'static` stays. A region that has no argument becomes `'static`, so that nothing comes in but `'static` and the arguments.
+/// Returns what replaces a region of a declaration: the first argument for the first declared region, and so on. Anything else becomes
+/// `'static`, so the result is always `'static` or an argument.
 pub fn replace_region(arguments: &[Region], region: Region) -> Region
     ensures value { result ≡ replaced_region arguments.now region }
     ensures given { Contains (Region.Universal 0 ∷ arguments.now) result }
@@ -62,7 +62,7 @@ fn push_replaced_regions(
     Ok(())
 }
 
-/// Returns a copy of a name. Returns `AllocError` only where memory was refused.
+/// Returns a copy of a name.
 pub fn copy_name(name: &ItemName) -> Result<ItemName, AllocError>
     ensures { IfOk result (λ copy. copy ≡ name.now) }
 {
@@ -109,7 +109,7 @@ fn replace_base(alloc: Global, arguments: &[Region], base: &Base) -> Result<Base
     }
 }
 
-/// Returns a type of a declaration with each region replaced. Returns `AllocError` only where memory was refused.
+/// Returns a type of a declaration with each region replaced by its argument.
 pub fn replace_ty(alloc: Global, arguments: &[Region], ty: &Ty) -> Result<Ty, AllocError>
     ensures { IfOk result (λ replaced. replaced ≡ replaced_ty arguments.now ty.now) }
 {

@@ -1,4 +1,4 @@
-//! Types that are lent, told by all but their regions.
+//! Borrowed types, compared without their regions.
 ghost use Rattle.std.specs.Prelude.{◌≡◌};
 ghost use Rattle.std.specs.Option.{option_copied, option_map};
 ghost use Rattle.bc_shapes.specs.Shapes.{blanked, one_shape, is_int_type, is_copyable_type};
@@ -11,7 +11,7 @@ use crate::shapes::{
 use bc_syntax::{Base, ClosureInstance, Instance, Reference, Ty};
 use std::marker::Model;
 
-/// Returns the closure that the type of these references to what they lead to is, or `None` where it is none.
+/// Returns the closure if the type with these references and this base is one, otherwise `None`.
 pub fn closure_behind<'a>(
     references: &'a [Reference],
     base: &'a Base,
@@ -27,7 +27,7 @@ pub fn closure_behind<'a>(
     }
 }
 
-/// A type that is lent: its references, the outermost first, and what they lead to. Contracts see it with its regions blanked,
+/// A borrowed type without its regions: its references, the outermost first, and its base. Contracts see the type with its regions blanked,
 /// since no typing rule looks at a region.
 #[derive(Drop)]
 pub struct Shape<'a> {
@@ -55,28 +55,28 @@ impl<'a> Shape<'a> {
         }
     }
 
-    /// Returns the shape of the type of these references to what they lead to.
+    /// Returns the shape of the type with these references and this base.
     pub fn behind(references: &'a [Reference], base: &'a Base) -> Shape<'a>
         ensures { result ≡ blanked (record { references = references.now; base = base.now }) }
     {
         Shape { references, base }
     }
 
-    /// Returns whether it is that of `int`.
+    /// Returns whether the type is `int`.
     pub fn is_int(&self) -> bool
         ensures { result ≡ is_int_type self.now }
     {
         is_int_behind(self.references, self.base)
     }
 
-    /// Returns whether `copy` may take a value of such a type.
+    /// Returns whether `copy` may take a value of the type.
     pub fn is_copyable(&self) -> bool
         ensures { result ≡ is_copyable_type self.now }
     {
         is_copyable_behind(self.references, self.base)
     }
 
-    /// Returns whether an instance of a struct has it.
+    /// Returns whether an instance of a struct has this shape.
     pub fn is_struct(&self, instance: &Instance) -> bool
         ensures { result ≡ one_shape (struct_type instance.now) self.now }
     {
@@ -89,7 +89,7 @@ impl<'a> Shape<'a> {
         }
     }
 
-    /// Returns the number of the closure that it is, or `None` where it is none.
+    /// Returns the number of the closure if the type is one, otherwise `None`.
     pub fn closure(&self) -> Option<u8>
         ensures { result ≡ option_map (λ closure. closure.number) (closure_of self.now) }
     {
@@ -99,7 +99,7 @@ impl<'a> Shape<'a> {
         }
     }
 
-    /// Returns whether a closure has it.
+    /// Returns whether a closure has this shape.
     pub fn is_closure(&self, closure: &ClosureInstance) -> bool
         ensures { result ≡ one_shape (closure_type closure.now) self.now }
     {
@@ -112,14 +112,14 @@ impl<'a> Shape<'a> {
         }
     }
 
-    /// Returns whether another type has it.
+    /// Returns whether another type has this shape.
     pub fn is_like(&self, other: &Shape<'_>) -> bool
         ensures { result ≡ one_shape self.now other.now }
     {
         are_alike_types(self.references, self.base, other.references, other.base)
     }
 
-    /// Returns whether this reference to what it leads to has it.
+    /// Returns whether this reference to the pointee has this shape.
     pub fn is_reference(&self, reference: Reference, pointee: &Shape<'_>) -> bool
         ensures { result ≡ one_shape (type_referenced reference pointee.now) self.now }
     {

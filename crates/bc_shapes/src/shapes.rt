@@ -1,4 +1,4 @@
-//! Types without their regions.
+//! Compares types without their regions.
 ghost use Rattle.std.specs.Prelude.{◌≡◌};
 ghost use Rattle.bc_shapes.specs.Shapes.{same_name, alike, alike_closures, alike_bases, alike_types, is_int_base as int_base, is_int_behind as int_behind, is_copyable_behind as copyable_behind, is_copyable_type as copyable_type};
 ghost use Rattle.bc_shapes.specs.Mutabilities.{same_mutability};
@@ -19,7 +19,7 @@ pub fn is_same_mutability(first: Mutability, second: Mutability) -> bool
     first == second
 }
 
-/// Returns whether instances have one name and one number of regions.
+/// Returns whether instances have the same name and number of regions.
 pub fn are_alike(first: &Instance, second: &Instance) -> bool
     ensures { result ≡ alike first.now second.now }
 {
@@ -27,7 +27,7 @@ pub fn are_alike(first: &Instance, second: &Instance) -> bool
         && first.regions.as_slice().len() == second.regions.as_slice().len()
 }
 
-/// Returns whether closures have one number and one number of regions.
+/// Returns whether closures have the same number and number of regions.
 pub fn are_alike_closures(first: &ClosureInstance, second: &ClosureInstance) -> bool
     ensures { result ≡ alike_closures first.now second.now }
 {
@@ -51,7 +51,7 @@ fn are_alike_bases(first: &Base, second: &Base) -> bool
     }
 }
 
-/// Returns whether two types, each given by its references and what they lead to, are equal once regions are blanked.
+/// Returns whether two types, each given by its references and its base, are equal once regions are blanked.
 pub fn are_alike_types(
     references: &[Reference],
     first: &Base,
@@ -84,7 +84,7 @@ fn is_int_base(base: &Base) -> bool
     }
 }
 
-/// Returns whether these references to what they lead to are `int`.
+/// Returns whether the type with these references and this base is `int`.
 pub fn is_int_behind(references: &[Reference], base: &Base) -> bool
     ensures { result ≡ int_behind references.now base.now }
 {
@@ -94,8 +94,7 @@ pub fn is_int_behind(references: &[Reference], base: &Base) -> bool
     }
 }
 
-/// Returns whether `copy` may take a value of the type of these references to what they lead to: it is `int` or a shared
-/// reference.
+/// Returns whether `copy` may take a value of the type with these references and this base: it is `int` or a shared reference.
 pub fn is_copyable_behind(references: &[Reference], base: &Base) -> bool
     ensures { result ≡ copyable_behind references.now base.now }
 {

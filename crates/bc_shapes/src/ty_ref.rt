@@ -1,4 +1,4 @@
-//! Types that are lent.
+//! Borrowed types.
 ghost use Rattle.std.specs.Prelude.{◌≡◌};
 ghost use Rattle.bc_shapes.specs.Shapes.{is_copyable_type};
 
@@ -6,8 +6,7 @@ use crate::shapes::is_copyable_behind;
 use bc_syntax::{Base, Reference, Ty};
 use std::marker::Model;
 
-/// A type that is borrowed: its references, the outermost first, and what they lead to, from where they are stored. It takes no
-/// memory, and contracts see it as the type.
+/// A type, borrowed from where it is stored: its references, the outermost first, and its base. Contracts see it as the type.
 #[derive(Drop)]
 pub struct TyRef<'a> {
     references: &'a [Reference],
@@ -33,7 +32,7 @@ impl<'a> TyRef<'a> {
         }
     }
 
-    /// Makes the type of these references to what they lead to.
+    /// Returns the type with these references and this base.
     pub fn behind(references: &'a [Reference], base: &'a Base) -> TyRef<'a>
         ensures { result ≡ record { references = references.now; base = base.now } }
     {
@@ -47,7 +46,7 @@ impl<'a> TyRef<'a> {
         self.references
     }
 
-    /// Returns what the references of the type lead to.
+    /// Returns the base of the type.
     pub fn base(&self) -> &'a Base
         ensures { result.now ≡ self.now.base }
     {

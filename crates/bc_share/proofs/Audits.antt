@@ -1,4 +1,4 @@
--- A session's own list beside the entries that a loop has seen.
+-- A session's own list, compared with the entries that a loop has seen.
 use Rattle.std.proofs.Common.{◌≡◌, ◌≢◌, ℕ, suc, ◌+◌, ◌<◌, ◌≤◌, ◌==◌, Bool, cond, false, true≢false, eq-eqb, ne_eqb, List, [], ◌∷◌, ◌++◌, length, take, drop, get_or, append_assoc, sym, ap, ◌∙◌}
 use Rattle.std.specs.Prelude.{map, filter}
 use Rattle.std.specs.Bool.{Decides}
@@ -30,7 +30,7 @@ pub own_other : (own rest : List Event) (number : ℕ) (entries : List Entry) (i
 own_other own rest number entries i e is small there other =
     is ∙ ap (λ l. l ++ rest) (sym (append-nil (calls number (take i entries))) ∙ ap (λ l. calls number (take i entries) ++ l) (sym (no_call number e other)) ∙ sym (calls-append number (take i entries) (e ∷ [])) ∙ ap (λ x. calls number (take i entries ++ x ∷ [])) there ∙ ap (calls number) (sym (take_more entries i e small)))
 
--- the session's next entry is not what its own list has next
+-- the session's next entry is not the next one of its own list
 pub own_apart : (own rest : List Event) (number : ℕ) (entries : List Entry) (i : ℕ) (e : Entry)
     → own ≡ calls number (take i entries) ++ rest → i < length entries → e ≡ get_or entries i e → e.session ≡ number
     → ((tail : List Event) → rest ≢ e.event ∷ tail) → Decides false (own ≡ calls number entries)
@@ -43,7 +43,7 @@ own_apart own rest number entries i e is small there mine never =
           absurd (never (calls number later) (append_cancel_left (calls number (take i entries)) rest (e.event ∷ calls number later) (sym is ∙ all ∙ whole))),
     )
 
--- all entries are seen
+-- after the last entry
 pub own_all : (own rest : List Event) (number : ℕ) (entries : List Entry) (i : ℕ) (r : Bool)
     → own ≡ calls number (take i entries) ++ rest → length entries ≤ i → r ≡ (length rest == 0) → Decides r (own ≡ calls number entries)
 own_all own rest number entries i r is done result =

@@ -10,7 +10,7 @@ use Rattle.bc_calls.proofs.Beginnings.{calls_grow, starts_again}
 use Rattle.bc_book.specs.declared.ledger.TheConstants.{MOST_SESSIONS}
 use Rattle.bc_share.specs.Sessions.{SessionView, IsNoted, IsAnswered, IsSame, Stays}
 
--- what was seen is a beginning of itself
+-- a list starts with itself
 pub starts_same : (h : List Entry) → StartsWith h h
 starts_same h = ([], sym (append-nil h))
 
@@ -24,7 +24,7 @@ noted_none number own seen range none nothing = record {
   listed = sym none;
 }
 
--- the session's calls in what it has seen are its own list, where the last that it has seen is its next call
+-- if the last entry that a session has seen is its next call, its calls in what it has seen are its own list
 mine : (number : ℕ) (own own' : List Event) (seen seen' : List Entry) (event : Event) → IsNoted number own seen → own' ≡ own ++ event ∷ [] → StartsWith seen' seen → IsLegal seen'
     → last_of seen' ≡ Some (record { session = number; number = length own; event = event }) → calls number seen' ≡ own'
 mine number own own' seen seen' event noted longer later legal last =
@@ -54,7 +54,7 @@ answered_more tag number own own' seen seen' event noted longer later legal last
   mine = mine number own own' seen seen' event noted longer later legal last;
 }
 
--- a session that stays, and stays again, or is answered
+-- a session that stays, and then stays again or is answered
 pub stays_again : (old mid new : SessionView) → Stays old mid → Stays mid new → Stays old new
 stays_again old mid new first second = record {
   tag = second.tag ∙ first.tag;
@@ -64,8 +64,22 @@ stays_again old mid new first second = record {
   legal = second.legal;
 }
 
-pub stays_answered : (event : Event) (old mid new : SessionView) → Stays old mid → IsAnswered event mid new → IsAnswered event old new
-stays_answered event old mid new first second = record {
+-- a session that stays is the same
+pub same_of : (old new : SessionView) → Stays old new → IsSame old new
+same_of old new stays = record { tag = stays.tag; number = stays.number; own = stays.own; later = stays.later }
+
+-- the same session, that then stays
+pub same_then_stays : (old mid new : SessionView) → IsSame old mid → Stays mid new → IsSame old new
+same_then_stays old mid new first second = record {
+  tag = second.tag ∙ first.tag;
+  number = second.number ∙ first.number;
+  own = second.own ∙ first.own;
+  later = starts_again new.seen mid.seen old.seen second.later first.later;
+}
+
+-- the same session, of which a call is then answered
+pub same_then_answered : (event : Event) (old mid new : SessionView) → IsSame old mid → IsAnswered event mid new → IsAnswered event old new
+same_then_answered event old mid new first second = record {
   tag = second.tag ∙ first.tag;
   number = second.number ∙ first.number;
   own = second.own ∙ ap (λ (l : List Event). l ++ event ∷ []) first.own;
@@ -75,23 +89,18 @@ stays_answered event old mid new first second = record {
   mine = second.mine;
 }
 
--- a call whose session stayed before it, and whose event is this
+-- a call that is answered after its session stayed
 pub told_again : {T E : Type 0} (r : Result T E) (event event' : T → Event) (old mid new : SessionView) → Stays old mid → ((t : T) → event t ≡ event' t)
     → IfOk r (λ t. IsAnswered (event t) mid new) → IfOk r (λ t. IsAnswered (event' t) old new)
-told_again (Ok t) event event' old mid new stays same told = stays_answered (event' t) old mid new stays (subst (λ (e : Event). IsAnswered e mid new) (same t) told)
+told_again (Ok t) event event' old mid new stays same told = same_then_answered (event' t) old mid new (same_of old mid stays) (subst (λ (e : Event). IsAnswered e mid new) (same t) told)
 told_again (Err e) event event' old mid new stays same told = tt
 
--- what was asked for, and answered to a session that stayed before it
-pub asked_again : {E : Type 0} (Is : Event → Type 0) (r : Result Event E) (old mid new : SessionView) → Stays old mid → IfOk r (λ e. Is e × IsAnswered e mid new) → IfOk r (λ e. Is e × IsAnswered e old new)
-asked_again Is (Ok e) old mid new stays told = (told.0, stays_answered e old mid new stays told.1)
-asked_again Is (Err e) old mid new stays told = tt
-
--- of what was refused holds what holds anyway
+-- what holds also holds if a call fails
 pub on_err : {T E : Type 0} (r : Result T E) (P : Type 0) → P → OnErr r P
 on_err (Ok t) P p = tt
 on_err (Err e) P p = p
 
--- a refused call whose session stayed before it
+-- a call that fails after its session stayed
 pub refused_again : {T E : Type 0} (r : Result T E) (old mid new : SessionView) → Stays old mid → OnErr r (Stays mid new) → OnErr r (Stays old new)
 refused_again (Ok t) old mid new stays refused = tt
 refused_again (Err e) old mid new stays refused = stays_again old mid new stays refused

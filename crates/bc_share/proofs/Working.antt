@@ -1,4 +1,4 @@
--- Work on all that was begun, one after another.
+-- Working on all that was begun, one after another.
 use Rattle.std.proofs.Common.{◌≡◌, List, [], ◌∷◌, ◌++◌, append_assoc, sym, ap, ◌∙◌, subst}
 use Rattle.std.specs.List.{AllZip}
 use Rattle.std.proofs.lemmas.List.{append-nil}
@@ -7,7 +7,7 @@ use Rattle.bc_calls.specs.Works.{WorkView}
 use Rattle.bc_versions.proofs.Tables.{zip_more}
 use Rattle.bc_share.specs.Works.{IsWorkOn}
 
--- of all that was begun, these works are on what is not left
+-- the works are on all that was begun, except for what is left
 pub record HasWorked (all left : List SnapshotView) (works : List WorkView) : Type 0 where
   pub before : List SnapshotView
   pub cut : all ≡ before ++ left

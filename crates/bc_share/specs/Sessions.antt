@@ -1,4 +1,4 @@
--- What a session knows, and what a call leaves of it.
+-- What contracts see of a session, and how a call changes it.
 use Rattle.std.specs.Prelude.{◌≡◌, ℕ, ◌<◌, zero, suc, Some, List, [], ◌∷◌, ◌++◌, length}
 use Rattle.bc_calls.specs.declared.call.Call.{Call}
 use Rattle.bc_calls.specs.declared.call.Entry.{Entry}
@@ -13,16 +13,16 @@ pub record SessionView : Type 0 where
   pub own : List Event
   pub seen : List Entry
 
--- a session, and for how many more calls its own list has memory
+-- a session, and for how many more calls its own list has room
 pub record NotesView : Type 0 where
   pub session : SessionView
   pub room : ℕ
 
--- the session before any call
+-- a session before any call, which has seen nothing
 abbrev pub new_session : ℕ → ℕ → SessionView
 new_session tag number = record { tag = tag; number = number; own = []; seen = [] }
 
--- so many sessions before any call, numbered from 0
+-- this many sessions before any call, numbered from 0
 abbrev pub new_sessions : ℕ → ℕ → List SessionView
 new_sessions tag zero = []
 new_sessions tag (suc count) = new_sessions tag count ++ new_session tag count ∷ []
@@ -50,9 +50,9 @@ pub record Stays (old new : SessionView) : Type 0 where
   pub later : StartsWith new.seen old.seen
   pub legal : IsLegal new.seen
 
--- The call was answered with this reply: the session's own list is longer by the two. What it has seen begins with what it had seen, is
--- legal, and ends with an entry of this session, of the two, with the length that its own list had as its number; so the session's
--- calls in what it has seen are its own list.
+-- The call was answered: the session's own list is longer by this call with its reply. What the session has seen begins with what it had
+-- seen, is legal, and ends with this call and reply as an entry of this session. The number of that entry is the length that the own list
+-- had. So the session's calls in what it has seen are its own list.
 pub record IsAnswered (event : Event) (old new : SessionView) : Type 0 where
   pub tag : new.tag ≡ old.tag
   pub number : new.number ≡ old.number

@@ -1,4 +1,4 @@
-//! Whether a history agrees with the own lists of the sessions that made it.
+//! Whether a history agrees with the own lists of its sessions.
 ghost use Rattle.std.specs.Prelude.{◌≡◌, ◌≢◌, ◌↔◌, ◌<◌, ◌∷◌, All, IsTrue, MatchOption, ℕ};
 ghost use Rattle.std.specs.List.{Contains};
 ghost use Rattle.bc_calls.specs.Calls.{calls};
@@ -8,7 +8,7 @@ use crate::session::Session;
 use bc_calls::{Entry, Event};
 use bc_versions::Ending;
 
-/// Returns what follows this event, if it is the first.
+/// Returns the events after this one, if it is the first.
 fn after_first<'a>(events: &'a [Event], event: &Event) -> Option<&'a [Event]>
     ensures { MatchOption result ((tail : _) → events.now ≢ event.now ∷ tail) (λ tail. events.now ≡ event.now ∷ tail.now) }
 {
@@ -16,7 +16,7 @@ fn after_first<'a>(events: &'a [Event], event: &Event) -> Option<&'a [Event]>
     if first.is(event) { Some(tail) } else { None }
 }
 
-/// Returns whether these are a session's events in a history.
+/// Returns whether these are exactly a session's events in a history.
 pub(crate) fn is_own(own: &[Event], number: u8, entries: &[Entry]) -> bool
     ensures { IsTrue result ↔ (own.now ≡ calls number entries.now) }
 {
@@ -32,7 +32,7 @@ pub(crate) fn is_own(own: &[Event], number: u8, entries: &[Entry]) -> bool
     rest.is_empty()
 }
 
-/// Returns whether a session has this number.
+/// Returns whether one of the sessions has this number.
 fn has_number<E: Ending>(sessions: &[Session<E>], number: u8) -> bool
     ensures { IsTrue result ↔ Contains (numbers sessions.now) number }
 {
@@ -44,7 +44,7 @@ fn has_number<E: Ending>(sessions: &[Session<E>], number: u8) -> bool
     false
 }
 
-/// Returns whether each number below this one is a session's.
+/// Returns whether each number below `count` is a session's.
 fn have_numbers<E: Ending>(sessions: &[Session<E>], count: u8) -> bool
     ensures { IsTrue result ↔ ((number : ℕ) → number < count → Contains (numbers sessions.now) number) }
 {
@@ -63,21 +63,21 @@ fn have_tag<E: Ending>(sessions: &[Session<E>], tag: u64) -> bool
     sessions.iter().all(|session| session.tag() == tag)
 }
 
-/// Returns whether these are the sessions of a database with this tag, so many, each once.
+/// Returns whether these are the `count` sessions of the database with this tag, each once.
 pub(crate) fn are_sessions<E: Ending>(tag: u64, count: u8, sessions: &[Session<E>]) -> bool
     ensures { IsTrue result ↔ AreSessionsOf tag count sessions.now }
 {
     sessions.len() == usize::from(count) && have_tag(sessions, tag) && have_numbers(sessions, count)
 }
 
-/// Returns whether each session's own list is what a history has of it.
+/// Returns whether each session's own list is exactly its events in a history.
 fn each_agrees<E: Ending>(sessions: &[Session<E>], entries: &[Entry]) -> bool
     ensures { IsTrue result ↔ All (λ s. s.own ≡ calls s.number entries.now) sessions.now }
 {
     sessions.iter().all(|session| session.agrees(entries))
 }
 
-/// Returns whether each entry of a history is of one of the sessions.
+/// Returns whether each entry of a history belongs to one of the sessions.
 fn each_is_theirs<E: Ending>(sessions: &[Session<E>], entries: &[Entry]) -> bool
     ensures { IsTrue result ↔ All (λ e. Contains (numbers sessions.now) e.session) entries.now }
 {
@@ -89,7 +89,8 @@ fn each_is_theirs<E: Ending>(sessions: &[Session<E>], entries: &[Entry]) -> bool
     true
 }
 
-/// Returns whether a history agrees with these sessions: each one's own list is what the history has of it, and each entry is of one of them.
+/// Returns whether a history agrees with these sessions: each one's own list is exactly its events there, and each entry belongs to one of
+/// them.
 pub(crate) fn agree<E: Ending>(sessions: &[Session<E>], entries: &[Entry]) -> bool
     ensures { IsTrue result ↔ Agrees sessions.now entries.now }
 {

@@ -1,4 +1,4 @@
-//! A database: opened for its sessions, and closed with them, which gives the history.
+//! A database: opened for its sessions, and closed with them, which returns the history.
 ghost use Rattle.std.specs.Prelude.{◌≡◌, ◌↔◌, ◌<◌, ◌≤◌, IfOk, IfErr, IsTrue, OnOk};
 ghost use Rattle.bc_calls.specs.Calls.{IsLegal};
 ghost use Rattle.bc_book.specs.declared.ledger.TheConstants.{MOST_SESSIONS};
@@ -19,7 +19,7 @@ use thiserror::Error;
 /// The most entries that a history may have.
 pub const MOST_ENTRIES: u32 = 1_000_000;
 
-/// The reason why a database could not be opened: the capacity or the number of sessions is out of its range, or memory was refused.
+/// The reason why a database could not be opened: the capacity or the number of sessions is out of range, or out of memory.
 #[derive(Clone, Copy, Debug, PartialEq, Eq, Error)]
 pub enum OpenFault {
     #[error("out of range")]
@@ -28,8 +28,8 @@ pub enum OpenFault {
     NoMemory,
 }
 
-/// The reason why a database could not be closed: the sessions are not as many as it has, of its tag, each number once; or the
-/// history, which is handed out, does not agree with them.
+/// The reason why a database could not be closed: the sessions are not as many as it has, with its tag, each number once; or the history,
+/// which comes along, does not agree with them.
 #[derive(Debug, Drop, Error)]
 pub enum CloseFault {
     #[error("the sessions are not those of this database")]
@@ -38,7 +38,7 @@ pub enum CloseFault {
     Audit(History),
 }
 
-/// A legal history of calls and replies. Contracts see it as its entries.
+/// A legal history of calls and replies. A contract sees its entries.
 #[derive_where(Debug)]
 pub struct History {
     #[derive_where(skip)]
@@ -74,7 +74,7 @@ impl History {
     }
 }
 
-/// A database that is open. Contracts see its tag, and how many sessions it has.
+/// An open database. A contract sees its tag, and how many sessions it has.
 pub struct Db<E: Ending> {
     alloc: Global,
     tag: u64,
@@ -82,7 +82,7 @@ pub struct Db<E: Ending> {
     desk: Arc<Desk<E>, Global>,
 }
 
-// Written out: the crates above call this, and prove nothing of its parts again.
+// Handwritten, so that it is proved once: the crates above only call it.
 impl<E: Ending> Drop for Db<E> {
     fn drop(self) {
         let Self {
@@ -103,11 +103,11 @@ impl<E: Ending> Model for Db<E> {
 }
 
 impl<E: Ending> Db<E> {
-    /// Opens a database of this tag, whose history may have so many entries, with so many sessions, which are numbered from 0. What
-    /// ends it is handed in, and ends what was opened also if this is refused; it may wait, though nobody reads then.
+    /// Opens a database with this tag and at most `capacity` entries in its history. Returns it with its sessions, which are numbered from
+    /// 0. `ending` ends the writer of what is published, also if opening fails. It may wait then, though nobody reads.
     ///
-    /// Returns `Range` exactly if the capacity is not 1 to 1,000,000 or the sessions are not 1 to 16, and `NoMemory` only if
-    /// memory was refused.
+    /// Returns `Range` exactly if the capacity is not 1 to 1,000,000 or the sessions are not 1 to 16, and otherwise `NoMemory` if out of
+    /// memory.
     pub fn open(
         alloc: Global,
         ending: E,
@@ -128,12 +128,12 @@ impl<E: Ending> Db<E> {
         }
     }
 
-    /// Ends the sessions, and returns the history. It takes no memory. But for `Foreign`, which leaves the book in its place, sessions
-    /// that it was not given find a full history from then on, and nothing to read.
+    /// Closes the database: ends the sessions, and returns the history. Sessions that are not passed in then find a full history, and
+    /// nothing to read. After `Foreign` they may still use the database.
     ///
-    /// Returns `Foreign` exactly if these are not as many as the database has, of its tag, each number once; and `Audit`, with the
-    /// history, exactly if they are, and a session's own list is not what the history has of it or an entry is of none of them. The
-    /// database is gone in each case.
+    /// Returns `Foreign` exactly if these are not as many sessions as the database has, with its tag, each number once. Returns `Audit`,
+    /// with the history, exactly if they are, and a session's own list is not its events in the history or an entry belongs to none of
+    /// them. The `Db` is gone in each case.
     pub fn close<R: Wait>(self, rt: &R, sessions: Vec<Session<E>>) -> Result<History, CloseFault>
         ensures one_history { IfOk result (λ h. IsOneHistory sessions.items h) }
         ensures theirs { OnOk result (AreSessionsOf self.tag self.count sessions.items) }
@@ -159,7 +159,7 @@ impl<E: Ending> Db<E> {
     }
 }
 
-/// Returns whether a history may have so many entries and a database so many sessions.
+/// Returns whether a database may have this capacity and this number of sessions.
 fn is_in_range(capacity: u32, sessions: u8) -> bool
     ensures { IsTrue result ↔ IsInRange capacity sessions }
 {
@@ -169,7 +169,7 @@ fn is_in_range(capacity: u32, sessions: u8) -> bool
         && usize::from(sessions) <= MOST_SESSIONS
 }
 
-/// Returns a database with its sessions, where the numbers are in range. `AllocError` only if memory was refused.
+/// Returns a database with its sessions. Requires that the numbers are in range.
 fn opened<E: Ending>(
     alloc: Global,
     ending: E,
@@ -196,7 +196,7 @@ fn opened<E: Ending>(
     Ok((db, sessions))
 }
 
-/// Returns so many new sessions at a desk, numbered from 0, each with a front. `AllocError` only if memory was refused.
+/// Returns `count` new sessions at a desk, numbered from 0, each with a front.
 fn seated<E: Ending>(
     alloc: Global,
     desk: &Arc<Desk<E>, Global>,

@@ -13,8 +13,8 @@ use bc_versions::Ending;
 use std::alloc::Global;
 use std::sync::{Mutex, Wait};
 
-/// The lock of a database, with its book in it. Each call takes it for one step, until the database is closed and the book taken
-/// out: what comes later finds a full history. A call that is entered is noted under the lock too, once its session has read it.
+/// The lock of a database, with its book in it. Each call takes the lock for one step. Closing takes the book out, and a later call finds a
+/// full history. A call that is entered is noted under the lock too, once its session has read its entry.
 #[derive(Drop)]
 pub(crate) struct Desk<E: Ending> {
     book: Mutex<Option<Book<E>>>,
@@ -28,8 +28,8 @@ impl<E: Ending> Desk<E> {
         }
     }
 
-    /// Enters what a session does, and returns the call with its reply. Refused with `HistoryFull` only if the history has as many
-    /// entries as it may have, or the book was taken out, and with `NoMemory` only if memory was refused.
+    /// Enters an operation of a session, and returns the call with its reply. Returns `HistoryFull` only if the history is full or the book
+    /// was taken out, and `NoMemory` only if out of memory.
     pub(crate) fn enter<R: Wait>(
         &self,
         rt: &R,
@@ -49,7 +49,7 @@ impl<E: Ending> Desk<E> {
         }
     }
 
-    /// Takes the book out, and its history, which is empty if that was done before. It takes no memory.
+    /// Takes the book out, and returns its history, which is empty if the book was taken out before.
     pub(crate) fn take_history<R: Wait>(&self, rt: &R, alloc: Global) -> Vec<Entry>
         ensures { IsLegal result.items }
     {
@@ -61,7 +61,7 @@ impl<E: Ending> Desk<E> {
     }
 }
 
-/// Enters what a session does as one entry of the book, notes it once it is read, and returns the call with its reply.
+/// Enters an operation of a session as one entry of the book, notes it once it is read, and returns the call with its reply.
 fn enter<R: Wait, E: Ending>(
     rt: &R,
     alloc: Global,
@@ -78,8 +78,8 @@ fn enter<R: Wait, E: Ending>(
     ensures refused { OnErr result (notes.new ≡ notes.old) }
     ensures full { IfErr result (IsFull book.old) }
 {
-    let told = book.enter(rt, alloc, notes.number(), operation, providers)?;
-    let (listed, answered) = told.into_owners();
+    let owners = book.enter(rt, alloc, notes.number(), operation, providers)?;
+    let (listed, answered) = owners.into_owners();
     notes.note(rt, listed);
     Ok(answered)
 }

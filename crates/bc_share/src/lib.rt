@@ -1,5 +1,5 @@
-//! The database: opened for up to sixteen sessions, which make their calls on any threads, and closed with them, which gives the
-//! history of all calls.
+//! The database: opened for up to sixteen sessions, which make their calls on any threads, and closed with them, which returns the history
+//! of all calls.
 #![tactic(auto)]
 
 mod audit;

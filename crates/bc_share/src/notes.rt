@@ -1,4 +1,4 @@
-//! What a session notes: its own list, and what it has seen of what is published.
+//! What a session notes: its own list of calls, and what it has seen of what is published.
 ghost use Rattle.std.specs.Prelude.{◌≡◌, ◌↔◌, ◌<◌, IfOk, IsTrue, OnOk, [], length};
 ghost use Rattle.bc_book.specs.declared.ledger.TheConstants.{MOST_SESSIONS};
 ghost use Rattle.bc_prov.specs.Snapshots.{IsPartOf};
@@ -16,8 +16,8 @@ use std::alloc::{AllocError, Global};
 use std::marker::Model;
 use std::sync::Wait;
 
-/// The own list of a session, with its reader of what is published. Contracts see the session, and for how many more calls the
-/// list has memory. The type keeps that what the session has seen is legal, and that up to some entry its calls are its own list.
+/// A session's own list of calls, with its reader of what is published. A contract sees the session, and for how many more calls the list
+/// has room. The type guarantees that what the session has seen is legal, and that up to some entry its calls there are its own list.
 pub(crate) struct Notes {
     tag: u64,
     number: u8,
@@ -51,7 +51,7 @@ impl Model for Notes {
 }
 
 impl Notes {
-    /// Returns the notes of a session that has made no call and seen nothing. It takes no memory.
+    /// Returns the notes of a session that has made no call and seen nothing.
     pub(crate) fn new(alloc: Global, tag: u64, number: u8, front: Front) -> Notes
         requires range { number < MOST_SESSIONS }
         requires nothing { front ≡ [] }
@@ -65,14 +65,14 @@ impl Notes {
         }
     }
 
-    /// Returns how many calls the session has made.
+    /// Returns the number of calls that the session has made.
     pub(crate) fn count(&self) -> usize
         ensures { result ≡ length self.now.session.own }
     {
         self.own.len()
     }
 
-    /// Makes room for one call in the session's own list. Returns `AllocError` only if memory was refused.
+    /// Makes room for one call in the session's own list.
     pub(crate) fn reserve(&mut self) -> Result<(), AllocError>
         ensures kept { Stays self.old.session self.new.session }
         ensures room { OnOk result (0 < self.new.room) }
@@ -80,7 +80,7 @@ impl Notes {
         self.own.reserve(1)
     }
 
-    /// Reads what is published until it ends with this event, as the session's next, and enters it in the session's own list.
+    /// Reads until the last published entry is this event, as the session's next call, and adds the event to the session's own list.
     pub(crate) fn note<R: Wait>(&mut self, rt: &R, event: Event)
         requires { 0 < self.old.room }
         ensures { IsAnswered event self.old.session self.new.session }
@@ -89,7 +89,7 @@ impl Notes {
         self.own.push_reserved(event);
     }
 
-    /// A name's part of what is published. Returns `AllocError` only if memory or the reading was refused.
+    /// Returns a name's part of what is published. Returns `AllocError` also if the reading fails.
     pub(crate) fn begin(&mut self, alloc: Global, name: &Name) -> Result<Begun, AllocError>
         ensures kept { Stays self.old.session self.new.session }
         ensures part { IfOk result (λ begun. IsPartOf begun name.now (after self.new.session.seen)) }
@@ -98,8 +98,8 @@ impl Notes {
         self.front.begin(alloc, name)
     }
 
-    /// The parts of all stored names without segments, in the order of the names, as one reading finds them. Returns `AllocError` only
-    /// if memory or the reading was refused.
+    /// Returns the parts of all roots that hold a body, in the order of the names, from one reading. Returns `AllocError` also if the
+    /// reading fails.
     pub(crate) fn begin_all(&mut self, alloc: Global) -> Result<Vec<Begun>, AllocError>
         ensures kept { Stays self.old.session self.new.session }
         ensures parts { IfOk result (λ begun. AreAllBegun self.new.session.seen begun.items) }
@@ -107,7 +107,8 @@ impl Notes {
         self.front.begin_all(alloc)
     }
 
-    /// The answer that is published for a name. Returns `AllocError` only if an owner or the reading was refused.
+    /// Returns the answer that is published for a name, if there is one. Returns `AllocError` if the reading fails, or if the answer has
+    /// too many owners.
     pub(crate) fn glance(&mut self, name: &Name) -> Result<Option<Shared<Outcome>>, AllocError>
         ensures kept { Stays self.old.session self.new.session }
         ensures answer { IfOk result (IsAnswer self.new.session.seen name.now) }
@@ -130,7 +131,7 @@ impl Notes {
         self.number
     }
 
-    /// Returns whether the session's own list is what a history has of it.
+    /// Returns whether the session's own list is exactly its events in a history.
     pub(crate) fn agrees(&self, entries: &[Entry]) -> bool
         ensures { IsTrue result ↔ (self.now.session.own ≡ calls self.now.session.number entries.now) }
     {

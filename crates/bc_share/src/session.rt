@@ -24,16 +24,16 @@ use std::alloc::{AllocError, Global};
 use std::marker::Model;
 use std::sync::{Arc, Wait};
 
-/// One session of a database. It makes the calls, keeps its own list of them and their replies, and reads what is published. It may go
-/// from thread to thread; the others of its database make theirs meanwhile. Contracts see its number, the tag of its database, that
-/// list, and the entries that it has seen: a beginning of what was published, which only grows.
+/// One session of a database. It makes calls, keeps its own list of them and their replies, and reads what is published. It may move from
+/// thread to thread, and the other sessions of its database make their calls meanwhile. A contract sees its number, the tag of its
+/// database, that list, and the entries that it has seen: a beginning of what was published, which only grows.
 pub struct Session<E: Ending> {
     alloc: Global,
     notes: Notes,
     desk: Arc<Desk<E>, Global>,
 }
 
-// Written out: the crates above call this, and prove nothing of its parts again.
+// Handwritten, so that it is proved once: the crates above only call it.
 impl<E: Ending> Drop for Session<E> {
     fn drop(self) {
         let Self {
@@ -53,7 +53,7 @@ impl<E: Ending> Model for Session<E> {
 }
 
 impl<E: Ending> Session<E> {
-    /// Returns a session that has made no call and seen nothing. It takes no memory.
+    /// Returns a session that has made no call and seen nothing.
     pub(crate) fn new(
         alloc: Global,
         desk: Arc<Desk<E>, Global>,
@@ -72,12 +72,11 @@ impl<E: Ending> Session<E> {
         }
     }
 
-    /// Stores declarations in place of those before; each Ask from now on is answered under them. They may be bad: an Ask reports it.
+    /// Stores declarations in place of those before. Each later ask is answered over them. They may be bad: an ask reports it.
     ///
-    /// The declarations are checked, and room in the session's own list is made, before the lock is taken. It returns once the
-    /// session has read its own entry. Refused with `HistoryFull` only if the history has as many entries as it may have, where no
-    /// call is taken, or the database is closed, and with `NoMemory` only if memory was refused; the session's own list and the
-    /// history are then as they were.
+    /// The declarations are checked, and room in the session's own list is made, before the lock is taken. The call returns once the
+    /// session has read its own entry. Returns `HistoryFull` only if the history is full, after which no call is accepted, or if the
+    /// database is closed, and `NoMemory` only if out of memory. The session's own list and the history are then as they were.
     pub fn put_types<R: Wait>(&mut self, rt: &R, types: Arc<Types, Global>) -> Result<(), Refusal>
         ensures told { OnOk result (IsAnswered (events.Types (arc_value types)) self.old self.new) }
         ensures refused { OnErr result (Stays self.old self.new) }
@@ -90,9 +89,8 @@ impl<E: Ending> Session<E> {
 
     /// Stores a unit under a name.
     ///
-    /// Replies `WrongKind` if the name is not one for such a unit, else `Full` if the name is new and
-    /// `MOST_BODIES` are stored, else `Replaced` or `Added`. Room in the session's own list is made first. Refused as
-    /// `put_types` is.
+    /// Replies `WrongKind` if the unit does not suit the name, otherwise `Full` if the name is new and `MOST_BODIES` bodies are stored,
+    /// otherwise `Replaced` or `Added`. Room in the session's own list is made first. Fails as `put_types` does.
     pub fn put<R: Wait>(
         &mut self,
         rt: &R,
@@ -110,8 +108,8 @@ impl<E: Ending> Session<E> {
         }
     }
 
-    /// Takes the unit of a name away, and replies `Removed`, or `Absent` if none is stored. Room in the session's own list is
-    /// made first. Refused as `put_types` is.
+    /// Removes the unit of a name, and replies `Removed`, or `Absent` if the name holds none. Room in the session's own list is made first.
+    /// Fails as `put_types` does.
     pub fn remove<R: Wait>(&mut self, rt: &R, name: Name) -> Result<RemoveReply, Refusal>
         ensures told { IfOk result (λ reply. IsAnswered (events.Remove name reply) self.old self.new) }
         ensures refused { OnErr result (Stays self.old self.new) }
@@ -124,9 +122,9 @@ impl<E: Ending> Session<E> {
         }
     }
 
-    /// Returns the part of what is published that the outcome of a name rests on, to be worked on and settled later; it carries the
-    /// name's answer if one is published. It is no call: the session's own list is unchanged. It waits for nobody. Returns
-    /// `AllocError` only if memory or the reading was refused, as it is once the database is closed.
+    /// Returns a consistent snapshot of one name and its closures, taken without the lock. Pass it to `work`, then to `settle`. It carries
+    /// the name's answer if one is published. This is no call: the session's own list is unchanged. It waits for nobody. Returns
+    /// `AllocError` also if the reading fails, as it does once the database is closed.
     pub fn begin(&mut self, name: &Name) -> Result<Begun, AllocError>
         ensures kept { Stays self.old self.new }
         ensures part { IfOk result (λ begun. IsPartOf begun name.now (after self.new.seen)) }
@@ -135,10 +133,9 @@ impl<E: Ending> Session<E> {
         self.notes.begin(self.alloc, name)
     }
 
-    /// Returns the part of each name without segments that is stored in what is published, in the order of the names, to be worked on and
-    /// settled later; each carries its name's answer if one is published. All are parts of what one reading found. It is no call: the
-    /// session's own list is unchanged. It waits for nobody. Returns `AllocError` only if memory or the reading was refused, as it
-    /// is once the database is closed.
+    /// Returns a snapshot, as `begin` does, of each root that holds a body, in the order of the names. Pass them to `work_all`, then to
+    /// `settle_all`. Each carries its name's answer if one is published. All come from one reading. This is no call: the session's own list
+    /// is unchanged. It waits for nobody. Returns `AllocError` also if the reading fails, as it does once the database is closed.
     pub fn begin_all(&mut self) -> Result<Vec<Begun>, AllocError>
         ensures kept { Stays self.old self.new }
         ensures parts { IfOk result (λ begun. AreAllBegun self.new.seen begun.items) }
@@ -146,10 +143,10 @@ impl<E: Ending> Session<E> {
         self.notes.begin_all(self.alloc)
     }
 
-    /// Returns the answer that is published for a name: the outcome of what is stored, if the name is stored and was asked for since
-    /// declarations were stored last and it or a name that begins with it and `/` was written last; else none. It is no call: the
-    /// session's own list is unchanged. It waits for nobody. Returns `AllocError` only if an owner or the reading was refused,
-    /// as it is once the database is closed.
+    /// Returns the answer that is published for a name, if there is one: the outcome of what is stored, if the name holds a body, and was
+    /// asked for since declarations were last stored and since it or a name that begins with it and `/` was last written. This is no call:
+    /// the session's own list is unchanged. It waits for nobody. Returns `AllocError` if the reading fails, as it does once the database is
+    /// closed, or if the answer has too many owners.
     pub fn glance(&mut self, name: &Name) -> Result<Option<Arc<Outcome, Global>>, AllocError>
         ensures kept { Stays self.old self.new }
         ensures answer { IfOk result (λ answer. IsAnswer self.new.seen name.now (option_map arc_value answer)) }
@@ -160,12 +157,12 @@ impl<E: Ending> Session<E> {
         }
     }
 
-    /// Asks for the name of a work, and returns its outcome: what the work found or what is remembered for the name, if that is
-    /// still so, else it is worked out again from what is stored now (its errors by RFC 2094, "Borrow checker phase 2" and "Named
-    /// lifetimes"). The work may be another database's.
+    /// Asks for the name of a work, and returns its outcome for what is stored now. This is the work's own outcome or the remembered one if
+    /// that is still valid. Otherwise it is worked out again (its errors by RFC 2094, "Borrow checker phase 2" and "Named lifetimes"). The
+    /// work may be from another database.
     ///
-    /// Room in the session's own list is made first. Refused as `put_types` is, and with `NoMemory` if a provider runs out of
-    /// memory; the work is then gone.
+    /// Room in the session's own list is made first. Fails as `put_types` does, and returns `NoMemory` also if a provider runs out of
+    /// memory. The work is then gone.
     pub fn settle<R: Wait>(
         &mut self,
         rt: &R,
@@ -183,12 +180,11 @@ impl<E: Ending> Session<E> {
         }
     }
 
-    /// Asks whether the body under a name is borrow-correct now, and returns the outcome of what the name holds, under the
-    /// declarations that are stored: their first bad one, `NoBody`, `Missing`, `Ill`, or the errors of the body and of its closures
-    /// (RFC 2094, "Borrow checker phase 2" and "Named lifetimes"). What is published is begun and worked on with no lock held,
-    /// and settled then.
+    /// Asks whether the body under a name is borrow-correct now, and returns the outcome of what the name holds, over the stored
+    /// declarations: their first bad one, `NoBody`, `Missing`, `Ill`, or the errors of the body and of its closures (RFC 2094, "Borrow
+    /// checker phase 2" and "Named lifetimes"). A snapshot is begun and worked on without the lock, then settled.
     ///
-    /// Refused as `settle` is, and with `NoMemory` if the reading is refused, as it is once the database is closed.
+    /// Fails as `settle` does, and returns `NoMemory` also if the reading fails, as it does once the database is closed.
     pub fn ask<R: Wait>(
         &mut self,
         rt: &R,
@@ -203,13 +199,13 @@ impl<E: Ending> Session<E> {
         self.settle(rt, work, providers)
     }
 
-    /// Asks for all, with works of a session, and returns the outcome of each name without segments that is stored, in the order of the
-    /// names. Each is the one that `settle` would give to an Ask of that name, with the work on it if there is one (its errors by RFC
-    /// 2094, "Borrow checker phase 2" and "Named lifetimes"). The works may come in any order, and may be another database's. Of several of
-    /// one name one is taken; the others, and those of names that are not listed, are dropped.
+    /// Asks for all roots that hold a body, with works on some of them, and returns the outcome of each, in the order of the names. Each is
+    /// the one that `settle` would return for that name, with a work on it if there is one (its errors by RFC 2094, "Borrow checker phase
+    /// 2" and "Named lifetimes"). The works may come in any order, and from another database. Of several on one name one is taken; the
+    /// others, and those on names that are not listed, are dropped.
     ///
-    /// It is one call, and replies to each name that it lists, as an Ask of that name does. Room in the session's own list is made first.
-    /// Refused as `settle` is; the works are then gone.
+    /// This is one call, and replies for each listed name as an ask of that name does. Room in the session's own list is made first. Fails
+    /// as `settle` does. The works are then gone.
     pub fn settle_all<R: Wait>(
         &mut self,
         rt: &R,
@@ -227,11 +223,11 @@ impl<E: Ending> Session<E> {
         }
     }
 
-    /// Asks which bodies are borrow-correct now, and returns the outcome of each name without segments that is stored, in the order of the
-    /// names, each as `ask` returns it. What is published is begun by one reading and worked on with no lock held, and settled then; roots
-    /// that were written meanwhile, and new ones, are worked on under the lock.
+    /// Asks which bodies are borrow-correct now, and returns the outcome of each root that holds a body, in the order of the names, each as
+    /// `ask` returns it. The snapshots come from one reading, are worked on without the lock, and are then settled. Roots that were written
+    /// meanwhile, and new ones, are worked on under the lock.
     ///
-    /// Refused as `settle_all` is, and with `NoMemory` if the reading is refused, as it is once the database is closed.
+    /// Fails as `settle_all` does, and returns `NoMemory` also if the reading fails, as it does once the database is closed.
     pub fn ask_all<R: Wait>(
         &mut self,
         rt: &R,
@@ -249,9 +245,9 @@ impl<E: Ending> Session<E> {
     /// other calls are this one with one kind of operation each. Work for an Ask is done before, with no lock held (`begin`, `begin_all`); an
     /// Ask asks for providers too.
     ///
-    /// Room in the session's own list is made first. Refused with `HistoryFull` only if the history has as many entries as it may have, or
-    /// the database is closed, and with `NoMemory` only if memory was refused, as a provider may report too; the session's own list and
-    /// the history are then as they were, and the work is gone.
+    /// Room in the session's own list is made first. Returns `HistoryFull` only if the history is full or the database is closed, and
+    /// `NoMemory` only if out of memory, as a provider may report too. The session's own list and the history are then as they were, and
+    /// the work is gone.
     pub fn make<R: Wait>(
         &mut self,
         rt: &R,
@@ -263,7 +259,7 @@ impl<E: Ending> Session<E> {
         ensures number { IfOk result (λ made. made.0 ≡ length self.old.own) }
         ensures refused { OnErr result (Stays self.old self.new) }
     {
-        // Before the lock is taken. So a call without room is `NoMemory` even if the history is full.
+        // Before the lock is taken: a call without room returns `NoMemory` even if the history is full.
         self.notes.reserve()?;
         let number = self.notes.count();
         let event = self
@@ -287,7 +283,7 @@ impl<E: Ending> Session<E> {
         self.notes.number()
     }
 
-    /// Returns whether its own list is what a history has of it.
+    /// Returns whether the session's own list is exactly its events in a history.
     pub(crate) fn agrees(&self, entries: &[Entry]) -> bool
         ensures { IsTrue result ↔ (self.now.own ≡ calls self.now.number entries.now) }
     {

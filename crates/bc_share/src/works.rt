@@ -1,4 +1,4 @@
-//! Work on all that was begun.
+//! Working on all that was begun.
 ghost use Rattle.std.specs.Prelude.{IfOk};
 ghost use Rattle.std.specs.List.{AllZip};
 ghost use Rattle.bc_share.specs.Works.{IsWorkOn};
@@ -7,8 +7,8 @@ use bc_calls::{Begun, Work};
 use bc_prov::Providers;
 use std::alloc::{AllocError, Global};
 
-/// Works on each of what was begun, in order, and returns one work for each, with the outcome of its name. No lock is held meanwhile,
-/// and nobody is waited for. Returns `AllocError` only if memory was refused, as a provider may too.
+/// Works on each snapshot, in order, and returns one work for each, with the outcome of its name. No lock is held meanwhile, and it waits
+/// for nobody. Returns `AllocError` also if a provider does.
 pub fn work_all(
     alloc: Global,
     begun: Vec<Begun>,

@@ -1,4 +1,4 @@
--- An element is in the value of a region exactly where there is a chain.
+-- An element is in the value of a region exactly if there is a chain.
 use Rattle.std.proofs.Common.{◌≡◌, ℕ, ◌↔◌, Bool, true, false, ◌||◌, ◌&&◌, eqb, List, [], ◌∷◌, inl, inr, refl, sym, ap, ◌∙◌, subst}
 use Rattle.std.proofs.lemmas.Bool.{or_cases, or_left, or_right, and_parts, and_from, eq-eqb, eqb-true, false≢true}
 use Rattle.bc_syntax.specs.declared.syntax.Region.{Region}
@@ -9,7 +9,7 @@ use Rattle.bc_cons.specs.Facts.{RegionFacts, MustOutlive}
 use Rattle.bc_solve.specs.Values.{IsInValue}
 use Rattle.bc_solve.specs.Chains.{IsChain, Explains}
 
--- whether a region leads to one that passes: past the first pair, or by way of it
+-- a region reaches one that passes: without the first pair, or through it
 abbrev pub reaches : List NumberedConstraint → (ℕ → Bool) → ℕ → Bool
 reaches [] start r = start r
 reaches (pair ∷ pairs) start r = reaches pairs start r || (reaches pairs (λ n. eqb n pair.longer) r && reaches pairs start pair.shorter)
@@ -42,7 +42,7 @@ reaches_on (pair ∷ pairs) start a b outlives h =
       ]
     ]
 
--- one region more before a chain
+-- one more region before a chain
 pub chain_before : (starts : ℕ → ℕ → Bool) (pairs : List NumberedConstraint) (e a b : ℕ) → MustOutlive pairs a b → (chain : List ℕ) → IsChain starts pairs b e chain → IsChain starts pairs a e (a ∷ chain)
 chain_before starts pairs e a b outlives [] h = absurd h
 chain_before starts pairs e a b outlives (c ∷ []) h = (refl, rw h.0 outlives, (refl, h.1))
@@ -56,7 +56,7 @@ more_pairs start pair pairs e [] r h = absurd h
 more_pairs start pair pairs e (a ∷ []) r h = h
 more_pairs start pair pairs e (a ∷ (b ∷ rest)) r h = (h.0, Contains-later pair pairs (record { longer = a; shorter = b }) h.1, more_pairs start pair pairs e (b ∷ rest) b h.2)
 
--- a chain to the longer region of a pair, and one from the shorter on
+-- a chain to the longer region of a pair, continued by one from the shorter region
 joined : (start : ℕ → Bool) (pair : NumberedConstraint) (pairs : List NumberedConstraint) (e : ℕ) (other : List ℕ) → IsChain (λ n _. start n) (pair ∷ pairs) pair.shorter e other →
     (chain : List ℕ) (r : ℕ) → IsChain (λ n _. eqb n pair.longer) pairs r e chain → Chain start (pair ∷ pairs) e r
 joined start pair pairs e other on [] r h = absurd h
@@ -101,14 +101,14 @@ some_chain starts pairs r e reached =
     let found = chain_of pairs (λ n. starts n e) e r reached in
     (found.0, restated starts pairs e found.0 r found.1)
 
--- a chain shows that the element is in the value, and where it is in the value there is a chain
+-- an element is in the value exactly if there is a chain
 pub value_is_chain : (starts : ℕ → ℕ → Bool) (pairs : List NumberedConstraint) (r e : ℕ) → IsInValue starts pairs r e ↔ ((chain : List ℕ) × IsChain starts pairs r e chain)
 value_is_chain starts pairs r e = (
   λ h. some_chain starts pairs r e (value_is_reached starts pairs r e h),
   λ (chain, is). in_every_lawful starts pairs e chain r is,
 )
 
--- what an answer tells of the value
+-- what an answer says of the value
 pub value_of_none : (starts : ℕ → ℕ → Bool) (pairs : List NumberedConstraint) (r e : ℕ) → ((chain : List ℕ) → IsChain starts pairs r e chain → ⊥) → (false ≡ true) ↔ IsInValue starts pairs r e
 value_of_none starts pairs r e none = (
   λ h. absurd (false≢true h),

@@ -14,7 +14,7 @@ pub length-way : (steps : List ℕ) (k r : ℕ) → length (way steps k r) ≡ k
 length-way steps zero r = refl
 length-way steps (suc k) r = ap suc (length-way steps k (get_or steps r 0))
 
--- a chain tells that its first region has a length, and its own is no less
+-- the first region of a chain has a length, and the chain is no shorter
 pub no_shorter : (starts : ℕ → ℕ → Bool) (pairs : List NumberedConstraint) (e : ℕ) (lengths : List ℕ) → AreLengths starts pairs e lengths → (chain : List ℕ) (r : ℕ) → IsChain starts pairs r e chain →
     (0 < get_or lengths r 0) × (get_or lengths r 0 ≤ length chain)
 no_shorter starts pairs e lengths are [] r h = absurd h
@@ -75,7 +75,7 @@ way_is_first starts pairs e lengths steps are leads k r h = record {
       ];
 }
 
--- two lists of one length of which neither is before the other are equal
+-- two lists of the same length are equal if neither is before the other
 neither_before : (xs ys : List ℕ) → length xs ≡ length ys → ¬ (IsBefore xs ys) → ¬ (IsBefore ys xs) → xs ≡ ys
 neither_before [] [] long one other = refl
 neither_before [] (y ∷ ys) long one other = absurd (omega (arith, long))

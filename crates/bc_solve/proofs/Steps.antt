@@ -79,7 +79,7 @@ AreStepsSoFar-same P R lengths steps forth back old = record {
   least = λ a b long leads onward. old.least a b long (back a b leads) onward;
 }
 
--- what leads on to a region without a chain is of no use
+-- what continues no shortest chain may be left out
 pub AreStepsSoFar-skip : (P R : ℕ → ℕ → Type 0) (lengths steps : List ℕ) → ((a b : ℕ) → P a b → R a b) → ((a b : ℕ) → R a b → P a b ⊎ (IsOnward lengths a b → ⊥)) →
     AreStepsSoFar P lengths steps → AreStepsSoFar R lengths steps
 AreStepsSoFar-skip P R lengths steps forth back old = record {
@@ -91,7 +91,7 @@ AreStepsSoFar-skip P R lengths steps forth back old = record {
   ];
 }
 
--- one region more that leads on
+-- one more region that continues a chain
 pub AreStepsSoFar-take : (P R : ℕ → ℕ → Type 0) (lengths steps : List ℕ) (longer shorter : ℕ) → longer < length lengths → shorter < length lengths → IsOnward lengths longer shorter →
     ((a b : ℕ) → P a b → R a b) → R longer shorter → ((a b : ℕ) → R a b → P a b ⊎ ((a ≡ longer) × (b ≡ shorter))) →
     AreStepsSoFar P lengths steps → AreStepsSoFar R lengths (set steps longer (min (get_or steps longer 0) shorter))
@@ -126,7 +126,7 @@ AreStepsSoFar-take P R lengths steps longer shorter in_longer in_shorter onward 
       ];
     }
 
--- one edge more, of those that leave a region
+-- one more of the edges that leave a region
 pub AreStepsSoFar-edge : (edges : List Edge) (lengths old new : List ℕ) (i shorter next : ℕ) (e : Edge) → i < length edges → get_or edges i e ≡ e → e.from ≡ shorter → IsNext edges shorter (i + 1) next →
     e.to < length lengths → shorter < length lengths →
     (IsOnward lengths e.to shorter → new ≡ set old e.to (min (get_or old e.to 0) shorter)) → ((IsOnward lengths e.to shorter → ⊥) → new ≡ old) →
@@ -173,7 +173,7 @@ AreStepsSoFar-first edges lengths steps shorter first is = AreStepsSoFar-same (L
       | inr here ↦ absurd (Contains-nil (record { from = shorter; to = a }) ((skipped edges shorter 0 first is a).1 here.1))
     ])
 
--- past the last
+-- after the last edge
 pub AreStepsSoFar-last : (edges : List Edge) (lengths steps : List ℕ) (shorter last : ℕ) → length edges ≤ last → AreStepsSoFar (LeadsSoFar edges last shorter) lengths steps → AreStepsSoFar (LeadsBelow edges (shorter + 1)) lengths steps
 AreStepsSoFar-last edges lengths steps shorter last past =
     let all = take_all last edges past in

@@ -17,8 +17,8 @@ use bc_syntax::Region;
 use std::alloc::{AllocError, Global};
 use std::marker::Model;
 
-/// Explains many elements of many regions over the same facts: it keeps the way to the element that was asked for last. Contracts
-/// see the facts.
+/// Finds the chains of many elements and regions over the same facts. It keeps the ways to the last element that it was asked for.
+/// Contracts see the facts.
 pub struct Explainer<'a> {
     facts: &'a Facts,
     edges: Vec<Edge>,
@@ -49,7 +49,7 @@ impl<'a> Model for Explainer<'a> {
 }
 
 impl<'a> Explainer<'a> {
-    /// Makes an explainer over facts. Returns `AllocError` only where memory was refused.
+    /// Returns an explainer over facts.
     pub fn new(alloc: Global, facts: &'a Facts) -> Result<Explainer<'a>, AllocError>
         ensures { IfOk result (λ explainer. explainer ≡ facts.now) }
     {
@@ -63,11 +63,11 @@ impl<'a> Explainer<'a> {
         })
     }
 
-    /// Returns the chain from a region to an element, both by number: the first of the shortest, or none exactly where there is
-    /// no chain, as for numbers of no region or no element. Returns `AllocError` only where memory was refused.
+    /// Returns the chain from a region to an element, both by number: the first of the shortest. Returns `None` exactly if there is no
+    /// chain, also if there is no such region or element.
     ///
-    /// The first chain to an element takes time in proportion to the regions and constraints, each further one to the same
-    /// element only to its own length.
+    /// This takes time in proportion to the number of regions and constraints. If the call before asked for the same element, it takes time
+    /// only in proportion to the length of the chain.
     pub fn explain(
         &mut self,
         alloc: Global,
@@ -87,8 +87,8 @@ impl<'a> Explainer<'a> {
         Ok(chain)
     }
 
-    /// Returns the chain from a region to an element of its value, both by number: the first of the shortest. Returns
-    /// `AllocError` only where memory was refused. It takes as long as `explain`.
+    /// Returns the chain from a region to an element of its value, both by number: the first of the shortest. It takes as long as
+    /// `explain`.
     pub fn chain(
         &mut self,
         alloc: Global,
@@ -105,7 +105,7 @@ impl<'a> Explainer<'a> {
     }
 }
 
-/// The ways to an element: those at hand, if they are to it.
+/// Returns the ways to an element: the last ones, if they lead to it.
 fn ways_for(
     alloc: Global,
     facts: &Facts,
@@ -133,7 +133,7 @@ fn ways_for(
     }
 }
 
-/// The chain from a region to the element of the ways.
+/// Returns the chain from a region to the element of the ways.
 fn chain_of(
     alloc: Global,
     facts: &Facts,
@@ -156,8 +156,7 @@ fn chain_of(
     Ok(Some(chain))
 }
 
-/// Returns the chain from a region to an element, both by number: the first of the shortest, or none exactly where there is no
-/// chain. Returns `AllocError` only where memory was refused.
+/// Returns the chain from a region to an element, both by number: the first of the shortest. Returns `None` exactly if there is no chain.
 pub fn explain(
     alloc: Global,
     facts: &Facts,

@@ -12,8 +12,8 @@ use bc_flow::{BitTable, Edge, EdgeChains, levels};
 use bc_syntax::Region;
 use std::alloc::{AllocError, Global};
 
-/// The first shortest chains from all regions to an element: of each the length, 0 where there is no chain, and the region
-/// that comes second in it, where there is one.
+/// The first shortest chains from all regions to an element: the length of each, 0 if there is no chain, and the region that comes second
+/// in it, if there is one.
 pub struct Ways {
     pub element: usize,
     pub lengths: Vec<usize>,
@@ -30,7 +30,7 @@ impl Drop for Ways {
     }
 }
 
-/// The chains to an element.
+/// Returns the ways to an element.
 pub(crate) fn ways_to(
     alloc: Global,
     facts: &Facts,
@@ -54,7 +54,7 @@ pub(crate) fn ways_to(
     })
 }
 
-/// The regions that start with an element.
+/// Returns the regions that start with an element.
 fn sources(alloc: Global, starts: &BitTable, element: usize) -> Result<Vec<usize>, AllocError>
     ensures { IfOk result (λ found. (r : ℕ) → Contains found.items r ↔ (holds starts.now r element ≡ true)) }
 {
@@ -67,7 +67,7 @@ fn sources(alloc: Global, starts: &BitTable, element: usize) -> Result<Vec<usize
     Ok(found)
 }
 
-/// For each region with a chain of several regions the least that goes on with a shortest one, by the lengths of them all.
+/// Returns for each region with a chain of several regions the least one that continues a shortest chain, given the lengths of all.
 fn steps(
     alloc: Global,
     edges: &[Edge],
@@ -84,7 +84,7 @@ fn steps(
     Ok(steps)
 }
 
-/// Finds the step of each region, where none has one.
+/// Sets the step of each region, where none is set.
 fn find_steps(steps: &mut [usize], edges: &[Edge], chains: &EdgeChains, lengths: &[usize])
     requires count { length steps.old ≡ length lengths.now }
     requires none { (a : ℕ) → a < length lengths.now → slice_index steps.old a ≡ length lengths.now }
@@ -97,7 +97,7 @@ fn find_steps(steps: &mut [usize], edges: &[Edge], chains: &EdgeChains, lengths:
     }
 }
 
-/// Finds the regions whose shortest chains go on with a region, where the steps to all lesser ones were found.
+/// Sets the steps of regions whose shortest chains continue with a region, after the steps to all lesser ones.
 fn find_steps_to(
     steps: &mut [usize],
     edges: &[Edge],
@@ -121,7 +121,7 @@ fn find_steps_to(
     }
 }
 
-/// Makes the one region the step of the other, if a shortest chain goes on so and the step was greater.
+/// Makes `shorter` the step of `longer`, if a shortest chain continues so and the step was greater.
 fn offer_step(steps: &mut [usize], lengths: &[usize], longer: usize, shorter: usize)
     requires count { length steps.old ≡ length lengths.now }
     requires longer { longer < length lengths.now }
@@ -134,7 +134,7 @@ fn offer_step(steps: &mut [usize], lengths: &[usize], longer: usize, shorter: us
     }
 }
 
-/// The chain of a region, by the lengths of all chains and their steps.
+/// Returns the chain of a region, given the lengths and the steps of all chains.
 pub(crate) fn walk(
     alloc: Global,
     facts: &Facts,

@@ -8,7 +8,7 @@ use Rattle.bc_position.specs.Positions.{position_in}
 use Rattle.bc_source.specs.declared.starts.Start.{Start}
 use Rattle.bc_source.specs.Points.{start_in}
 
--- the start of an index behind so many others
+-- the start at an index after the first `before`
 start_behind : (text places : List ℕ) (starts : List Start) (before index : ℕ) → starts ≡ map (start_in text) places
     → slice_get (drop before starts) index ≡ option_map (start_in text) (slice_get (drop before places) index)
 start_behind text places starts before index are =
@@ -20,7 +20,7 @@ position_of : (text : List ℕ) (place : Option ℕ) → IfSome (option_map (sta
 position_of text None = tt
 position_of text (Some at) = refl
 
--- it has the line and the column of its byte
+-- the start has the line and column of its byte
 pub found_position : (text places : List ℕ) (starts : List Start) (before index : ℕ) (found : Option Start) → starts ≡ map (start_in text) places → found ≡ slice_get (drop before starts) index
     → IfSome found (λ (start : Start). start.position ≡ position_in text start.at)
 found_position text places starts before index found are is =

@@ -1,4 +1,4 @@
-//! The report of an outcome with the texts of its errors' points.
+//! The report of an outcome, with the texts of the points in its errors.
 #![tactic(auto)]
 
 mod points;

@@ -1,4 +1,4 @@
-//! Where a point stands in a file, and its text.
+//! The places of points in a file, and the texts there.
 ghost use Rattle.std.specs.Prelude.{◌≡◌, ◌≤◌, ◌++◌, ◌+◌, length, map, reverse, take_while, codes, decimal, OnOk};
 ghost use Rattle.std.specs.Io.KnownBytes.{Appends};
 ghost use Rattle.bc_position.specs.Positions.{position_in};
@@ -11,14 +11,14 @@ use bc_report::write_number;
 use bc_writer::{WriterFault, write_bytes};
 use std::io::Write;
 
-/// Whether a byte is a blank of a text.
+/// Returns whether a byte is a blank of a text.
 fn is_blank(byte: u8) -> bool
     ensures { result ≡ is_blank byte }
 {
     byte == b' ' || byte == b'\n'
 }
 
-/// How many blanks some bytes end with.
+/// Returns the number of blanks that some bytes end with.
 fn count_last_blanks(bytes: &[u8]) -> usize
     ensures { result ≡ length (take_while is_blank (reverse bytes.now)) }
 {
@@ -29,14 +29,14 @@ fn count_last_blanks(bytes: &[u8]) -> usize
         .count()
 }
 
-/// How many bytes stand before the first `;`; all, where there is none.
+/// Returns the number of bytes before the first `;`, or of all if there is none.
 fn count_to_semicolon(bytes: &[u8]) -> usize
     ensures { result ≡ length (take_while is_no_semicolon bytes.now) }
 {
     bytes.iter().take_while(|byte| **byte != b';').count()
 }
 
-/// Bytes without the blanks at their end.
+/// Returns bytes without the blanks at their end.
 fn without_last_blanks(bytes: &[u8]) -> &[u8]
     ensures { result.now ≡ without_last_blanks bytes.now }
 {
@@ -44,7 +44,7 @@ fn without_last_blanks(bytes: &[u8]) -> &[u8]
     &bytes[..bytes.len() - blanks]
 }
 
-/// The bytes before the first `;`.
+/// Returns the bytes before the first `;`, or all without one.
 fn to_semicolon(bytes: &[u8]) -> &[u8]
     ensures { result.now ≡ take_while is_no_semicolon bytes.now }
 {
@@ -52,7 +52,7 @@ fn to_semicolon(bytes: &[u8]) -> &[u8]
     &bytes[..length]
 }
 
-/// The statement or the terminator that begins at this byte, without the `;` behind it.
+/// Returns the statement or terminator that begins at this byte, without the `;` after it.
 fn statement_at(text: &[u8], at: usize) -> &[u8]
     ensures { result.now ≡ statement_at text.now at }
 {
@@ -70,7 +70,7 @@ fn write_in_one_line<W: Write>(bytes: &[u8], out: &mut W) -> Result<(), WriterFa
     Ok(())
 }
 
-/// Writes a word, set in, and a space behind it.
+/// Writes four spaces, a word and a space.
 fn write_word<W: Write>(word: &str, out: &mut W) -> Result<(), WriterFault>
     ensures { OnOk result (Appends (W.contents out.old) (W.contents out.new) (codes "    " ++ word.now ++ codes " ")) }
 {
@@ -79,7 +79,7 @@ fn write_word<W: Write>(word: &str, out: &mut W) -> Result<(), WriterFault>
     write_bytes(b" ", out)
 }
 
-/// Writes a line and a column, and a space behind them.
+/// Writes a line, a colon, a column and a space.
 fn write_line_and_column<W: Write>(
     line: u128,
     column: usize,
@@ -93,7 +93,7 @@ fn write_line_and_column<W: Write>(
     write_bytes(b" ", out)
 }
 
-/// Writes a line and a column of the file, behind a word.
+/// Writes a word, then a line and a column of the file.
 #[tactic(auto, unfolding(crate::specs::Points::position_text))]
 fn write_position<W: Write>(
     word: &str,
@@ -107,7 +107,7 @@ fn write_position<W: Write>(
     write_line_and_column(line, column, out)
 }
 
-/// Writes a line and a column of the file, and the text there, in one line.
+/// Writes the line with a word, a line and a column of the file, and the text there in one line.
 fn write_place<W: Write>(
     word: &str,
     line: u128,
@@ -137,7 +137,7 @@ fn write_start<W: Write>(
     write_place(word, line, start.position.column, text, out)
 }
 
-/// Writes the line of a point, and nothing where the unit has no such point.
+/// Writes the line of a point, or nothing if the unit has no such point.
 pub(crate) fn write_point<W: Write>(
     word: &str,
     source: &SourceUnit<'_>,

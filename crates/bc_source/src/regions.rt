@@ -1,4 +1,4 @@
-//! The names of the universal regions that an error tells of.
+//! The names of the universal regions that an error mentions.
 ghost use Rattle.std.specs.Prelude.{◌≡◌, ◌≤◌, ◌+◌, ◌++◌, [], length, get_or, codes, OnOk};
 ghost use Rattle.std.specs.List.{list_any};
 ghost use Rattle.std.specs.Io.KnownBytes.{Appends};
@@ -12,7 +12,7 @@ use bc_syntax::{Region, RegionName};
 use bc_writer::{WriterFault, write_bytes};
 use std::io::Write;
 
-/// Whether a region is the universal one of this number.
+/// Returns whether a region is the universal one of this number.
 fn is_universal(number: usize, region: Region) -> bool
     ensures { result ≡ is_universal number region }
 {
@@ -22,14 +22,14 @@ fn is_universal(number: usize, region: Region) -> bool
     }
 }
 
-/// Whether the universal region of this number is among these.
+/// Returns whether the universal region of this number is among these.
 fn is_among(number: usize, regions: &[Region]) -> bool
     ensures { result ≡ list_any (is_universal number) regions.now }
 {
     regions.iter().any(|region| is_universal(number, *region))
 }
 
-/// Whether an error, or its chain, tells of the universal region of this number.
+/// Returns whether an error, or its chain, mentions the universal region of this number.
 fn tells_of(error: &BorrowError, number: usize) -> bool
     ensures { result ≡ tells_of error.now number }
 {
@@ -52,7 +52,7 @@ fn tells_of(error: &BorrowError, number: usize) -> bool
     }
 }
 
-/// Whether an error tells of one of the universal regions of the first so many numbers.
+/// Returns whether an error mentions one of the first `count` universal regions.
 fn tells_of_some(error: &BorrowError, count: usize) -> bool
     ensures { result ≡ tells_of_some error.now count }
 {
@@ -63,7 +63,7 @@ fn tells_of_some(error: &BorrowError, count: usize) -> bool
     tells
 }
 
-/// The name of a universal region, without its `'`.
+/// Returns the name of a universal region, without its `'`.
 fn name_of(regions: &[RegionName], number: usize) -> &[u8]
     requires { number ≤ length regions.now }
     ensures { result.now ≡ get_or (universal_names regions.now) number [] }
@@ -74,7 +74,7 @@ fn name_of(regions: &[RegionName], number: usize) -> &[u8]
     regions[number - 1].bytes.as_slice()
 }
 
-/// Writes a region's number and name, if the error tells of it.
+/// Writes a region's number and name if the error mentions it.
 fn write_named<W: Write>(
     error: &BorrowError,
     regions: &[RegionName],
@@ -93,7 +93,7 @@ fn write_named<W: Write>(
     write_bytes(name_of(regions, number), out)
 }
 
-/// Writes the numbers and names of the universal regions that an error tells of, by number.
+/// Writes the numbers and names of the universal regions that an error mentions, by number.
 #[tactic(auto, unfolding(crate::specs::Regions::regions_text))]
 fn write_all_named<W: Write>(
     error: &BorrowError,
@@ -109,7 +109,7 @@ fn write_all_named<W: Write>(
     Ok(())
 }
 
-/// Writes the universal regions that an error tells of, behind the word for them.
+/// Writes the word `regions`, then the universal regions that an error mentions.
 fn write_words<W: Write>(
     error: &BorrowError,
     regions: &[RegionName],
@@ -121,7 +121,7 @@ fn write_words<W: Write>(
     write_all_named(error, regions, out)
 }
 
-/// Writes a line of the universal regions that an error tells of.
+/// Writes the line of the universal regions that an error mentions.
 fn write_line<W: Write>(
     error: &BorrowError,
     regions: &[RegionName],
@@ -133,7 +133,7 @@ fn write_line<W: Write>(
     write_bytes(b"\n", out)
 }
 
-/// Writes the line of the universal regions that an error tells of, where the unit declares these; nothing, where it tells of none.
+/// Writes the line of the universal regions that an error mentions, with the names that the unit declares; nothing if it mentions none.
 #[tactic(auto, unfolding(crate::specs::Regions::regions_line))]
 pub(crate) fn write_regions<W: Write>(
     error: &BorrowError,

@@ -1,4 +1,4 @@
-//! The text form of an outcome with the texts of its errors' points.
+//! The text of an outcome, with the texts of the points in its errors.
 ghost use Rattle.std.specs.Prelude.{◌≡◌, ◌++◌, map, IfOk, OnOk};
 ghost use Rattle.std.specs.Io.KnownBytes.{Appends};
 ghost use Rattle.bc_judge.specs.declared.error.BorrowError.{BorrowError};
@@ -16,7 +16,7 @@ use std::alloc::{AllocError, Global};
 use std::io::Write;
 use std::marker::Model;
 
-/// The errors of a body, with the text of its unit, where there are errors and that is known. A contract sees them as such a pair.
+/// The errors of a body, with the text of its unit if there are errors and the text is known. A contract sees both.
 pub struct SourcedBody<'a> {
     body: &'a BodyErrors,
     unit: Option<SourceUnit<'a>>,
@@ -36,7 +36,7 @@ impl<'a> Model for SourcedBody<'a> {
     ghost view = { λ s. record { body = s.body.now; unit = s.unit } };
 }
 
-/// The text of the unit that explains the errors of a body, `None` where it has no errors or no text has its name.
+/// Returns the unit that explains the errors of a body, or `None` if it has no errors or the last text of its name spells no unit.
 fn unit_for<'a>(
     alloc: Global,
     sources: &Sources<'a>,
@@ -50,7 +50,7 @@ fn unit_for<'a>(
     unit_under(alloc, sources, &body.name)
 }
 
-/// The bodies, each with the text of its unit.
+/// Returns the bodies, each with the text of its unit.
 fn source_bodies<'a>(
     alloc: Global,
     bodies: &'a [BodyErrors],
@@ -66,8 +66,7 @@ fn source_bodies<'a>(
     Ok(found)
 }
 
-/// Returns the bodies of a report, each with the text of its unit, for `write_sourced_report`; none of another outcome. Returns
-/// `AllocError` only where memory was refused.
+/// Returns the bodies of a report, each with the text of its unit, for `write_sourced_report`. Any other outcome has none.
 pub fn find_bodies<'a>(
     alloc: Global,
     outcome: &'a Outcome,
@@ -83,7 +82,7 @@ pub fn find_bodies<'a>(
     }
 }
 
-/// Writes the lines of an error's points: of a conflict, of its point and of its loan's.
+/// Writes the lines of a conflict's point and of its loan's point. A lifetime error has no points.
 #[tactic(auto, unfolding(crate::specs::Report::points_lines))]
 fn write_points<W: Write>(
     error: &BorrowError,
@@ -110,7 +109,7 @@ fn write_points<W: Write>(
     }
 }
 
-/// Writes the lines behind an error and its chain: those of its points, and that of its universal regions.
+/// Writes the lines that follow an error and its chain: those of its points, then that of its universal regions.
 #[tactic(auto, unfolding(crate::specs::Report::source_lines))]
 fn write_source<W: Write>(
     error: &BorrowError,
@@ -123,7 +122,7 @@ fn write_source<W: Write>(
     write_regions(error, source.regions(), out)
 }
 
-/// Writes the lines of an error of a body, whose unit is known or not.
+/// Writes the lines of an error of a body, with its places if the unit is known.
 fn write_sourced_error<W: Write>(
     error: &BorrowError,
     unit: &Option<SourceUnit<'_>>,
@@ -138,7 +137,7 @@ fn write_sourced_error<W: Write>(
     }
 }
 
-/// Writes the line of a body, and the lines of each of its errors.
+/// Writes the line of a body, then the lines of each of its errors.
 fn write_sourced_body<W: Write>(sourced: &SourcedBody<'_>, out: &mut W) -> Result<(), WriterFault>
     ensures { OnOk result (Appends (W.contents out.old) (W.contents out.new) (sourced_lines sourced.now)) }
 {
@@ -150,9 +149,9 @@ fn write_sourced_body<W: Write>(sourced: &SourcedBody<'_>, out: &mut W) -> Resul
     Ok(())
 }
 
-/// Writes the text form of an outcome. Of a report it writes, behind each error and its chain, the lines and texts of its points and the
-/// names of its regions, as far as the texts are known: `bodies` is what `find_bodies` finds for the outcome. It writes exactly the bytes
-/// of the definition. Returns `WriterFault` only where a write failed. It takes no memory.
+/// Writes an outcome as text, with the places of each error. After an error and its chain come the lines of its points and the names of its
+/// regions, if the body's text is known. `bodies` is what `find_bodies` returned for the outcome. Returns `WriterFault` only if a write
+/// fails.
 pub fn write_sourced_report<W: Write>(
     outcome: &Outcome,
     bodies: &[SourcedBody<'_>],

@@ -1,4 +1,4 @@
-//! Texts of units under their names.
+//! Texts of units, with their names.
 ghost use Rattle.std.specs.Prelude.{◌≡◌, ◌++◌, ◌∷◌, [], OnOk};
 ghost use Rattle.std.specs.Option.{option_copied};
 ghost use Rattle.bc_source.specs.Sources.{is_of, last_of};
@@ -7,7 +7,7 @@ use bc_names::Name;
 use std::alloc::{AllocError, Global};
 use std::marker::Model;
 
-/// The text of a unit in a file: its name, how many lines of the file come before it, and its bytes. It takes no memory.
+/// The text of a unit in a file: its name, the number of lines of the file before it, and its bytes. It borrows the bytes.
 pub struct Source<'a> {
     name: Name,
     line: usize,
@@ -33,21 +33,21 @@ impl<'a> Model for Source<'a> {
 }
 
 impl<'a> Source<'a> {
-    /// Returns the text of a unit that is put under this name, `line` lines behind the beginning of the file.
+    /// Returns the text of a unit that is put under this name, after the first `line` lines of the file.
     pub fn new(name: Name, line: usize, text: &'a [u8]) -> Source<'a>
         ensures { result ≡ record { name = name; line = line; text = text.now } }
     {
         Source { name, line, text }
     }
 
-    /// Returns the name that the unit is put under.
+    /// Returns the name under which the unit is put.
     pub fn name(&self) -> Name
         ensures { result ≡ self.now.name }
     {
         self.name
     }
 
-    /// Returns how many lines of the file come before the text.
+    /// Returns the number of lines of the file before the text.
     pub fn line(&self) -> usize
         ensures { result ≡ self.now.line }
     {
@@ -62,7 +62,7 @@ impl<'a> Source<'a> {
     }
 }
 
-/// Whether a text has this name.
+/// Returns whether a text has this name.
 fn is_of(name: &Name, source: &Source<'_>) -> bool
     ensures { result ≡ is_of name.now source.now }
 {
@@ -90,7 +90,7 @@ impl<'a> Model for Sources<'a> {
 }
 
 impl<'a> Sources<'a> {
-    /// Returns an empty list of texts. It takes no memory.
+    /// Returns an empty list of texts.
     pub fn new(alloc: Global) -> Sources<'a>
         ensures { result ≡ [] }
     {
@@ -99,7 +99,7 @@ impl<'a> Sources<'a> {
         }
     }
 
-    /// Appends a text to the others. Returns `AllocError` only where memory was refused.
+    /// Appends a text.
     pub fn push(&mut self, source: Source<'a>) -> Result<(), AllocError>
         ensures { OnOk result (self.new ≡ self.old ++ source.entry ∷ []) }
     {
@@ -107,7 +107,7 @@ impl<'a> Sources<'a> {
         Ok(())
     }
 
-    /// Returns the last text of a name, `None` where there is none.
+    /// Returns the last text of a name, or `None` if there is none.
     pub fn last_of(&self, name: &Name) -> Option<&Source<'a>>
         ensures { option_copied result ≡ last_of name.now self.now }
     {

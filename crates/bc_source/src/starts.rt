@@ -1,4 +1,4 @@
-//! Where points begin: their bytes, and the lines and columns of these.
+//! Where points begin: their bytes, with lines and columns.
 ghost use Rattle.std.specs.Prelude.{◌≡◌, ◌≤◌, ◌<◌, ◌^◌, length, map, IfOk};
 ghost use Rattle.bc_position.specs.Positions.{position_in};
 ghost use Rattle.bc_source.specs.Points.{behind_byte, start_in};
@@ -13,7 +13,7 @@ pub(crate) struct Start {
     pub(crate) position: Position,
 }
 
-/// Returns the line and the column behind a byte that has these.
+/// Returns the line and column right after a byte, from those of the byte.
 fn behind_byte(position: Position, byte: u8) -> Position
     requires line { position.line < 2 ^ 63 }
     requires column { position.column < 2 ^ 63 }
@@ -32,7 +32,7 @@ fn behind_byte(position: Position, byte: u8) -> Position
     }
 }
 
-/// Returns the line and the column of a byte, counted on from those of an earlier one.
+/// Returns the line and column of a byte, counted on from those of an earlier one.
 fn position_from(text: &[u8], from: Start, at: usize) -> Position
     requires known { from.position ≡ position_in text.now from.at }
     requires later { from.at ≤ at }
@@ -48,7 +48,8 @@ fn position_from(text: &[u8], from: Start, at: usize) -> Position
     position
 }
 
-/// Returns the byte with its line and column, counted on from an earlier byte's, or from the start of the text where this is no later byte of it.
+/// Returns the byte with its line and column. They are counted on from the byte `from`, or from the start of the text if `at` is before
+/// that or past the end.
 fn start_from(text: &[u8], from: Start, at: usize) -> Start
     requires { from.position ≡ position_in text.now from.at }
     ensures { result ≡ start_in text.now at }
@@ -61,8 +62,7 @@ fn start_from(text: &[u8], from: Start, at: usize) -> Start
     Start { at, position }
 }
 
-/// Returns the bytes in their order, each with its line and column, or `AllocError` where memory was refused. Where the bytes go up, it passes over
-/// the text once.
+/// Returns the bytes in their order, each with its line and column. It passes over the text once if the bytes ascend.
 pub(crate) fn starts_in(
     alloc: Global,
     text: &[u8],

@@ -19,7 +19,7 @@ use bc_text::{ReadFault, read_unit};
 use std::alloc::{AllocError, Global};
 use std::marker::Model;
 
-/// A text with the unit that it spells, and the places of its points. A contract sees how many lines of the file stand before the text, its
+/// A text with the unit that it spells, and the places of its points. A contract sees the number of lines of the file before the text, its
 /// bytes and the unit.
 pub(crate) struct SourceUnit<'a> {
     line: usize,
@@ -52,7 +52,7 @@ impl<'a> Model for SourceUnit<'a> {
     ghost invariant = { λ s. s.starts.items ≡ map (start_in s.text.now) (places_of s.text.now s.unit) };
 }
 
-/// How many points some blocks have.
+/// Returns the number of points of some blocks.
 fn count_points(blocks: &[Block]) -> usize
     requires { point_count blocks.now ≤ 4096 }
     ensures { result ≡ point_count blocks.now }
@@ -64,7 +64,7 @@ fn count_points(blocks: &[Block]) -> usize
     count
 }
 
-/// The start of this index behind so many others, `None` where there is none.
+/// Returns the start at this index after the first `before`, or `None` if there is none.
 fn start_behind(starts: &[Start], before: usize, index: usize) -> Option<Start>
     ensures { result ≡ slice_get (drop before starts.now) index }
 {
@@ -76,28 +76,28 @@ fn start_behind(starts: &[Start], before: usize, index: usize) -> Option<Start>
 }
 
 impl<'a> SourceUnit<'a> {
-    /// How many lines of the file stand before the text.
+    /// Returns the number of lines of the file before the text.
     pub(crate) fn line(&self) -> usize
         ensures { result ≡ self.now.line }
     {
         self.line
     }
 
-    /// The bytes of the text.
+    /// Returns the bytes of the text.
     pub(crate) fn text(&self) -> &'a [u8]
         ensures { result.now ≡ self.now.text }
     {
         self.text
     }
 
-    /// The regions that the unit declares.
+    /// Returns the regions that the unit declares.
     pub(crate) fn regions(&self) -> &[RegionName]
         ensures { result.now ≡ self.now.unit.header.signature.regions }
     {
         self.unit.body().header.signature.regions.as_slice()
     }
 
-    /// Where a point begins, `None` where the unit has no such point.
+    /// Returns where a point begins, or `None` if the unit has no such point.
     pub(crate) fn start_of(&self, point: Point) -> Option<Start>
         ensures at { option_map (λ (start : Start). start.at) result ≡ place_of self.now point }
         ensures position { IfSome result (λ start. start.position ≡ position_in self.now.text start.at) }
@@ -108,7 +108,7 @@ impl<'a> SourceUnit<'a> {
     }
 }
 
-/// The places of the points of a text that spells this unit.
+/// Returns the places of the points of a text that spells this unit.
 fn places_in(alloc: Global, text: &[u8], unit: &Unit) -> Result<Vec<usize>, AllocError>
     requires { read text.now ≡ Ok unit.now }
     ensures { IfOk result (λ places. places.items ≡ places_of text.now unit.now) }
@@ -119,7 +119,7 @@ fn places_in(alloc: Global, text: &[u8], unit: &Unit) -> Result<Vec<usize>, Allo
     }
 }
 
-/// The unit that a text spells, with the places of its points. `None` where the text spells none.
+/// Returns the unit that a text spells, with the places of its points, or `None` if the text spells none.
 pub(crate) fn unit_of<'a>(
     alloc: Global,
     source: &Source<'a>,
@@ -143,7 +143,7 @@ pub(crate) fn unit_of<'a>(
     }))
 }
 
-/// The unit that the last text of a name spells, with the places of its points. `None` where there is no such text.
+/// Returns the unit that the last text of a name spells, with the places of its points, or `None` if there is none.
 pub(crate) fn unit_under<'a>(
     alloc: Global,
     sources: &Sources<'a>,

@@ -1,4 +1,4 @@
--- The keyword that stands at the front of a text, told before its run is gone over.
+-- The keyword at the front of a text, found before its whole run is read.
 use Rattle.std.proofs.Common.{◌≡◌, ◌≢◌, ℕ, ◌<◌, ◌≤◌, Bool, true, false, cond, List, [], ◌∷◌, ◌++◌, length, take, drop, get_or, refl, sym, ap, ◌∙◌, subst, slice_index, arith}
 use Rattle.std.specs.Prelude.{Option, Some, None, IfSome, ◌&&◌, ◌==◌, not, nat_eq}
 use Rattle.std.specs.Bool.{then_some}
@@ -105,7 +105,7 @@ told : AllByRecursion (λ s. (rest : List ℕ) → likely_keyword (text s ++ res
 unfolding likely_keyword text
 told = (λ r. refl, (λ r. refl, (λ r. refl, (λ r. refl, (λ r. refl, (λ r. refl, (λ r. refl, (λ r. refl, (λ r. refl, (λ r. refl, (λ r. refl, (λ r. refl, (λ r. refl, (λ r. refl, (λ r. refl, (λ r. refl, (λ r. refl, (λ r. refl, (λ r. refl, (λ r. refl, tt))))))))))))))))))))
 
--- the keyword that a run is, is told by the text that it begins
+-- a run is the keyword that its text may begin with
 likely_front : (bytes : List ℕ) (s : Symbol) → keyword_of (run bytes) ≡ Some s → (likely_keyword bytes ≡ Some s) × (bytes_eq (text s) (run bytes) ≡ true)
 unfolding keyword_of
 likely_front bytes s e =
@@ -136,7 +136,7 @@ one_front bytes s e = by (bytes_eq (text s) (run bytes)) refl
     by true f = sym (likely_own bytes s e).1 ∙ ap keyword_of (is_text (text s) (run bytes) f)
     by false f = other f (keyword_of (run bytes)) refl
 
--- a keyword is spelled so
+-- a run that is a keyword is the keyword's spelling
 pub spelled : (r : List ℕ) (o : Option Symbol) → o ≡ keyword_of r → IfSome o (λ s. r ≡ text s)
 unfolding keyword_of
 spelled r None e = tt

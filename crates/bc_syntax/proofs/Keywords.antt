@@ -1,4 +1,4 @@
--- The one keyword that a word may be is the one that it is, if it is one.
+-- A word that is a keyword is the only one that it may be.
 use Rattle.std.proofs.Common.{◌≡◌, ℕ, Bool, true, false, cond, List, [], ◌∷◌, refl, sym, ap, ◌∙◌, subst, arith}
 use Rattle.std.specs.Prelude.{Option, Some, None, find}
 use Rattle.std.specs.Bool.{then_some}

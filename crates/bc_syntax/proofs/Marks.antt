@@ -1,4 +1,4 @@
--- Marks of several lists, one behind the other.
+-- Marks of several lists, one after the other.
 use Rattle.std.proofs.Common.{◌≡◌, ℕ, zero, suc, ◌+◌, ◌<◌, Bool, true, false, List, [], ◌∷◌, ◌++◌, length, take, get_or, refl, sym, ap, ◌∙◌, append_assoc, append-nil, arith, subst, map, cond, replicate}
 use Rattle.std.specs.Prelude.{◌||◌, ◌==◌, nat_le}
 use Rattle.std.specs.List.{flat_map, list_all, filter, range_with_len}
@@ -30,7 +30,7 @@ module _ {A : Type 0} (item : A → List ℕ) where
   marked_one_more a b c xs i d x below is p q =
       subst (λ (l : List ℕ). AreMarked a l c) (sym (one_more_item xs i d below)) (marked_both a b c (flat_map item (take i xs)) (item (get_or xs i d)) p (subst (λ (y : A). AreMarked b (item y) c) is q))
 
--- where none was marked before
+-- the marks, if none was set before
 pub marked_from_none : (b : List Bool) (xs : List ℕ) → AreMarked (replicate 64 false) xs b → (k : ℕ) → k < 64 → get_or b k false ≡ is_among xs k
 marked_from_none b xs p k below = p k below ∙ ap (λ t. t || is_among xs k) (get_or-replicate 64 k false false below)
 

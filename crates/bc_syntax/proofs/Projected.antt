@@ -1,4 +1,4 @@
--- What stays true of the cells of projections as one is put behind the others.
+-- What stays true of the cells of projections when one is appended.
 use Rattle.std.proofs.Common.{◌≡◌, suc, ◌+◌, ◌-◌, ◌<◌, List, [], ◌∷◌, ◌++◌, length, take, set, replicate, sym, ap, ◌∙◌, append_assoc, arith}
 use Rattle.std.proofs.lemmas.List.{length-append, length-replicate, take_more_set, length_push}
 use Rattle.std.proofs.Math.Seq.{set-append_seam}
@@ -7,7 +7,7 @@ use Rattle.bc_syntax.specs.declared.syntax.Projection.TheVariants.{Deref}
 use Rattle.bc_syntax.specs.declared.projections.Projections.TheInside.{Inside}
 use Rattle.bc_syntax.specs.Projections.{padded, cells, used, IsStored}
 
--- a write just behind what is used
+-- a write just after the used cells
 seam : (xs : List Projection) (x : Projection) → length xs < 8 → set (padded xs) (length xs) x ≡ padded (xs ++ x ∷ [])
 seam xs x few =
     let k : 8 - length xs ≡ suc (8 - length (xs ++ x ∷ [])) = omega (arith, length_push xs x) in
@@ -15,7 +15,7 @@ seam xs x few =
     ∙ set-append_seam xs Deref (replicate (8 - length (xs ++ x ∷ [])) Deref) x
     ∙ sym (append_assoc xs (x ∷ []) (replicate (8 - length (xs ++ x ∷ [])) Deref))
 
--- eight cells
+-- there are eight cells
 pub eight : (a : Inside) → IsStored a → a.count < 8 → length a.steps ≡ 8
 eight a h few =
     let front : List Projection = used a in

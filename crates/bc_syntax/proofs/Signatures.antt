@@ -1,4 +1,4 @@
--- What a signature and a header that fit keep, part by part.
+-- If a signature or a header fits, so do its parts.
 use Rattle.std.proofs.Common.{◌≡◌, ◌≤◌, ℕ, true, false, length, List, [], ◌∷◌, refl}
 use Rattle.std.proofs.lemmas.Bool.{leb-true, and_parts}
 use Rattle.bc_syntax.specs.declared.syntax.Ty.{Ty}
@@ -23,7 +23,7 @@ signature_parts limit s fits =
     let d = and_parts (are_new [] s.regions) _ c.0 in
     record { regions = d.0; few = leb-true (length s.regions) limit d.1; clauses = c.1; parameters = b.1; result = a.1 }
 
--- what is captured fits as parameters do
+-- captures that fit also fit as parameters
 captures_fit : (universals : ℕ) (kind : UnitKind) (captures : List Ty) → kind_fits universals kind captures ≡ true → parameters_fit universals captures ≡ true
 captures_fit universals Function [] fits = refl
 captures_fit universals Function (capture ∷ captures) fits = absurd cc

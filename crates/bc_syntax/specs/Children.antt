@@ -11,17 +11,17 @@ use Rattle.bc_syntax.specs.declared.syntax.Statement.TheVariants as statements
 use Rattle.bc_syntax.specs.declared.syntax.Block.{Block}
 use Rattle.bc_syntax.specs.declared.syntax.Body.{Body}
 
--- the closure that a type is
+-- the number of the closure that a base is, if it is one
 abbrev pub closures_of_base : Base → List ℕ
 closures_of_base bases.Int = []
 closures_of_base (bases.Struct instance) = []
 closures_of_base (bases.Closure closure) = closure.number ∷ []
 
--- those of types
+-- the numbers of the closures that are bases of these types
 abbrev pub closures_of_types : List Ty → List ℕ
 closures_of_types types = flat_map (λ (ty : Ty). closures_of_base ty.base) types
 
--- the closure that an rvalue creates
+-- the number of the closure that an rvalue creates, if it creates one
 abbrev pub closures_of_rvalue : Rvalue → List ℕ
 closures_of_rvalue (rvalues.Use operand) = []
 closures_of_rvalue (rvalues.Borrow borrow) = []
@@ -29,17 +29,18 @@ closures_of_rvalue (rvalues.Aggregate aggregate) = []
 closures_of_rvalue (rvalues.Closure creation) = creation.closure.number ∷ []
 closures_of_rvalue (rvalues.Calc operands) = []
 
+-- the number of the closure that a statement creates, if it creates one
 abbrev pub closures_of_statement : Statement → List ℕ
 closures_of_statement (statements.Assign assignment) = closures_of_rvalue assignment.value
 closures_of_statement (statements.Dead local) = []
 closures_of_statement (statements.Drop place) = []
 closures_of_statement statements.Nop = []
 
--- those that statements create
+-- the numbers of the closures that statements create
 abbrev pub closures_of_statements : List Statement → List ℕ
 closures_of_statements list = flat_map closures_of_statement list
 
--- those that blocks create
+-- the numbers of the closures that blocks create
 abbrev pub closures_of_blocks : List Block → List ℕ
 closures_of_blocks blocks = flat_map (λ (block : Block). closures_of_statements block.statements) blocks
 
@@ -55,6 +56,6 @@ is_among numbers number = list_any (λ other. other == number) numbers
 unfoldable pub children_of : Body → List ℕ
 children_of body = filter (is_among (closures_of body)) (range_with_len 0 64)
 
--- the marks tell of the numbers below 64 which were marked before or are among these
+-- of the numbers below 64, exactly those are marked that were marked before or are among these
 abbrev pub AreMarked : List Bool → List ℕ → List Bool → Type 0
 AreMarked old numbers new = (number : ℕ) → number < 64 → get_or new number false ≡ (get_or old number false || is_among numbers number)

@@ -1,8 +1,9 @@
--- The one keyword that a word may be, told by its bytes.
+-- The only keyword that a word may be, by its first four bytes.
 use Rattle.std.specs.Prelude.{ℕ, List, if◌then◌else◌, ◌==◌, slice_index, Option, Some, None}
 use Rattle.bc_syntax.specs.declared.symbol.Symbol.{Symbol}
 use Rattle.bc_syntax.specs.declared.symbol.Symbol.TheVariants as symbols
 
+-- the only keyword in `c`, by its second and fourth byte
 abbrev pub likely_c : ℕ → ℕ → Option Symbol
 likely_c second fourth =
     if second == 108 then Some symbols.Closure
@@ -10,12 +11,14 @@ likely_c second fourth =
     else (if fourth == 99 then Some symbols.Calc
     else Some symbols.Call))
 
+-- the only keyword in `i`, by its second and third byte
 abbrev pub likely_i : ℕ → ℕ → Option Symbol
 likely_i second third =
     if second == 102 then Some symbols.If
     else (if third == 116 then Some symbols.Int
     else Some symbols.Invoke)
 
+-- the only keyword that may begin with these bytes
 abbrev pub likely_by : (first second third fourth : ℕ) → Option Symbol
 likely_by first second third fourth =
     if first == 99 then likely_c second fourth
@@ -32,6 +35,6 @@ likely_by first second third fourth =
     else (if first == 119 then Some symbols.Where
     else None)))))))))))
 
--- by the first, the second, and the third or the fourth byte
+-- the only keyword that the word may be, by its first four bytes
 unfoldable pub likely_keyword : List ℕ → Option Symbol
 likely_keyword word = likely_by (slice_index word 0) (slice_index word 1) (slice_index word 2) (slice_index word 3)

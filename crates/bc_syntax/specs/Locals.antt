@@ -4,7 +4,7 @@ use Rattle.bc_syntax.specs.declared.syntax.Ty.{Ty}
 use Rattle.bc_syntax.specs.declared.syntax.Header.{Header}
 use Rattle.bc_syntax.specs.declared.syntax.Body.{Body}
 
--- the types of the locals that a header declares: the result, the captures, the parameters
+-- the types of the locals that a header declares: the result, then the captures, then the parameters
 abbrev pub declared_locals : Header → List Ty
 declared_locals header = header.signature.result ∷ (header.captures ++ header.signature.parameters)
 
@@ -12,6 +12,6 @@ declared_locals header = header.signature.result ∷ (header.captures ++ header.
 abbrev pub first_let : Header → ℕ
 first_let header = length (declared_locals header)
 
--- the types of all locals: those that the header declares, the `let` locals
+-- the types of all locals: those that the header declares, then the `let` locals (rustc-dev-guide, "The MIR")
 abbrev pub locals_of : Body → List Ty
 locals_of body = declared_locals body.header ++ body.lets

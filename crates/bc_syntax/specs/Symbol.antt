@@ -7,10 +7,11 @@ use Rattle.bc_syntax.specs.declared.symbol.Symbol.{Symbol}
 use Rattle.bc_syntax.specs.declared.symbol.Symbol.TheVariants as symbols
 use Rattle.bc_syntax.specs.declared.symbol.TheConstants.{KEYWORDS, SIGNS}
 
--- `==` on symbols
+-- two symbols are equal
 unfoldable pub same : Symbol → Symbol → Bool
 same = sameb the_type
 
+-- the spelling of a symbol
 unfoldable pub text : Symbol → List ℕ
 text symbols.Fn = codes "fn"
 text symbols.Closure = codes "closure"
@@ -50,10 +51,10 @@ text symbols.Dot = codes "."
 text symbols.Star = codes "*"
 text symbols.Arrow = codes "->"
 
--- the keyword that a word is
+-- the keyword that a word is, if it is one
 unfoldable pub keyword_of : List ℕ → Option Symbol
 keyword_of word = find (λ s. bytes_eq (text s) word) KEYWORDS
 
--- the sign that a byte is
+-- the sign that a byte is, if it is one
 unfoldable pub sign_of : ℕ → Option Symbol
 sign_of byte = find (λ s. bytes_eq (text s) (byte ∷ [])) SIGNS

@@ -1,10 +1,10 @@
-//! Values that lie apart from what holds them. A contract sees such a value as itself.
+//! Values in allocations of their own. Contracts see each as the value itself.
 ghost use Rattle.std.specs.Prelude.{◌≡◌, IfOk};
 
 use std::alloc::{AllocError, Global};
 use std::marker::Model;
 
-/// A value in its own allocation, so that what holds it stays small. It is for values that are rare and large.
+/// A value in its own allocation, so that what contains it stays small. Use it for values that are rare and large.
 pub struct Apart<T> {
     value: Box<T>,
 }
@@ -31,7 +31,7 @@ impl<T> Apart<T> {
 }
 
 impl<T: Drop> Apart<T> {
-    /// Stores a value in an allocation of its own. Returns `AllocError` only where memory was refused.
+    /// Stores a value in an allocation of its own.
     pub fn new(alloc: Global, value: T) -> Result<Self, AllocError>
         ensures { IfOk result (λ made. made ≡ value) }
     {

@@ -1,4 +1,4 @@
-//! Reading bytes of a text.
+//! Reading the bytes of a text.
 ghost use Rattle.std.specs.Prelude.{◌≡◌, ◌≤◌, true, length, take, drop, slice_index, take_while};
 ghost use Rattle.std.specs.List.{list_all};
 ghost use Rattle.std.specs.Str.{bytes_eq};
@@ -12,7 +12,7 @@ pub fn byte_at(bytes: &[u8], index: usize) -> u8
     bytes.get(index).copied().unwrap_or(0)
 }
 
-/// Returns the bytes from an index on, none past the end.
+/// Returns the bytes from an index on, or none if it is past the end.
 pub fn from(bytes: &[u8], index: usize) -> &[u8]
     ensures { result.now ≡ drop index bytes.now }
 {
@@ -34,7 +34,7 @@ pub fn is_run_byte(byte: u8) -> bool
     matches!(byte, b'0'..=b'9' | b'A'..=b'Z' | b'_' | b'a'..=b'z')
 }
 
-/// Returns how many lowercase letters, digits and `_` the bytes begin with.
+/// Returns how many lower-case letters, digits and `_` the bytes begin with.
 pub fn region_len(bytes: &[u8]) -> usize
     ensures count { result ≡ length (take_while is_region_byte bytes.now) }
     ensures within { result ≤ length bytes.now }
@@ -45,7 +45,7 @@ pub fn region_len(bytes: &[u8]) -> usize
         .count()
 }
 
-/// Returns how many letters, digits and `_` the bytes begin with.
+/// Returns the length of the run that the bytes begin with: letters, digits and `_`.
 pub fn run_len(bytes: &[u8]) -> usize
     ensures count { result ≡ length (run bytes.now) }
     ensures within { result ≤ length bytes.now }
@@ -53,7 +53,7 @@ pub fn run_len(bytes: &[u8]) -> usize
     bytes.iter().take_while(|byte| is_run_byte(**byte)).count()
 }
 
-/// Returns the letters, digits and `_` that the bytes begin with.
+/// Returns the run that the bytes begin with: letters, digits and `_`.
 pub fn run(bytes: &[u8]) -> &[u8]
     ensures run { result.now ≡ run bytes.now }
     ensures within { length result.now ≤ length bytes.now }
@@ -61,8 +61,7 @@ pub fn run(bytes: &[u8]) -> &[u8]
     &bytes[..run_len(bytes)]
 }
 
-/// Whether a text begins with a word. Words are short, and known where this is called: so each byte of one is compared by
-/// itself.
+/// Returns whether a text begins with a word. It compares byte by byte, since words are short and constant at each call.
 #[inline(always)]
 fn begins_with(bytes: &[u8], word: &[u8]) -> bool
     ensures { result ≡ bytes_eq word.now (take (length word.now) bytes.now) }
@@ -78,7 +77,7 @@ fn begins_with(bytes: &[u8], word: &[u8]) -> bool
     true
 }
 
-/// Returns whether the letters, digits and `_` that the bytes begin with are this word, which has no others.
+/// Returns whether the run that the bytes begin with is this word, which has only letters, digits and `_`.
 #[inline(always)]
 pub(crate) fn runs_as(bytes: &[u8], word: &[u8]) -> bool
     requires { list_all is_run_byte word.now ≡ true }

@@ -6,10 +6,10 @@ ghost use Rattle.bc_syntax.specs.Children.{AreMarked, children_of, closures_of, 
 use crate::syntax::{Base, Block, Body, Rvalue, Statement, Ty};
 use std::alloc::{AllocError, Global};
 
-/// How many numbers a closure may have.
+/// The count of closure numbers, which are 0 to 63.
 const CLOSURES: usize = 64;
 
-/// Marks a closure. A number past the last one has no mark.
+/// Marks a closure number. Numbers from 64 on have no mark.
 fn mark(marks: &mut [bool; CLOSURES], number: u8)
     ensures { AreMarked marks.old (number ∷ []) marks.new }
 {
@@ -18,7 +18,7 @@ fn mark(marks: &mut [bool; CLOSURES], number: u8)
     }
 }
 
-/// Marks the closure that a type is.
+/// Marks the closure that a base is, if it is one.
 fn mark_base(marks: &mut [bool; CLOSURES], base: &Base)
     ensures { AreMarked marks.old (closures_of_base base.now) marks.new }
 {
@@ -36,7 +36,7 @@ fn mark_types(marks: &mut [bool; CLOSURES], types: &[Ty])
     }
 }
 
-/// Marks the closure that an rvalue creates.
+/// Marks the closure that an rvalue creates, if it creates one.
 fn mark_rvalue(marks: &mut [bool; CLOSURES], rvalue: &Rvalue)
     ensures { AreMarked marks.old (closures_of_rvalue rvalue.now) marks.new }
 {
@@ -82,7 +82,7 @@ fn push_marked(children: &mut Vec<u8>, marked: bool, number: u8) -> Result<(), A
 }
 
 impl Body {
-    /// Which closures the body mentions, by their numbers.
+    /// Returns for each number whether the body names this closure.
     fn marked_closures(&self) -> [bool; CLOSURES]
         ensures { (number : _) → number < 64 → get_or result number false ≡ is_among (closures_of self.now) number }
     {
@@ -92,9 +92,8 @@ impl Body {
         marks
     }
 
-    /// Returns the body's children: the numbers of the closures in the types of its `let` locals and of those that it creates,
-    /// each once, ascending, 0 to 63. Returns `AllocError` only where memory was refused; none is asked for where there is no
-    /// child.
+    /// Returns the children of the body: the numbers of the closures in the types of its `let` locals and of those that it creates, each
+    /// once, ascending, 0 to 63. It allocates nothing if there are none.
     pub fn children(&self, alloc: Global) -> Result<Vec<u8>, AllocError>
         ensures value { IfOk result (λ children. children.items ≡ children_of self.now) }
         ensures numbers { IfOk result (λ children. list_all (λ number. nat_le number 63) children.items ≡ true) }

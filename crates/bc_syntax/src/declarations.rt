@@ -1,4 +1,4 @@
-//! Lists of declarations that have a spelling.
+//! Declarations that a text can spell.
 ghost use Rattle.std.specs.Prelude.{◌≡◌};
 ghost use Rattle.bc_syntax.specs.Fits as spec;
 ghost use Rattle.bc_syntax.specs.Fits.{TypesFit};
@@ -7,7 +7,7 @@ use crate::sequence::Sequence;
 use crate::syntax::Declaration;
 use std::marker::Model;
 
-/// Returns whether the declaration is that of a struct.
+/// Returns whether the declaration declares a struct.
 pub fn is_struct(declaration: &Declaration) -> bool
     ensures { result ≡ spec.is_struct declaration.now }
 {
@@ -17,14 +17,14 @@ pub fn is_struct(declaration: &Declaration) -> bool
     }
 }
 
-/// Declarations that have a spelling: at most 64 structs and 64 extern functions, names that are words of at most 32
-/// bytes, at most 8 regions each with names of their own, at most 16 fields.
+/// Declarations that a text can spell: at most 64 structs and 64 extern functions, with names that are words of at most 32 bytes, at most 8
+/// regions of different names and at most 16 fields or parameters each.
 #[derive(PartialEq)]
 pub struct Types {
     declarations: Sequence<Declaration>,
 }
 
-// Written out: the crates above call this, and prove nothing of its parts again.
+// Handwritten, so that it is proved once, and not again in each crate above.
 impl Drop for Types {
     fn drop(self) {
         let Self { declarations: _ } = self;
@@ -46,7 +46,7 @@ impl Model for Types {
 }
 
 impl Types {
-    /// Makes `Types` of declarations that are known to have a spelling.
+    /// Makes `Types` of declarations that a text can spell.
     pub fn of_fitting(declarations: Sequence<Declaration>) -> Types
         requires { TypesFit declarations }
         ensures { result ≡ declarations }

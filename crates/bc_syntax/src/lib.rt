@@ -1,5 +1,4 @@
-//! Units and what they are made of: the values that texts spell and the analysis reads, the words that name things, and
-//! the symbols that are always spelled the same.
+//! Units and declarations as plain data, the words that name things, and keywords and signs.
 #![tactic(auto)]
 
 mod apart;

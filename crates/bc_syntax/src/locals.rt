@@ -1,4 +1,4 @@
-//! The locals of a body, in their order: those that its header declares, then the `let` locals.
+//! The locals of a body in order: those that its header declares, then the `let` locals.
 ghost use Rattle.std.specs.Prelude.{◌≡◌, ◌++◌, IfOk, OnOk};
 ghost use Rattle.bc_syntax.specs.Locals.{first_let, locals_of};
 
@@ -21,8 +21,8 @@ fn push_types(types: &mut Vec<Ty>, more: &[Ty]) -> Result<(), AllocError>
 }
 
 impl Header {
-    /// Returns the number of the first `let` local, which is how many locals the header declares: the result, the captures and
-    /// the parameters. (rustc-dev-guide, "The MIR").
+    /// Returns the number of the first `let` local: one for the result, and one for each capture and parameter. (rustc-dev-guide, "The
+    /// MIR").
     pub fn first_let(&self) -> usize
         ensures { result ≡ first_let self.now }
     {
@@ -31,8 +31,7 @@ impl Header {
 }
 
 impl Body {
-    /// Returns the types of the locals in order: the result, the captures, the parameters, the `let` locals. Returns `AllocError`
-    /// only where memory was refused. (rustc-dev-guide, "The MIR").
+    /// Returns the types of the locals in order: the result, the captures, the parameters, the `let` locals. (rustc-dev-guide, "The MIR").
     pub fn local_types(&self, alloc: Global) -> Result<Vec<Ty>, AllocError>
         ensures { IfOk result (λ types. types.items ≡ locals_of self.now) }
     {

@@ -1,6 +1,6 @@
-//! What the numbers in a text count.
+//! The kinds of numbered tokens.
 
-/// What a number counts.
+/// What the number of a token counts.
 #[derive(Clone, Copy, Debug, PartialEq, Eq)]
 pub enum Numbering {
     Number,

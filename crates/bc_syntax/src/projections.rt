@@ -1,10 +1,10 @@
-//! The projections of a place, which lie in the place itself.
+//! The projections of a place, stored in the place itself.
 ghost use Rattle.std.specs.Prelude.{◌≡◌, ◌<◌, ◌++◌, ◌∷◌, [], length};
 
 use crate::syntax::Projection;
 use std::marker::Model;
 
-/// At most eight projections, in order, as a value that is copied. A contract sees the list of them. (rustc-dev-guide, "The MIR".)
+/// At most eight projections, in order, as a value that is copied. Contracts see it as their list. (rustc-dev-guide, "The MIR".)
 #[derive(Clone, Copy)]
 pub struct Projections {
     steps: [Projection; 8],
@@ -29,7 +29,7 @@ impl Model for Projections {
 }
 
 impl Projections {
-    /// Returns a list of no projections.
+    /// Returns an empty list.
     pub fn new() -> Self
         ensures { result ≡ [] }
     {
@@ -46,7 +46,7 @@ impl Projections {
         &self.steps[..usize::from(self.count)]
     }
 
-    /// Appends a projection to the others, of which there are at most seven.
+    /// Appends a projection. There must be at most seven before.
     #[inline(always)]
     pub fn push(&mut self, projection: Projection)
         requires { length self.old < 8 }

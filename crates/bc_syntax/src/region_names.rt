@@ -1,4 +1,4 @@
-//! Names of regions that are declared one behind the other.
+//! Names of regions that are declared in one list.
 ghost use Rattle.std.specs.Prelude.{◌≡◌};
 ghost use Rattle.std.specs.List.{list_any};
 ghost use Rattle.std.specs.Str.{bytes_eq};
@@ -14,8 +14,8 @@ fn is_among(before: &[RegionName], name: &[u8]) -> bool
     before.iter().any(|other| other.bytes.as_slice() == name)
 }
 
-/// Returns whether a region may be declared after those before it: its name is well formed, has at most 16 bytes, is not `static`
-/// and not among them.
+/// Returns whether a region may be declared after those before it: its name is well formed, has at most 16 bytes, and is neither `static`
+/// nor among theirs.
 pub fn is_new(before: &[RegionName], name: &RegionName) -> bool
     ensures { result ≡ spec.is_new before.now name.now }
 {

@@ -1,4 +1,4 @@
-//! Lists inside the values of this crate. A contract sees each as the list of its items alone.
+//! Lists in the values of this crate. Contracts see each as the list of its items.
 ghost use Rattle.std.specs.Prelude.{◌≡◌, ◌++◌, ◌∷◌, [], length, List, OnOk, OnErr, IfOk, IsTrue, ◌↔◌};
 ghost use Rattle.smallvec.specs.SmallVec.{HasRoomFor};
 
@@ -7,12 +7,12 @@ use std::alloc::{AllocError, Global};
 use std::default::MadeWith;
 use std::marker::Model;
 
-/// A list of items, which grows.
+/// A growable list of items.
 pub struct Sequence<T> {
     items: Vec<T>,
 }
 
-// Written out: what lets a list go calls this, and proves nothing of its parts again.
+// Handwritten, so that it is proved once, and not again for each type that contains a list.
 impl<T: Drop> Drop for Sequence<T> {
     fn drop(self) {
         let Self { items: _ } = self;
@@ -26,7 +26,7 @@ impl<T> Model for Sequence<T> {
 }
 
 impl<T> Sequence<T> {
-    /// Returns the empty list. It takes no memory.
+    /// Returns an empty list.
     pub fn new(alloc: Global) -> Self
         ensures { result ≡ [] }
     {
@@ -42,14 +42,14 @@ impl<T> Sequence<T> {
         &self.items
     }
 
-    /// Returns how many items there are.
+    /// Returns the number of items.
     pub fn len(&self) -> usize
         ensures { result ≡ length self.now }
     {
         self.items.len()
     }
 
-    /// Returns whether there is no item.
+    /// Returns whether there are no items.
     pub fn is_empty(&self) -> bool
         ensures { IsTrue result ↔ (self.now ≡ []) }
     {
@@ -58,7 +58,7 @@ impl<T> Sequence<T> {
 }
 
 impl<T: Drop> Sequence<T> {
-    /// Appends an item to the list. Returns `AllocError` only where memory was refused; then the list stays as it was.
+    /// Appends an item. If it returns `AllocError`, the list has not changed.
     #[inline(always)]
     pub fn push(&mut self, item: T) -> Result<(), AllocError>
         ensures ok { OnOk result (self.new ≡ self.old ++ item ∷ []) }
@@ -104,12 +104,12 @@ impl<T: PartialEq> PartialEq for Sequence<T> {
     }
 }
 
-/// A list that holds up to `N` items in the value itself, and allocates memory for more.
+/// A list with room for `N` items in the value itself; for more it allocates memory.
 pub struct ShortSequence<T, const N: usize> {
     items: SmallVec<T, N>,
 }
 
-// Written out: whatever lets a list go calls this, and proves nothing of its parts again.
+// Handwritten, so that it is proved once, and not again for each type that contains a list.
 impl<T: Drop, const N: usize> Drop for ShortSequence<T, N> {
     fn drop(self) {
         let Self { items: _ } = self;
@@ -131,8 +131,8 @@ impl<T, const N: usize> ShortSequence<T, N> {
     }
 }
 
-/// Makes room for more items than a list has places of its own. The longest lists that are read item by item have 16 items,
-/// and so grow once.
+/// Makes room for more items than the value itself has room for. The longest lists that are read item by item have 16 items, so they grow
+/// once.
 #[cold]
 #[inline(never)]
 fn make_room<T: Default + Drop, const N: usize>(
@@ -146,7 +146,7 @@ fn make_room<T: Default + Drop, const N: usize>(
 }
 
 impl<T: Default + Drop, const N: usize> ShortSequence<T, N> {
-    /// Returns the empty list. It takes no memory.
+    /// Returns an empty list.
     pub fn new(alloc: Global) -> Self
         ensures { result ≡ [] }
     {
@@ -155,8 +155,7 @@ impl<T: Default + Drop, const N: usize> ShortSequence<T, N> {
         }
     }
 
-    /// Appends an item to the list. Returns `AllocError` only where memory was refused, which can be only from item `N` on; then
-    /// the list stays as it was.
+    /// Appends an item. It cannot fail for the first `N` items. If it returns `AllocError`, the list has not changed.
     #[inline(always)]
     pub fn push(&mut self, item: T) -> Result<(), AllocError>
         ensures ok { OnOk result (self.new ≡ self.old ++ item ∷ []) }
@@ -172,8 +171,7 @@ impl<T: Default + Drop, const N: usize> ShortSequence<T, N> {
 }
 
 impl<T: Copy + Default, const N: usize> ShortSequence<T, N> {
-    /// Returns a list of these items. It takes memory only where there are more than `N`, and returns `AllocError` only where
-    /// that was refused.
+    /// Returns a list of these items. It allocates memory only if there are more than `N`.
     pub fn of(alloc: Global, items: &[T]) -> Result<Self, AllocError>
         ensures { IfOk result (λ list. list ≡ items.now) }
     {

@@ -1,4 +1,4 @@
-//! Keywords and signs: the tokens that are always spelled the same.
+//! Keywords and signs: tokens with one spelling.
 ghost use Rattle.std.specs.Prelude.{◌≡◌, nat_lt, None, true, IfSome, if◌then◌else◌};
 ghost use Rattle.std.specs.List.{list_all};
 ghost use Rattle.std.specs.Str.{bytes_eq};
@@ -50,7 +50,7 @@ pub enum Symbol {
     Arrow,
 }
 
-/// The symbols that are written as words.
+/// All keywords: the symbols that are spelled as words.
 pub const KEYWORDS: [Symbol; 20] = [
     Symbol::Fn,
     Symbol::Closure,
@@ -103,7 +103,7 @@ pub fn same(a: Symbol, b: Symbol) -> bool
 }
 
 impl Symbol {
-    /// Returns how the symbol is spelled.
+    /// Returns the spelling of the symbol.
     #[inline(always)]
     #[tactic(auto, unfolding(crate::specs::Symbol::text))]
     pub fn text(self) -> &'static [u8]
@@ -150,7 +150,7 @@ impl Symbol {
         }
     }
 
-    /// Returns the keyword that a word is, or `None` where it is none.
+    /// Returns the keyword that a word is, or `None` if it is none.
     pub fn of_word(word: &[u8]) -> Option<Symbol>
         ensures { result ≡ keyword_of word.now }
     {
@@ -158,8 +158,7 @@ impl Symbol {
         (keyword.text() == word).then_some(keyword)
     }
 
-    /// Returns the keyword that the letters, digits and `_` at the front of a text are, or `None` where they are none. It does
-    /// not go over all of them.
+    /// Returns the keyword that the run at the front of a text is, or `None` if it is none. It does not read the whole run.
     #[inline(always)]
     pub fn of_run(bytes: &[u8]) -> Option<Symbol>
         ensures value { result ≡ keyword_of (run bytes.now) }
@@ -169,8 +168,8 @@ impl Symbol {
         runs_as_keyword(bytes, keyword).then_some(keyword)
     }
 
-    /// Returns the sign that a byte below `?` is, or `None` where it is none. Most signs of a text are such. They lie so near one
-    /// another that a table finds them.
+    /// Returns the sign that a byte below `?` is, or `None` if it is none. Most signs in a text are below `?`, and near enough to one
+    /// another for a table.
     #[inline(always)]
     #[tactic(auto, unfolding(crate::specs::Symbol::sign_of, crate::specs::Symbol::text))]
     pub fn of_low_sign(byte: u8) -> Option<Symbol>
@@ -193,7 +192,7 @@ impl Symbol {
         }
     }
 
-    /// Returns the sign that a byte is, or `None` where it is none.
+    /// Returns the sign that a byte is, or `None` if it is none.
     #[inline(always)]
     #[tactic(auto, unfolding(crate::specs::Symbol::sign_of, crate::specs::Symbol::text))]
     pub fn of_sign(byte: u8) -> Option<Symbol>
@@ -209,8 +208,7 @@ impl Symbol {
     }
 }
 
-/// Whether the letters, digits and `_` at the front of a text are this keyword. Each keyword is compared by itself, so that the
-/// bytes that it has are known there.
+/// Returns whether the run at the front of a text is this keyword. Each keyword has a call of its own, in which its bytes are constant.
 #[inline(always)]
 #[tactic(auto, unfolding(crate::specs::Symbol::text))]
 fn runs_as_keyword(bytes: &[u8], keyword: Symbol) -> bool
@@ -258,7 +256,7 @@ fn runs_as_keyword(bytes: &[u8], keyword: Symbol) -> bool
     }
 }
 
-/// The keyword that begins with `c` and has this second and fourth byte.
+/// Returns the only keyword with this second and fourth byte that a word in `c` may be.
 #[inline(always)]
 fn likely_c(second: u8, fourth: u8) -> Option<Symbol>
     ensures { result ≡ likely_c second fourth }
@@ -273,7 +271,7 @@ fn likely_c(second: u8, fourth: u8) -> Option<Symbol>
     }
 }
 
-/// The keyword that begins with `i` and has this second and third byte.
+/// Returns the only keyword with this second and third byte that a word in `i` may be.
 #[inline(always)]
 fn likely_i(second: u8, third: u8) -> Option<Symbol>
     ensures { result ≡ likely_i second third }
@@ -287,7 +285,7 @@ fn likely_i(second: u8, third: u8) -> Option<Symbol>
     }
 }
 
-/// The one keyword that a word may be, by its bytes.
+/// Returns the only keyword that a word may be, by its first four bytes.
 #[inline(always)]
 #[tactic(auto, unfolding(crate::specs::Likely::likely_keyword))]
 fn likely_keyword(word: &[u8]) -> Option<Symbol>

@@ -1,12 +1,12 @@
-//! Bodies with their headers, as their texts give them: plain data.
+//! Units and declarations as plain data, as their texts give them.
 ghost use Rattle.std.specs.Prelude.{◌≡◌};
 
 use crate::apart::Apart;
 use crate::projections::Projections;
 use crate::sequence::{Sequence, ShortSequence};
 
-/// A region: a universal one, by its number, where 0 is `'static` and the declared ones follow in the order of
-/// the header; or a region variable, by its number (rustc-dev-guide, "Region inference (NLL)").
+/// A region: a universal one by its number (0 is `'static`, then come the declared ones in the order of the header), or a region variable
+/// by its number (rustc-dev-guide, "Region inference (NLL)").
 #[derive(Clone, Copy, Debug, PartialEq, Eq)]
 pub enum Region {
     Universal(u8),
@@ -24,7 +24,7 @@ impl Default for Region {
     }
 }
 
-/// Whether a reference, or a borrow, is shared or mutable.
+/// The mutability of a reference or a borrow.
 #[derive(Clone, Copy, Debug, Default, PartialEq, Eq)]
 pub enum Mutability {
     #[default]
@@ -32,20 +32,20 @@ pub enum Mutability {
     Mutable,
 }
 
-/// One layer of a type, `&R` or `&R mut`; in a borrow, what is borrowed for.
+/// A reference `&R` or `&R mut` in a type; in a borrow, its region and mutability.
 #[derive(Clone, Copy, Debug, Default, PartialEq, Eq)]
 pub struct Reference {
     pub region: Region,
     pub mutability: Mutability,
 }
 
-/// The name of a struct or of an extern function.
+/// The name of a struct or an extern function.
 #[derive(Clone, Drop, PartialEq)]
 pub struct ItemName {
     pub bytes: ShortSequence<u8, 16>,
 }
 
-/// A declared struct or extern function with regions for its own, in their order.
+/// A struct or an extern function by its name, with a region for each that it declares, in order.
 #[derive(Clone, PartialEq)]
 pub struct Instance {
     pub name: ItemName,
@@ -61,7 +61,7 @@ impl Drop for Instance {
     }
 }
 
-/// A closure of the unit, by its number, with regions for its external ones, in their order.
+/// A child of the unit by its number, with a region for each of its external ones, in order.
 #[derive(Clone, PartialEq)]
 pub struct ClosureInstance {
     pub number: u8,
@@ -77,7 +77,7 @@ impl Drop for ClosureInstance {
     }
 }
 
-/// What a type's references lead to.
+/// What the references of a type lead to.
 #[derive(Clone, PartialEq)]
 pub enum Base {
     Int,
@@ -112,7 +112,7 @@ impl Drop for Ty {
 }
 
 impl Ty {
-    /// Returns the references of the type, and what they lead to. It takes no memory.
+    /// Returns the references of the type, and what they lead to.
     pub fn into_parts(self) -> (ShortSequence<Reference, 7>, Base)
         ensures references { result.0 ≡ self.references }
         ensures base { result.1 ≡ self.base }
@@ -130,14 +130,14 @@ pub enum Projection {
     Field(u8),
 }
 
-/// A local, and the projections that lead on from it. (rustc-dev-guide, "The MIR".)
+/// A local and its projections. (rustc-dev-guide, "The MIR".)
 #[derive(Clone, Copy, PartialEq)]
 pub struct Place {
     pub local: u8,
     pub projections: Projections,
 }
 
-/// What an rvalue or a terminator reads: a copy or a move of a place, or a number. (rustc-dev-guide, "The MIR").
+/// What a point reads: a copy or a move of a place, or a number. (rustc-dev-guide, "The MIR").
 #[derive(Clone, Copy, PartialEq)]
 pub enum Operand {
     Copy(Place),
@@ -156,14 +156,14 @@ impl Default for Operand {
     }
 }
 
-/// `&R P` or `&R mut P`.
+/// A borrow, `&R P` or `&R mut P`.
 #[derive(Clone, Copy, PartialEq)]
 pub struct Borrow {
     pub reference: Reference,
     pub place: Place,
 }
 
-/// A struct made from its fields, in their order.
+/// The creation of a struct from its fields, in order.
 #[derive(Clone, PartialEq)]
 pub struct Aggregate {
     pub instance: Instance,
@@ -179,7 +179,7 @@ impl Drop for Aggregate {
     }
 }
 
-/// A closure made from what it captures, in the order of its captures.
+/// The creation of a closure from its captures, in order.
 #[derive(Clone, PartialEq)]
 pub struct Creation {
     pub closure: ClosureInstance,
@@ -195,7 +195,7 @@ impl Drop for Creation {
     }
 }
 
-/// What an assignment computes. (rustc-dev-guide, "The MIR".)
+/// The value that an assignment computes. (rustc-dev-guide, "The MIR".)
 #[derive(Clone, PartialEq)]
 pub enum Rvalue {
     Use(Operand),
@@ -217,7 +217,7 @@ impl Drop for Rvalue {
     }
 }
 
-/// `P = rvalue`. (rustc-dev-guide, "The MIR".)
+/// An assignment, `P = rvalue`. (rustc-dev-guide, "The MIR".)
 #[derive(Clone, PartialEq)]
 pub struct Assignment {
     pub target: Place,
@@ -233,7 +233,7 @@ impl Drop for Assignment {
     }
 }
 
-/// A point of a block that is not its last. `Dead` ends the storage of a local. (rustc-dev-guide, "The MIR".)
+/// A point that is not the last of its block. `Dead` ends the storage of a local. (rustc-dev-guide, "The MIR".)
 #[derive(Clone, PartialEq)]
 pub enum Statement {
     Assign(Assignment),
@@ -253,7 +253,7 @@ impl Drop for Statement {
     }
 }
 
-/// `if operand then otherwise`, two labels.
+/// `if operand then otherwise`, with two labels.
 #[derive(Clone, Copy, PartialEq)]
 pub struct Condition {
     pub operand: Operand,
@@ -261,7 +261,7 @@ pub struct Condition {
     pub otherwise: u8,
 }
 
-/// `destination = call function(operands) target`, where the target is a label.
+/// `destination = call function(operands) target`. The target is a label.
 #[derive(Clone, PartialEq)]
 pub struct Call {
     pub destination: Place,
@@ -281,8 +281,8 @@ impl Drop for Call {
     }
 }
 
-/// `destination = invoke closure<regions>(operands) target`: the closure in a place is called, with regions for its local
-/// ones in their order, and used up. The target is a label.
+/// `destination = invoke closure<regions>(operands) target`: calls the closure in a place and uses it up. `regions` has one for each of its
+/// local ones, in order. The target is a label.
 #[derive(Clone, PartialEq)]
 pub struct Invocation {
     pub destination: Place,
@@ -344,7 +344,7 @@ impl Drop for Block {
     }
 }
 
-/// A `where` clause between universal regions: the value of `longer` contains that of `shorter`.
+/// A `where` clause: the universal region `longer` outlives `shorter`.
 #[derive(Clone, Copy, Debug, PartialEq, Eq)]
 pub struct Outlives {
     pub longer: u8,
@@ -364,8 +364,8 @@ pub enum UnitKind {
     Closure,
 }
 
-/// The regions and clauses that a unit or an extern function declares, what it takes and what it returns. The regions'
-/// numbers are 1 and up, in this order.
+/// The regions and clauses that a unit or an extern function declares, its parameters and its result. The regions are numbered from 1, in
+/// order.
 #[derive(Clone, PartialEq)]
 pub struct Signature {
     pub regions: Sequence<RegionName>,
@@ -385,7 +385,7 @@ impl Drop for Signature {
     }
 }
 
-/// A unit's header, which comes before its body. A function has no captures.
+/// The header of a unit, which comes before its body. A function has no captures.
 #[derive(Clone, PartialEq)]
 pub struct Header {
     pub kind: UnitKind,
@@ -403,8 +403,8 @@ impl Drop for Header {
     }
 }
 
-/// A header with its body. Local 0 has the result's type; then come the captures, the parameters and the `let` locals.
-/// (rustc-dev-guide, "The MIR".)
+/// A header with its body. Local 0 is the result; then come the captures, the parameters and the `let` locals. (rustc-dev-guide, "The
+/// MIR".)
 #[derive(PartialEq)]
 pub struct Body {
     pub header: Header,
@@ -422,16 +422,14 @@ impl Drop for Body {
     }
 }
 
-/// How a type follows a region parameter of its struct: with it, or with none but the same region (rustc-dev-guide,
-/// "Variance").
+/// The variance of a struct in one of its regions (rustc-dev-guide, "Variance").
 #[derive(Clone, Copy, Debug, PartialEq, Eq)]
 pub enum Variance {
     Covariant,
     Invariant,
 }
 
-/// `struct NAME<regions> drop { fields }`: the regions' numbers in the fields' types are 1 and up, in this order, and
-/// each has its variance.
+/// `struct NAME<regions> drop { fields }`. In the types of the fields the regions are numbered from 1, in order. Each has a variance.
 #[derive(Clone, PartialEq)]
 pub struct StructDeclaration {
     pub name: ItemName,
@@ -469,7 +467,7 @@ impl Drop for ExternDeclaration {
     }
 }
 
-/// A struct, or a function that is declared alone.
+/// A declaration of a struct or an extern function.
 #[derive(PartialEq)]
 pub enum Declaration {
     Struct(StructDeclaration),

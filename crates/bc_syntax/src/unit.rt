@@ -1,20 +1,19 @@
-//! Units: bodies that have a spelling.
+//! Units: bodies that a text can spell.
 ghost use Rattle.std.specs.Prelude.{◌≡◌};
 ghost use Rattle.bc_syntax.specs.Fits.{Fits};
 
 use crate::syntax::Body;
 use std::marker::Model;
 
-/// A body that has a spelling: its numbers are within their limits (at most 256 locals, 256 blocks and one at least,
-/// 4,096 points, 15 declared regions, 32 clauses, 16 captures, parameters and operands in a list, closures up to 63,
-/// region variables up to 1,023), its regions and locals are declared, and its names are words. A function captures
-/// nothing, and closure types are those of whole `let` locals alone.
+/// A body that a text can spell. Its numbers are within their limits: at most 256 locals, 1 to 256 blocks, 4,096 points, 15 declared
+/// regions, 32 clauses, 16 captures, parameters and operands in a list, closures up to 63, region variables up to 1,023. Its regions and
+/// locals are declared, and its names are words. A function captures nothing, and a closure is only ever the whole type of a `let` local.
 #[derive(PartialEq)]
 pub struct Unit {
     body: Body,
 }
 
-// Written out: the crates above call this, and prove nothing of its parts again.
+// Handwritten, so that it is proved once, and not again in each crate above.
 impl Drop for Unit {
     fn drop(self) {
         let Self { body: _ } = self;
@@ -35,7 +34,7 @@ impl Model for Unit {
 }
 
 impl Unit {
-    /// Makes the unit of a body that is known to have a spelling.
+    /// Makes the unit of a body that a text can spell.
     pub fn of_fitting(body: Body) -> Unit
         requires { Fits body }
         ensures { result ≡ body }
@@ -43,7 +42,7 @@ impl Unit {
         Unit { body }
     }
 
-    /// Returns the body that the unit is made of, with its header.
+    /// Returns the body with its header.
     pub fn body(&self) -> &Body
         ensures value { result.now ≡ self.now }
         ensures fits { Fits self.now }

@@ -27,7 +27,7 @@ pub fn are_run_bytes(bytes: &[u8]) -> bool
     bytes.iter().all(|byte| is_run_byte(*byte))
 }
 
-/// Returns whether bytes are `0`, or digits without a leading zero. The caller knows whether they are digits.
+/// Returns whether bytes are `0`, or digits without a leading zero. The caller says whether all are digits.
 #[inline(always)]
 #[tactic(auto, unfolding(crate::specs::Words::is_number))]
 pub fn is_number_of(digits: &[u8], are_digits: bool) -> bool
@@ -44,8 +44,7 @@ pub fn is_number(digits: &[u8]) -> bool
     is_number_of(digits, are_digits(digits))
 }
 
-/// Returns whether bytes are the name of a region without its `'`. The caller knows whether they are lower-case letters, digits
-/// and `_`.
+/// Returns whether bytes are the name of a region without its `'`. The caller says whether all are lower-case letters, digits and `_`.
 #[tactic(auto, unfolding(crate::specs::Words::is_region_name))]
 pub fn is_region_name_of(name: &[u8], are_region_bytes: bool) -> bool
     requires { are_region_bytes ≡ list_all is_region_byte name.now }
@@ -74,8 +73,8 @@ fn is_keyword(word: &[u8]) -> bool
     Symbol::of_word(word).is_some()
 }
 
-/// Returns whether bytes are a word that may name a struct or an extern function: letters, digits and `_` that begin with a
-/// letter and are no label and no keyword.
+/// Returns whether bytes are a word that may name a struct or an extern function: letters, digits and `_` that begin with a letter, and no
+/// label or keyword.
 #[tactic(auto, unfolding(crate::specs::Words::is_word))]
 pub fn is_word(bytes: &[u8]) -> bool
     ensures { result ≡ is_word bytes.now }

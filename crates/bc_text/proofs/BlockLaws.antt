@@ -1,4 +1,4 @@
--- Blocks that are read are those that were spelled, and what was spelled is read again.
+-- Tokens are read as blocks exactly if they spell them.
 use Rattle.std.proofs.Common.{◌≡◌, ℕ, zero, suc, ◌+◌, ◌-◌, ◌≤◌, true, false, cond, eqb, List, [], ◌∷◌, ◌++◌, length, Ok, refl, sym, ap, ◌∙◌, subst, inl, inr, append_assoc, arith}
 use Rattle.std.specs.List.{flat_map, list_all}
 use Rattle.std.proofs.lemmas.Bool.{eqb-true, eq-eqb, and_from, and_parts}
@@ -32,7 +32,7 @@ module _ (regions : List RegionName) (declares : Declares regions) (locals : ℕ
 
   -- ---- points
 
-  -- what a block's reading has taken, behind the statements that it had found
+  -- what is taken of a block after the statements that were found
   abbrev GoesOn : ℕ → List Statement → Tokens → Block × Tokens → Type 0
   GoesOn room found ts y = (more : List Statement) × (y.0.statements ≡ found ++ more) × Begins ts (flat_map (spell.line regions) more ++ spell.terminator regions y.0.terminator) y.1 × all_fit more × (length more + 1 ≤ room) × (terminator_fits count locals y.0.terminator ≡ true)
 

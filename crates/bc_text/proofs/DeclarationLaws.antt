@@ -1,4 +1,4 @@
--- Declarations that are read are those that were spelled, and what was spelled is read again.
+-- Tokens are read as declarations exactly if they spell them.
 use Rattle.std.proofs.Common.{◌≡◌, ℕ, zero, suc, ◌+◌, ◌-◌, ◌<◌, ◌≤◌, Bool, true, false, cond, ◌&&◌, List, [], ◌∷◌, ◌++◌, length, nat_le, Ok, Err, refl, sym, ap, ◌∙◌, subst, inl, inr, append_assoc, ltb, arith}
 use Rattle.std.specs.Prelude.{Result}
 use Rattle.std.specs.List.{flat_map, list_all, zip}
@@ -58,7 +58,7 @@ variance_again ts Invariant rest p =
 abbrev Mark : Type 0
 Mark = Variance × RegionName
 
--- a mark whose region is new where those before it are
+-- a mark whose region none of the marks before declares
 abbrev mark_fits : Marks → Mark → Bool
 mark_fits before m = is_new (regions_of before) m.1
 
@@ -104,19 +104,19 @@ fitting_is before [] = refl
 fitting_is before (m ∷ marks) =
     ap (λ b. mark_fits before m && b) (fitting_is (before ++ m ∷ []) marks ∙ ap (λ (rs : List RegionName). are_new rs (regions_of marks)) (one_more_region before m))
 
--- one more of each goes behind the others
+-- one more element in each list zips to one more pair
 pub zip_push : (vs : List Variance) (rs : List RegionName) (v : Variance) (r : RegionName) → length vs ≡ length rs → zip (vs ++ v ∷ []) (rs ++ r ∷ []) ≡ zip vs rs ++ (v, r) ∷ []
 zip_push [] [] v r e = refl
 zip_push [] (y ∷ rs) v r e = absurd (omega arith)
 zip_push (x ∷ vs) [] v r e = absurd (omega arith)
 zip_push (x ∷ vs) (y ∷ rs) v r e = ap (λ (l : Marks). (x, y) ∷ l) (zip_push vs rs v r (omega arith))
 
--- marks are their variances beside their regions
+-- marks are their variances, zipped with their regions
 pub zipped : (marks : Marks) → zip (variances_of marks) (regions_of marks) ≡ marks
 zipped [] = refl
 zipped (m ∷ marks) = ap (λ (l : Marks). m ∷ l) (zipped marks)
 
--- what begins with a token begins with it alone
+-- tokens that begin with several begin with the first
 begins_one : (ts : Tokens) (token : Token) (x : List Token) (rest : Tokens) → Begins ts (token ∷ x) rest → Begins ts (token ∷ []) (after ts)
 begins_one [] token x rest b = absurd b
 begins_one (t ∷ ts) token x rest b = (b.0, refl)
@@ -214,7 +214,7 @@ module _ (regions : List RegionName) (declares : Declares regions) where
 
 -- ---- structs
 
--- what a struct's parts are, one by one
+-- each part of a struct fits
 pub record StructIs (d : StructDeclaration) : Type 0 where
   pub name : item_fits d.name ≡ true
   pub regions : Declares d.regions
@@ -281,13 +281,13 @@ struct_takes ts y e =
       }),
     )
 
--- what follows the marks of a struct is no `<`
+-- no `<` follows the marks of a struct
 no_less : (b : Bool) (d : StructDeclaration) (ts rest : Tokens) → Begins ts (spell.drop_word b ++ spell.fields d) rest → NoLess ts
 unfolding same
 no_less false d ts rest p = sees_none s.Less ts (Fixed s.OpenBrace) (flat_map (spell.field d.regions) d.fields ++ spell.symbol s.CloseBrace) rest p refl
 no_less true d ts rest p = sees_none s.Less ts (Fixed s.Drop) (spell.fields d) rest p refl
 
--- what a struct is read as behind its marks, with the word `drop` and without
+-- a struct is read from its spelling after its marks, with or without the word `drop`
 fields_behind : (b : Bool) (d : StructDeclaration) (marks : Marks) → regions_of marks ≡ d.regions → variances_of marks ≡ d.variances → StructIs d → d.has_drop ≡ b → (ts rest : Tokens) → Begins ts (spell.drop_word b ++ spell.fields d) rest
     → read.struct_of d.name marks ts ≡ Ok (d, rest)
 unfolding read.struct_of Rattle.bc_tokens.specs.Parser.after_symbol same
@@ -348,7 +348,7 @@ extern_again ts d rest b fits =
 
 -- ---- declarations
 
--- how many of each kind may still come
+-- there is room for one more of its kind
 abbrev HasRoom : List Declaration → Declaration → Type 0
 HasRoom found (declarations.Struct d) = structs_in found < 64
 HasRoom found (declarations.Extern d) = length found - structs_in found < 64
@@ -414,7 +414,7 @@ structs_few (declarations.Extern x ∷ found) = omega (arith, structs_few found)
 abbrev AreFew : List Declaration → Type 0
 AreFew ds = (structs_in ds ≤ 64) × (length ds ≤ structs_in ds + 64)
 
--- there is room for each behind those before it
+-- there is room for each after those before it
 abbrev AllRoom : List Declaration → List Declaration → Type 0
 AllRoom found [] = Unit {0}
 AllRoom found (d ∷ ds) = HasRoom found d × AllRoom (found ++ d ∷ []) ds
@@ -506,14 +506,14 @@ types_again ts ds rest b fits =
     let room : length ds + 1 ≤ 129 = omega (arith, fits.structs, fits.externs) in
     (a.0, rw (declarations_again 129 [] ds ts a.0 a.1 fits.declarations (room_is [] ds (fits.structs, fits.externs)) room (no_declaration a.0 rest a.2), end_again a.0 rest a.2) refl)
 
--- what is read has a spelling
+-- declarations that are read fit
 pub types_fit : (ts later : Tokens) (r : Result (List Declaration) Refusal) (ds : List Declaration) → Reads (read.types ts) r later → r ≡ Ok ds → TypesFit ds
 types_fit ts later (Ok x) ds reads e =
     let same_list : x ≡ ds = cc in
     subst TypesFit same_list (types_take ts (x, later) reads).1
 types_fit ts later (Err f) ds reads e = absurd cc
 
--- a text that is read spells what was read
+-- a text spells the declarations that are read from it
 pub types_found : (bytes : List ℕ) (ds : List Declaration) → read.read_types bytes ≡ Ok ds → texts.SpellsTypes bytes ds × TypesFit ds
 unfolding read.read_types read.read_whole
 types_found bytes ds e =

@@ -117,7 +117,7 @@ within (t ∷ []) (z ∷ []) s y rest text p = absurd p.1
 within (t ∷ []) (z ∷ w ∷ x) s y rest text p = absurd p.1
 within (t ∷ u ∷ ts) (z ∷ x) s y rest text p = within (u ∷ ts) x s y rest text.1 p.1
 
--- nothing comes behind the end
+-- nothing follows the end
 pub ends_there : (ts rest : Tokens) → IsText ts → Begins ts (End ∷ []) rest → rest ≡ []
 ends_there [] rest text p = absurd p
 ends_there (t ∷ []) rest text p = sym p.1

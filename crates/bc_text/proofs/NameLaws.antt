@@ -1,4 +1,4 @@
--- Regions, names and instances that are read are those that were spelled, and what was spelled is read again.
+-- Tokens are read as regions, names and instances exactly if they spell them.
 use Rattle.std.proofs.Common.{◌≡◌, ℕ, Bool, true, false, cond, ◌&&◌, ◌+◌, ltb, List, [], ◌∷◌, ◌++◌, length, Option, Some, None, Ok, refl, sym, ap, subst, inl, inr}
 use Rattle.std.specs.Prelude.{get_or}
 use Rattle.std.proofs.lemmas.Bool.{and_from, and_parts, and_right, leb-true, le-leb}
@@ -26,7 +26,7 @@ use Rattle.bc_text.proofs.Begins.{Begins, join, split, bind_ok, ok_is, chosen, c
 use Rattle.bc_text.proofs.NumberLaws.{number_found, number_again, new_is}
 use Rattle.bc_text.proofs.Lists.{Spells, Closes, angled_takes, angled_again}
 
--- the declared regions have names of their own
+-- the names of the declared regions are new
 abbrev pub Declares : List RegionName → Type 0
 Declares regions = are_new [] regions ≡ true
 

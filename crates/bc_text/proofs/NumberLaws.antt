@@ -1,4 +1,4 @@
--- The number of a declared region and its name tell each other.
+-- The number of a declared region and its name determine each other.
 use Rattle.std.proofs.Common.{◌≡◌, ℕ, zero, suc, ◌+◌, ◌≤◌, ◌<◌, Bool, true, false, ltb, List, [], ◌∷◌, ◌++◌, length, map, Option, Some, None, refl, sym, ap, ◌∙◌, subst, inl, inr, append_assoc, arith}
 use Rattle.std.specs.Prelude.{codes, get_or}
 use Rattle.std.specs.List.{position_from, list_any}
@@ -15,7 +15,7 @@ use Rattle.bc_text.specs.Universals.{number_of}
 same_text : (xs : List ℕ) → bytes_eq xs xs ≡ true
 same_text xs = (bytes_eq-Decides xs xs).1 refl
 
--- a name among those that are declared
+-- a declared region has this name
 abbrev named : List ℕ → RegionName → Bool
 named name other = bytes_eq other.bytes name
 
@@ -57,7 +57,7 @@ number_found regions name k e =
 
 -- ---- from the number to the name
 
--- behind names that it is none of, a name is found where it stands
+-- a name is found after names that differ from it
 found_behind : (before : List RegionName) (r : RegionName) (after : List RegionName) (i : ℕ) → list_any (named r.bytes) before ≡ false → position_from (named r.bytes) i (before ++ r ∷ after) ≡ Some (i + length before)
 found_behind [] r after i none = rw (same_text r.bytes) (ap Some (omega arith))
 found_behind (b ∷ before) r after i none =
@@ -68,7 +68,7 @@ found_behind (b ∷ before) r after i none =
           rw gone (found_behind before r after (i + 1) rest ∙ ap Some (omega arith))
     ]
 
--- what a name that is new where others are declared is
+-- what a new name is after others
 pub record IsNew (before : List RegionName) (r : RegionName) : Type 0 where
   pub short : length r.bytes ≤ 16
   pub not_static : bytes_eq r.bytes (codes "static") ≡ false

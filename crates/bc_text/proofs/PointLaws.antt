@@ -1,4 +1,4 @@
--- A statement or a terminator that is read is the one that was spelled, and what was spelled is read again.
+-- Tokens are read as a statement or a terminator exactly if they spell it.
 use Rattle.std.proofs.Common.{◌≡◌, ℕ, ◌+◌, ◌≤◌, true, false, List, [], ◌∷◌, ◌++◌, length, Ok, refl, sym, ap, ◌∙◌, subst, inl, inr}
 use Rattle.std.specs.Prelude.{Bool}
 use Rattle.std.specs.List.{flat_map}
@@ -49,7 +49,7 @@ label_again : (ts : Tokens) (l : ℕ) (rest : Tokens) → Begins ts (spell.label
 unfolding read.label
 label_again ts l rest p le = numbered_again n.Label 255 ts l rest p le
 
--- no label goes on as a place
+-- a label does not continue a place
 label_ends : (l : ℕ) (ts : Tokens) (x : List Token) (rest : Tokens) → Begins ts (spell.label l ++ x) rest → NoDot ts
 unfolding same
 label_ends l ts x rest p = sees_none s.Dot ts (Numbered n.Label l) x rest p refl
@@ -74,7 +74,7 @@ record BeginsNone (word : Symbol) : Type 0 where
   closes : is_fixed word (Fixed s.Closure) ≡ false
   calculates : is_fixed word (Fixed s.Calc) ≡ false
 
--- ---- points past the words that come first in the production
+-- ---- points that begin with a later word of the production
 
 module _ (regions : List RegionName) (locals : ℕ) where
   past_return : (ts : Tokens) → sees s.Return ts ≡ false → read.point regions locals ts ≡ read.stopping regions locals ts
@@ -136,7 +136,7 @@ module _ (regions : List RegionName) (declares : Declares regions) (locals : ℕ
       subst (λ (q : Aggregate × Tokens). Begins ts (spell.aggregate regions q.0) q.1 × (aggregate_fits count locals q.0 ≡ true)) (ok_is (record { instance = b.0.0; operands = c.0.0 }, c.0.1) y c.2)
       (join ts (spell.instance regions b.0.0) b.0.1 (spell.operands c.0.0) c.0.1 i.0 os.0, and_from (instance_fits true count b.0.0) (operands_fit locals c.0.0) i.1 os.1)
 
-  -- no `<` begins a list of operands
+  -- operands do not begin with `<`
   open_paren : (os : List Operand) (x : List Token) (ts rest : Tokens) → Begins ts (spell.operands os ++ x) rest → NoLess ts
   unfolding same
   open_paren os x ts rest b = sees_none s.Less ts (Fixed s.OpenParen) ((spell.commas spell.operand os ++ spell.symbol s.CloseParen) ++ x) rest b refl
@@ -149,7 +149,7 @@ module _ (regions : List RegionName) (declares : Declares regions) (locals : ℕ
       let no_less = sees_none s.Less a.0 (Fixed s.OpenParen) (spell.commas spell.operand x.operands ++ spell.symbol s.CloseParen) rest a.2 refl in
       rw (instance_again true regions ts x.instance a.0 declares a.1 parts.0 no_less, operands_again locals few a.0 x.operands rest a.2 parts.1) refl
 
-  -- a closure made, behind its word
+  -- the creation of a closure, after `closure`
   abbrev made_of : Creation → List Token
   made_of x = spell.closure_number regions x.closure ++ spell.operands x.operands
 
@@ -251,7 +251,7 @@ module _ (regions : List RegionName) (declares : Declares regions) (locals : ℕ
   no_word word none (r.Closure x) ts rest b = sees_none word ts (Fixed s.Closure) (made_of x) rest b none.closes
   no_word word none (r.Calc os) ts rest b = sees_none word ts (Fixed s.Calc) (spell.operands os) rest b none.calculates
 
-  -- what is computed is no call
+  -- a value does not begin with `call`
   no_call : (v : Rvalue) (ts rest : Tokens) → Begins ts (spell.rvalue regions v) rest → sees s.Call ts ≡ false
   unfolding same
   no_call v ts rest b = no_word s.Call (record { copies = refl; moves = refl; borrows = refl; closes = refl; calculates = refl }) v ts rest b
@@ -340,7 +340,7 @@ module _ (regions : List RegionName) (declares : Declares regions) (locals : ℕ
   abbrev pub IsPoint : Tokens → Point × Tokens → Type 0
   IsPoint ts q = Begins ts (tokens_of q.0) q.1 × (point_fits q.0 ≡ true)
 
-  -- what stands behind `P =` and is no call of a function
+  -- what follows `P =` and is no `call`
   invoking_takes : (ts mid late : Tokens) (p : Place) (y : Point × Tokens) → Begins ts (spell.place p) mid → place_fits locals p ≡ true → Begins mid (spell.symbol s.Equals) late → read.invoking regions locals p late ≡ Ok y → IsPoint ts y
   unfolding read.invoking
   invoking_takes ts mid late p y place_text place_fit equals e =
@@ -467,9 +467,9 @@ module _ (regions : List RegionName) (declares : Declares regions) (locals : ℕ
         | inr p ↦ stopping_takes ts y p.1
       ]
 
-  -- ---- points again
+  -- ---- points
 
-  -- a token that is none of the words that end a block
+  -- a token that is not `return`, `stop`, `goto` or `if`
   abbrev NoEnd : Token → Type 0
   NoEnd token = (is_fixed s.Return token ≡ false) × (is_fixed s.Stop token ≡ false) × (is_fixed s.Goto token ≡ false) × (is_fixed s.If token ≡ false)
 

@@ -1,4 +1,4 @@
--- A recursion on the room that is left, beside a loop that counts up.
+-- A recursion over the room that is left, beside a loop that counts up.
 use Rattle.std.proofs.Common.{◌≡◌, ℕ, suc, ◌+◌, ◌-◌, ◌<◌, ◌≤◌, Bool, List, cond, refl, ap, ◌∙◌, arith}
 use Rattle.bc_syntax.specs.declared.syntax.RegionName.{RegionName}
 use Rattle.bc_syntax.specs.declared.syntax.Reference.{Reference}
@@ -75,7 +75,7 @@ pub declarations_stop : (found : List Declaration) (ts : Tokens) → declaration
 unfolding declarations_from
 declarations_stop found ts = refl
 
--- a turn of a list, and what comes behind the last
+-- a turn of a list, and the end after the last
 pub items_go : {A : Type 0} {x : Outcome (List A)} (begins : Tokens → Bool) (item : List A → Parser A) (found : List A) (ts : Tokens) (n at : ℕ) → at < n → x ≡ declared_from begins item (n - at) found ts → x ≡ declared_turn item (declared_from begins item (n - (at + 1))) found ts
 unfolding declared_from
 items_go begins item found ts n at below e = one_more (λ k. declared_from begins item k found ts) n at below e

@@ -1,4 +1,4 @@
--- A type that is read is the one that was spelled, and what was spelled is read again.
+-- Tokens are read as a type exactly if they spell it.
 use Rattle.std.proofs.Common.{◌≡◌, ℕ, zero, suc, ◌+◌, ◌≤◌, Bool, true, false, List, [], ◌∷◌, ◌++◌, length, Ok, refl, sym, ap, ◌∙◌, subst, inl, inr, append_assoc, arith}
 use Rattle.std.specs.List.{flat_map, list_all}
 use Rattle.std.proofs.lemmas.Bool.{cases_Bool, and_from, and_parts, leb-true, le-leb}
@@ -80,7 +80,7 @@ module _ (variables : Bool) (regions : List RegionName) (declares : Declares reg
 
   -- ---- types
 
-  -- what a type's reading has taken, behind the references that it had found
+  -- what is taken of a type after the references that were found
   abbrev GoesOn : ℕ → List Reference → Tokens → Ty × Tokens → Type 0
   GoesOn room found ts y = (more : List Reference) × (y.0.references ≡ found ++ more) × Begins ts (flat_map (spell.behind regions) more ++ spell.base regions y.0.base) y.1 × (list_all (reference_fits variables count) more ≡ true) × (length more + 1 ≤ room)
       × (base_fits variables count y.0.base ≡ true)
@@ -117,7 +117,7 @@ module _ (variables : Bool) (regions : List RegionName) (declares : Declares reg
   no_mut [] (bases.Closure c) ts rest p = sees_none s.Mut ts (Fixed s.Closure) (spell.closure_number regions c) rest p refl
   no_mut (r ∷ more) x ts rest p = sees_none s.Mut ts (Fixed s.Ampersand) ((spell.reference regions r ++ flat_map (spell.behind regions) more) ++ spell.base regions x) rest p refl
 
-  -- no `&` begins a base
+  -- a base does not begin with `&`
   no_ampersand : (x : Base) (ts rest : Tokens) → Begins ts (spell.base regions x) rest → sees s.Ampersand ts ≡ false
   unfolding same
   no_ampersand bases.Int ts rest p = sees_none s.Ampersand ts (Fixed s.Int) [] rest p refl
@@ -161,7 +161,7 @@ module _ (variables : Bool) (regions : List RegionName) (declares : Declares reg
 
 -- ---- the types of `let` locals
 
--- no `closure` begins a type that may stand anywhere
+-- no other type begins with `closure`
 no_closure : (variables : Bool) (count : ℕ) (regions : List RegionName) (rs : List Reference) (x : Base) (ts rest : Tokens) → base_fits variables count x ≡ true → Begins ts (flat_map (spell.behind regions) rs ++ spell.base regions x) rest → sees s.Closure ts ≡ false
 unfolding same
 no_closure variables count regions [] bases.Int ts rest fits p = sees_none s.Closure ts (Fixed s.Int) [] rest p refl

@@ -1,4 +1,4 @@
--- A unit that is read is the one that was spelled, and what was spelled is read again.
+-- Tokens are read as a unit exactly if they spell it.
 use Rattle.std.proofs.Common.{◌≡◌, ℕ, zero, suc, ◌+◌, ◌≤◌, true, false, cond, ◌&&◌, List, [], ◌∷◌, ◌++◌, length, Ok, Err, refl, sym, ap, ◌∙◌, subst, inl, inr, append_assoc, eqb, ltb, arith}
 use Rattle.std.specs.Prelude.{Result}
 use Rattle.std.specs.List.{list_all}
@@ -82,7 +82,7 @@ module _ (regions : List RegionName) (declares : Declares regions) where
   abbrev made : List Outlives → List Ty → Ty → Signature
   made clauses parameters result = record { regions = regions; clauses = clauses; parameters = parameters; result = result }
 
-  -- what a function takes and what it returns
+  -- the parameters and the result of a signature
   abbrev ty_of : Signature → List Token
   ty_of h = spell.parameters regions h.parameters ++ (spell.symbol s.Arrow ++ spell.ty regions h.result)
 
@@ -116,7 +116,7 @@ module _ (regions : List RegionName) (declares : Declares regions) where
       rw (parameters_again regions ts h.parameters c.0 declares c.1 fits.parameters, expect_again s.Arrow c.0 d.0 d.1, ty_again false regions declares d.0 h.result rest d.2 fits.result other)
       (ap (λ (k : Signature). Ok (k, rest)) (made_is h fits.regions_are))
 
-  -- what stands behind the declared regions
+  -- what follows the declared regions
   abbrev rest_of : Signature → List Token
   rest_of h = spell.clauses regions h.clauses ++ ty_of h
 
@@ -140,7 +140,7 @@ module _ (regions : List RegionName) (declares : Declares regions) where
 
   -- ---- closures
 
-  -- what stands behind the regions that a closure declares
+  -- what follows the regions that a closure declares
   abbrev closure_rest_of : List Ty → Signature → List Token
   closure_rest_of ts h = spell.clauses regions h.clauses ++ (spell.bracketed regions ts ++ ty_of h)
 
@@ -197,7 +197,7 @@ fitting_is : (before names : List RegionName) → are_fitting is_new before name
 fitting_is before [] = refl
 fitting_is before (x ∷ names) = ap (λ b. is_new before x && b) (fitting_is (before ++ x ∷ []) names)
 
--- a signature that declares at most so many regions
+-- a signature that fits, with at most the given number of regions
 pub record SignatureIs (limit : ℕ) (h : Signature) : Type 0 where
   pub declares : Declares h.regions
   pub few : length h.regions ≤ limit
@@ -234,7 +234,7 @@ unfolding same
 no_less_from regions [] ps l ts rest b = sees_none s.Less ts (Fixed s.OpenParen) ((spell.commas (spell.ty regions) ps ++ spell.symbol s.CloseParen) ++ l) rest b refl
 no_less_from regions (c ∷ cs) ps l ts rest b = sees_none s.Less ts (Fixed s.Where) (spell.commas (spell.clause regions) (c ∷ cs) ++ (spell.parameters regions ps ++ l)) rest b refl
 
--- no `<` begins what stands behind the declared regions
+-- what follows the declared regions does not begin with `<`
 no_less : (h : Signature) (ts rest : Tokens) → Begins ts (spell.clauses h.regions h.clauses ++ (spell.parameters h.regions h.parameters ++ (spell.symbol s.Arrow ++ spell.ty h.regions h.result))) rest → NoLess ts
 unfolding same
 no_less h ts rest b = no_less_from h.regions h.clauses h.parameters (spell.symbol s.Arrow ++ spell.ty h.regions h.result) ts rest b
@@ -262,7 +262,7 @@ signature_is limit h fits =
 abbrev function_of : Signature → Header
 function_of f = record { kind = Function; captures = []; signature = f }
 
--- a closure's header behind its first word
+-- a closure's header after `closure`
 abbrev closure_rest : List Ty → Signature → List Token
 closure_rest xs f = spell.signature_with (spell.bracketed f.regions xs) f
 
@@ -285,7 +285,7 @@ closure_header_takes ts y e =
       signature_from 15 b.0.0 declares f list.1.1 g.1.signature,
     )
 
--- no `<` begins what stands behind the declared regions of a closure
+-- what follows the declared regions of a closure does not begin with `<`
 no_less_closure : (regions : List RegionName) (cs : List Outlives) (xs : List Ty) (l : List Token) (ts rest : Tokens) → Begins ts (spell.clauses regions cs ++ (spell.bracketed regions xs ++ l)) rest → NoLess ts
 unfolding same
 no_less_closure regions [] xs l ts rest b = sees_none s.Less ts (Fixed s.OpenBracket) ((spell.commas (spell.ty regions) xs ++ spell.symbol s.CloseBracket) ++ l) rest b refl
@@ -299,7 +299,7 @@ closure_header_again ts xs f rest b captured fits other =
     rw (declared_list_again new_law sees_region 15 names_close ts f.regions a.0 a.1 (fitting_is [] f.regions ∙ fits.declares, fits.few) (no_less_closure f.regions f.clauses xs (spell.function_ty f) a.0 rest a.2))
     (closure_behind_again f.regions fits.declares a.0 xs f rest a.2 captured (fits.behind fits.declares) other)
 
--- how a header of this kind is spelled, and that it fits
+-- the spelling of a header by its kind, and whether it fits
 abbrev spelled_by : UnitKind → List Ty → Signature → List Token
 spelled_by kind xs f = spell.symbol (spell.kind_word kind) ++ spell.signature_with (spell.captures_of kind f.regions xs) f
 
@@ -516,7 +516,7 @@ body_takes h ts y fits e =
       },
     )
 
--- no `let` begins a block
+-- blocks do not begin with `let`
 no_let_before : (regions : List RegionName) (bs : List Block) → 1 ≤ length bs → (l : List Token) (ts rest : Tokens) → Begins ts (spell.blocks regions 0 bs ++ l) rest → sees s.Let ts ≡ false
 no_let_before regions [] some l ts rest b = absurd (omega arith)
 no_let_before regions (x ∷ bs) some l ts rest b = sees_none s.Let ts (Numbered n.Label 0) ((spell.braced regions x ++ spell.blocks regions 1 bs) ++ l) rest b refl
@@ -567,7 +567,7 @@ unit_again ts u rest p fits =
     let body = body_again a.0 u rest a.2 fits in
     (body.0, rw (header_again ts u.header a.0 a.1 fits.header brace) body.1)
 
--- what is read has a spelling
+-- a unit that is read fits
 pub body_fits : (ts later : Tokens) (r : Result Body Refusal) (u : Body) → Reads (read.unit ts) r later → r ≡ Ok u → Fits u
 body_fits ts later (Ok b) u reads e =
     let same_body : b ≡ u = cc in
@@ -589,7 +589,7 @@ whole_unit ts u rest text p =
     let c = within ts (spell.unit u) End [] rest text p in
     ends_there c.0 rest c.1 c.2
 
--- a text that is read spells what was read
+-- a text spells the unit that is read from it
 pub read_found : (bytes : List ℕ) (u : Body) → read.read bytes ≡ Ok u → texts.Spells bytes u × Fits u
 unfolding read.read read.read_whole
 read_found bytes u e =

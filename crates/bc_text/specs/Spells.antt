@@ -6,12 +6,14 @@ use Rattle.bc_syntax.specs.Token.{Token, End}
 use Rattle.bc_syntax.specs.Spelling.{unit, types}
 use Rattle.bc_tokens.specs.Token.{Placed, tokens}
 
--- The bytes spell these tokens: they are theirs, and the bytes are not too many.
+-- the bytes are at most 1,048,576, and their tokens are these
 abbrev pub AreSpelled : List ℕ → List Token → Type 0
 AreSpelled bytes found = (length bytes ≤ 1048576) × (map (λ (t : Placed). t.token) (tokens 0 0 bytes) ≡ found ++ End ∷ [])
 
+-- the bytes spell this unit
 abbrev pub Spells : List ℕ → Body → Type 0
 Spells bytes u = AreSpelled bytes (unit u)
 
+-- the bytes spell these declarations
 abbrev pub SpellsTypes : List ℕ → List Declaration → Type 0
 SpellsTypes bytes ds = AreSpelled bytes (types ds)

@@ -1,4 +1,4 @@
-//! Blocks.
+//! Reads blocks.
 ghost use Rattle.std.specs.Prelude.{◌≡◌, ◌≤◌, ◌+◌, length, [], IfOk};
 ghost use Rattle.bc_tokens.specs.Parser.{Reads};
 ghost use Rattle.bc_text.specs.Reading as spec;
@@ -22,7 +22,7 @@ fn begins_point(cursor: &Cursor<'_>) -> bool
         || cursor.sees_numbered(Numbering::Local)
 }
 
-/// What stands up to a block's terminator, where so many points are left.
+/// Reads the statements and the terminator of a block, at most `left` points.
 fn points(
     alloc: Global,
     cursor: &mut Cursor<'_>,
@@ -71,7 +71,7 @@ fn braced(
     Ok(block)
 }
 
-/// The block of this number, where so many points are left.
+/// Reads the block with this number, of at most `left` points.
 #[tactic(auto, unfolding(crate::specs::Reading::block))]
 fn block(
     alloc: Global,
@@ -93,7 +93,7 @@ fn block(
     }
 }
 
-/// Reads the blocks of a body: at least one.
+/// Reads the blocks of a body, at least one.
 #[tactic(auto, unfolding(crate::specs::Reading::blocks, crate::specs::Reading::blocks_turn))]
 pub fn blocks(
     alloc: Global,

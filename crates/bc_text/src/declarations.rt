@@ -1,4 +1,4 @@
-//! Declarations of structs and extern functions, and whole texts of them.
+//! Reads declarations, and whole texts of them.
 ghost use Rattle.std.specs.Prelude.{◌≡◌, ◌+◌, ◌<◌, ◌≤◌, ◌-◌, ℕ, length, [], Ok, Err, IfOk, ◌↔◌, false};
 ghost use Rattle.std.specs.List.{zip, filter};
 ghost use Rattle.bc_tokens.specs.Parser.{Reads, declared_from, declared_list};
@@ -21,7 +21,7 @@ use bc_syntax::{
 use bc_tokens::{Cursor, Refusal};
 use std::alloc::Global;
 
-/// The regions of a struct, and their variances.
+/// The regions of a struct, with their variances.
 #[derive(Drop)]
 struct Marks {
     variances: Sequence<Variance>,
@@ -45,7 +45,7 @@ fn begins_mark(cursor: &Cursor<'_>) -> bool
     cursor.sees(Symbol::Plus) || cursor.sees(Symbol::Equals)
 }
 
-/// A region with its variance, that is declared where those before it are.
+/// Reads a mark: a variance, and a region that no earlier mark declares.
 #[tactic(auto, unfolding(crate::specs::Reading::mark))]
 fn mark(
     alloc: Global,
@@ -250,15 +250,15 @@ fn read_whole_types(alloc: Global, bytes: &[u8]) -> Result<Types, ReadFault>
     Ok(Types::of_fitting(types(alloc, &mut cursor)?))
 }
 
-/// Reads the declarations that a text spells. Returns `TooLong` exactly where the text has more than 1,048,576 bytes; `NotAscii`,
-/// `Token`, `Grammar` and `Limit` with the place of the first bad token; and `NoMemory` only where memory was refused.
+/// Reads the declarations that a text spells. Returns `TooLong` exactly if the text has more than 1,048,576 bytes; `NotAscii`, `Token`,
+/// `Grammar` or `Limit` with the place of the first bad token; and `NoMemory` only if out of memory.
 #[tactic(auto, unfolding(crate::specs::Reading::read_types))]
 pub fn read_types(alloc: Global, bytes: &[u8]) -> Result<Types, ReadFault>
-    // What is read is spelled so.
+    // The text spells what is read.
     ensures found { IfOk result (λ types. SpellsTypes bytes.now types × TypesFit types) }
-    // What is spelled so is read, unless memory runs out.
+    // What the text spells is read, unless out of memory.
     ensures only { (types : List DeclarationValue) → SpellsTypes bytes.now types → TypesFit types → Answers result (Ok types) }
-    // Which fault it is: the first one from the left.
+    // The fault is the first one from the left.
     ensures exact { Answers result (spec.read_types bytes.now) }
     ensures too_long { (result ≡ Err TooLong) ↔ (1048576 < length bytes.now) }
 {

@@ -1,4 +1,4 @@
-//! The texts of units and of declarations: what the analysis is told, and how it is spelled.
+//! Reads texts: the units and declarations that they spell, or the first fault.
 #![tactic(auto)]
 
 mod blocks;

@@ -1,4 +1,4 @@
-//! Places, operands and what assignments compute.
+//! Reads places, operands and the values of assignments.
 ghost use Rattle.std.specs.Prelude.{◌≡◌, ◌≤◌, length, []};
 ghost use Rattle.bc_tokens.specs.Parser.{Reads, separated_from, closed_list};
 ghost use Rattle.bc_text.specs.Reading as spec;
@@ -12,7 +12,7 @@ use bc_syntax::{
 use bc_tokens::{Cursor, Refusal};
 use std::alloc::Global;
 
-/// Reads a local that is declared.
+/// Reads a local. Returns `Grammar` if it is not declared.
 #[inline(always)]
 #[tactic(auto, unfolding(crate::specs::Reading::local))]
 pub fn local(cursor: &mut Cursor<'_>, locals: u16) -> Result<u8, Refusal>
@@ -57,7 +57,7 @@ fn some_projections(cursor: &mut Cursor<'_>) -> Result<Projections, Refusal>
     Ok(found)
 }
 
-/// The projections behind a local: mostly none, and then there is no list that a place would have to take over.
+/// Reads the projections after a local. Mostly there are none, and then the place takes over no list.
 #[inline(always)]
 fn projections(cursor: &mut Cursor<'_>) -> Result<Projections, Refusal>
     ensures { Reads (spec.projections_from 8 [] cursor.old) result cursor.new }
@@ -130,7 +130,7 @@ fn some_operands(
     Err(refuse_past(begins_operand(cursor), cursor))
 }
 
-/// Reads operands, with their parentheses.
+/// Reads operands in parentheses.
 #[tactic(auto, unfolding(bc_tokens::specs::Parser::closed_list, crate::specs::Reading::operands))]
 pub fn operands(
     alloc: Global,
@@ -173,7 +173,7 @@ fn aggregate(
     Ok(Aggregate { instance, operands })
 }
 
-/// A closure made, behind its word.
+/// Reads a closure's creation, after `closure`.
 #[tactic(auto, unfolding(crate::specs::Reading::creation))]
 fn creation(
     alloc: Global,
@@ -189,8 +189,7 @@ fn creation(
     Ok(Creation { closure, operands })
 }
 
-/// Operands that are calculated with, behind their word. They are read apart, as aggregates and closures are: most values are
-/// none of these, and do not have to make room for them.
+/// Reads the operands of `calc`, after the word. Not inlined, like structs and closures: most values need no room for them.
 #[inline(never)]
 fn calc_value(alloc: Global, cursor: &mut Cursor<'_>, locals: u16) -> Result<Rvalue, Refusal>
     ensures { Reads (spec.calc_value locals cursor.old) result cursor.new }
@@ -198,7 +197,7 @@ fn calc_value(alloc: Global, cursor: &mut Cursor<'_>, locals: u16) -> Result<Rva
     Ok(Rvalue::Calc(operands(alloc, cursor, locals)?))
 }
 
-/// An aggregate made, as a value.
+/// Reads a struct's creation, as a value.
 #[inline(never)]
 fn aggregate_value(
     alloc: Global,
@@ -213,7 +212,7 @@ fn aggregate_value(
     Ok(Rvalue::Aggregate(Apart::new(alloc, aggregate)?))
 }
 
-/// A closure made, as a value.
+/// Reads a closure's creation, as a value.
 #[inline(never)]
 fn closure_value(
     alloc: Global,
@@ -228,7 +227,7 @@ fn closure_value(
     Ok(Rvalue::Closure(Apart::new(alloc, creation)?))
 }
 
-/// Reads what an assignment computes.
+/// Reads the value of an assignment.
 #[inline(always)]
 #[tactic(auto, unfolding(crate::specs::Reading::rvalue, crate::specs::Reading::computed, crate::specs::Reading::created, crate::specs::Reading::captured))]
 pub fn rvalue(

@@ -1,4 +1,4 @@
-//! Statements and terminators.
+//! Reads statements and terminators.
 ghost use Rattle.std.specs.Prelude.{◌≡◌, ◌≤◌, length};
 ghost use Rattle.bc_tokens.specs.Parser.{Reads};
 ghost use Rattle.bc_text.specs.Reading as spec;
@@ -49,7 +49,7 @@ fn called(
     })
 }
 
-/// Which closure is called for a destination, and where it returns to.
+/// Reads the closure, operands and label of an `invoke` with this destination.
 #[tactic(auto, unfolding(crate::specs::Reading::invoked))]
 fn invoked(
     alloc: Global,
@@ -74,7 +74,7 @@ fn invoked(
     })
 }
 
-/// A call for a destination, behind its word. It is read apart: most points are none, and do not have to make room for it.
+/// Reads a `call` with this destination, after the word. Not inlined: most points need no room for a call.
 #[inline(never)]
 fn call(
     alloc: Global,
@@ -90,7 +90,7 @@ fn call(
     Ok(Point::Terminator(Terminator::Call(Apart::new(alloc, call)?)))
 }
 
-/// A call of a closure for a destination, behind its word.
+/// Reads an `invoke` with this destination, after the word.
 #[inline(never)]
 fn invocation(
     alloc: Global,
@@ -144,7 +144,7 @@ fn condition(cursor: &mut Cursor<'_>, locals: u16) -> Result<Condition, Refusal>
     })
 }
 
-/// A statement: what no keyword of a terminator begins.
+/// Reads a point that begins with no keyword of a terminator.
 #[inline(always)]
 #[tactic(auto, unfolding(crate::specs::Reading::statement, crate::specs::Reading::dropping, crate::specs::Reading::active))]
 fn statement(
@@ -169,7 +169,7 @@ fn statement(
     assignment(alloc, cursor, regions, locals)
 }
 
-/// A statement or a terminator, tried by one keyword after another.
+/// Reads a statement or a terminator, and tries one keyword after another.
 #[inline(never)]
 #[tactic(auto, unfolding(crate::specs::Reading::point, crate::specs::Reading::stopping, crate::specs::Reading::going, crate::specs::Reading::branching))]
 fn other_point(
@@ -197,7 +197,7 @@ fn other_point(
     statement(alloc, cursor, regions, locals)
 }
 
-/// Reads a statement or a terminator. Most are assignments, and begin with a local.
+/// Reads a statement or a terminator. Most are assignments, which begin with a local.
 #[inline(always)]
 pub fn read_point(
     alloc: Global,

@@ -1,4 +1,4 @@
-//! Headers, bodies, and whole texts of units.
+//! Reads headers, bodies and whole texts of units.
 ghost use Rattle.std.specs.Prelude.{◌≡◌, ◌+◌, ◌<◌, ◌≤◌, ◌^◌, length, [], Ok, Err, IfOk, ◌↔◌};
 ghost use Rattle.bc_tokens.specs.Parser.{Reads, separated_from, opened_list, sees_region};
 ghost use Rattle.bc_text.specs.Reading.{Answers};
@@ -63,7 +63,7 @@ fn clauses(
     }
 }
 
-/// What a function with these regions and clauses takes and what it returns.
+/// Reads parameters and result, and returns the signature with these regions and clauses.
 #[tactic(auto, unfolding(crate::specs::Reading::function_ty))]
 fn function_ty(
     alloc: Global,
@@ -88,7 +88,7 @@ fn function_ty(
     })
 }
 
-/// What stands behind the regions that a signature declares.
+/// Reads the rest of a signature, after its regions.
 #[tactic(auto, unfolding(crate::specs::Reading::behind_regions))]
 fn behind_regions(
     alloc: Global,
@@ -130,7 +130,7 @@ fn function_header(alloc: Global, cursor: &mut Cursor<'_>) -> Result<Header, Ref
     })
 }
 
-/// What stands behind the regions that a closure declares.
+/// Reads the rest of a closure's header, after its regions.
 #[tactic(auto, unfolding(crate::specs::Reading::closure_behind))]
 fn closure_behind(
     alloc: Global,
@@ -230,7 +230,7 @@ fn lets(
     Err(cursor.fault())
 }
 
-/// A body behind its header.
+/// Reads the body after a header, and the end.
 #[tactic(auto, unfolding(crate::specs::Reading::body_of))]
 fn body_of(alloc: Global, cursor: &mut Cursor<'_>, header: Header) -> Result<Body, Refusal>
     requires few { length header.captures + length header.signature.parameters ≤ 32 }
@@ -272,19 +272,19 @@ fn read_whole(alloc: Global, bytes: &[u8]) -> Result<Unit, ReadFault>
     Ok(Unit::of_fitting(body(alloc, &mut cursor)?))
 }
 
-/// How many bytes a text may have.
+/// The most bytes that a text may have.
 pub const MAX_TEXT: usize = 1_048_576;
 
-/// Reads the unit that a text spells. Returns `TooLong` exactly where the text has more than 1,048,576 bytes; `NotAscii`,
-/// `Token`, `Grammar` and `Limit` with the place of the first bad token; and `NoMemory` only where memory was refused. (A textual
-/// form of the MIR of the rustc-dev-guide, "The MIR".)
+/// Reads the unit that a text spells. Returns `TooLong` exactly if the text has more than 1,048,576 bytes; `NotAscii`, `Token`, `Grammar`
+/// or `Limit` with the place of the first bad token; and `NoMemory` only if out of memory. (A textual form of the MIR of the
+/// rustc-dev-guide, "The MIR".)
 #[tactic(auto, unfolding(crate::specs::Reading::read))]
 pub fn read_unit(alloc: Global, bytes: &[u8]) -> Result<Unit, ReadFault>
-    // What is read is spelled so.
+    // The text spells what is read.
     ensures found { IfOk result (λ u. Spells bytes.now u × Fits u) }
-    // What is spelled so is read, unless memory runs out.
+    // What the text spells is read, unless out of memory.
     ensures only { (u : Body) → Spells bytes.now u → Fits u → Answers result (Ok u) }
-    // Which fault it is: the first one from the left.
+    // The fault is the first one from the left.
     ensures exact { Answers result (spec.read bytes.now) }
     ensures too_long { (result ≡ Err TooLong) ↔ (1048576 < length bytes.now) }
 {

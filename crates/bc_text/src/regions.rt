@@ -1,4 +1,4 @@
-//! Regions, names, and declared items with regions for their own.
+//! Reads regions and names, and items with region arguments.
 ghost use Rattle.std.specs.Prelude.{◌≡◌, ◌≤◌, length, [], if◌then◌else◌, IfOk};
 ghost use Rattle.bc_tokens.specs.Parser.{Reads, separated_from, angled_list, declared_from, declared_list, position, fault, sees_region};
 ghost use Rattle.bc_tokens.specs.declared.refusal.Refusal.TheVariants.{Limit};
@@ -12,7 +12,7 @@ use bc_syntax::{
 use bc_tokens::{Cursor, Refusal};
 use std::alloc::Global;
 
-/// Returns the refusal of an item that is one too many, or of what is no item.
+/// Returns `Limit` if an item begins here, otherwise the fault of the next token.
 pub fn refuse_past(begins: bool, cursor: &Cursor<'_>) -> Refusal
     ensures { result ≡ (if begins then Limit (position cursor.now) else fault cursor.now) }
 {
@@ -25,7 +25,7 @@ pub fn refuse_past(begins: bool, cursor: &Cursor<'_>) -> Refusal
     }
 }
 
-/// Reads a universal region, and returns its number.
+/// Reads a universal region, and returns its number. Returns `Grammar` if it is not declared.
 #[tactic(auto, unfolding(crate::specs::Reading::universal))]
 pub fn universal(cursor: &mut Cursor<'_>, regions: &[RegionName]) -> Result<u8, Refusal>
     requires { length regions.now ≤ 15 }
@@ -39,7 +39,7 @@ pub fn universal(cursor: &mut Cursor<'_>, regions: &[RegionName]) -> Result<u8, 
     }
 }
 
-/// Reads a region, and returns it by its number.
+/// Reads a universal region or, if `variables` is set, a variable.
 #[inline(always)]
 #[tactic(auto, unfolding(crate::specs::Reading::region))]
 pub fn region(
@@ -63,7 +63,7 @@ fn begins_region(cursor: &Cursor<'_>, variables: bool) -> bool
     cursor.sees_region() || (variables && cursor.sees_numbered(Numbering::Variable))
 }
 
-/// Reads a region that is declared here, after those before it.
+/// Reads a region to declare. Returns `Grammar` if it is `'static`, or among those before.
 #[tactic(auto, unfolding(crate::specs::Reading::new_region))]
 pub fn new_region(
     alloc: Global,
@@ -101,7 +101,7 @@ fn some_new_regions(
     Err(refuse_past(cursor.sees_region(), cursor))
 }
 
-/// Reads the regions that are declared here, at most so many.
+/// Reads at most `limit` regions to declare, in `<` and `>`, or none if no `<` comes.
 #[tactic(auto, unfolding(bc_tokens::specs::Parser::declared_list))]
 pub fn new_regions(
     alloc: Global,
@@ -153,7 +153,7 @@ fn some_regions(
     Err(refuse_past(begins_region(cursor, variables), cursor))
 }
 
-/// Reads regions in `<` and `>`, or none where no `<` comes.
+/// Reads regions in `<` and `>`, or none if no `<` comes.
 #[tactic(auto, unfolding(bc_tokens::specs::Parser::declared_list))]
 pub fn arguments(
     alloc: Global,
@@ -172,7 +172,7 @@ pub fn arguments(
     Ok(found)
 }
 
-/// Reads a declared item, with regions for those that it declares.
+/// Reads the name and the region arguments of a struct or of an extern function.
 #[tactic(auto, unfolding(crate::specs::Reading::instance))]
 pub fn instance(
     alloc: Global,
@@ -188,7 +188,7 @@ pub fn instance(
     Ok(Instance { name, regions })
 }
 
-/// Reads a closure of the unit behind its word, with regions for those that it declares.
+/// Reads the number and the region arguments of a closure, after `closure`.
 #[tactic(auto, unfolding(crate::specs::Reading::closure_instance))]
 pub fn closure_instance(
     alloc: Global,

@@ -1,4 +1,4 @@
-//! Types and references.
+//! Reads types and references.
 ghost use Rattle.std.specs.Prelude.{◌≡◌, ◌≤◌, length, [], IfOk, Ok, false};
 ghost use Rattle.bc_tokens.specs.Parser.{Reads, separated_from, closed_list};
 ghost use Rattle.bc_text.specs.Reading as spec;
@@ -20,7 +20,7 @@ fn mutability(cursor: &mut Cursor<'_>) -> Mutability
     }
 }
 
-/// Reads a reference behind its `&`: a region, and `mut` or not.
+/// Reads a reference after its `&`: a region, and `mut` or nothing.
 #[inline(always)]
 #[tactic(auto, unfolding(crate::specs::Reading::reference))]
 pub fn reference(
@@ -82,7 +82,7 @@ pub fn ty(
     Err(refuse_past(begins_ty(cursor), cursor))
 }
 
-/// Reads the type of a `let` local: a closure alone, or a type that may be anywhere in a body.
+/// Reads the type of a `let` local: a closure, or any other type.
 #[tactic(auto, unfolding(crate::specs::Reading::let_type))]
 pub fn let_type(
     alloc: Global,
@@ -119,7 +119,7 @@ fn some_tys(
     Err(refuse_past(begins_ty(cursor), cursor))
 }
 
-/// Reads the types of parameters, with their parentheses.
+/// Reads the types of parameters, in parentheses.
 #[tactic(auto, unfolding(bc_tokens::specs::Parser::closed_list, crate::specs::Reading::parameters))]
 pub fn parameters(
     alloc: Global,
@@ -139,7 +139,7 @@ pub fn parameters(
     Ok(found)
 }
 
-/// Reads the types that a closure captures, with their brackets.
+/// Reads the types of captures, in brackets.
 #[tactic(auto, unfolding(bc_tokens::specs::Parser::closed_list, crate::specs::Reading::captures))]
 pub fn captures(
     alloc: Global,

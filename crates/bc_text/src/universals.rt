@@ -7,7 +7,7 @@ ghost use Rattle.bc_text.specs.Universals.{number_of};
 
 use bc_syntax::RegionName;
 
-/// Where a name stands among the regions that are declared.
+/// Returns the index of a name among the declared regions.
 fn declared_at(regions: &[RegionName], name: &[u8]) -> Option<usize>
     ensures value { result ≡ position_from (λ (other : RegionName). bytes_eq other.bytes name.now) 0 regions.now }
     ensures below { IfSome result (λ index. index < length regions.now) }
@@ -17,7 +17,7 @@ fn declared_at(regions: &[RegionName], name: &[u8]) -> Option<usize>
         .position(|other| other.bytes.as_slice() == name)
 }
 
-/// Returns the number of the universal region of a name, or `None` where none has it.
+/// Returns the number of the universal region with this name, or `None` if there is none.
 #[tactic(auto, unfolding(crate::specs::Universals::number_of))]
 pub fn number_of(regions: &[RegionName], name: &[u8]) -> Option<u8>
     requires { length regions.now ≤ 15 }

@@ -1,4 +1,4 @@
--- Texts that agree to the byte behind a token have that token and those before it both.
+-- Texts that agree up to and including the byte after a token both have that token and those before it.
 use Rattle.std.proofs.Common.{◌≡◌, ℕ, zero, suc, ◌+◌, ◌-◌, ◌<◌, ◌≤◌, Bool, true, false, cond, List, [], ◌∷◌, ◌++◌, length, take, drop, refl, sym, ap, ◌∙◌, subst, inl, inr, arith}
 use Rattle.std.specs.Prelude.{◌⊎◌, slice_index, nat_le, ◌&&◌, ◌==◌}
 use Rattle.std.proofs.lemmas.Bool.{cases_Bool}
@@ -57,7 +57,7 @@ behind (suc k) n (suc m) [] (c ∷ other) e a = absurd a
 behind (suc k) n (suc m) (b ∷ bytes) [] e a = absurd a
 behind (suc k) n (suc m) (b ∷ bytes) (c ∷ other) e a = let one : m ≡ k + n = omega arith in behind k n m bytes other one a.1
 
--- the other text goes on alike
+-- the other text begins with the same byte
 next : (n m b : ℕ) (bytes other : List ℕ) → m ≡ suc n → Agree m (b ∷ bytes) other → (rest : List ℕ) × (other ≡ b ∷ rest) × Agree n bytes rest
 next n zero b bytes other e a = absurd (omega arith)
 next n (suc m) b bytes [] e a = absurd a
@@ -109,7 +109,7 @@ signed a b = cond (a == 45 && b == 62) (Fixed Arrow, 2) (cond (nat_le 128 a) (No
 abbrev pick : Bool → Bool → Bool → Lexeme → Lexeme → Lexeme → Lexeme → Lexeme
 pick p q r x y z w = cond p x (cond q y (cond r z w))
 
--- the token by the first two bytes, and the runs
+-- the token at the front, by the first two bytes and the runs
 abbrev picked : ℕ → ℕ → List ℕ → List ℕ → List ℕ → Lexeme
 picked a b r0 r1 r2 = pick (is_run_byte a) (a == 39 && b == 63) (a == 39) (ran r0) (variable r2) (named r1) (signed a b)
 
@@ -147,7 +147,7 @@ lexeme_has bytes =
     let second = cond_has (a == 39 && b == 63) (variable r2) _ (λ _. omega arith) name in
     subst HasByte (sym (lexeme_is bytes)) (cond_has (is_run_byte a) (ran (run bytes)) _ (run_has bytes) second)
 
--- the token at the front is seen with the byte behind it
+-- the token at the front depends on its bytes and the one after it
 lexeme_agrees : (bytes other : List ℕ) → Agree ((lexeme bytes).1 + 1) bytes other → lexeme other ≡ lexeme bytes
 lexeme_agrees bytes other agree =
     let some : 2 ≤ (lexeme bytes).1 + 1 = omega (arith, lexeme_has bytes) in
@@ -177,7 +177,7 @@ none_left : (read : Tokens) (t : Placed) (back : Tokens) → [] ≡ read ++ t �
 none_left [] t back e = absurd cc
 none_left (r ∷ read) t back e = absurd cc
 
--- where a token of these bytes begins
+-- the token begins after the rest of the one before, or at the end
 abbrev IsAhead : (inside at : ℕ) → List ℕ → Placed → Type 0
 IsAhead inside at bytes t = (at + inside ≤ t.at) ⊎ (t.at ≡ at + length bytes)
 
@@ -212,7 +212,7 @@ not_here : (inside at : ℕ) (bytes : List ℕ) (t : Placed) → IsAhead inside 
 not_here inside at bytes t (inl h) place = omega (arith, h, place)
 not_here inside at bytes t (inr h) place = omega (arith, h, place)
 
--- the tokens of a text up to this one, and some behind it
+-- the tokens of a text begin with these and this one
 abbrev Seen : (inside at : ℕ) → List ℕ → Tokens → Placed → Type 0
 Seen inside at other read t = (rest : Tokens) × (tokens inside at other ≡ read ++ t ∷ rest)
 
@@ -231,7 +231,7 @@ here at b bytes other (r ∷ read) t back ink e place a =
     let rest : tokens ((lexeme (b ∷ bytes)).1 - 1) (at + 1) bytes ≡ read ++ t ∷ back = cc in
     absurd (not_here ((lexeme (b ∷ bytes)).1 - 1) at bytes t (ahead ((lexeme (b ∷ bytes)).1 - 1) (at + 1) bytes read t back rest) place)
 
--- the token begins behind the one that begins here
+-- the token begins after the one that begins here
 further : (at k b : ℕ) (bytes other : List ℕ) (read : Tokens) (t : Placed) (back : Tokens) → is_blank b ≡ false
     → placed (lexeme (b ∷ bytes)).0 at ∷ tokens ((lexeme (b ∷ bytes)).1 - 1) (at + 1) bytes ≡ read ++ t ∷ back → t.at ≡ at + suc k → Agree (reach (b ∷ bytes) (suc k)) (b ∷ bytes) other
     → ((rest : List ℕ) (more : Tokens) → tokens ((lexeme (b ∷ bytes)).1 - 1) (at + 1) bytes ≡ more ++ t ∷ back → Agree (reach bytes k) bytes rest → Seen ((lexeme (b ∷ bytes)).1 - 1) (at + 1) rest more t)
@@ -267,7 +267,7 @@ no_bytes inside at k other read t back e a =
     let none : other ≡ [] = all_of_them (reach [] k) [] other (omega arith) a in
     (back, ap (tokens inside at) none ∙ e)
 
--- Texts that agree to the byte behind a token: that token and those before it are in both.
+-- If texts agree up to and including the byte after a token, both have that token and those before it.
 pub tokens_agree : (inside at k : ℕ) (bytes other : List ℕ) (read : Tokens) (t : Placed) (back : Tokens) → tokens inside at bytes ≡ read ++ t ∷ back → t.at ≡ at + k → Agree (reach bytes k) bytes other → Seen inside at other read t
 unfolding tokens
 tokens_agree zero at k [] other read t back e place a = no_bytes zero at k other read t back e a

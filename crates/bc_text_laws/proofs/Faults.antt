@@ -1,4 +1,4 @@
--- Where a whole text is refused, and what of it the fault depends on.
+-- Where a whole text is refused, and on which bytes the fault depends.
 use Rattle.std.proofs.Common.{◌≡◌, ◌≢◌, ℕ, suc, ◌+◌, false, List, [], ◌∷◌, ◌++◌, length, map, Some, Result, Ok, Err, refl, sym, ap, ◌∙◌, subst, inl, inr, ltb, arith}
 use Rattle.std.specs.List.{All}
 use Rattle.std.proofs.lemmas.Bool.{le-ltb}
@@ -17,7 +17,7 @@ use Rattle.bc_text.proofs.Ends.{IsText, tokens_are_text}
 use Rattle.bc_text_laws.proofs.Local.{Parses, Filled, Begun, Stands, is_taken, IsTaken, IsFaultOf, with_rest, kinds}
 use Rattle.bc_text_laws.proofs.Agree.{agree_from_take, tokens_agree}
 
--- the token at which a text is refused, whatever comes behind it
+-- the token at which a text is refused, whatever follows it
 pub record Stopped {A : Type 0} (P : A → Type 0) (p : Parser A) (spell : A → List Token) (bytes : List ℕ) (fault : ReadFault) : Type 0 where
   pub before : Tokens
   pub bad : Placed
@@ -33,7 +33,7 @@ no_end : (t : Placed) (ts : Tokens) → IsTaken t → IsText (t ∷ ts) → IsTe
 no_end t [] e h = let bad : is_taken t.token ≡ false = ap is_taken h in absurd cc
 no_end t (u ∷ ts) e h = h.1
 
--- behind tokens that are no end, the end comes still
+-- the end still follows tokens that are not the end
 behind_text : (taken rest : Tokens) → All IsTaken taken → IsText (taken ++ rest) → IsText rest
 behind_text [] rest good text = text
 behind_text (t ∷ taken) rest good text = behind_text taken rest (λ k d h. good (suc k) d (omega (arith, h))) (no_end t (taken ++ rest) (good 0 t (omega arith)) text)
@@ -55,7 +55,7 @@ stopped p spell law bytes fault e short =
       | inr q ↦ let s = law.steps (tokens 0 0 bytes) in stopped_at p spell bytes fault s.taken s.rest s.is (behind_text s.taken s.rest s.good (subst IsText s.is (tokens_are_text 0 0 bytes))) s.answer s.same s.stands s.begun q.1
     ]
 
--- ---- what a fault tells
+-- ---- what a fault reports
 
 own_fault : (token : Token) (at : ℕ) → TellsToken (read_fault (fault_at token at)) (placed token at)
 own_fault (Fixed symbol) at = (refl, ((λ e. cc), (λ e. cc)))
@@ -91,7 +91,7 @@ unplaced : (later : List Token) → map (λ (t : Placed). t.token) (map (λ k. p
 unplaced [] = refl
 unplaced (k ∷ later) = ap (λ (l : List Token). k ∷ l) (unplaced later)
 
--- tokens that go on so
+-- the tokens up to the bad one, then others
 abbrev pub going_on : Tokens → Placed → List Token → Tokens
 going_on before bad later = before ++ bad ∷ map (λ k. placed k 0) later
 

@@ -1,4 +1,4 @@
--- The text of a token, with a blank behind it, is cut into that token again.
+-- The text of a token, with a blank after it, is cut into that token again.
 use Rattle.std.proofs.Common.{◌≡◌, ℕ, zero, suc, ◌+◌, ◌-◌, ◌*◌, ◌^◌, ◌<◌, Bool, true, false, cond, List, [], ◌∷◌, ◌++◌, length, Option, Some, None, refl, ap, ◌∙◌, inl, inr, arith, rules}
 use Rattle.std.specs.Prelude.{is_some, slice_index, decimal, not, ◌&&◌, ◌==◌, ◌⊎◌, fold}
 use Rattle.std.specs.Char.{is_ascii_digit, is_ascii_alphabetic, is_ascii_lowercase}
@@ -19,7 +19,7 @@ use Rattle.bc_tokens.specs.Token.{is_blank, value, run_token, region_token, vari
 use Rattle.bc_print.specs.Printing.{token_text}
 use Rattle.bc_tokens.proofs.Runs.{more, digit_in_run, region_in_run}
 
--- a token that texts have, and that is not their end
+-- a token that texts have, other than the end
 abbrev pub IsWhole : Token → Type 0
 IsWhole (Fixed symbol) = Unit {0}
 IsWhole (Numbered numbering number) = number < 2 ^ 64
@@ -40,7 +40,7 @@ run_stops (b ∷ r) w rest all other =
 blank_ends : (w : ℕ) → is_blank w ≡ true → is_run_byte w ≡ false
 blank_ends w h = grind (arith, nat_tests)
 
--- what passes one test passes another
+-- bytes that pass a test pass a weaker one
 all_pass : (p q : ℕ → Bool) → ((b : ℕ) → p b ≡ true → q b ≡ true) → (bytes : List ℕ) → list_all p bytes ≡ true → list_all q bytes ≡ true
 all_pass p q to [] h = refl
 all_pass p q to (b ∷ bytes) h =

@@ -1,5 +1,5 @@
--- Parsers that answer by the tokens up to the next one, whatever comes behind it, whose faults stand at that one, and that take no
--- tokens but those that begin a spelling.
+-- Parsers whose answer depends on no token after the next one, whose faults are at that one, and which take only tokens that begin a
+-- spelling.
 use Rattle.std.proofs.Common.{◌≡◌, ℕ, zero, suc, Bool, true, false, cond, List, [], ◌∷◌, ◌++◌, Option, Some, None, Result, Ok, Err, refl, sym, ap, ◌∙◌, subst, inl, inr, append_assoc, arith}
 use Rattle.std.specs.Prelude.{◌⊎◌, ◌||◌, ◌&&◌, ◌≤◌, is_some, nat_le, length, map}
 use Rattle.std.specs.List.{All, flat_map}
@@ -21,7 +21,7 @@ use Rattle.bc_tokens.specs.Parser.{Outcome, Parser, and_then, ◌>>=◌, ◌<$>�
 
 -- ---- steps
 
--- a token that the grammar has, and that is not the end
+-- a token of the grammar, other than the end
 abbrev pub is_taken : Token → Bool
 is_taken (Fixed symbol) = true
 is_taken (Numbered numbering n) = true
@@ -34,12 +34,12 @@ is_taken End = false
 abbrev pub IsTaken : Placed → Type 0
 IsTaken t = is_taken t.token ≡ true
 
--- an answer, and the tokens behind it
+-- an answer, and the tokens after it
 abbrev pub with_rest : {A : Type 0} → Result A Refusal → Tokens → Outcome A
 with_rest (Ok x) rest = Ok (x, rest)
 with_rest (Err e) rest = Err e
 
--- The fault is this token's own, or a limit that this token is past.
+-- The fault is the token's own, or says that the token is past a limit.
 abbrev pub IsFaultOf : Refusal → Placed → Type 0
 IsFaultOf e t = (e ≡ fault_at t.token t.at) ⊎ ((e ≡ faults.Limit t.at) × (fault_at t.token t.at ≡ faults.Grammar t.at))
 
@@ -55,13 +55,13 @@ kinds ts = map (λ (t : Placed). t.token) ts
 abbrev pub Filled : {A : Type 0} → (A → Type 0) → (A → List Token) → List Token → Type 0
 Filled {A} P spell found = (x : A) × P x × (more : List Token) × (spell x ≡ found ++ more)
 
--- What was taken spells the answer; before a fault, it begins to spell one.
+-- What was taken spells the answer; before a fault, it begins some spelling.
 abbrev pub Begun : {A : Type 0} → (A → Type 0) → (A → List Token) → List Token → Result A Refusal → Type 0
 Begun P spell found (Ok x) = P x × (spell x ≡ found)
 Begun P spell found (Err e) = Filled P spell found
 
--- The parser takes some of these tokens, and its answer is the same whatever comes behind the next; a fault stands at the next.
--- Behind what was read before, what it takes spells a value or begins to.
+-- The parser takes some of these tokens. Its answer is the same whatever follows the next token, and its fault is at the next token. What
+-- was read before and what it takes spell a value, or begin to.
 pub record Steps {A : Type 0} (P : A → Type 0) (p : Parser A) (before : List Token) (spell : A → List Token) (ts : Tokens) : Type 0 where
   pub taken : Tokens
   pub rest : Tokens
@@ -86,7 +86,7 @@ filled_at : {A : Type 0} {P : A → Type 0} {spell : A → List Token} (before t
 filled_at before taken (Ok x) b = (x, b.0, taken, b.1)
 filled_at before taken (Err e) b = (b.0, b.1, taken ++ b.2, b.3 ∙ append_assoc before taken b.2)
 
--- a parser has a value
+-- the tokens before such a parser begin some spelling
 pub filled : {A : Type 0} {P : A → Type 0} {p : Parser A} {before : List Token} {spell : A → List Token} → Parses P p before spell → Filled P spell before
 filled {before = before} l = let s = l.steps [] in filled_at before (kinds s.taken) s.answer s.begun
 
@@ -144,7 +144,7 @@ pub refuses : {A : Type 0} {P : A → Type 0} {before : List Token} {spell : A �
 unfolding fault
 refuses {P = P} {before = before} {spell = spell} some = record { steps = λ ts. record { taken = []; rest = ts; is = refl; good = All-nil IsTaken; answer = Err (fault ts); same = λ other h. ap (λ (t : Placed). Err (fault_at t.token t.at)) h; stands = inl refl; begun = here_begun P spell before (Err (fault ts)) some } }
 
--- the same behind other tokens
+-- the same after equal tokens
 pub moved : {A : Type 0} {P : A → Type 0} {p : Parser A} {before : List Token} {spell : A → List Token} {after : List Token} → before ≡ after → Parses P p before spell → Parses P p after spell
 moved {P = P} {p = p} {spell = spell} e l = subst (λ (b : List Token). Parses P p b spell) e l
 
@@ -152,7 +152,7 @@ behind_begun : {A : Type 0} {P Q : A → Type 0} (S : A → List Token) {U : A �
 behind_begun S before taken (Ok x) so is b = (so x b.0, is x b.0 ∙ ap (λ (l : List Token). before ++ l) b.1)
 behind_begun S before taken (Err e) so is b = (b.0, so b.0 b.1, b.2, is b.0 b.1 ∙ ap (λ (l : List Token). before ++ l) b.3 ∙ sym (append_assoc before taken b.2))
 
--- behind some tokens a value is spelled in another way, and something else is told of it
+-- after some tokens a value has another spelling and another property
 pub behind_so : {A : Type 0} {P Q : A → Type 0} {p : Parser A} {before : List Token} {S U : A → List Token} → Parses P p [] S → ((x : A) → P x → Q x) → ((x : A) → P x → U x ≡ before ++ S x) → Parses Q p before U
 behind_so {before = before} {S = S} l so is = record {
   steps = λ ts. let s = l.steps ts in record { taken = s.taken; rest = s.rest; is = s.is; good = s.good; answer = s.answer; same = s.same; stands = s.stands; begun = behind_begun S before (kinds s.taken) s.answer so is s.begun };
@@ -161,7 +161,7 @@ behind_so {before = before} {S = S} l so is = record {
 pub behind : {A : Type 0} {P : A → Type 0} {p : Parser A} {before : List Token} {S U : A → List Token} → Parses P p [] S → ((x : A) → P x → U x ≡ before ++ S x) → Parses Any p before U
 behind l is = behind_so l (λ x h. tt) is
 
--- what is read, and what is made of it
+-- a value that is made from what is read
 pub made : {A B : Type 0} {P : A → Type 0} {p : Parser A} {before : List Token} {S : A → List Token} {U : B → List Token} (f : A → B) → Parses P p [] S → ((x : A) → P x → U (f x) ≡ before ++ S x) → Parses Any (f <$> p) before U
 made f one is = then one (λ x h. gives (f x) tt (is x h))
 
@@ -183,7 +183,7 @@ grammar_at NotAscii at e = absurd cc
 grammar_at Stray at e = absurd cc
 grammar_at End at e = absurd cc
 
--- The test looks at the next token alone, and lets no token pass that the grammar has not.
+-- The test looks at the next token alone, and passes only tokens of the grammar.
 pub record Looks (b : Tokens → Bool) : Type 0 where
   pub same : (ts other : Tokens) → first other ≡ first ts → b other ≡ b ts
   pub passes : (ts : Tokens) → b ts ≡ true → is_taken (first ts).token ≡ true
@@ -224,7 +224,7 @@ seen_steps {p = p} {q = q} {b = b} looks ts one two =
       }
     ]
 
--- a choice by the next token, where the first parser is called on no other
+-- a choice by the next token, if the first parser is called only on tokens that pass
 pub seen : {A : Type 0} {P : A → Type 0} {p q : Parser A} {before : List Token} {spell : A → List Token} {b : Tokens → Bool} → Looks b → ((ts : Tokens) → b ts ≡ true → Steps P p before spell ts) → Parses P q before spell → Parses P (λ ts. cond (b ts) (p ts) (q ts)) before spell
 seen looks one two = record { steps = λ ts. seen_steps looks ts (one ts) (two.steps ts) }
 
@@ -243,7 +243,7 @@ past {P = P} {before = before} {spell = spell} ts h some = record {
   begun = here_begun P spell before (Err (faults.Limit (position ts))) some;
 }
 
--- no room is left
+-- an item that begins is past the limit
 pub if_past : {A : Type 0} {P : A → Type 0} {q : Parser A} {before : List Token} {spell : A → List Token} {b : Tokens → Bool} → Looks b → Filled P spell before → Parses P q before spell → Parses P (λ ts. cond (b ts) (past_limit ts) (q ts)) before spell
 if_past looks some two = seen looks (λ ts found. past ts (looks.passes ts found) some) two
 
@@ -321,7 +321,7 @@ where_looks {c = c} b two = record { same = λ ts other h. ap (λ y. b && y) (tw
 
 -- ---- parsers that take one token
 
--- The parser takes the next token, or its fault stands there.
+-- The parser takes the next token, or its fault is at that token.
 pub record TakesOne {A : Type 0} (p : Parser A) (spell : A → List Token) : Type 0 where
   pub read : Placed → Result A Refusal
   pub is : (ts : Tokens) → p ts ≡ with_rest (read (first ts)) (after ts)
@@ -333,7 +333,7 @@ pub record TakesOne {A : Type 0} (p : Parser A) (spell : A → List Token) : Typ
 nothing_read : {A : Type 0} {p : Parser A} {spell : A → List Token} (one : TakesOne p spell) (x : A) → one.read (placed Stray 0) ≡ Ok x → ⊥
 nothing_read one x e = let bad : false ≡ true = one.takes (placed Stray 0) x e in absurd cc
 
--- what it read of a token, it reads of that token again
+-- such a parser reads the same of the same token
 read_again : {A : Type 0} {p : Parser A} {spell : A → List Token} (one : TakesOne p spell) (ts : Tokens) (r : Result A Refusal) → one.read (first ts) ≡ r → (other : Tokens) → first other ≡ first ts → p other ≡ with_rest r (after other)
 read_again one ts r e other h = one.is other ∙ ap (λ o. with_rest o (after other)) (ap one.read h ∙ e)
 
@@ -363,7 +363,7 @@ one_steps one (t ∷ ts) (Ok x) is = record {
 pub one_parses : {A : Type 0} {p : Parser A} {spell : A → List Token} → TakesOne p spell → Parses Any p [] spell
 one_parses one = record { steps = λ ts. one_steps one ts (one.read (first ts)) refl }
 
--- Behind a token that began at this place the parser goes on, or it fails there.
+-- After a token at this place the parser goes on, or fails at that place.
 pub data Checked {A : Type 0} (Q : A → Type 0) (p : Parser A) (at : ℕ) (before : List Token) (spell : A → List Token) : Type 0 where
   goes_on : Parses Q p before spell → Checked Q p at before spell
   fails : ((ts : Tokens) → p ts ≡ Err (faults.Grammar at)) → Checked Q p at before spell
@@ -408,7 +408,7 @@ checked_steps {Q = Q} {U = U} some q one (t ∷ ts) (Ok x) is next =
       }
     ]
 
--- what is read of one token is tried, and the parser goes on or fails at that token
+-- one token is read, and then the parser goes on or fails at that token
 pub checked : {A B : Type 0} {Q : B → Type 0} {p : Parser A} {q : ℕ → A → Parser B} {S : A → List Token} {U : B → List Token} (some : (x : B) × Q x) → TakesOne p S → ((at : ℕ) (x : A) → Checked Q (q at x) at (S x) U) → Parses Q (λ ts. and_then (p ts) (q (position ts))) [] U
 checked {q = q} some one next = record { steps = λ ts. checked_steps some q one ts (one.read (first ts)) refl next }
 
@@ -448,7 +448,7 @@ expect_one symbol = record {
 pub expects : (symbol : Symbol) → Parses Any (expect symbol) [] (λ _. Fixed symbol ∷ [])
 expects symbol = one_parses (expect_one symbol)
 
--- what is found in a token, where it is within its limit
+-- what is found in a token, if it is within its limit
 abbrev within : {A : Type 0} → (A → Bool) → Option A → Placed → Result A Refusal
 within passes None t = Err (fault_at t.token t.at)
 within passes (Some x) t = cond (passes x) (Ok x) (Err (faults.Limit t.at))
@@ -614,7 +614,7 @@ lead_more : {A : Type 0} (spell : A → List Token) (xs : List A) (x : A) → le
 lead_more spell [] x = ap (λ (l : List Token). l ++ Fixed Comma ∷ []) (commas_more spell [] x)
 lead_more spell (y ∷ xs) x = ap (λ (l : List Token). l ++ Fixed Comma ∷ []) (commas_more spell (y ∷ xs) x)
 
--- a list with an item
+-- the list has an item
 abbrev pub HasItem : {A : Type 0} → List A → Type 0
 HasItem {A} xs = (x : A) × (rest : List A) × (xs ≡ x ∷ rest)
 
@@ -622,7 +622,7 @@ has_item : {A : Type 0} (xs : List A) (x : A) → HasItem (xs ++ x ∷ [])
 has_item [] x = (x, [], refl)
 has_item (y ∷ xs) x = (y, xs ++ x ∷ [], refl)
 
--- a list with an item, where this is so of each
+-- the list has an item, and each has the property
 abbrev pub Listed : {A : Type 0} → (A → Type 0) → List A → Type 0
 Listed P xs = HasItem xs × All P xs
 

@@ -1,4 +1,4 @@
--- The productions of declarations answer by the tokens up to the next one and fail there, behind tokens that begin a spelling.
+-- The productions of declarations are such parsers as `Local` describes.
 use Rattle.std.proofs.Common.{◌≡◌, ℕ, zero, suc, ◌-◌, Bool, true, false, List, [], ◌∷◌, ◌++◌, length, refl, sym, ap, ◌∙◌, append_assoc}
 use Rattle.std.specs.Prelude.{nat_lt}
 use Rattle.std.specs.List.{All, flat_map}

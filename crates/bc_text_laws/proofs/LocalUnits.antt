@@ -1,4 +1,4 @@
--- The productions of a unit answer by the tokens up to the next one and fail there, behind tokens that begin a spelling.
+-- The productions of a unit are such parsers as `Local` describes.
 use Rattle.std.proofs.Common.{◌≡◌, ℕ, zero, suc, ◌+◌, Bool, true, false, List, [], ◌∷◌, ◌++◌, length, Option, Some, None, refl, sym, ap, ◌∙◌, append_assoc, arith}
 use Rattle.std.specs.Prelude.{nat_lt, ◌==◌}
 use Rattle.std.specs.List.{All, flat_map}
@@ -139,7 +139,7 @@ step_more found p = one_more spell.step found p ∙ sym (append_assoc (flat_map 
 four : (a b c d : List Token) → a ++ (b ++ (c ++ d)) ≡ ((a ++ b) ++ c) ++ d
 four a b c d = sym (append_assoc a b (c ++ d)) ∙ sym (append_assoc (a ++ b) c d)
 
--- how a statement or a terminator is spelled
+-- the spelling of a statement or a terminator
 abbrev point_text : List RegionName → Point → List Token
 point_text regions (point_kinds.Statement st) = spell.statement regions st
 point_text regions (point_kinds.Terminator t) = spell.terminator regions t
@@ -348,7 +348,7 @@ module _ (regions : List RegionName) where
   unfolding read.captures
   captures = then (expects s.OpenBracket) (λ _ _. behind_so (alike_closed (begins_ty false regions) (ty false regions) 16 s.CloseBracket) (λ x h. h) (λ x _. refl))
 
-  -- what was read of a signature before what it takes
+  -- the signature has the regions and clauses that were read, and no closures
   abbrev IsOf : List Outlives → Signature → Type 0
   IsOf cs f = (regions ≡ f.regions) × (cs ≡ f.clauses) × SignatureStands f
 
@@ -360,7 +360,7 @@ module _ (regions : List RegionName) where
   abbrev names : List Token
   names = spell.angled spell.region_name regions
 
-  -- the front of a signature, and what it takes
+  -- a signature is spelled as its regions and clauses, then its parameters and result
   signature_is : (cs : List Outlives) (f : Signature) → IsOf cs f → (found : List RegionName → List Token) → spell.signature_with (found f.regions) f ≡ (names ++ spell.clauses regions cs) ++ (found regions ++ spell.function_ty f)
   signature_is cs f is found =
       ap (λ (rs : List RegionName). spell.angled spell.region_name rs ++ (spell.clauses rs f.clauses ++ (found rs ++ spell.function_ty f))) (sym is.0)

@@ -57,7 +57,7 @@ cut (b ∷ xs) t w rest at whole blank is =
 
 -- ---- all tokens
 
--- a blank comes behind each token
+-- a blank follows each token
 follows : (ts : List Token) → (w : ℕ) × (rest : List ℕ) × (spaced ts ++ codes "\n" ≡ w ∷ rest) × (is_blank w ≡ true)
 unfolding spaced
 follows [] = (10, [], refl, refl)

@@ -1,4 +1,4 @@
--- The spelling of a unit that fits is of tokens that texts have.
+-- The spelling of a unit that fits has only tokens that texts have.
 use Rattle.std.proofs.Common.{◌≡◌, ℕ, zero, suc, ◌+◌, ◌^◌, ◌<◌, ◌≤◌, Bool, true, false, ◌&&◌, List, [], ◌∷◌, ◌++◌, length, map, refl, inl, inr, arith}
 use Rattle.std.specs.Prelude.{codes, get_or, not, ◌==◌, nat_le, nat_lt}
 use Rattle.std.specs.Str.{bytes_eq}
@@ -202,7 +202,7 @@ module _ (regions : List RegionName) (new : fit.are_new [] regions ≡ true) whe
   captures Function ts h = tt
   captures Closure ts h = (tt, joined (spell.commas (spell.ty regions) ts) (spell.symbol s.CloseBracket) (tys ts h) (tt, tt))
 
-  -- a closure behind no reference
+  -- a closure type has no references
   whole_closure : (rs : List Reference) (b : Base) → fit.whole_closure_fits count rs b ≡ true → AllWhole (flat_map (spell.behind regions) rs ++ spell.base regions b)
   whole_closure [] bases.Int h = absurd cc
   whole_closure [] (bases.Struct i) h = absurd cc
@@ -216,7 +216,7 @@ module _ (regions : List RegionName) (new : fit.are_new [] regions ≡ true) whe
         | inr none ↦ whole_closure t.references t.base (rw none at h)
       ]
 
-  -- the types of the locals from this one on
+  -- the types of the locals from the given one on
   lets : (k : ℕ) (ts : List Ty) → k + length ts ≤ 256 → list_all (fit.let_fits count) ts ≡ true → AllWhole (spell.lets regions k ts)
   lets k [] few h = tt
   lets k (t ∷ ts) few h =
@@ -354,7 +354,7 @@ module _ (regions : List RegionName) (new : fit.are_new [] regions ≡ true) whe
 
 -- ---- units
 
--- a signature, with such tokens before what it takes
+-- a signature, with such tokens before its parameters
 signature_with : (limit : ℕ) (h : Signature) (found : List Token) → fit.signature_fits limit h ≡ true → AllWhole found → AllWhole (spell.signature_with found h)
 signature_with limit h found fits whole =
     let parts = signature_parts limit h fits in

@@ -1,4 +1,4 @@
-//! What the texts of units and of declarations keep: what is printed is read again, and a refused text has a bad token.
+//! Laws of the texts of units and declarations: what is printed is read again, and a refused text has a bad token.
 #![tactic(auto)]
 
 mod laws;

@@ -1,4 +1,4 @@
--- Where the tokens of a text go on.
+-- How the tokens of a text go on.
 use Rattle.std.proofs.Common.{◌≡◌, ◌≢◌, ℕ, zero, suc, ◌+◌, ◌-◌, ◌<◌, ◌≤◌, Bool, true, false, cond, List, [], ◌∷◌, length, drop, get_or, refl, sym, ap, ◌∙◌, subst, arith, inl, inr, add-zero}
 use Rattle.std.proofs.lemmas.Bool.{cases_Bool}
 use Rattle.std.proofs.lemmas.List.{get_or-drop, length-drop}
@@ -11,7 +11,7 @@ use Rattle.bc_tokens.specs.Token.{Tokens, placed, shown, is_blank, lexeme, token
 use Rattle.bc_tokens.specs.Cursor.{following}
 use Rattle.bc_tokens.specs.Parser.{first, after}
 
--- the bytes of a token that has begun are gone past
+-- the bytes of a token that has begun are skipped
 pub inside : (n at : ℕ) (bytes : List ℕ) → n ≤ length bytes → tokens n at bytes ≡ tokens 0 (at + n) (drop n bytes)
 unfolding tokens
 inside zero at bytes le = let e : at ≡ at + 0 = omega arith in ap (λ k. tokens 0 k bytes) e
@@ -29,7 +29,7 @@ pub token_begins : (at b : ℕ) (bytes : List ℕ) → is_blank b ≡ false → 
 unfolding tokens
 token_begins at b bytes h = ap (λ t. cond t (tokens 0 (at + 1) bytes) (placed (lexeme (b ∷ bytes)).0 at ∷ tokens ((lexeme (b ∷ bytes)).1 - 1) (at + 1) bytes)) h
 
--- blanks are gone past
+-- blanks are skipped
 pub skips : (at : ℕ) (text : List ℕ) → tokens 0 (at + prefix_len is_blank text) (drop (prefix_len is_blank text) text) ≡ tokens 0 at text
 skips at [] = let e : at + 0 ≡ at = omega arith in ap (λ k. tokens 0 k []) e
 skips at (b ∷ text) =
@@ -45,7 +45,7 @@ skips at (b ∷ text) =
           subst P (sym ink) (ap (λ k. tokens 0 k (b ∷ text)) e)
     ]
 
--- behind the blanks there is none
+-- after the blanks comes no blank
 pub not_blank : (text : List ℕ) → 0 < length (drop (prefix_len is_blank text) text) → is_blank (get_or (drop (prefix_len is_blank text) text) 0 0) ≡ false
 not_blank text some =
     let n = prefix_len is_blank text in
@@ -66,7 +66,7 @@ following_is kinds.Stray end rest h = refl
 pub goes_on : (kind : Kind) (text : List ℕ) (end : ℕ) (rest : List ℕ) → shown kind text ≢ End → tokens 0 end rest ≡ following kind end rest
 goes_on kind text end rest h = sym (following_is kind end rest (λ e. h (ap (λ k. shown k text) e)))
 
--- behind the first of the tokens
+-- after the first of the tokens
 pub goes_past : (ts : Tokens) (kind : Kind) (text : List ℕ) (at end : ℕ) (rest : List ℕ) → ts ≡ placed (shown kind text) at ∷ following kind end rest
     → (first ts).token ≢ End → tokens 0 end rest ≡ after ts
 goes_past ts kind text at end rest e h = goes_on kind text end rest (λ k. h (ap (λ (t : Tokens). (first t).token) e ∙ k)) ∙ ap after (sym e)
@@ -100,14 +100,14 @@ ends at n text rest count rest-is none =
     ap (λ k. tokens 0 (at + k) []) count ∙ ap (λ (l : List ℕ). tokens 0 (at + prefix_len is_blank text) l) (sym nothing) in
     place ∙ skips at text
 
--- behind the blanks a token begins, or nothing does
+-- after the blanks a token begins, or nothing is left
 pub begins_here : (n : ℕ) (text rest : List ℕ) → n ≡ prefix_len is_blank text → rest ≡ drop n text → 0 < length rest → is_blank (get_or rest 0 0) ≡ false
 begins_here n text rest count rest-is some =
     let whole : rest ≡ drop (prefix_len is_blank text) text = rest-is ∙ ap (λ k. drop k text) count in
     let some2 : 0 < length (drop (prefix_len is_blank text) text) = subst (λ (l : List ℕ). 0 < length l) whole some in
     ap (λ (l : List ℕ). is_blank (get_or l 0 0)) whole ∙ not_blank text some2
 
--- the tokens behind the blanks are those of the text
+-- the tokens after the blanks are those of the text
 pub cuts : (at n : ℕ) (text rest : List ℕ) → n ≡ prefix_len is_blank text → rest ≡ drop n text → tokens 0 (at + n) rest ≡ tokens 0 at text
 cuts at n text rest count rest-is =
     ap (λ (l : List ℕ). tokens 0 (at + n) l) (rest-is ∙ ap (λ k. drop k text) count)

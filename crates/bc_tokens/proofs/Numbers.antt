@@ -1,4 +1,4 @@
--- What digits count, and what a token keeps of it.
+-- The value of digits, and what a token keeps of it.
 use Rattle.std.proofs.Common.{◌≡◌, ℕ, ◌+◌, ◌-◌, ◌*◌, ◌^◌, ◌<◌, ◌≤◌, Bool, true, false, cond, List, length, get_or, take, Some, None, Ok, Err, refl, ap, ◌∙◌, arith, inl, inr}
 use Rattle.std.specs.Prelude.{Option, is_some, nat_le}
 use Rattle.std.proofs.lemmas.Bool.Decides.{nat_tests}
@@ -15,18 +15,18 @@ step n b = n * 10 + (b - 48)
 one_more : (digits : List ℕ) (i : ℕ) → i < length digits → value (take (i + 1) digits) ≡ value (take i digits) * 10 + (get_or digits i 0 - 48)
 one_more digits i lt = fold_more step 0 digits i 0 lt
 
--- one digit more, where all so far count less than 2 ^ 32
+-- one more digit, if the value so far is less than 2^32
 pub counts_more : (digits : List ℕ) (i number : ℕ) → i < length digits → Counts number (value (take i digits)) → number < 2 ^ 32
     → Counts (number * 10 + (get_or digits i 0 - 48)) (value (take (i + 1) digits))
 counts_more digits i number lt (inl e) small = inl (omega (arith, e, one_more digits i lt))
 counts_more digits i number lt (inr p) small = absurd (omega (arith, p.0, small))
 
--- a number that is large stays as it is
+-- a large number stays as it is
 pub counts_still : (digits : List ℕ) (i number : ℕ) → i < length digits → Counts number (value (take i digits)) → 2 ^ 32 ≤ number → Counts number (value (take (i + 1) digits))
 counts_still digits i number low (inl same) large = inr (large, omega (arith, one_more digits i low, same, large))
 counts_still digits i number low (inr both) large = inr (large, omega (arith, one_more digits i low, both.1))
 
--- what `value_within` tells of a number
+-- what `value_within` returns for a number
 abbrev Told : ℕ → ℕ → Option ℕ → Type 0
 Told limit n found = found ≡ cond (nat_le n limit) (Some n) None
 
@@ -47,7 +47,7 @@ past_is limit n told = by (nat_le n limit) refl told
     by true e f = absurd cc
     by false e f = e
 
--- the number of a token that is of a numbering
+-- the number of a token of a numbering
 number_of : (numbering : Numberings) (t : Token) → is_some (number_in numbering t) ≡ true → (found : Numberings) × (n : ℕ) × (t ≡ Numbered found n) × (number_in numbering t ≡ Some n)
 number_of numbering (Numbered found n) seen = by (same_numbering found numbering) refl seen
   where
@@ -86,7 +86,7 @@ number_past numbering limit ts seen told =
     ap (λ (o : Option ℕ). numbered_to limit o ts) h.3
     ∙ ap (λ (b : Bool). cond b (Ok (n, after ts)) (Err (Limit (position ts)))) (past_is limit n (told h.0 n h.2))
 
--- a token that is no number of a numbering
+-- a token that is not of the numbering
 pub number_missed : (numbering : Numberings) (limit : ℕ) (ts : Tokens) → sees_numbered numbering ts ≡ false → numbered numbering limit ts ≡ Err (fault ts)
 unfolding sees_numbered numbered
 number_missed numbering limit ts unseen = by (number_in numbering (first ts).token) unseen

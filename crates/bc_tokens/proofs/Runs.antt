@@ -1,4 +1,4 @@
--- Runs that are gone over once, and the tokens that they are.
+-- Runs that are read once, and the tokens that they are.
 use Rattle.std.proofs.Common.{◌≡◌, ◌≢◌, ℕ, suc, ◌+◌, ◌<◌, ◌≤◌, Bool, true, false, cond, List, [], ◌∷◌, length, take, drop, refl, sym, ap, ◌∙◌, subst, arith, inl, inr}
 use Rattle.std.specs.Prelude.{slice_index, ◌==◌, ◌&&◌, ◌||◌, not, eqb, nat_le, nat_lt, take_while, Option, Some, None}
 use Rattle.std.specs.Char.{is_ascii_digit, is_ascii_alphabetic}
@@ -127,7 +127,7 @@ three : (p : ℕ → Bool) (bytes : List ℕ) → p 0 ≡ false → p (slice_ind
 three p [] z h k m n = absurd cc
 three p (b ∷ bytes) z h k m n = take_while-cons p b bytes ∙ ap (λ t. cond t (b ∷ take_while p bytes) []) h ∙ ap (λ (l : List ℕ). b ∷ l) (two p bytes z k m n)
 
--- a digit alone is a number
+-- one digit is a number
 pub one_digit : (bytes : List ℕ) → is_ascii_digit (slice_index bytes 0) ≡ true → is_run_byte (slice_index bytes 1) ≡ false
     → (take 1 bytes ≡ run bytes) × (true ≡ is_number (run bytes))
 unfolding is_number
@@ -218,7 +218,7 @@ label_word bytes rest digits first second rest-is digits-are number =
 letter_in_run : (b : ℕ) → is_ascii_alphabetic b ≡ true → is_run_byte b ≡ true
 letter_in_run b h = grind (arith, nat_tests)
 
--- a `b` behind a first one is the second byte of the run
+-- a text begins with `b` if its run does
 second_b : (bytes : List ℕ) → slice_index (run bytes) 0 ≡ 98 → slice_index bytes 0 ≡ 98
 second_b [] e = e
 second_b (b ∷ bytes) e =
@@ -262,7 +262,7 @@ pub letter_word : (bytes : List ℕ) → is_ascii_alphabetic (slice_index bytes 
     → None ≡ keyword_of (run bytes) → Word (run bytes) ≡ run_token (run bytes)
 letter_word bytes letter not_label e = ap (λ (o : Option Symbol). word (run bytes) o) e ∙ sym (letter_token bytes letter not_label)
 
--- ---- what stands at the front of a text, by its first byte
+-- ---- the token at the front of a text, by its first byte
 
 lexeme_run : (bytes : List ℕ) → is_run_byte (slice_index bytes 0) ≡ true → (run_token (run bytes), length (run bytes)) ≡ lexeme bytes
 unfolding lexeme

@@ -11,28 +11,32 @@ use Rattle.bc_syntax.specs.Bytes.{is_run_byte, run}
 use Rattle.bc_syntax.specs.Symbol.{keyword_of, sign_of}
 use Rattle.bc_syntax.specs.Words.{is_number, is_label, is_region_name}
 
--- a token, and the place where it begins
+-- a token and the place where it begins
 pub record Placed : Type 0 where
   pub token : Token
   pub at : ℕ
 
+-- a token at a place
 abbrev pub placed : Token → ℕ → Placed
 placed token at = record { token = token; at = at }
 
+-- tokens in order, with their places
 abbrev pub Tokens : Type 0
 Tokens = List Placed
 
 -- ---- bytes
 
+-- the byte is a space or a line feed
 abbrev pub is_blank : ℕ → Bool
 is_blank b = b == 32 || b == 10
 
 -- ---- runs
 
--- what digits count
+-- the value of digits
 abbrev pub value : List ℕ → ℕ
 value digits = fold (λ n b. n * 10 + (b - 48)) 0 digits
 
+-- the token of a word, which may be a keyword
 abbrev pub word : List ℕ → Option Symbol → Token
 word name (Some keyword) = Fixed keyword
 word name None = Word name
@@ -46,20 +50,22 @@ run_token r =
     else (if is_ascii_alphabetic (slice_index r 0) then word r (keyword_of r)
     else Stray)))
 
--- the token behind a `'`, and behind `'?`
+-- the token of a run after `'`
 unfoldable pub region_token : List ℕ → Token
 region_token name = if is_region_name name then Region name else Stray
 
+-- the token of a run after `'?`
 unfoldable pub variable_token : List ℕ → Token
 variable_token digits = if is_number digits then Numbered numberings.Variable (value digits) else Stray
 
+-- the token of a sign, or a stray one if there is none
 abbrev pub sign_token : Option Symbol → Token
 sign_token (Some sign) = Fixed sign
 sign_token None = Stray
 
 -- ---- texts
 
--- the token at the front of a text, and how many bytes it has
+-- the token at the front of a text, and its length
 unfoldable pub lexeme : List ℕ → Token × ℕ
 lexeme bytes =
     if is_run_byte (slice_index bytes 0) then (run_token (run bytes), length (run bytes))
@@ -69,7 +75,7 @@ lexeme bytes =
     else (if nat_le 128 (slice_index bytes 0) then (NotAscii, 1)
     else (sign_token (sign_of (slice_index bytes 0)), 1)))))
 
--- The tokens of the bytes from place `at` on, of which the first `inside` belong to a token that began before.
+-- the tokens of the bytes from place `at` on, of which the first `inside` belong to a token that began before
 unfoldable pub tokens : (inside at : ℕ) → List ℕ → Tokens
 tokens inside at [] = placed End at ∷ []
 tokens (suc inside) at (b ∷ bytes) = tokens inside (at + 1) bytes
@@ -79,6 +85,7 @@ tokens zero at (b ∷ bytes) =
 
 -- ---- a token in the program
 
+-- the token of a kind, with its digits or name
 abbrev pub shown : Kind → List ℕ → Token
 shown (kinds.Fixed symbol) text = Fixed symbol
 shown (kinds.Numbered numbering) text = Numbered numbering (value text)
@@ -88,10 +95,11 @@ shown kinds.NotAscii text = NotAscii
 shown kinds.Stray text = Stray
 shown kinds.End text = End
 
--- What a token keeps of what its digits count: just that, or any number from 2 ^ 32 on where it is one of these.
+-- `number` is exactly `counted`, or both are at least 2^32
 abbrev pub Counts : (number counted : ℕ) → Type 0
 Counts number counted = (number ≡ counted) ⊎ ((2 ^ 32 ≤ number) × (2 ^ 32 ≤ counted))
 
+-- a token with digits keeps their value as its number
 abbrev pub Keeps : Kind → List ℕ → ℕ → Type 0
 Keeps (kinds.Numbered numbering) text number = Counts number (value text)
 Keeps (kinds.Fixed symbol) text number = ⊤

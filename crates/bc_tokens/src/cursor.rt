@@ -1,4 +1,4 @@
-//! A cursor over the tokens of a text, which cuts each as it is reached.
+//! A cursor over the tokens of a text, which cuts them one at a time.
 ghost use Rattle.std.specs.Prelude.{◌≡◌, ◌≢◌, ◌≤◌, ◌<◌, ◌+◌, ◌^◌, ℕ, length, slice_index, Some, None, Err, nat_le, true, false, IsSome, if◌then◌else◌, IfOk, MatchOption, take_while};
 ghost use Rattle.std.specs.Char.{is_ascii_alphabetic, is_ascii_digit};
 ghost use Rattle.bc_syntax.specs.Token.{End, Fixed, Numbered};
@@ -16,12 +16,12 @@ use crate::token::{
 use bc_syntax::{Numbering, Symbol, behind, byte_at, same};
 use std::marker::Model;
 
-/// A position in a text before one of its tokens, which reads the tokens from there on.
+/// A position in a text before one of its tokens. It reads the tokens from there on.
 #[derive(Drop)]
 pub struct Cursor<'a> {
     token: Token<'a>,
     at: usize,
-    /// The text after the token, and its place.
+    /// The text after the token, which begins at the byte `end`.
     rest: &'a [u8],
     end: usize,
 }
@@ -52,7 +52,7 @@ fn all_blanks(text: &[u8]) -> usize
     text.iter().take_while(|byte| is_blank(**byte)).count()
 }
 
-/// How many blanks stand at the front of a text: mostly one or none.
+/// Returns the number of blanks at the front of a text, which is mostly one or none.
 #[inline(always)]
 fn blanks(text: &[u8]) -> usize
     ensures count { result ≡ length (take_while is_blank text.now) }
@@ -75,7 +75,7 @@ fn same_numbering(a: Numbering, b: Numbering) -> bool
 }
 
 impl<'a> Cursor<'a> {
-    /// Makes the cursor at the first token of a text, which lies at the byte `at` of a whole.
+    /// Makes a cursor at the first token of a text, which begins at the byte `at` of a larger text.
     pub fn new(text: &'a [u8], at: usize) -> Cursor<'a>
         requires { at + length text.now < 2 ^ 64 }
         ensures { result ≡ tokens 0 at text.now }
@@ -97,8 +97,7 @@ impl<'a> Cursor<'a> {
         self.at
     }
 
-    /// Returns why the next token is refused where the grammar does not allow it: `NotAscii` or `Token` where it is no token,
-    /// else `Grammar`.
+    /// Returns the fault of the next token if the grammar does not allow it: `NotAscii` or `Token` if it is no token, otherwise `Grammar`.
     #[cold]
     #[inline(never)]
     #[tactic(auto, unfolding(crate::specs::Parser::fault))]
@@ -134,9 +133,8 @@ impl<'a> Cursor<'a> {
         self.cut(text);
     }
 
-    /// Cuts the token at the front of a text, which lies where the next token is to begin. Its first byte tells its
-    /// form. Forms that are gone over a byte at a time are cut in functions of their own: they keep more values than
-    /// the processor has registers to spare, which a sign needs not to pay for.
+    /// Cuts the token at the front of a text, which begins at the cursor's place. The first byte decides its form. Forms that are read byte
+    /// by byte have functions of their own: they need more registers than there are, and signs should not pay for that.
     #[inline(always)]
     fn cut(&mut self, text: &'a [u8])
         requires some { 0 < length text.now }
@@ -161,7 +159,7 @@ impl<'a> Cursor<'a> {
         }
     }
 
-    /// Cuts a keyword, a label or another word. What is no keyword is cut in a function of its own, too.
+    /// Cuts a keyword, a label or another word. What is no keyword is cut in a function of its own.
     #[inline(never)]
     fn cut_letters(&mut self, text: &'a [u8])
         requires form { is_ascii_alphabetic (slice_index text.now 0) ≡ true }
@@ -214,7 +212,7 @@ impl<'a> Cursor<'a> {
         self.put(token, len, text);
     }
 
-    /// Puts the token at the front of a text, which has so many bytes of it.
+    /// Stores the token at the front of a text, of `len` bytes, as the next one.
     #[inline(always)]
     fn put(&mut self, token: Token<'a>, len: usize, text: &'a [u8])
         requires token { (shown token.kind token.text.now, len) ≡ lexeme text.now }
@@ -231,7 +229,7 @@ impl<'a> Cursor<'a> {
         self.rest = behind(text, len);
     }
 
-    /// Puts the sign at the front of a text. What the token before had of digits or of a name stays, as no sign has any.
+    /// Stores the sign at the front of a text as the next token. The text and number of the token before stay, since a sign has none.
     #[inline(always)]
     fn put_sign(&mut self, sign: Symbol, text: &'a [u8])
         requires token { (Fixed sign, 1) ≡ lexeme text.now }
@@ -277,7 +275,7 @@ impl<'a> Cursor<'a> {
         found
     }
 
-    /// Moves past this symbol, or returns the refusal of what comes in its place.
+    /// Moves past this symbol, or returns the fault of another token.
     #[inline(always)]
     #[tactic(auto, unfolding(crate::specs::Parser::expect))]
     pub fn expect(&mut self, symbol: Symbol) -> Result<(), Refusal>
@@ -304,8 +302,8 @@ impl<'a> Cursor<'a> {
         }
     }
 
-    /// Reads a number, local, label or variable, and returns its number. Returns `Limit` where the number is above the limit,
-    /// else the refusal of what comes in its place.
+    /// Reads a number, local, label or variable, and returns its number. Returns `Limit` if the number is above the limit, or the fault of
+    /// another token.
     #[inline(always)]
     #[tactic(auto, unfolding(crate::specs::Parser::numbered))]
     pub fn numbered(&mut self, numbering: Numbering, limit: u32) -> Result<u32, Refusal>
@@ -323,7 +321,7 @@ impl<'a> Cursor<'a> {
         Ok(value)
     }
 
-    /// The next token's number, if it is within the limit.
+    /// Returns the number of the next token if it is within the limit.
     #[inline(always)]
     fn value_within(&self, limit: u32) -> Option<u32>
         ensures { (numbering : Numbering) → (n : ℕ) → (first self.now).token ≡ Numbered numbering n → result ≡ (if nat_le n limit then Some n else None) }
@@ -335,7 +333,7 @@ impl<'a> Cursor<'a> {
         }
     }
 
-    /// Returns whether the next token is of this numbering.
+    /// Returns whether a token of this numbering comes next.
     #[tactic(auto, unfolding(crate::specs::Parser::sees_numbered))]
     pub fn sees_numbered(&self, numbering: Numbering) -> bool
         ensures { result ≡ spec.sees_numbered numbering self.now }
@@ -358,8 +356,7 @@ impl<'a> Cursor<'a> {
         }
     }
 
-    /// Reads the name of a region and returns its bytes. Returns `Limit` where it has more than 16 bytes, else the refusal of
-    /// what comes in its place.
+    /// Reads the name of a region and returns its bytes. Returns `Limit` if it has more than 16 bytes, or the fault of another token.
     #[tactic(auto, unfolding(crate::specs::Parser::region_name))]
     pub fn region_name(&mut self) -> Result<&'a [u8], Refusal>
         ensures reads { ReadsAs (λ name. name.now) (spec.region_name self.old) result self.new }
@@ -375,7 +372,7 @@ impl<'a> Cursor<'a> {
         Ok(name)
     }
 
-    /// Returns whether a region's name comes next.
+    /// Returns whether a region comes next.
     #[tactic(auto, unfolding(crate::specs::Parser::sees_region))]
     pub fn sees_region(&self) -> bool
         ensures { result ≡ spec.sees_region self.now }
@@ -406,8 +403,7 @@ impl<'a> Cursor<'a> {
         self.plain_word().is_some()
     }
 
-    /// Reads a word that is no keyword and returns its bytes. Returns `Limit` where it has more than 32 bytes, else the refusal
-    /// of what comes in its place.
+    /// Reads a word that is no keyword and returns its bytes. Returns `Limit` if it has more than 32 bytes, or the fault of another token.
     #[tactic(auto, unfolding(crate::specs::Parser::word))]
     pub fn word(&mut self) -> Result<&'a [u8], Refusal>
         ensures reads { ReadsAs (λ name. name.now) (spec.word self.old) result self.new }
@@ -423,7 +419,7 @@ impl<'a> Cursor<'a> {
         Ok(name)
     }
 
-    /// Returns `Ok` where no more tokens come, else the refusal of the next one.
+    /// Returns `Ok` if no token is left, otherwise the fault of the next one.
     #[tactic(auto, unfolding(crate::specs::Parser::at_end))]
     pub fn at_end(&self) -> Result<(), Refusal>
         ensures reads { Reads (spec.at_end self.now) result self.now }

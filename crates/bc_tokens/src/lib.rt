@@ -1,4 +1,4 @@
-//! The tokens of a text: a cursor cuts each as it is reached.
+//! The tokens of a text, which a cursor cuts one at a time.
 #![tactic(auto)]
 
 mod cursor;

@@ -4,9 +4,9 @@ ghost use Rattle.bc_tokens.specs.declared.refusal.Refusal.TheVariants.{NoMemory}
 
 use std::alloc::AllocError;
 
-/// Why reading a text stopped: the first bad token, by its kind and its place, or out of memory. `NotAscii`, a byte that is not
-/// ASCII; `Token`, what is no token; `Grammar`, a token that may not be there; `Limit`, one too many, or a number or name past
-/// its limit.
+/// Why reading a text stopped: at its first bad token, or out of memory. `at` is the byte at which the token begins. `NotAscii`: the byte
+/// is not ASCII. `Token`: no token begins here. `Grammar`: the token may not be here. `Limit`: the token is one too many, or its number or
+/// name is past a limit.
 #[derive(Debug, Drop)]
 pub enum Refusal {
     NotAscii { at: usize },

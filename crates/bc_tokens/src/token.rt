@@ -25,17 +25,17 @@ pub enum Kind {
     End,
 }
 
-/// A token: its kind, the digits or the name in it, and what the digits count.
+/// A token: its kind, its digits or its name, and the value of the digits.
 #[derive(Clone, Copy, Debug)]
 pub struct Token<'a> {
     pub kind: Kind,
     pub text: &'a [u8],
-    /// What the digits of a number count, or any number from 2 ^ 32 on where they count so much.
+    /// The value of the digits. From 2^32 on, it may be any number from 2^32 on.
     pub number: u64,
 }
 
 impl<'a> Token<'a> {
-    /// Makes a token that has a kind alone, without digits or a name.
+    /// Returns a token of this kind without digits or a name.
     pub fn bare(kind: Kind) -> Token<'a>
         ensures kind { result.kind ≡ kind }
         ensures keeps { Keeps result.kind result.text.now result.number }
@@ -48,7 +48,7 @@ impl<'a> Token<'a> {
     }
 }
 
-/// How many digits stand at the front, and what they count.
+/// Returns the number of digits at the front, and their value. From 2^32 on, the value is not exact.
 #[inline(always)]
 fn counted(bytes: &[u8]) -> (usize, u64)
     ensures count { result.0 ≡ length (take_while is_ascii_digit bytes.now) }
@@ -68,8 +68,7 @@ fn counted(bytes: &[u8]) -> (usize, u64)
     (bytes.len(), number)
 }
 
-/// The run at the front, what it counts, and whether it is a number. It is gone over once: its digits, then what
-/// follows them.
+/// Returns the run at the front, its value, and whether it is a number. It is read once: its digits, then the rest.
 fn any_number_run(bytes: &[u8]) -> (&[u8], u64, bool)
     ensures run { result.0.now ≡ run bytes.now }
     ensures number { result.2 ≡ is_number (run bytes.now) }
@@ -82,7 +81,7 @@ fn any_number_run(bytes: &[u8]) -> (&[u8], u64, bool)
     (run, number, is_number_of(run, others == 0))
 }
 
-/// The run at the front, what it counts, and whether it is a number. It may be one of three digits.
+/// Returns the run at the front, its value, and whether it is a number. Three digits are read without a loop.
 #[inline(always)]
 fn three_digit_run(bytes: &[u8]) -> (&[u8], u64, bool)
     ensures run { result.0.now ≡ run bytes.now }
@@ -105,7 +104,7 @@ fn three_digit_run(bytes: &[u8]) -> (&[u8], u64, bool)
     any_number_run(bytes)
 }
 
-/// The run at the front, what it counts, and whether it is a number. Most numbers have one digit or two.
+/// Returns the run at the front, its value, and whether it is a number. Most numbers have one digit or two, which are read without a loop.
 #[inline(always)]
 fn number_run(bytes: &[u8]) -> (&[u8], u64, bool)
     ensures run { result.0.now ≡ run bytes.now }
@@ -128,7 +127,7 @@ fn number_run(bytes: &[u8]) -> (&[u8], u64, bool)
     three_digit_run(bytes)
 }
 
-/// The run at the front, and whether it is a name of a region. It is gone over once.
+/// Returns the run at the front, and whether it is the name of a region. It is read once.
 fn region_run(bytes: &[u8]) -> (&[u8], bool)
     ensures run { result.0.now ≡ run bytes.now }
     ensures name { result.1 ≡ is_region_name (run bytes.now) }
@@ -140,7 +139,7 @@ fn region_run(bytes: &[u8]) -> (&[u8], bool)
     (run, is_region_name_of(run, others == 0))
 }
 
-/// The number at the front, and how many bytes its run has.
+/// Returns the number at the front, or a stray token, and the length of the run.
 #[inline(always)]
 fn number_token(numbering: Numbering, bytes: &[u8]) -> (Token<'_>, usize)
     ensures token { shown result.0.kind result.0.text.now ≡ (if is_number (run bytes.now) then Numbered numbering (value (run bytes.now)) else Stray) }
@@ -162,7 +161,7 @@ fn number_token(numbering: Numbering, bytes: &[u8]) -> (Token<'_>, usize)
     (token, digits.len())
 }
 
-/// The name of a region at the front, and how many bytes its run has.
+/// Returns the region at the front, after its `'`, or a stray token, and the length of the run.
 #[inline(always)]
 #[tactic(auto, unfolding(crate::specs::Token::region_token))]
 fn region_token(bytes: &[u8]) -> (Token<'_>, usize)
@@ -185,7 +184,7 @@ fn region_token(bytes: &[u8]) -> (Token<'_>, usize)
     (token, name.len())
 }
 
-/// The keyword or the other word that a run is, which begins with a letter.
+/// Returns the keyword or other word that a run is. The run begins with a letter.
 #[inline(always)]
 fn word_token(run: &[u8]) -> Token<'_>
     ensures token { shown result.kind result.text.now ≡ word run.now (keyword_of run.now) }
@@ -202,7 +201,7 @@ fn word_token(run: &[u8]) -> Token<'_>
     }
 }
 
-/// The label or the word at the front, which begins with `bb`, and how many bytes it has.
+/// Returns the label or word at the front of a text that begins with `bb`, and its length.
 #[inline(always)]
 fn label_token(bytes: &[u8]) -> (Token<'_>, usize)
     requires first { slice_index bytes.now 0 ≡ 98 }
@@ -226,7 +225,7 @@ fn label_token(bytes: &[u8]) -> (Token<'_>, usize)
     (word_token(&bytes[..len]), len)
 }
 
-/// The label, the keyword or the other word at the front, and how many bytes it has.
+/// Returns the label, keyword or other word at the front of a text that begins with a letter, and its length.
 #[inline(always)]
 fn letter_token(bytes: &[u8]) -> (Token<'_>, usize)
     requires { is_ascii_alphabetic (slice_index bytes.now 0) ≡ true }
@@ -252,7 +251,7 @@ fn letter_token(bytes: &[u8]) -> (Token<'_>, usize)
     (token, word.len())
 }
 
-/// The region or the variable whose `'` stands before these bytes, and how many of them it has.
+/// Returns the region or variable at the front, after its `'`, and its length without the `'`.
 #[inline(always)]
 fn quoted_token(bytes: &[u8]) -> (Token<'_>, usize)
     ensures token { (shown result.0.kind result.0.text.now, 1 + result.1) ≡ lexeme (39 ∷ bytes.now) }
@@ -279,7 +278,7 @@ fn sign_token<'a>(byte: u8) -> Token<'a>
     }
 }
 
-/// Returns the token at the front of a text that begins with a digit, and how many bytes it has.
+/// Returns the token at the front of a text that begins with a digit, and its length.
 #[inline(always)]
 pub fn number_lexeme(bytes: &[u8]) -> (Token<'_>, usize)
     requires { is_ascii_digit (slice_index bytes.now 0) ≡ true }
@@ -292,7 +291,7 @@ pub fn number_lexeme(bytes: &[u8]) -> (Token<'_>, usize)
     number_token(Numbering::Number, bytes)
 }
 
-/// Returns the token at the front of a text that begins with `_`, and how many bytes it has.
+/// Returns the token at the front of a text that begins with `_`, and its length.
 #[inline(always)]
 pub fn local_lexeme(bytes: &[u8]) -> (Token<'_>, usize)
     requires { slice_index bytes.now 0 ≡ 95 }
@@ -306,7 +305,7 @@ pub fn local_lexeme(bytes: &[u8]) -> (Token<'_>, usize)
     (token, 1 + len)
 }
 
-/// Returns the keyword at the front of a text that begins with a letter, if one is there, and how many bytes it has.
+/// Returns the keyword at the front of a text that begins with a letter, and its length, or `None` if there is none.
 #[inline(always)]
 pub fn keyword_lexeme(bytes: &[u8]) -> Option<(Token<'_>, usize)>
     requires { is_ascii_alphabetic (slice_index bytes.now 0) ≡ true }
@@ -316,7 +315,7 @@ pub fn keyword_lexeme(bytes: &[u8]) -> Option<(Token<'_>, usize)>
     ensures not_end { IfSome result (λ found. found.0.kind ≢ Kind.End) }
     ensures keeps { IfSome result (λ found. Keeps found.0.kind found.0.text.now found.0.number) }
 {
-    // Labels begin so, and no keyword does.
+    // Labels begin with `b`, and no keyword does.
     if byte_at(bytes, 0) == b'b' {
         return None;
     }
@@ -326,7 +325,7 @@ pub fn keyword_lexeme(bytes: &[u8]) -> Option<(Token<'_>, usize)>
     }
 }
 
-/// Returns the token at the front of a text that begins with a letter, and how many bytes it has.
+/// Returns the token at the front of a text that begins with a letter, and its length.
 #[inline(always)]
 pub fn letter_lexeme(bytes: &[u8]) -> (Token<'_>, usize)
     requires { is_ascii_alphabetic (slice_index bytes.now 0) ≡ true }
@@ -339,7 +338,7 @@ pub fn letter_lexeme(bytes: &[u8]) -> (Token<'_>, usize)
     letter_token(bytes)
 }
 
-/// Returns the token at the front of a text that begins with `'`, and how many bytes it has.
+/// Returns the token at the front of a text that begins with `'`, and its length.
 #[inline(always)]
 pub fn quoted_lexeme(bytes: &[u8]) -> (Token<'_>, usize)
     requires { slice_index bytes.now 0 ≡ 39 }
@@ -353,7 +352,7 @@ pub fn quoted_lexeme(bytes: &[u8]) -> (Token<'_>, usize)
     (token, 1 + len)
 }
 
-/// Returns the token at the front of any other text, and how many bytes it has.
+/// Returns the token at the front of a text that begins with any other byte, and its length.
 #[inline(always)]
 pub fn sign_lexeme(bytes: &[u8]) -> (Token<'_>, usize)
     requires some { 0 < length bytes.now }

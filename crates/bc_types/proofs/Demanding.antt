@@ -1,4 +1,4 @@
--- What types demand: behind a reference, and what is known of a struct.
+-- What types demand: references, and what is stored of a struct.
 use Rattle.std.proofs.Common.{◌≡◌, Bool, true, false, cond, Option, Some, List, [], ◌∷◌, ◌++◌, map, refl, ap, ◌∙◌}
 use Rattle.std.specs.Option.{option_map, option_map_or, unwrap_or}
 use Rattle.std.specs.Str.{bytes_eq}
@@ -15,7 +15,7 @@ use Rattle.bc_types.specs.Mentions.{regions_of_references}
 use Rattle.bc_types.specs.Subtype.{outlives}
 use Rattle.bc_types.specs.WellFormed.{each_outlives, field_pairs, struct_pairs}
 
--- what is written behind a reference is the references there, and what they lead to
+-- the regions inside a pointee are those of its references and of its base
 pub behind_pairs : (references : List Reference) (regions : List Region) (shorter : Region) →
     each_outlives (regions_of_references references ++ regions) shorter ≡ map (λ (reference : Reference). outlives reference.region shorter) references ++ each_outlives regions shorter
 behind_pairs [] regions shorter = refl
@@ -24,7 +24,7 @@ behind_pairs (reference ∷ references) regions shorter = ap (λ ps. outlives re
 abbrev pairs_known : Option KnownStruct → List Constraint
 pairs_known known = unwrap_or (option_map (λ (k : KnownStruct). k.pairs) known) []
 
--- a struct demands what is known of its name where it is declared with its number of regions, and else nothing
+-- a struct demands what is stored under its name if it is declared with its number of regions, otherwise nothing
 pub known-pairs : (earlier : List Declaration) (instance : Instance) →
     cond (option_map_or (takes_regions instance) (struct_among earlier instance.name) false) (pairs_known (known_struct earlier instance.name.bytes)) [] ≡ struct_pairs earlier instance
 known-pairs [] instance = refl

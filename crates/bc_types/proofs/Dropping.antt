@@ -1,4 +1,4 @@
--- What is known of a struct tells whether it holds a drop.
+-- What is stored of a struct says whether it needs drop.
 use Rattle.std.proofs.Common.{◌≡◌, Bool, true, false, cond, ◌&&◌, ◌||◌, Option, Some, List, [], ◌∷◌, refl, sym, ap, ◌∙◌}
 use Rattle.std.specs.List.{list_any}
 use Rattle.std.specs.Option.{option_map_or}
@@ -14,7 +14,7 @@ use Rattle.bc_types.specs.Known.{known_behind, known_struct}
 abbrev is_marked : Option KnownStruct → Bool
 is_marked known = option_map_or (λ (k : KnownStruct). k.holds_drop) known false
 
--- a struct holds a drop where it is declared with its number of regions, and its name is marked
+-- a struct needs drop if it is declared with its number of regions, and stored as one that does
 pub marked_drop : (earlier : List Declaration) (instance : Instance) → option_map_or (takes_regions instance) (struct_among earlier instance.name) false && is_marked (known_struct earlier instance.name.bytes) ≡ struct_holds_drop earlier instance
 marked_drop [] instance = refl
 marked_drop (Extern d ∷ earlier) instance = marked_drop earlier instance

@@ -1,4 +1,4 @@
--- A table with one declaration more.
+-- A table with one more declaration.
 use Rattle.std.proofs.Common.{◌≡◌, ℕ, cond, Some, List, [], ◌∷◌, ◌++◌, length, reverse, sym, ap, subst, ◌∙◌}
 use Rattle.std.specs.Str.{bytes_eq}
 use Rattle.std.specs.HashMap.{HashMap}
@@ -10,7 +10,7 @@ use Rattle.bc_syntax.specs.declared.syntax.Declaration.TheVariants.{Struct, Exte
 use Rattle.bc_types.specs.declared.table.KnownStruct.{KnownStruct}
 use Rattle.bc_types.specs.Known.{known_behind, known_struct, known_extern, AreKnown, Adds}
 
--- the last of declarations comes first when they are turned round
+-- the last declaration comes first if their order is reversed
 pub turned : (declarations more : List Declaration) (d : Declaration) → more ≡ declarations ++ d ∷ [] → reverse more ≡ d ∷ reverse declarations
 turned declarations more d is = ap reverse is ∙ reverse-append declarations (d ∷ [])
 

@@ -19,7 +19,7 @@ get-last : {A : Type 0} (xs : List A) (x : A) → slice_get (xs ++ x ∷ []) (le
 get-last [] x = refl
 get-last (y ∷ xs) x = get-last xs x
 
--- the last declaration comes behind the others
+-- the last declaration comes after the others
 pub reverse-cons : (d : Declaration) (earlier : List Declaration) → reverse (d ∷ earlier) ≡ reverse earlier ++ d ∷ []
 reverse-cons d earlier = reverse-append (d ∷ []) earlier
 
@@ -29,7 +29,7 @@ at-front earlier d i below = rw (reverse-cons d earlier) (get-front (reverse ear
 at-last : (earlier : List Declaration) (d : Declaration) → slice_get (reverse (d ∷ earlier)) (length earlier) ≡ Some d
 at-last earlier d = rw (reverse-cons d earlier, sym (length-reverse earlier)) (get-last (reverse earlier) d)
 
--- a known place is one of the declarations
+-- a stored position is one of a declaration
 known_struct-within : (earlier : List Declaration) (name : List ℕ) (k : KnownStruct) → known_struct earlier name ≡ Some k → k.position < length earlier
 known_struct-within [] name k is = cc
 known_struct-within (Extern d ∷ earlier) name k is = let rest = known_struct-within earlier name k is in omega arith
@@ -59,7 +59,7 @@ extern-wider : (earlier : List Declaration) (d : Declaration) (known : Option �
 extern-wider earlier d None within = refl
 extern-wider earlier d (Some k) within = ap (option_and_then as_extern) (at-front earlier d k (within k refl))
 
--- at the known place is the struct of the name
+-- the struct with the name is at the stored position
 struct-there : (earlier : List Declaration) (name : ItemName) → struct_found (reverse earlier) (known_struct earlier name.bytes) ≡ struct_among earlier name
 struct-there [] name = refl
 struct-there (Extern d ∷ earlier) name =

@@ -1,4 +1,4 @@
--- Types that hold a drop.
+-- Types that need drop.
 use Rattle.std.specs.Prelude.{Bool, false, ◌&&◌, ◌||◌, if◌then◌else◌, List, [], ◌∷◌, reverse}
 use Rattle.std.specs.List.{list_any}
 use Rattle.bc_syntax.specs.declared.syntax.Reference.{Reference}
@@ -11,19 +11,19 @@ use Rattle.bc_syntax.specs.declared.syntax.Declaration.TheVariants.{Struct, Exte
 use Rattle.bc_shapes.specs.Shapes.{same_name}
 use Rattle.bc_types.specs.Declarations.{takes_regions}
 
--- a base is a struct of which this holds
+-- the base is a struct that passes a test
 abbrev pub is_struct_that : (Instance → Bool) → Base → Bool
 is_struct_that holds bases.Int = false
 is_struct_that holds (bases.Struct instance) = holds instance
 is_struct_that holds (bases.Closure closure) = false
 
--- a type is a struct of which this holds: references are none
+-- the type is no reference, and a struct that passes a test
 abbrev pub is_value_that : (Instance → Bool) → List Reference → Base → Bool
 is_value_that holds [] base = is_struct_that holds base
 is_value_that holds (reference ∷ references) base = false
 
--- a struct holds a drop where it is declared with its number of regions, and marked `drop` or has a field type that holds
--- one. The last declaration comes first: what its fields mention is behind it
+-- A struct needs drop if it is declared with the instance's number of regions, and is marked `drop` or has a field whose type needs drop.
+-- The last declaration comes first, so that the ones that its fields mention follow it.
 abbrev pub struct_holds_drop : List Declaration → Instance → Bool
 struct_holds_drop [] instance = false
 struct_holds_drop (Struct d ∷ earlier) instance =
@@ -33,9 +33,10 @@ struct_holds_drop (Struct d ∷ earlier) instance =
     else struct_holds_drop earlier instance
 struct_holds_drop (Extern d ∷ earlier) instance = struct_holds_drop earlier instance
 
+-- the type is a struct that needs drop, over declarations of which the last comes first
 abbrev pub holds_drop_among : List Declaration → Ty → Bool
 holds_drop_among earlier ty = is_value_that (struct_holds_drop earlier) ty.references ty.base
 
--- a type holds a drop: references and `int` do not
+-- the type is a struct that needs drop
 abbrev pub holds_drop : List Declaration → Ty → Bool
 holds_drop declarations ty = holds_drop_among (reverse declarations) ty

@@ -14,7 +14,7 @@ abbrev pub declared_field : List Declaration → ItemName → ℕ → Option Ty
 declared_field declarations name field =
     option_and_then (λ (d : StructDeclaration). slice_get d.fields field) (struct_of declarations name)
 
--- the type of a field of a struct, with the struct's regions replaced by those of the instance
+-- the type of a field of a struct, with the struct's regions replaced by the instance's
 abbrev pub field_type : List Declaration → Instance → ℕ → Option Ty
 field_type declarations instance field =
     option_map (replaced_ty instance.regions) (declared_field declarations instance.name field)

@@ -1,4 +1,4 @@
--- What is kept of declarations under their names.
+-- What is stored of declarations by name.
 use Rattle.std.specs.Prelude.{◌≡◌, ℕ, ◌||◌, if◌then◌else◌, Option, Some, None, List, [], ◌∷◌, length, reverse, slice_get, option_and_then}
 use Rattle.std.specs.List.{list_any}
 use Rattle.std.specs.Str.{bytes_eq}
@@ -16,7 +16,7 @@ abbrev pub as_struct : Declaration → Option StructDeclaration
 as_struct (Struct d) = Some d
 as_struct (Extern d) = None
 
--- the struct at a place in declarations
+-- the struct at a position in declarations
 abbrev pub struct_at : List Declaration → ℕ → Option StructDeclaration
 struct_at declarations position = option_and_then as_struct (slice_get declarations position)
 
@@ -25,12 +25,12 @@ abbrev pub as_extern : Declaration → Option ExternDeclaration
 as_extern (Struct d) = None
 as_extern (Extern d) = Some d
 
--- the extern function at a place in declarations
+-- the extern function at a position in declarations
 abbrev pub extern_at : List Declaration → ℕ → Option ExternDeclaration
 extern_at declarations position = option_and_then as_extern (slice_get declarations position)
 
--- what is kept of a struct behind other declarations: where it stands, whether it holds a drop, and what the types of its
--- fields demand of its own regions
+-- what is stored of a struct after other declarations: its position, whether it needs drop, and what the types of its fields demand of its
+-- own regions
 abbrev pub known_behind : List Declaration → StructDeclaration → KnownStruct
 known_behind earlier d = record {
   position = length earlier;
@@ -38,7 +38,7 @@ known_behind earlier d = record {
   pairs = field_pairs (struct_pairs earlier) d;
 }
 
--- what is kept of the struct of a name among declarations, of which the last comes first
+-- what is stored of the struct with this name, over declarations of which the last comes first
 abbrev pub known_struct : List Declaration → List ℕ → Option KnownStruct
 known_struct [] name = None
 known_struct (Struct d ∷ earlier) name =
@@ -47,7 +47,7 @@ known_struct (Struct d ∷ earlier) name =
     else known_struct earlier name
 known_struct (Extern d ∷ earlier) name = known_struct earlier name
 
--- where the extern function of a name stands
+-- the position of the extern function with this name
 abbrev pub known_extern : List Declaration → List ℕ → Option ℕ
 known_extern [] name = None
 known_extern (Struct d ∷ earlier) name = known_extern earlier name
@@ -60,7 +60,7 @@ module _ {K S : Type 0} (bytes : K → List ℕ) where
     pub known_externs : (name : List ℕ) → get_by (λ k. bytes_eq name (bytes k)) externs ≡ known_extern (reverse declarations) name
 
 module _ {K X S : Type 0} (bytes : K → List ℕ) where
-  -- a name leads to a value, and each other name where it led
+  -- a name leads to a value, and each other name leads where it did
   abbrev pub Adds : HashMap K X S → HashMap K X S → List ℕ → X → Type 0
   Adds old new name value =
       (other : List ℕ) → get_by (λ k. bytes_eq other (bytes k)) new ≡ (if bytes_eq other name then Some value else get_by (λ k. bytes_eq other (bytes k)) old)

@@ -1,10 +1,10 @@
--- Pairs of regions as a table of bits: a row for each longer one, and in it a bit for each shorter one.
+-- Pairs of regions as a table of bits: a row for each longer region, and in it a bit for each shorter one.
 use Rattle.std.specs.Prelude.{◌≡◌, ℕ, ◌<◌, ◌||◌, Bool, List, length}
 use Rattle.bc_flow.specs.Flow.{holds, HaveSize}
 use Rattle.bc_types.specs.declared.subtype.Constraint.{Constraint}
 use Rattle.bc_types.specs.WellFormed.{is_demanded, is_pair}
 
--- the bit of one pair more is set, if it has one
+-- the bit of one more pair is set, if it has one
 pub record IsMarked (old new : List (List Bool)) (pair : Constraint) : Type 0 where
   pub count : length new ≡ length old
   pub size : HaveSize (length old) new

@@ -4,9 +4,11 @@ use Rattle.bc_syntax.specs.declared.syntax.Region.{Region}
 use Rattle.bc_syntax.specs.declared.syntax.Region.TheVariants.{Universal, Variable}
 use Rattle.bc_types.specs.declared.subtype.Constraint.{Constraint}
 
+-- the pair of a region and one that it outlives
 abbrev pub outlives : Region → Region → Constraint
 outlives longer shorter = record { longer = longer; shorter = shorter }
 
+-- two regions are the same
 abbrev pub same_region : Region → Region → Bool
 same_region (Universal u) (Universal v) = u == v
 same_region (Variable v) (Variable w) = v == w

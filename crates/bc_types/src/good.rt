@@ -1,4 +1,4 @@
-//! Which declarations are good behind others.
+//! Which declarations are good after others.
 ghost use Rattle.std.specs.Prelude.{◌≡◌, reverse};
 ghost use Rattle.std.specs.List.{list_all};
 ghost use Rattle.bc_types.specs.Declarations.{is_declared as declared, is_invariant as invariance, is_covariant as covariance, stands_well as standing, argument_positions, base_positions, positions_in, is_good_field as good_field, has_declared_base as declared_base, is_good as goodness};
@@ -9,7 +9,7 @@ use bc_syntax::{
     Base, Declaration, ExternDeclaration, Reference, Region, StructDeclaration, Ty, Variance,
 };
 
-/// Whether a mentioned struct is declared with its number of regions.
+/// Returns whether the struct that a base mentions is declared, with its number of regions.
 pub(crate) fn is_declared(table: &Table, base: &Base) -> bool
     ensures { result ≡ declared (reverse table.now) base.now }
 {
@@ -26,7 +26,7 @@ pub(crate) fn is_invariant(variance: Variance) -> bool
     matches!(variance, Variance::Invariant)
 }
 
-/// Whether a region is a parameter marked `+`.
+/// Returns whether a region is one marked `+`.
 fn is_covariant(variances: &[Variance], region: Region) -> bool
     ensures { result ≡ covariance variances.now region }
 {
@@ -45,14 +45,14 @@ fn is_covariant(variances: &[Variance], region: Region) -> bool
     }
 }
 
-/// Whether a position may hold its region where the declaration's parameters have these variances.
+/// Returns whether a region may be in a position, given its declaration's variances.
 fn stands_well(variances: &[Variance], region: Region, invariant: bool) -> bool
     ensures { result ≡ standing variances.now (record { region = region; invariant = invariant }) }
 {
     !(invariant && is_covariant(variances, region))
 }
 
-/// Whether the arguments of a struct stand well, the struct's parameters having their own variances.
+/// Returns whether each argument of a struct with the variances `parameters` may be in its position.
 fn arguments_stand_well(
     variances: &[Variance],
     invariant: bool,
@@ -91,7 +91,7 @@ fn base_stands_well(table: &Table, variances: &[Variance], invariant: bool, base
     }
 }
 
-/// Whether each region stands well in a type that stands in an invariant position or not.
+/// Returns whether each region in a type may be in its position. `invariant` says whether the type is in an invariant position.
 fn regions_stand_well(
     table: &Table,
     variances: &[Variance],
@@ -132,7 +132,7 @@ fn has_declared_base(table: &Table, ty: &Ty) -> bool
     is_declared(table, &ty.base)
 }
 
-/// Whether each struct that types mention is declared with its number of regions.
+/// Returns whether each struct that types mention is declared, with its number of regions.
 pub(crate) fn have_declared_bases(table: &Table, types: &[Ty]) -> bool
     ensures { result ≡ list_all (declared_base (reverse table.now)) types.now }
 {
@@ -158,7 +158,7 @@ fn is_good_extern(table: &Table, declaration: &ExternDeclaration) -> bool
         && has_declared_base(table, &declaration.signature.result)
 }
 
-/// Whether a declaration is good behind those of a table.
+/// Returns whether a declaration is good after those of a table.
 pub(crate) fn is_good(table: &Table, declaration: &Declaration) -> bool
     ensures { result ≡ goodness (reverse table.now) declaration.now }
 {

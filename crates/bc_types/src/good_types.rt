@@ -19,7 +19,7 @@ use std::alloc::{AllocError, Global};
 use std::marker::Model;
 use thiserror::Error;
 
-/// Why declarations are refused: one is bad, by its number from 0, or memory was refused.
+/// Why declarations cannot be used: the first bad one, by its number from 0; or out of memory.
 #[derive(Clone, Copy, Debug, PartialEq, Eq, Error)]
 pub enum DeclFault {
     #[error("declaration {index} is bad")]
@@ -38,7 +38,7 @@ impl From<AllocError> for DeclFault {
     }
 }
 
-/// The type of a field as its struct declares it.
+/// Returns the type of a field as its struct declares it.
 fn declared_field<'a>(table: &'a Table, name: &ItemName, field: u8) -> Option<&'a Ty>
     ensures { option_copied result ≡ field_there table.now name.now field }
 {
@@ -48,7 +48,7 @@ fn declared_field<'a>(table: &'a Table, name: &ItemName, field: u8) -> Option<&'
     }
 }
 
-/// Puts declarations into a table, up to the first bad one.
+/// Returns a table of declarations. Returns `BadDecl` at the first bad one.
 fn fill(alloc: Global, declarations: &[Declaration]) -> Result<Table, DeclFault>
     ensures ok { IfOk result (λ table. table ≡ declarations.now) }
     ensures good { OnOk result (first_bad declarations.now ≡ None) }
@@ -64,14 +64,14 @@ fn fill(alloc: Global, declarations: &[Declaration]) -> Result<Table, DeclFault>
     Ok(table)
 }
 
-/// Declarations of which none is bad: no name is used twice by structs or twice by extern functions, each struct that is
-/// mentioned is an earlier declaration and has its number of regions, and no parameter marked `+` is in an invariant position of
-/// a field (rustc-dev-guide, "Variance"). It borrows nothing.
+/// Declarations of which none is bad. No two structs share a name, and no two extern functions do. Each struct that a declaration mentions
+/// comes before it and has its number of regions. No region marked `+` is in an invariant position of a field (rustc-dev-guide,
+/// "Variance"). It borrows nothing.
 pub struct GoodTypes {
     table: Table,
 }
 
-// Written out: the crates above call this, and prove nothing of its parts again.
+// Written by hand, so that it is proved once: the crates above only call it.
 impl Drop for GoodTypes {
     fn drop(self) {
         let Self { table: _ } = self;
@@ -90,7 +90,7 @@ impl Model for GoodTypes {
     ghost invariant = { λ t. first_bad t.table ≡ None };
 }
 
-/// A value that has declarations, and can check that none of them is bad.
+/// A value with declarations, which can check that none of them is bad.
 pub trait CheckTypes {
     ghost use Rattle.std.specs.Prelude.{List};
     ghost use Rattle.bc_syntax.specs.declared.syntax.Declaration.{Declaration};
@@ -98,8 +98,8 @@ pub trait CheckTypes {
     // The declarations of a value.
     ghost declarations: { Self → List Declaration };
 
-    /// Returns the declarations as `GoodTypes` where none is bad. Returns `BadDecl` with the number of the first bad one, counted
-    /// from 0, where there is one, and `NoMemory` only where memory was refused.
+    /// Returns the declarations as `GoodTypes` if none is bad. Returns `BadDecl` with the number of the first bad one, counted from 0, if
+    /// there is one, and `NoMemory` only if out of memory.
     fn check(&self, alloc: Global) -> Result<GoodTypes, DeclFault>
         ensures ok { IfOk result (λ good. good ≡ declarations self.now) }
         ensures good { OnOk result (first_bad (declarations self.now) ≡ None) }
@@ -116,7 +116,7 @@ impl CheckTypes for Types {
 }
 
 impl GoodTypes {
-    /// Returns the struct of a name, or `None` where none has it.
+    /// Returns the struct with this name, or `None` if there is none.
     pub fn struct_of(&self, name: &ItemName) -> Option<&StructDeclaration>
         ensures found { option_copied result ≡ struct_of self.now name.now }
         ensures good { first_bad self.now ≡ None }
@@ -124,7 +124,7 @@ impl GoodTypes {
         self.table.struct_of(name)
     }
 
-    /// Returns the extern function of a name, or `None` where none has it.
+    /// Returns the extern function with this name, or `None` if there is none.
     pub fn extern_of(&self, name: &ItemName) -> Option<&ExternDeclaration>
         ensures found { option_copied result ≡ extern_of self.now name.now }
         ensures good { first_bad self.now ≡ None }
@@ -132,29 +132,29 @@ impl GoodTypes {
         self.table.extern_of(name)
     }
 
-    /// Returns whether a type holds a drop: it is a struct that is marked `drop`, or has a field whose type holds one.
+    /// Returns whether a type needs drop, closures aside: it is a struct that is marked `drop`, or has a field whose type needs drop.
     pub fn holds_drop(&self, ty: &Ty) -> bool
         ensures { result ≡ holding self.now ty.now }
     {
         self.table.holds_drop(ty)
     }
 
-    /// Returns the type of a field as its struct declares it, or `None` where there is no such struct or field.
+    /// Returns the type of a field as its struct declares it, or `None` if there is no such struct or field.
     pub fn declared_field(&self, name: &ItemName, field: u8) -> Option<&Ty>
         ensures { option_copied result ≡ field_there self.now name.now field }
     {
         declared_field(&self.table, name, field)
     }
 
-    /// Returns whether each struct that types mention is declared with its number of regions.
+    /// Returns whether each struct that types mention is declared, with its number of regions.
     pub fn declares(&self, types: &[Ty]) -> bool
         ensures { result ≡ list_all (declared_base (reverse self.now)) types.now }
     {
         have_declared_bases(&self.table, types)
     }
 
-    /// Returns the type of a field of a struct, with the struct's regions in it, or `None` where there is no such struct or
-    /// field. Returns `AllocError` only where memory was refused.
+    /// Returns the type of a field of a struct, with the struct's regions replaced by the instance's, or `None` if there is no such struct
+    /// or field.
     pub fn field_type(
         &self,
         alloc: Global,
@@ -169,9 +169,9 @@ impl GoodTypes {
         }
     }
 
-    /// Appends what a well-formed type demands: each region that is written behind a reference outlives that of the reference,
-    /// and a struct demands what the types of its fields do, with its regions in them. It looks into no closure. Returns
-    /// `AllocError` only where memory was refused. (Rust Reference, "Trait and lifetime bounds"; RFC 1214.)
+    /// Appends what a well-formed type demands. Each region inside the pointee of a reference outlives the region of the reference. A
+    /// struct demands what the types of its fields demand, with its regions replaced by its arguments. The captures of a closure are not
+    /// looked at. (Rust Reference, "Trait and lifetime bounds"; RFC 1214.)
     pub fn push_well_formed(
         &self,
         constraints: &mut Vec<Constraint>,
@@ -182,8 +182,8 @@ impl GoodTypes {
         self.table.push_well_formed(constraints, ty)
     }
 
-    /// Appends what well-formed types of a declaration or of a header demand, in order, with the declared regions replaced by
-    /// arguments. Returns `AllocError` only where memory was refused. (RFC 1214.)
+    /// Appends what well-formed types of a declaration or of a header demand, in order, with the declared regions replaced by arguments.
+    /// (RFC 1214.)
     pub fn push_replaced_well_formed(
         &self,
         alloc: Global,

@@ -1,4 +1,4 @@
-//! Declarations: which are good, what is found under their names, and types over them.
+//! Declarations: which are good, lookup by name, and what types demand over them.
 #![tactic(auto)]
 
 mod good;

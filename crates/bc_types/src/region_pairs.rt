@@ -1,4 +1,4 @@
-//! Pairs of the regions of one declaration, kept as a small table of bits.
+//! Pairs of the regions of one declaration, stored as a small table of bits.
 ghost use Rattle.std.specs.Prelude.{◌≡◌, ℕ, ◌<◌, false, ◌++◌, map, length, IfOk, MatchOption, OnOk};
 ghost use Rattle.bc_flow.specs.Flow.{holds, HaveSize};
 ghost use Rattle.bc_types.specs.RegionPairs.{AreMarked, IsMarked};
@@ -12,8 +12,8 @@ use bc_syntax::Region;
 use std::alloc::{AllocError, Global};
 use std::marker::Model;
 
-/// Pairs of two regions among the first of a declaration: a row of bits for each longer region, a bit in it for each shorter
-/// one, both by number, of which `'static` has 0.
+/// Pairs of the first regions of a declaration: a row of bits for each longer region, and in it a bit for each shorter one. Both are
+/// numbers, of which `'static` has 0.
 ///
 /// Contracts see the list of the pairs, by the longer region and then by the shorter one.
 #[derive(Drop)]
@@ -32,7 +32,7 @@ impl Model for RegionPairs {
     ghost view = { λ pairs. pairs_where (holds pairs.bits) (length pairs.bits) };
 }
 
-/// The number of a region that is one of the first `count` of a declaration.
+/// Returns the number of a universal region if it is below `count`, otherwise `None`.
 fn number_of(region: Region, count: usize) -> Option<usize>
     ensures { MatchOption result
         ((number : ℕ) → number < count → same_region (Region.Universal number) region ≡ false)
@@ -61,7 +61,7 @@ fn mark(bits: &mut BitTable, pair: Constraint)
     let _added = bits.insert(longer, shorter);
 }
 
-/// A table with the bits of pairs.
+/// Returns a table with the bits of these pairs.
 fn marked(alloc: Global, count: usize, pairs: &[Constraint]) -> Result<BitTable, AllocError>
     ensures { IfOk result (λ bits. AreMarked count pairs.now bits) }
 {
@@ -72,7 +72,7 @@ fn marked(alloc: Global, count: usize, pairs: &[Constraint]) -> Result<BitTable,
     Ok(bits)
 }
 
-/// Appends the pair of two regions with arguments for them, if its bit is set.
+/// Appends the pair of two regions, replaced by their arguments, if its bit is set.
 fn push_pair(
     constraints: &mut Vec<Constraint>,
     bits: &BitTable,
@@ -125,7 +125,7 @@ fn push_rows(
 }
 
 impl RegionPairs {
-    /// Which pairs of the first `count` regions of a declaration are among those that are given.
+    /// Returns the given pairs that are between the first `count` regions of a declaration.
     pub(crate) fn among(
         alloc: Global,
         count: usize,

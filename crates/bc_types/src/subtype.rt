@@ -5,8 +5,7 @@ ghost use Rattle.bc_types.specs.Subtype.{same_region};
 use bc_syntax::Region;
 use std::alloc::AllocError;
 
-/// A region and one that it outlives: the value of `longer` contains that of `shorter`.
-/// (RFC 2094, "Subtyping".)
+/// A region and one that it outlives: the value of `longer` contains that of `shorter`. (RFC 2094, "Subtyping".)
 #[derive(Clone, Copy, Debug, PartialEq, Eq)]
 pub struct Constraint {
     pub longer: Region,
@@ -20,7 +19,7 @@ pub fn is_same_region(first: Region, second: Region) -> bool
     first == second
 }
 
-/// Appends that a region outlives another. Returns `AllocError` only where memory was refused. (RFC 2094, "Subtyping".)
+/// Appends the constraint that `longer` outlives `shorter`. (RFC 2094, "Subtyping".)
 pub fn push_outlives(
     constraints: &mut Vec<Constraint>,
     longer: Region,

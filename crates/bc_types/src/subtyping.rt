@@ -49,7 +49,7 @@ fn push_related_arguments(
     }
 }
 
-/// The regions of closures relate both ways, each to the one in its place.
+/// Relates the regions of two closures both ways, each to the one in its place.
 fn push_related_regions(
     constraints: &mut Vec<Constraint>,
     regions: &[Region],
@@ -118,29 +118,32 @@ fn push_related_types(
     constraints: &mut Vec<Constraint>,
     types: &GoodTypes,
     invariant: bool,
-    references: &[Reference],
-    base: &Base,
-    others: &[Reference],
-    other: &Base,
+    value: &TyRef<'_>,
+    target: &TyRef<'_>,
 ) -> Result<(), AllocError>
     ensures { OnOk result (constraints.new.items
-        ≡ constraints.old.items ++ related_types types.now invariant references.now base.now others.now other.now) }
+        ≡ constraints.old.items ++ related_types types.now invariant value.now.references value.now.base target.now.references target.now.base) }
 {
-    match references {
-        [] => push_related_bases(constraints, types, invariant, base, other),
-        [one, more @ ..] => match others {
+    match value.references() {
+        [] => push_related_bases(constraints, types, invariant, value.base(), target.base()),
+        [one, more @ ..] => match target.references() {
             [] => Ok(()),
             [first, rest @ ..] => {
                 let behind = invariant || is_mutable(one.mutability);
                 push_related(constraints, invariant, one.region, first.region)?;
-                push_related_types(constraints, types, behind, more, base, rest, other)
+                push_related_types(
+                    constraints,
+                    types,
+                    behind,
+                    &TyRef::behind(more, value.base()),
+                    &TyRef::behind(rest, target.base()),
+                )
             }
         },
     }
 }
 
-/// Appends what makes the first type a subtype of the second, where both have one shape. Returns `AllocError` only where memory
-/// was refused. (RFC 2094, "Subtyping".)
+/// Appends the constraints that make the first type a subtype of the second, if both have one shape. (RFC 2094, "Subtyping".)
 pub fn push_sub(
     constraints: &mut Vec<Constraint>,
     types: &GoodTypes,
@@ -149,19 +152,11 @@ pub fn push_sub(
 ) -> Result<(), AllocError>
     ensures { OnOk result (constraints.new.items ≡ constraints.old.items ++ sub types.now value.now target.now) }
 {
-    push_related_types(
-        constraints,
-        types,
-        false,
-        value.references(),
-        value.base(),
-        target.references(),
-        target.base(),
-    )
+    push_related_types(constraints, types, false, value, target)
 }
 
-/// Appends what makes a reference to the first type a subtype of the second, where both have one shape. Returns `AllocError` only
-/// where memory was refused. (RFC 2094, "Subtyping".)
+/// Appends the constraints that make a reference to the first type a subtype of the second, if both have one shape. (RFC 2094,
+/// "Subtyping".)
 pub fn push_sub_reference(
     constraints: &mut Vec<Constraint>,
     types: &GoodTypes,
@@ -181,10 +176,8 @@ pub fn push_sub_reference(
                 constraints,
                 types,
                 behind,
-                pointee.references(),
-                pointee.base(),
-                rest,
-                target.base(),
+                pointee,
+                &TyRef::behind(rest, target.base()),
             )
         }
     }

@@ -1,4 +1,4 @@
-//! Declarations, and where they stand under their names.
+//! Declarations that are looked up by name.
 ghost use Rattle.std.specs.Prelude.{◌≡◌, ◌++◌, ◌∷◌, ◌||◌, [], false, map, unwrap_or, reverse, length, IfOk, OnOk};
 ghost use Rattle.std.specs.List.{flat_map, list_any};
 ghost use Rattle.std.specs.Option.{option_copied, option_map, option_map_or};
@@ -21,8 +21,8 @@ use indexmap::IndexMap;
 use std::alloc::{AllocError, Global};
 use std::marker::Model;
 
-/// Where a struct stands among declarations, whether it holds a drop, and what the types of its fields demand of its own
-/// regions: at most 81 bits, since a struct has at most 8 regions, and `'static` is one more.
+/// What is stored of a struct: its position among declarations, whether it needs drop, and what its fields' types demand of its own
+/// regions. That is at most 81 bits: a struct has at most 8 regions, and `'static` is one more.
 #[derive(Drop)]
 pub(crate) struct KnownStruct {
     pub(crate) position: usize,
@@ -30,7 +30,7 @@ pub(crate) struct KnownStruct {
     pub(crate) pairs: RegionPairs,
 }
 
-/// Declarations that are looked up by name: of several with one kind and name the last.
+/// Declarations that are looked up by name. If several of one kind have a name, the last is found.
 #[derive(Drop)]
 pub(crate) struct Table {
     declarations: Sequence<Declaration>,
@@ -64,14 +64,14 @@ fn copy_names(names: &Sequence<RegionName>) -> Result<Sequence<RegionName>, Allo
     names.clone()
 }
 
-/// Returns a copy of a list of types. Returns `AllocError` only where memory was refused.
+/// Returns a copy of a list of types.
 pub fn copy_types(types: &Sequence<Ty>) -> Result<Sequence<Ty>, AllocError>
     ensures { IfOk result (λ copy. copy ≡ types.now) }
 {
     types.clone()
 }
 
-/// Returns a copy of a list of clauses. Returns `AllocError` only where memory was refused.
+/// Returns a copy of a list of clauses.
 pub fn copy_clauses(clauses: &Sequence<Outlives>) -> Result<Sequence<Outlives>, AllocError>
     ensures { IfOk result (λ copy. copy ≡ clauses.now) }
 {
@@ -84,7 +84,7 @@ fn copy_type(ty: &Ty) -> Result<Ty, AllocError>
     ty.clone()
 }
 
-/// Returns a copy of a signature. Returns `AllocError` only where memory was refused.
+/// Returns a copy of a signature.
 pub fn copy_signature(signature: &Signature) -> Result<Signature, AllocError>
     ensures { IfOk result (λ copy. copy ≡ signature.now) }
 {
@@ -200,7 +200,7 @@ fn push_extern(
 }
 
 impl Table {
-    /// No declarations.
+    /// Returns an empty table.
     pub(crate) fn new(alloc: Global) -> Table
         ensures { result ≡ [] }
     {
@@ -211,7 +211,7 @@ impl Table {
         }
     }
 
-    /// The table with one declaration more, which stands behind the others.
+    /// Returns the table with one more declaration, after the others.
     pub(crate) fn with(self, alloc: Global, declaration: &Declaration) -> Result<Table, AllocError>
         ensures { IfOk result (λ table. table ≡ self ++ declaration.now ∷ []) }
     {
@@ -275,21 +275,21 @@ impl Table {
         })
     }
 
-    /// What is known of the struct of a name.
+    /// Returns what is stored of the struct with this name.
     fn known_struct(&self, name: &ItemName) -> Option<&KnownStruct>
         ensures { option_copied result ≡ known_struct (reverse self.now) name.now.bytes }
     {
         find_struct(&self.structs, name.bytes.as_slice())
     }
 
-    /// Where the extern function of a name stands.
+    /// Returns the position of the extern function with this name.
     fn known_extern(&self, name: &ItemName) -> Option<usize>
         ensures { result ≡ known_extern (reverse self.now) name.now.bytes }
     {
         find_extern(&self.externs, name.bytes.as_slice())
     }
 
-    /// The struct of a name.
+    /// Returns the struct with this name.
     pub(crate) fn struct_of(&self, name: &ItemName) -> Option<&StructDeclaration>
         ensures { option_copied result ≡ struct_of self.now name.now }
     {
@@ -299,7 +299,7 @@ impl Table {
         }
     }
 
-    /// The extern function of a name.
+    /// Returns the extern function with this name.
     pub(crate) fn extern_of(&self, name: &ItemName) -> Option<&ExternDeclaration>
         ensures { option_copied result ≡ extern_of self.now name.now }
     {
@@ -309,7 +309,7 @@ impl Table {
         }
     }
 
-    /// Whether the struct of a name has been found to hold a drop.
+    /// Returns whether the struct with this name is stored as one that needs drop.
     fn marks_drop(&self, name: &ItemName) -> bool
         ensures { result ≡ option_map_or (λ known. known.holds_drop) (known_struct (reverse self.now) name.now.bytes) false }
     {
@@ -319,7 +319,7 @@ impl Table {
         }
     }
 
-    /// Whether a struct is declared with the number of regions of an instance.
+    /// Returns whether the struct of an instance is declared, with its number of regions.
     pub(crate) fn declares(&self, instance: &Instance) -> bool
         ensures { result ≡ option_map_or (takes instance.now) (struct_of self.now instance.now.name) false }
     {
@@ -335,7 +335,7 @@ impl Table {
         self.declares(instance) && self.marks_drop(&instance.name)
     }
 
-    /// Whether a type holds a drop.
+    /// Returns whether a type needs drop, closures aside.
     pub(crate) fn holds_drop(&self, ty: &Ty) -> bool
         ensures { result ≡ holding self.now ty.now }
     {
@@ -355,14 +355,14 @@ impl Table {
         types.iter().any(|ty| self.holds_drop(ty))
     }
 
-    /// Whether a struct whose fields mention those of the table holds a drop.
+    /// Returns whether a struct needs drop whose fields mention structs of the table.
     fn finds_drop(&self, declaration: &StructDeclaration) -> bool
         ensures { result ≡ declaration.now.has_drop || list_any (holding self.now) declaration.now.fields }
     {
         declaration.has_drop || self.any_holds_drop(declaration.fields.as_slice())
     }
 
-    /// What has been found that the fields of the struct of a name demand.
+    /// Returns what the fields of the struct with this name are stored to demand.
     fn known_pairs(&self, name: &ItemName) -> Option<&RegionPairs>
         ensures { option_copied result ≡ option_map (λ known. known.pairs) (known_struct (reverse self.now) name.now.bytes) }
     {
@@ -372,7 +372,7 @@ impl Table {
         }
     }
 
-    /// What the declaration of a struct demands of the struct's own regions.
+    /// Returns what the declaration of a struct demands of the struct's own regions.
     fn struct_pairs(&self, instance: &Instance) -> Option<&RegionPairs>
         ensures { unwrap_or (option_copied result) [] ≡ pairs_of_struct (reverse self.now) instance.now }
     {
@@ -424,7 +424,7 @@ impl Table {
         self.push_base_pairs(constraints, &ty.base)
     }
 
-    /// What well-formed types demand, of each in turn.
+    /// Returns what well-formed types demand, of each in turn.
     pub(crate) fn pairs_of_types(
         &self,
         alloc: Global,
@@ -439,7 +439,7 @@ impl Table {
         Ok(pairs)
     }
 
-    /// What the types of the fields of a struct demand of its own regions, where they mention structs of the table.
+    /// Returns what the types of a struct's fields demand of its own regions, if they mention structs of the table.
     fn field_pairs(
         &self,
         alloc: Global,
@@ -452,7 +452,7 @@ impl Table {
         RegionPairs::among(alloc, regions.len() + 1, &pairs)
     }
 
-    /// What is kept of a struct behind the declarations of the table.
+    /// Returns what to store of a struct that comes after the declarations of the table.
     fn known_behind(
         &self,
         alloc: Global,

@@ -9,7 +9,7 @@ use bc_shapes::replace_region;
 use bc_syntax::{Base, Reference, Region};
 use std::alloc::AllocError;
 
-/// Appends that each of some regions outlives another.
+/// Appends the constraints that each region outlives `shorter`.
 fn push_each_outlives(
     constraints: &mut Vec<Constraint>,
     regions: &[Region],
@@ -23,7 +23,7 @@ fn push_each_outlives(
     Ok(())
 }
 
-/// Appends that the region of each reference outlives another.
+/// Appends the constraints that each reference's region outlives `shorter`.
 fn push_references_outlive(
     constraints: &mut Vec<Constraint>,
     references: &[Reference],
@@ -38,7 +38,7 @@ fn push_references_outlive(
     Ok(())
 }
 
-/// Appends that each argument of a struct or a closure outlives a region.
+/// Appends the constraints that each argument of a base outlives `shorter`.
 fn push_base_outlives(
     constraints: &mut Vec<Constraint>,
     base: &Base,
@@ -58,7 +58,7 @@ fn push_base_outlives(
     }
 }
 
-/// Appends that each region that is written behind a reference outlives the reference's.
+/// Appends the constraints that each region inside a pointee outlives `shorter`, the reference's region.
 fn push_behind(
     constraints: &mut Vec<Constraint>,
     references: &[Reference],

@@ -40,12 +40,12 @@ looks seat seen table views h at = (
   (h.3 seat seen at, h.1, h.2),
 )
 
--- who has seen the table's last entry has seen all that was published
+-- whoever has seen the table's last entry has seen all that was published
 pub all_seen : (table : TableView) (views : List (List Entry)) (seat : ℕ) (seen : List Entry) (rule : IsPublished table views)
     → get_elem? views seat ≡ some seen → table.last ≡ last_of seen → rule.0 ≡ seen
 all_seen table views seat seen rule at ends = same_end rule.0 seen rule.1 (rule.3 seat seen at) (sym ends ∙ rule.2.last)
 
--- the writer has seen all that was published, as the last entry shows; so the next entry goes behind it
+-- the writer has seen all that was published, as its last entry shows; so the next entry comes after that
 pub adds : (seat : ℕ) (seen : List Entry) (table next : TableView) (u : UpdateView)
     → table.last ≡ last_of seen → next ≡ updated table u → MayComeNext seen u.entry → AreFitting (changed table.shelf (change_of u.entry.event) u.revision) u.pieces
     → TurnsAt IsPublished seat seen table next Adds
@@ -73,7 +73,7 @@ due_adds seat seen table next [] ends is due = absurd due
 due_adds seat seen table next (u ∷ []) ends is due = adds seat seen table next u ends is due.0 due.1
 due_adds seat seen table next (u ∷ v ∷ more) ends is due = absurd due
 
--- and what is then seen is what had been, and that
+-- and then the writer has seen what it had, and what was due
 pub due_seen : (seen : List Entry) (table next : TableView) (us : List UpdateView) (now : List Entry)
     → IsDue seen table us → next ≡ fold updated table us → Adds seen table next now → (now ≡ seen ++ entries_of us) × (next.last ≡ last_of now)
 due_seen seen table next [] now due is added = absurd due
@@ -85,7 +85,7 @@ due_seen seen table next (u ∷ v ∷ more) now due is added = absurd due
 due_along : (seen seen' : List Entry) (table table' : TableView) (us us' : List UpdateView) → seen' ≡ seen → table' ≡ table → us' ≡ us → IsDue seen table us → IsDue seen' table' us'
 due_along seen seen' table table' us us' a b c due = subst (λ (p : List Entry × TableView × List UpdateView). IsDue p.0 p.1 p.2) (λ i. (sym a i, sym b i, sym c i)) due
 
--- the same two, at a writer that is still as it was
+-- both hold for a writer that is still as it was
 pub due_again : (seat : ℕ) (seen seen' : List Entry) (table table' next : TableView) (us us' : List UpdateView)
     → seen' ≡ seen → table' ≡ table → us' ≡ us → table.last ≡ last_of seen → IsDue seen table us
     → next ≡ fold updated table' us' → TurnsAt IsPublished seat seen' table' next Adds
@@ -99,7 +99,7 @@ seen_again seen seen' table table' next us us' now a b c due is added =
     let d = due_seen seen' table' next us' now (due_along seen seen' table table' us us' a b c due) is added in
     (d.0 ∙ ap (λ (p : List Entry × List UpdateView). p.0 ++ entries_of p.1) (λ i. (a i, c i)), d.1)
 
--- and what is shown then is what was shown, with what was due
+-- and then the table shows what it did, with what was due
 pub fold_again : (table table' next : TableView) (us us' : List UpdateView) → table' ≡ table → us' ≡ us → next ≡ fold updated table' us' → next ≡ fold updated table us
 fold_again table table' next us us' b c is = is ∙ ap (λ (p : TableView × List UpdateView). fold updated p.0 p.1) (λ i. (b i, c i))
 

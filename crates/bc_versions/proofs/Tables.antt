@@ -1,4 +1,4 @@
--- The table of a history, after the next entry, is the table of the longer history; and what is read of a table.
+-- The next entry changes the table of a history into the table of the longer history; and what a reading takes from a table.
 use Rattle.std.proofs.Common.{◌≡◌, ◌∙◌, List, [], ◌∷◌, ◌++◌, ap, refl, sym, subst, Option, Some, None}
 use Rattle.std.specs.Prelude.{IfSome}
 use Rattle.std.specs.List.{AllZip}
@@ -42,7 +42,7 @@ carried_answer s h n v None of types root units is = tt
 carried_answer s h n v (Some o) of types root units is =
     outcome_part v n (after h) o (copied_part s h n v of types root units) (subst (IsAnswer h n) (sym is) (of.answers n)).1
 
--- two lists with one more element each
+-- two related lists with one more pair
 pub zip_more : {A B : Type 0} (R : A → B → Type 0) (xs : List A) (ys : List B) (x : A) (y : B) → AllZip R xs ys → R x y → AllZip R (xs ++ x ∷ []) (ys ++ y ∷ [])
 zip_more R [] [] x y all one = (one, tt)
 zip_more R [] (b ∷ bs) x y all one = absurd all
@@ -53,12 +53,12 @@ or_none : (a : Option Outcome) → option_or a None ≡ a
 or_none None = refl
 or_none (Some o) = refl
 
--- and so what is carried with the part is the name's answer
+-- so what the part carries is the name's answer
 pub carried_is : (s : ShelfView) (h : List Entry) (n : NameParts) (a before made : Option Outcome)
     → IsShelfOf s h → a ≡ answer_of (at_name s.places n) → before ≡ None → made ≡ option_or a before → IsAnswer h n made
 carried_is s h n a before made of is none carried = subst (IsAnswer h n) (sym (carried ∙ ap (option_or a) none ∙ or_none a ∙ is)) (of.answers n)
 
--- the pieces that are read of a name are of the units of a part of it
+-- the pieces that are read of a name are of the units of its part
 pub read_pieces : (s : ShelfView) (rows : PieceRows) (n : NameParts) (types : List Declaration) (units : List (NameParts × Body)) (pieces : PieceRows)
     → AreKeptPieces s rows → types ≡ s.types → units ≡ units_in n s.places → pieces ≡ part_in n rows → ArePieces types units pieces
 read_pieces s rows n types units pieces kept same held part =

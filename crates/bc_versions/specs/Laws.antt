@@ -7,7 +7,7 @@ use Rattle.bc_calls.specs.Calls.{last_of}
 use Rattle.bc_versions.specs.Tables.{TableView}
 use Rattle.bc_versions.specs.Rules.{IsPublished}
 
--- The list that was published is what a thread has seen, where the thread's last entry is the table's.
+-- a thread has seen the whole list that was published, if the last entry that it has seen is the table's
 abbrev pub WritersHaveSeenAll : Type 0
 WritersHaveSeenAll = (table : TableView) (views : List (List Entry)) (seat : ℕ) (seen : List Entry) (rule : IsPublished table views)
     → get_elem? views seat ≡ some seen → table.last ≡ last_of seen → rule.0 ≡ seen

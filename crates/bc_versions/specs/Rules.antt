@@ -1,4 +1,4 @@
--- The rule of the published table, and what its two kinds of step tell. A view is the list that a thread has seen.
+-- The rule of the published table, and what its two kinds of step guarantee. A view is the list that a thread has seen.
 use Rattle.std.specs.Prelude.{◌≡◌, ℕ, Some, List, [], ◌∷◌, ◌++◌, map}
 use mathlib.Core.Option.{some}
 use lib.ListN.{get_elem?}
@@ -8,13 +8,13 @@ use Rattle.bc_calls.specs.Calls.{IsLegal, MayComeNext, StartsWith}
 use Rattle.bc_calls.specs.Changes.{change_of}
 use Rattle.bc_versions.specs.Tables.{TableView, UpdateView, IsTableOf}
 
--- there is one legal list of what was published. The table is that list's, and what each thread has seen is a beginning of it
+-- there is one legal list of what was published; the table is the table of that list, and what each thread has seen is a beginning of it
 abbrev pub IsPublished : TableView → List (List Entry) → Type 0
 IsPublished table views =
     (published : List Entry) × IsLegal published × IsTableOf table published
     × ((seat : ℕ) (seen : List Entry) → get_elem? views seat ≡ some seen → StartsWith published seen)
 
--- a reading: all that had been seen and maybe more is seen, it is legal, and the table is that list's
+-- a reading: all that had been seen, and maybe more, is seen; it is legal, and the table is the table of that list
 abbrev pub Looks : List Entry → TableView → TableView → List Entry → Type 0
 Looks seen table same now = StartsWith now seen × IsLegal now × IsTableOf table now
 
@@ -22,7 +22,7 @@ Looks seen table same now = StartsWith now seen × IsLegal now × IsTableOf tabl
 abbrev pub Adds : List Entry → TableView → TableView → List Entry → Type 0
 Adds seen before table now = (e : Entry) × (table.last ≡ Some e) × (now ≡ seen ++ e ∷ [])
 
--- one update waits to be published: its entry may come next, and its pieces are of what the table holds then
+-- one update waits to be published: its entry may come next, and its pieces are of what the table then holds
 abbrev pub IsDue : List Entry → TableView → List UpdateView → Type 0
 IsDue seen table [] = ⊥
 IsDue seen table (u ∷ []) = MayComeNext seen u.entry × AreFitting (changed table.shelf (change_of u.entry.event) u.revision) u.pieces

@@ -6,7 +6,7 @@ use Rattle.bc_calls.specs.Calls.{last_of}
 use Rattle.bc_calls.specs.Changes.{change_of}
 use Rattle.bc_calls.specs.Answers.{IsShelfOf}
 
--- the last entry, what is held after it, and the pieces that are kept of that
+-- the last entry, what is stored after it, and the kept pieces of that
 pub record TableView : Type 0 where
   pub last : Option Entry
   pub shelf : ShelfView
@@ -23,16 +23,16 @@ pub record PressedEntry : Type 0 where
   pub entry : Entry
   pub revision : ℕ
 
--- the entries that were published, and what is held after them
+-- the entries that were published, and what is stored after them
 pub record PressView : Type 0 where
   pub entries : List Entry
   pub shelf : ShelfView
 
--- no entry, no declaration, no body and no piece
+-- a table with no entry, no declaration, no body and no piece
 abbrev pub empty_table : TableView
 empty_table = record { last = None; shelf = empty_shelf []; pieces = [] }
 
--- the table after one more entry: it keeps the pieces that the entry's change leaves, with those that come with it
+-- the table after one more entry: it keeps the pieces that the entry's change leaves, and those that come with the entry
 abbrev pub updated : TableView → UpdateView → TableView
 updated table u = record {
   last = Some u.entry;
@@ -40,12 +40,11 @@ updated table u = record {
   pieces = pieces_with u.pieces (pieces_after (change_of u.entry.event) table.pieces);
 }
 
--- what was published, with one more entry, and what is held then
+-- what was published, with one more entry, and what is stored then
 abbrev pub pressed : PressView → PressedEntry → PressView
 pressed press p = record { entries = press.entries ++ p.entry ∷ []; shelf = changed press.shelf (change_of p.entry.event) p.revision }
 
--- the table of a history: its last entry, and what the history leaves, where a name has an answer exactly where it is answered; its
--- pieces are of what it holds
+-- the table of a history: its last entry, what the history leaves, and kept pieces of that
 pub record IsTableOf (table : TableView) (h : List Entry) : Type 0 where
   pub last : table.last ≡ last_of h
   pub shelf : IsShelfOf table.shelf h

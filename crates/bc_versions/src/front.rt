@@ -1,4 +1,4 @@
-//! The readers of the published table, each with what it has seen. Reading waits for nobody.
+//! The readers of the published table, each with the entries that it has seen. A reading waits for nobody.
 ghost use Rattle.std.specs.Prelude.{◌≡◌, [], Some, IfOk, IfSome, IsTrue};
 ghost use Rattle.left_right.specs.Sides.{view};
 ghost use Rattle.bc_prov.specs.Snapshots.{IsPartOf};
@@ -25,7 +25,7 @@ pub struct Fronts {
     factory: Factory<Table, Seen, Published>,
 }
 
-// Written out: the crates above call this, and prove nothing of its parts again.
+// Handwritten, so that it is proved once: the crates above only call it.
 impl Drop for Fronts {
     fn drop(self) {
         let Self { factory: _ } = self;
@@ -33,12 +33,12 @@ impl Drop for Fronts {
 }
 
 impl Fronts {
-    /// What makes fronts of these readers. It takes no memory.
+    /// Returns the maker of fronts over this factory of readers.
     pub(crate) fn new(factory: Factory<Table, Seen, Published>) -> Fronts {
         Fronts { factory }
     }
 
-    /// Makes a reader that has seen nothing. Returns `AllocError` where an owner, or one reader more than there may be, is refused.
+    /// Makes a reader that has seen nothing. Returns `AllocError` also if the table has all its readers already, or too many owners.
     pub fn front(&self) -> Result<Front, AllocError>
         ensures { IfOk result (λ front. front ≡ []) }
     {
@@ -47,12 +47,12 @@ impl Fronts {
     }
 }
 
-/// A reader of the published table. Contracts see it as the list of the entries that it has seen.
+/// A reader of the published table. A contract sees it as the list of the entries that it has seen.
 pub struct Front {
     reader: TableReader,
 }
 
-// Written out: the crates above call this, and prove nothing of its parts again.
+// Handwritten, so that it is proved once: the crates above only call it.
 impl Drop for Front {
     fn drop(self) {
         let Self { reader: _ } = self;
@@ -73,7 +73,7 @@ impl Model for Front {
 }
 
 impl Front {
-    /// A front that has seen nothing. It takes no memory.
+    /// Returns a front that has seen nothing.
     pub(crate) fn new(reader: TableReader) -> Front
         requires { view reader.place ≡ [] }
         ensures { result ≡ [] }
@@ -81,8 +81,9 @@ impl Front {
         Front { reader }
     }
 
-    /// Returns the answer that is published for a name: its outcome, where it is answered, else none. What was seen only grows.
-    /// Returns `AllocError` where the reading or an owner is refused, as once the writer is gone. It waits for nobody.
+    /// Returns the answer that is published for a name: its outcome if the name is answered, otherwise none. What was seen only grows.
+    /// Returns `AllocError` if the reading fails, as it does once the writer is gone, or if the outcome has too many owners. It waits for
+    /// nobody.
     pub fn glance(&mut self, name: &Name) -> Result<Option<Shared<Outcome>>, AllocError>
         ensures later { StartsWith self.new self.old }
         ensures legal { IsLegal self.new }
@@ -91,8 +92,8 @@ impl Front {
         replace_with(&mut self.reader, *name, read_answer).ok_or(AllocError)
     }
 
-    /// Begins a name: returns its part of what is published, which carries the name's answer if one is published. What was seen
-    /// only grows. Returns `AllocError` where memory or the reading is refused, as once the writer is gone. It waits for nobody.
+    /// Begins a name: returns its part of the published table, which carries the name's answer if one is published. What was seen only
+    /// grows. Returns `AllocError` also if the reading fails, as it does once the writer is gone. It waits for nobody.
     pub fn begin(&mut self, alloc: Global, name: &Name) -> Result<Begun, AllocError>
         ensures later { StartsWith self.new self.old }
         ensures legal { IsLegal self.new }
@@ -102,9 +103,9 @@ impl Front {
         replace_with(&mut self.reader, (alloc, *name), read_part).ok_or(AllocError)
     }
 
-    /// Begins all held names without segments: returns their parts in the order of the names, each as `begin` gives it. They are
-    /// parts of what one reading found, which copies it and is over before they are made. What was seen only grows. Returns
-    /// `AllocError` where memory or the reading is refused, as once the writer is gone. It waits for nobody.
+    /// Begins all roots that hold a body: returns their parts in the order of the names, each as `begin` does. All are parts of one copy of
+    /// the table, and the reading is over before they are made. What was seen only grows. Returns `AllocError` also if the reading fails,
+    /// as it does once the writer is gone. It waits for nobody.
     pub fn begin_all(&mut self, alloc: Global) -> Result<Vec<Begun>, AllocError>
         ensures later { StartsWith self.new self.old }
         ensures legal { IsLegal self.new }
@@ -116,8 +117,7 @@ impl Front {
         }
     }
 
-    /// Reads until the last entry that is published is this event, of this session, which had so many entries before it. What was seen
-    /// only grows. It takes no memory.
+    /// Reads until the last published entry is this event of this session, which had `number` entries before it. What was seen only grows.
     pub fn reach<R: Wait>(&mut self, rt: &R, session: u8, number: usize, event: &Event)
         ensures later { StartsWith self.new self.old }
         ensures legal { IsLegal self.new }
@@ -129,7 +129,7 @@ impl Front {
     }
 }
 
-// Reads a name's answer. There is none to be had where the writer is gone, or an owner is refused.
+/// Reads a name's answer. Returns `None` if the writer is gone, or if the answer has too many owners.
 fn read_answer(reader: TableReader, name: Name) -> (TableReader, Option<Option<Shared<Outcome>>>)
     ensures later { StartsWith (view result.0.place) (view reader.place) }
     ensures legal { IsLegal (view reader.place) → IsLegal (view result.0.place) }
@@ -144,8 +144,7 @@ fn read_answer(reader: TableReader, name: Name) -> (TableReader, Option<Option<S
     }
 }
 
-// Reads a name's part, with its answer and with the pieces that are kept of it. There is none to be had where the writer is gone, or memory
-// is refused.
+/// Reads a name's part, with its answer and its kept pieces. Returns `None` if the writer is gone, or if out of memory.
 fn read_part(reader: TableReader, of: (Global, Name)) -> (TableReader, Option<Begun>)
     ensures later { StartsWith (view result.0.place) (view reader.place) }
     ensures legal { IsLegal (view reader.place) → IsLegal (view result.0.place) }
@@ -178,7 +177,7 @@ fn read_part(reader: TableReader, of: (Global, Name)) -> (TableReader, Option<Be
     }
 }
 
-// Copies what is held, and the pieces that are kept of it. There is none to be had where the writer is gone, or memory is refused.
+/// Reads a copy of what is stored, and of the kept pieces. Returns `None` if the writer is gone, or if out of memory.
 fn read_held(reader: TableReader, alloc: Global) -> (TableReader, Option<(Shelf, PieceMemo)>)
     ensures later { StartsWith (view result.0.place) (view reader.place) }
     ensures legal { IsLegal (view reader.place) → IsLegal (view result.0.place) }
@@ -203,7 +202,7 @@ fn read_held(reader: TableReader, alloc: Global) -> (TableReader, Option<(Shelf,
     }
 }
 
-// Reads, and says whether the last entry is this one.
+/// Reads, and returns whether the last entry is this one.
 fn read_last(reader: TableReader, session: u8, number: usize, event: &Event) -> (TableReader, bool)
     ensures later { StartsWith (view result.0.place) (view reader.place) }
     ensures legal { IsLegal (view reader.place) → IsLegal (view result.0.place) }
@@ -221,7 +220,7 @@ fn read_last(reader: TableReader, session: u8, number: usize, event: &Event) -> 
     }
 }
 
-// Reads until the last entry is this one.
+/// Reads until the last entry is this one.
 fn look_until<R: Wait>(
     rt: &R,
     reader: TableReader,

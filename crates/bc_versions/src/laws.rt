@@ -1,8 +1,8 @@
-//! A law of the rule, the contract of a function that does nothing.
+//! A law of the rule of the published table: the contract of a function that does nothing.
 ghost use Rattle.bc_versions.specs.Laws.{WritersHaveSeenAll};
 
-/// Guarantees that who has seen the last entry that the published table shows has seen all that was published; so has the writer, whose
-/// type keeps that its last entry is the table's.
+/// Guarantees that whoever has seen the last entry of the published table has seen all that was published. So has the writer, since its
+/// type guarantees that its last entry is the table's.
 pub fn writers_have_seen_all()
     ensures { WritersHaveSeenAll }
 {}

@@ -1,5 +1,5 @@
-//! What is published of a database while others write it: a table of what is held with its answers, the writer that publishes each
-//! entry, and the fronts at which sessions read it and wait for nobody.
+//! The published table of what is stored with its answers, the writer that publishes each entry, and the fronts at which sessions read
+//! without waiting.
 #![tactic(auto)]
 
 mod ending;

@@ -20,8 +20,8 @@ use std::alloc::{AllocError, Global};
 use std::marker::Model;
 use std::sync::Wait;
 
-/// The writer of the published table, with what ends it. Contracts see the entries that were published, and what is held after
-/// them with its revisions and its answers.
+/// The writer of the published table, with what ends it. A contract sees the entries that were published, and what is stored after them
+/// with its revisions and answers.
 pub struct Press<E: Ending> {
     writer: TableWriter,
     ending: E,
@@ -48,9 +48,9 @@ impl<E: Ending> Model for Press<E> {
 }
 
 impl<E: Ending> Press<E> {
-    /// Opens a table in which nothing is published, and returns its writer. It holds no declarations, which are handed in for each of
-    /// the two copies of the table, and no body, and has memory for all bodies and a piece of each. It has at most so many readers;
-    /// what ends the writer is handed in. Returns `AllocError` only where memory was refused.
+    /// Opens a table in which nothing is published, and returns its writer. Its two copies begin with `first` and `second`, which are empty
+    /// declarations, without bodies, and with room for all bodies and a piece of each. The table has at most `readers` readers. `ending`
+    /// ends the writer.
     pub fn open(
         alloc: Global,
         ending: E,
@@ -70,15 +70,15 @@ impl<E: Ending> Press<E> {
         })
     }
 
-    /// Returns the maker of the readers of this table. Returns `AllocError` only where one more owner of it was refused.
+    /// Returns the maker of the readers of this table. Returns `AllocError` if it has too many owners.
     pub fn fronts(&self) -> Result<Fronts, AllocError> {
         Ok(Fronts::new(self.writer.factory().another()?))
     }
 
-    /// Publishes the entry that comes next, with the revision that it gives to what it writes, and with pieces of bodies that were made
-    /// for an Ask, if it is one; it waits for those who still read what was published before. It asks that each piece was found from the
-    /// declarations and from the unit at its name that are held after the entry. Returns `AllocError` only where memory for it was refused,
-    /// and then nothing is published; what can be refused behind that is tried again until it is not.
+    /// Publishes the entry that comes next, with the revision that it gives to what it writes, and with the pieces that come with an ask,
+    /// if any. It waits for those who still read what was published before. Requires that each piece was found from the declarations and
+    /// from the unit at its name that are stored after the entry. If it returns `AllocError`, nothing is published. After the append, a
+    /// publication that fails is tried again until it succeeds.
     pub fn add<R: Wait>(
         &mut self,
         rt: &R,
@@ -93,11 +93,12 @@ impl<E: Ending> Press<E> {
         self.add_update(rt, Update::new(entry, revision, pieces))
     }
 
-    // Publishes an update whose entry comes next, and whose pieces are of what is held then.
+    /// Publishes an update whose entry comes next, and whose pieces are of what is stored then.
     fn add_update<R: Wait>(&mut self, rt: &R, update: Update) -> Result<(), AllocError>
         requires next { MayComeNext self.old.entries update.entry }
         requires pieces { AreFitting (changed self.old.shelf (change_of update.entry.event) update.revision) update.pieces }
-        ensures { MatchResult result (λ _. self.new ≡ pressed self.old (record { entry = update.entry; revision = update.revision })) (λ _. self.new ≡ self.old) }
+        ensures { MatchResult result (λ _. self.new ≡ pressed self.old (record { entry = update.entry; revision = update.revision }))
+            (λ _. self.new ≡ self.old) }
     {
         if self.writer.append(update).is_err() {
             return Err(AllocError);
@@ -107,8 +108,8 @@ impl<E: Ending> Press<E> {
     }
 }
 
-// A table before any entry, with these declarations, of which there are none, and with memory for all bodies and one to spare, and for a
-// piece of each. `AllocError` only where memory was refused.
+/// Returns a table before any entry, with these empty declarations. It has room for all bodies and one more, and for two pieces of each and
+/// one more.
 fn roomy_table(alloc: Global, types: Shared<Declared>) -> Result<Table, AllocError>
     requires { types ≡ [] }
     ensures { IfOk result (λ table. table ≡ empty_table) }
@@ -119,7 +120,7 @@ fn roomy_table(alloc: Global, types: Shared<Declared>) -> Result<Table, AllocErr
     Ok(Table::new(shelf, pieces, ready))
 }
 
-// Publishes what waits. A publication that is refused is made again.
+/// Publishes what waits. A publication that fails is tried again until it succeeds.
 fn publish<R: Wait>(rt: &R, writer: TableWriter) -> TableWriter
     requires due { IsDue (view writer.desk.place) writer.desk.shown.value (drop writer.behind writer.log.items) }
     requires last { writer.desk.shown.value.last ≡ last_of (view writer.desk.place) }

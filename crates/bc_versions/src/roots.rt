@@ -1,4 +1,4 @@
-//! What is begun of a copy of what is published.
+//! Beginning all roots of a copy of what is published.
 ghost use Rattle.std.specs.Prelude.{List, IfOk};
 ghost use Rattle.bc_memo.specs.Places.{AreKeptPieces};
 ghost use Rattle.bc_calls.specs.declared.call.Entry.{Entry};
@@ -11,8 +11,8 @@ use bc_memo::{PieceMemo, Shelf};
 use bc_names::Name;
 use std::alloc::{AllocError, Global};
 
-/// The part of each held name without segments, in the order of the names, each with the name's answer and with the pieces that are kept
-/// of it. It asks that the pieces are of what is held. Returns `AllocError` only where memory was refused.
+/// Returns the part of each root that holds a body, in the order of the names, each with its answer and its kept pieces. Requires that the
+/// pieces are of what is stored.
 pub(crate) fn begin_roots(
     alloc: Global,
     held: &Shelf,
@@ -30,7 +30,7 @@ pub(crate) fn begin_roots(
     Ok(begun)
 }
 
-// A name's part, with the name's answer and with the pieces that are kept of it.
+/// Returns a name's part, with its answer and its kept pieces.
 fn begin_root(
     alloc: Global,
     held: &Shelf,

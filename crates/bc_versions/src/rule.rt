@@ -9,11 +9,11 @@ use left_right::reader::Reader;
 use left_right::writer::Writer;
 use std::collections::LinkedList;
 
-/// What a thread has seen: a beginning of the list of the entries that were published. No value of it is made.
+/// What a thread has seen: a beginning of the list of published entries. No value of it is made.
 pub type Seen = LinkedList<Entry>;
 
-/// The rule of the published table: there is one legal list of what was published, the table is that list's, and what each thread has
-/// seen is a beginning of it.
+/// The rule of the published table: there is one legal list of what was published, the table is the table of that list, and what each
+/// thread has seen is a beginning of it.
 pub struct Published;
 
 impl Protocol<Table, Seen> for Published {
@@ -22,14 +22,14 @@ impl Protocol<Table, Seen> for Published {
     ghost first = { [] };
 }
 
-/// A reading: it changes what its session has seen alone.
+/// A reading. It changes only what its own session has seen.
 pub(crate) struct Look;
 
 impl Outcome<Table, Seen> for Look {
     ghost then = { Looks };
 }
 
-/// A publication of one entry: it changes what the writer has seen alone.
+/// A publication of one entry. It changes only what the writer has seen.
 pub(crate) struct Add;
 
 impl Outcome<Table, Seen> for Add {

@@ -1,4 +1,4 @@
-//! What is published: the last entry, what is held after it, and the pieces that are kept of that.
+//! The published table: the last entry, what is stored after it, and the kept pieces of that.
 ghost use Rattle.std.specs.Prelude.{◌≡◌, ◌<◌, ◌≤◌, ◌+◌, ◌++◌, [], IfOk, IsOk, None, OnErr, OnOk, Some, length, vec_capacity};
 ghost use Rattle.bc_memo.specs.Places.{IsReady, MayChange, answer_of, changed, empty_shelf, most_places, most_ready, most_rows, part_in, pieces_after, pieces_with, revisions_in, units_in};
 ghost use Rattle.bc_prov.specs.Pieces.{rows_of};
@@ -15,8 +15,8 @@ use left_right::Absorb;
 use std::alloc::{AllocError, Global};
 use std::marker::Model;
 
-/// The update that takes an entry into a published table: the entry, the revision that it gives to what it writes, and pieces that were
-/// made for an Ask. Contracts see all three.
+/// What adds an entry to a published table: the entry, the revision that it gives to what it writes, and the pieces that come with an ask.
+/// A contract sees all three.
 #[derive(Drop)]
 pub struct Update {
     entry: Entry,
@@ -38,8 +38,8 @@ impl Model for Update {
 }
 
 impl Update {
-    /// An entry, where a unit that it puts suits its name, with a revision, and with pieces that were made for an Ask, if it is one. It
-    /// takes no memory.
+    /// Makes an update of an entry, with its revision, and with the pieces that come with an ask, if any. Requires that a unit that the
+    /// entry puts suits its name.
     pub(crate) fn new(entry: Entry, revision: u32, pieces: Option<PieceSet>) -> Update
         requires { MayChange (change_of entry.event) }
         ensures { result ≡ record { entry = entry; revision = revision; pieces = rows_of pieces } }
@@ -52,9 +52,9 @@ impl Update {
     }
 }
 
-/// The published table: the last entry, what is held after it with its answers, and the pieces that are kept of that. Contracts see all
-/// three. The type keeps that there is memory for all places and one to spare, for a piece of each twice and one more, and for as many
-/// answers and pieces as an update brings at once.
+/// The published table: the last entry, what is stored after it with its answers, and the kept pieces of that. A contract sees all three.
+/// The type guarantees room for all places and one more, for two pieces of each and one more, and for as many answers and pieces as an
+/// update brings at once.
 pub struct Table {
     last: Option<Entry>,
     shelf: Shelf,
@@ -83,13 +83,14 @@ impl Model for Table {
 
     ghost view = { λ t. record { last = t.last; shelf = t.shelf.held; pieces = t.pieces.rows } };
 
-    ghost invariant = { λ t. (most_bodies < most_places t.shelf) × (most_bodies + most_bodies < most_rows t.pieces) × (most_bodies < most_ready t.shelf) × (most_bodies < vec_capacity t.ready) };
+    ghost invariant = { λ t. (most_bodies < most_places t.shelf) × (most_bodies + most_bodies < most_rows t.pieces) ×
+        (most_bodies < most_ready t.shelf) × (most_bodies < vec_capacity t.ready) };
 }
 
 impl Table {
-    /// A table before any entry, of a shelf that holds no declaration and no unit, of no pieces, and with a list for those that an update
-    /// brings. It asks for memory for all places and one to spare, for a piece of each twice, for the answers of all, and in the list for a
-    /// piece of each. It takes no memory.
+    /// Returns a table before any entry, from an empty shelf, no pieces, and a list for those that an update brings. Requires that the
+    /// shelf has room for all places and one more and for the answers of all, that there is room for two pieces of each place, and in the
+    /// list for one.
     pub(crate) fn new(shelf: Shelf, pieces: PieceMemo, ready: Pieces) -> Table
         requires empty { shelf.held ≡ empty_shelf [] }
         requires bare { pieces.rows ≡ [] }
@@ -107,51 +108,53 @@ impl Table {
         }
     }
 
-    /// The last entry.
+    /// Returns the last entry, if there is one.
     pub(crate) fn last(&self) -> &Option<Entry>
         ensures { result.now ≡ self.now.last }
     {
         &self.last
     }
 
-    /// One more owner of the answer of a name, if it has one. Returns `AllocError` only where that is refused.
+    /// Returns one more owner of a name's answer, if it has one. Returns `AllocError` if the answer has too many owners.
     pub(crate) fn answer(&self, name: &Name) -> Result<Option<Shared<Outcome>>, AllocError>
         ensures { IfOk result (λ answer. answer ≡ answer_of (at_name self.now.shelf.places name.now)) }
     {
         answer_in(&self.shelf, name)
     }
 
-    /// A name's part, without pieces. Returns `AllocError` only where memory was refused.
+    /// Returns a name's part, without pieces.
     pub(crate) fn part(&self, alloc: Global, root: &Name) -> Result<Part, AllocError>
-        ensures snapshot { IfOk result (λ part. (part.snapshot.types ≡ self.now.shelf.types) × (part.snapshot.root ≡ root.now) × (part.snapshot.units ≡ units_in root.now self.now.shelf.places) × (part.snapshot.carried ≡ None)) }
-        ensures revisions { IfOk result (λ part. (part.types_revision ≡ self.now.shelf.types_revision) × (part.revisions.items ≡ revisions_in root.now self.now.shelf.places)) }
+        ensures snapshot { IfOk result (λ part. (part.snapshot.types ≡ self.now.shelf.types) × (part.snapshot.root ≡ root.now) ×
+            (part.snapshot.units ≡ units_in root.now self.now.shelf.places) × (part.snapshot.carried ≡ None)) }
+        ensures revisions { IfOk result (λ part. (part.types_revision ≡ self.now.shelf.types_revision) ×
+            (part.revisions.items ≡ revisions_in root.now self.now.shelf.places)) }
     {
         self.shelf.part(alloc, root)
     }
 
-    /// One more owner of each piece that is kept of a name's part. Returns `AllocError` only where memory was refused.
+    /// Returns one more owner of each kept piece of a name's part.
     pub(crate) fn pieces_of(&self, alloc: Global, root: &Name) -> Result<Pieces, AllocError>
         ensures { IfOk result (λ pieces. pieces.items ≡ part_in root.now self.now.pieces) }
     {
         self.pieces.part(alloc, root)
     }
 
-    /// A copy of what is held. Returns `AllocError` only where memory was refused.
+    /// Copies what is stored.
     pub(crate) fn copy_held(&self, alloc: Global) -> Result<Shelf, AllocError>
         ensures { IfOk result (λ copy. copy.held ≡ self.now.shelf) }
     {
         self.shelf.copy(alloc)
     }
 
-    /// A copy of the pieces that are kept. Returns `AllocError` only where memory was refused.
+    /// Copies the kept pieces.
     pub(crate) fn copy_pieces(&self, alloc: Global) -> Result<PieceMemo, AllocError>
         ensures { IfOk result (λ copy. copy.rows ≡ self.now.pieces) }
     {
         self.pieces.copy(alloc)
     }
 
-    /// Takes in an entry with its pieces: all of it, or nothing where memory or an owner is refused, also one of the answers of many names
-    /// or of a piece. All that may be refused is done first, and no memory is taken where no more pieces come than bodies may be held.
+    /// Adds an entry with its pieces. If it returns `AllocError`, nothing has changed: all that can fail is done first. It allocates only
+    /// if more pieces come than bodies may be stored.
     pub(crate) fn update(&mut self, update: &Update) -> Result<(), AllocError>
         ensures taken { OnOk result (self.new ≡ updated self.old update.now) }
         ensures refused { OnErr result (self.new ≡ self.old) }
@@ -177,7 +180,7 @@ impl Table {
     }
 }
 
-// Makes one more owner of each piece of a set, if there is one, in the place of what was ready before.
+/// Makes one more owner of each piece of a set, if there is one, in place of what was ready before.
 fn own_again(ready: &mut Pieces, pieces: &Option<PieceSet>) -> Result<(), AllocError>
     ensures owners { OnOk result (ready.new.items ≡ rows_of pieces.now) }
     ensures memory { vec_capacity ready.old ≤ vec_capacity ready.new }
@@ -189,7 +192,7 @@ fn own_again(ready: &mut Pieces, pieces: &Option<PieceSet>) -> Result<(), AllocE
     }
 }
 
-// Puts one more owner of each piece behind what is ready.
+/// Appends one more owner of each piece to what is ready.
 fn push_owners(ready: &mut Pieces, rows: &[(Name, Shared<Piece>)]) -> Result<(), AllocError>
     ensures rows { OnOk result (ready.new.items ≡ ready.old.items ++ rows.now) }
     ensures memory { vec_capacity ready.old ≤ vec_capacity ready.new }
@@ -202,7 +205,7 @@ fn push_owners(ready: &mut Pieces, rows: &[(Name, Shared<Piece>)]) -> Result<(),
     Ok(())
 }
 
-/// One more owner of the answer of a name in what is held, if it has one. Returns `AllocError` only where that is refused.
+/// Returns one more owner of a name's answer on a shelf, if it has one. Returns `AllocError` if the answer has too many owners.
 pub(crate) fn answer_in(held: &Shelf, name: &Name) -> Result<Option<Shared<Outcome>>, AllocError>
     ensures { IfOk result (λ answer. answer ≡ answer_of (at_name held.now.held.places name.now)) }
 {
@@ -212,8 +215,8 @@ pub(crate) fn answer_in(held: &Shelf, name: &Name) -> Result<Option<Shared<Outco
     }
 }
 
-// Makes ready what an update may be refused: one more owner of each of its pieces, room for them, and what its change moves into the shelf.
-// It changes nothing that is held, and gives no memory back.
+/// Does all of an update that can fail: makes one more owner of each of its pieces, and room for them, and makes ready what its change
+/// moves into the shelf. It changes nothing that is stored, and the capacity never shrinks.
 fn make_ready(
     shelf: &mut Shelf,
     pieces: &mut PieceMemo,
@@ -225,15 +228,16 @@ fn make_ready(
     ensures owners { OnOk result (ready.new.items ≡ rows_of set.now) }
     ensures room { OnOk result (length ready.new.items ≤ pieces.new.room) }
     ensures prepared { OnOk result (IsReady change.now shelf.new.ready) }
-    ensures memory { (most_places shelf.new ≡ most_places shelf.old) × (most_rows pieces.old ≤ most_rows pieces.new) × (most_ready shelf.old ≤ most_ready shelf.new) × (vec_capacity ready.old ≤ vec_capacity ready.new) }
+    ensures memory { (most_places shelf.new ≡ most_places shelf.old) × (most_rows pieces.old ≤ most_rows pieces.new) ×
+        (most_ready shelf.old ≤ most_ready shelf.new) × (vec_capacity ready.old ≤ vec_capacity ready.new) }
 {
     own_again(ready, set)?;
     pieces.reserve(ready.len())?;
     shelf.prepare(change)
 }
 
-// Changes what is held, where the shelf is ready for it, drops the pieces that the change drops, and keeps those that are ready; or nothing
-// where memory for a place is refused, which it is not where no more units are held than a legal history leaves.
+/// Applies a change for which the shelf is ready, drops the pieces that it drops, and keeps those that are ready. If it returns
+/// `AllocError`, nothing has changed. It always succeeds if no more units are stored than a legal history leaves.
 fn take_in(
     shelf: &mut Shelf,
     pieces: &mut PieceMemo,
@@ -248,7 +252,8 @@ fn take_in(
     ensures kept { OnOk result (pieces.new.rows ≡ pieces_with more.old.items (pieces_after change pieces.old.rows)) }
     ensures refused { OnErr result ((shelf.new.held ≡ shelf.old.held) × (pieces.new.rows ≡ pieces.old.rows)) }
     ensures granted { most_bodies < most_places shelf.old → length shelf.old.held.places ≤ most_bodies → IsOk result }
-    ensures memory { (most_places shelf.old ≤ most_places shelf.new) × (most_rows pieces.old ≤ most_rows pieces.new) × (most_ready shelf.new ≡ most_ready shelf.old) × (vec_capacity more.new ≡ vec_capacity more.old) }
+    ensures memory { (most_places shelf.old ≤ most_places shelf.new) × (most_rows pieces.old ≤ most_rows pieces.new) ×
+        (most_ready shelf.new ≡ most_ready shelf.old) × (vec_capacity more.new ≡ vec_capacity more.old) }
 {
     shelf.reserve()?;
     pieces.follow(&change);
@@ -257,7 +262,7 @@ fn take_in(
     Ok(())
 }
 
-// Keeps each of these pieces, in their order, in the place of one that was kept for its name. It takes no memory.
+/// Keeps each of these pieces, in their order, in place of one that was kept for its name. Requires room for all of them.
 fn keep_ready(pieces: &mut PieceMemo, ready: &mut Pieces)
     requires room { length ready.old.items ≤ pieces.old.room }
     ensures kept { pieces.new.rows ≡ pieces_with ready.old.items pieces.old.rows }

@@ -1,4 +1,4 @@
-//! What an Ask for all costs, outside the lock and under it.
+//! The cost of an ask for all, without the lock and under it.
 use anyhow::{Result, bail};
 use bc_names::Name;
 use bc_prov::Providers;
@@ -11,10 +11,10 @@ use std::sync::{Arc, Wait};
 use std::time::{Clock, Instant};
 use test_fixtures::name;
 
-/// How many bodies are held: as many as may be.
+/// The number of stored bodies, which is the greatest possible.
 const HELD: u16 = 1024;
 
-/// The name of a body, by its number.
+/// Returns the name of a body, by its number.
 fn name_of(number: u16) -> Result<Name> {
     let low = (number % 26) as u8;
     let middle = (number / 26 % 26) as u8;
@@ -22,7 +22,7 @@ fn name_of(number: u16) -> Result<Name> {
     name(&[b'f', b'a' + high, b'a' + middle, b'a' + low])
 }
 
-/// Asks for all by its three steps, and shows how long they took: outside the lock on standard error, and behind it under the lock.
+/// Asks for all in its three steps, and writes to standard error how long they took: first those without the lock, then that under it.
 fn show_one<R: AllocGlobal + Clock + Eprint + Print + Wait, E: Ending>(
     rt: &R,
     session: &mut Session<E>,
@@ -42,7 +42,7 @@ fn show_one<R: AllocGlobal + Clock + Eprint + Print + Wait, E: Ending>(
     Ok(())
 }
 
-/// Holds as many bodies as may be, and asks for all: at first, with nothing changed, and with one body changed.
+/// Stores as many bodies as possible, and asks for all: at first, with nothing changed, and with one body changed.
 pub fn show_all<R: AllocGlobal + Clock + Eprint + Print + Wait>(
     rt: &R,
     unit: &Arc<Unit, Global>,

@@ -1,5 +1,5 @@
-//! Glances at bodies of 200 points, asks for them, and puts them as texts, by one session: the calls that `.ci/gate/converse` makes by `nlldb serve`, in
-//! one process.
+//! One session that glances at bodies of 200 points, asks for them, and puts them as texts: the calls that `.ci/gate/converse` makes
+//! through `nlldb serve`, in one process.
 use anyhow::{Result, bail};
 use bc_names::Name;
 use bc_prov::Providers;
@@ -12,13 +12,13 @@ use std::sync::Wait;
 use std::time::{Clock, Instant};
 use test_fixtures::{name, shared_unit};
 
-/// How long a session goes on with one call, in nanoseconds.
+/// How long a session repeats one call, in nanoseconds.
 const SPAN: u128 = 50_000_000;
 
-/// How many times it takes all names at most: the history has room for what it enters then.
+/// The most rounds through all names: the history has room for their entries.
 const ROUNDS: u32 = 4_000;
 
-/// How many entries the history has room for.
+/// The most entries of the history.
 const CAPACITY: u32 = 1_000_000;
 
 /// What a session does with each name: it glances at the answer, asks for it, or puts the unit of the text and asks for it.
@@ -35,7 +35,8 @@ const ROWS: [(&str, Act); 3] = [
     ("a put of the text of 200 points, and an ask", Act::Edit),
 ];
 
-/// How many names were taken, how many answers were wrong, and how long that took, in nanoseconds: in all, and for all names at best.
+/// The number of names that were taken, the number of wrong answers, and how long that took in nanoseconds: in all, and for the fastest
+/// round through all names.
 #[derive(Clone, Copy)]
 struct Done {
     taken: usize,
@@ -55,12 +56,12 @@ struct Editor<'a, R, E: Ending> {
 }
 
 impl<R: AllocGlobal + Clock + Wait, E: Ending> Editor<'_, R, E> {
-    /// Asks for a name. Gives whether that is answered.
+    /// Asks for a name. Returns whether that is answered.
     fn ask(&mut self, name: &Name) -> bool {
         self.session.ask(self.rt, name, self.providers).is_ok()
     }
 
-    /// Puts the unit of the text under a name, and asks for it. Gives whether both are answered.
+    /// Puts the unit of the text under a name, and asks for it. Returns whether both are answered.
     fn edit(&mut self, name: &Name) -> bool {
         let Ok(unit) = shared_unit(self.rt.alloc(), self.text) else {
             return false;
@@ -68,7 +69,7 @@ impl<R: AllocGlobal + Clock + Wait, E: Ending> Editor<'_, R, E> {
         self.session.put(self.rt, *name, unit).is_ok() && self.ask(name)
     }
 
-    /// Takes a name. Gives whether the answer is right.
+    /// Takes a name. Returns whether the answer is right.
     fn take(&mut self, act: Act, name: &Name) -> bool {
         match act {
             Act::Glance => matches!(self.session.glance(name), Ok(Some(_))),
@@ -77,7 +78,7 @@ impl<R: AllocGlobal + Clock + Wait, E: Ending> Editor<'_, R, E> {
         }
     }
 
-    /// Takes each name. Gives how many answers are wrong.
+    /// Takes each name. Returns the number of wrong answers.
     fn take_each(&mut self, act: Act) -> u64 {
         let mut wrong = 0u64;
         for name in self.names {
@@ -88,7 +89,7 @@ impl<R: AllocGlobal + Clock + Wait, E: Ending> Editor<'_, R, E> {
         wrong
     }
 
-    /// Takes its names again and again for a while. Fails where the clock does.
+    /// Takes its names again and again for a while. Fails if the clock does.
     fn act(&mut self, act: Act) -> io::Result<Done> {
         let mut done = Done {
             taken: 0,
@@ -112,7 +113,7 @@ impl<R: AllocGlobal + Clock + Wait, E: Ending> Editor<'_, R, E> {
     }
 }
 
-/// Shows how many answers were wrong on standard output, and how fast the session was, which has so many names, on standard error.
+/// Writes the number of wrong answers to standard output, and to standard error how fast the session was, which has `names` names.
 fn show<R: Eprint + Print>(rt: &R, what: &str, done: &Done, names: usize) -> Result<()> {
     let best = done.least / (names as u128).max(1);
     let rate = (done.taken as u128).saturating_mul(1_000_000_000) / done.nanos.max(1);
@@ -122,7 +123,7 @@ fn show<R: Eprint + Print>(rt: &R, what: &str, done: &Done, names: usize) -> Res
     Ok(())
 }
 
-/// The names under which bodies are held.
+/// Returns the names under which bodies are stored.
 fn names(alloc: Global) -> Result<Vec<Name>> {
     let mut names = Vec::new(alloc);
     for number in 0..48u8 {
@@ -131,7 +132,7 @@ fn names(alloc: Global) -> Result<Vec<Name>> {
     Ok(names)
 }
 
-/// The text of a body of 200 points, without an error: two assignments, 196 reads through a borrow, a write, and the return.
+/// Returns the text of a body of 200 points, without an error: two assignments, 196 reads through a borrow, a write, and the return.
 fn large_text(alloc: Global) -> Result<Vec<u8>> {
     let mut text = Vec::new(alloc);
     text.extend_from_slice(
@@ -144,7 +145,7 @@ fn large_text(alloc: Global) -> Result<Vec<u8>> {
     Ok(text)
 }
 
-/// Holds the text under each name with its answer, and shows each row.
+/// Stores the text under each name with its answer, and measures each row.
 fn show_rows<R: AllocGlobal + Clock + Eprint + Print + Wait>(
     rt: &R,
     providers: &Providers,
@@ -170,7 +171,7 @@ fn show_rows<R: AllocGlobal + Clock + Eprint + Print + Wait>(
     Ok(())
 }
 
-/// Shows how fast one session is that glances at bodies of 200 points, asks for them, and puts their text.
+/// Measures one session that glances at bodies of 200 points, asks for them, and puts their text.
 pub fn show_calls<R: AllocGlobal + Clock + Eprint + Print + Wait>(
     rt: &R,
     providers: &Providers,

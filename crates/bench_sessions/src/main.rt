@@ -1,7 +1,7 @@
-//! Has a session glance at names, begin their parts and put units, alone and beside others that put on threads of their own, and do so with a book
-//! under a lock; then asks for all of as many bodies as may be held; then has a session glance at large bodies, ask for them and put their texts.
-//! How many answers were wrong goes to standard output, the same at each run; how fast each session was, and how long each Ask for all took, goes
-//! to standard error.
+//! Measures a session that glances at names, begins asks of them and puts units, alone and while others put on threads of their own, and
+//! one that does so with a book under a lock. Then it asks for all in a full database, and measures a session that glances at large bodies,
+//! asks for them and puts their texts. The numbers of wrong answers go to standard output, and are the same at each run. How fast each
+//! session was, and how long each ask for all took, goes to standard error.
 #![tactic(auto)]
 
 mod all;
@@ -28,8 +28,8 @@ use std::thread::Threads;
 use std::time::Clock;
 use test_fixtures::{CLOSURE, name, shared_unit};
 
-/// What is measured: what it is called; what the first session does, and what the others do meanwhile; how many units stand in the part of the
-/// first name, which is the only one that is taken where they are several; and how many sessions there are, one time after the other.
+/// What is measured: its name; what the first session does, and what the others do meanwhile; the number of units in the part of the first
+/// name, which is the only one that is taken if there are several; and the numbers of sessions, one after another.
 type Row = (&'static str, Act, Act, u8, &'static [u8]);
 
 const ROWS: [Row; 7] = [
@@ -42,10 +42,10 @@ const ROWS: [Row; 7] = [
     ("a put", Act::Put, Act::Idle, 1, &[1, 16]),
 ];
 
-/// How many names a session has of its own: a quarter of all.
+/// The number of a session's own names: a quarter of all.
 const OWN: usize = 48;
 
-/// How many entries a history has room for: more than are made.
+/// The most entries of a history: more than are made.
 const CAPACITY: u32 = 1_000_000;
 
 /// What is put and asked for.
@@ -58,7 +58,7 @@ struct Bench<'a, R> {
 }
 
 impl<'a, R: AllocGlobal + Clock + Eprint + Print + Threads + Wait + Sync> Bench<'a, R> {
-    /// Holds closures below the first name, so many units with its own.
+    /// Stores closures below the first name: `units` units with its own.
     fn hold_below<E: Ending>(&self, session: &mut Session<E>, units: u8) -> Result<()> {
         let closure = shared_unit(self.rt.alloc(), CLOSURE)?;
         let Some(root) = self.names.first() else {
@@ -73,7 +73,7 @@ impl<'a, R: AllocGlobal + Clock + Eprint + Print + Threads + Wait + Sync> Bench<
         Ok(())
     }
 
-    /// Has the first session hold all units, and ask for each name. Gives the answers.
+    /// Has the first session store all units, and ask for each name. Returns the answers.
     fn hold<E: Ending>(&self, sessions: &mut [Session<E>], units: u8) -> Result<Vec<Answered>> {
         let Some(first) = sessions.first_mut() else {
             bail!("no session");
@@ -87,7 +87,7 @@ impl<'a, R: AllocGlobal + Clock + Eprint + Print + Threads + Wait + Sync> Bench<
         Ok(answers)
     }
 
-    /// Puts the unit in a book under a name, and settles an Ask of it.
+    /// Puts the unit in a book under a name, and settles an ask of it.
     fn settle<E: Ending>(&self, book: &mut Book<E>, name: &Name) -> Result<()> {
         let alloc = self.rt.alloc();
         let unit = Shared::new(Arc::try_clone(self.unit)?);
@@ -97,7 +97,7 @@ impl<'a, R: AllocGlobal + Clock + Eprint + Print + Threads + Wait + Sync> Bench<
         Ok(())
     }
 
-    /// A book that holds the unit under each name, with its answer.
+    /// Returns a book that stores the unit under each name, with its answer.
     fn book(&self) -> Result<Book<Waiting<&'a R>>> {
         let mut book = Book::new(self.rt.alloc(), Waiting::new(self.rt), CAPACITY, 4)?;
         for name in self.names {
@@ -106,7 +106,7 @@ impl<'a, R: AllocGlobal + Clock + Eprint + Print + Threads + Wait + Sync> Bench<
         Ok(book)
     }
 
-    /// Names that are drawn from the first ones without a pattern that a processor could guess, the same at each run.
+    /// Returns random names out of the first ones, without a pattern that a processor could guess, the same at each run.
     fn draws(&self, count: usize) -> Result<Vec<Name>> {
         let mut random = Pcg32::new(2094, 0);
         let mut draws = Vec::new(self.rt.alloc());
@@ -119,7 +119,7 @@ impl<'a, R: AllocGlobal + Clock + Eprint + Print + Threads + Wait + Sync> Bench<
         Ok(draws)
     }
 
-    /// A seat for each session: the first one has names that were drawn, and each other one a quarter of all, while some are left.
+    /// Returns a seat for each session: the first one has the random names, and each other one a quarter of all, while some are left.
     fn seats<E: Ending>(
         &self,
         row: Row,
@@ -148,7 +148,7 @@ impl<'a, R: AllocGlobal + Clock + Eprint + Print + Threads + Wait + Sync> Bench<
         Ok(seats)
     }
 
-    /// Measures a row by these sessions, whose names have these answers.
+    /// Measures a row with these sessions, whose names have these answers.
     fn measure_by(
         &self,
         row: Row,
@@ -162,7 +162,7 @@ impl<'a, R: AllocGlobal + Clock + Eprint + Print + Threads + Wait + Sync> Bench<
         show(self.rt, row.0, &seats)
     }
 
-    /// Measures a row, by so many sessions of a new database.
+    /// Measures a row with `count` sessions of a new database.
     fn measure(&self, row: Row, count: u8) -> Result<()> {
         let ending = Waiting::new(self.rt);
         let (_db, mut sessions) = Db::open(self.rt.alloc(), ending, 0, CAPACITY, count)?;
@@ -171,7 +171,7 @@ impl<'a, R: AllocGlobal + Clock + Eprint + Print + Threads + Wait + Sync> Bench<
     }
 }
 
-/// The names of the functions that are held, ascending: with the closures of one as many units as may be, but one.
+/// Returns the names of the 192 stored functions, ascending.
 fn names(alloc: Global) -> Result<Vec<Name>> {
     let mut names = Vec::new(alloc);
     for number in 0..192u8 {

@@ -1,4 +1,4 @@
-//! Sessions that each do one thing again and again, on threads of their own.
+//! Sessions that each repeat one thing, on threads of their own.
 use anyhow::{Result, bail};
 use bc_book::Book;
 use bc_calls::{Event, PutReply};
@@ -17,14 +17,15 @@ use std::{io, thread};
 /// How long a session goes on, in nanoseconds.
 const SPAN: u128 = 50_000_000;
 
-/// How many names it takes at most: a history has room for what three put.
+/// The most names that it takes: a history has room for what three sessions put.
 const MOST: usize = 300_000;
 
 /// A name with its answer.
 pub type Answered = (Name, Arc<Outcome, Global>);
 
-/// What a session does with each of its names: it finds the answer in a sorted list and makes one more owner of it, glances at the answer that is
-/// published, begins its part, or puts a unit; in a book under a lock, it takes a snapshot of its part or puts a unit; or it does nothing.
+/// What a session does with each of its names. It finds the answer in a sorted list and makes one more owner of it, glances at the
+/// published answer, begins its ask, or puts a unit; in a book under a lock, it takes a snapshot of its part or puts a unit; or it does
+/// nothing.
 #[derive(Clone, Copy)]
 pub enum Act {
     LookUp,
@@ -36,8 +37,8 @@ pub enum Act {
     Idle,
 }
 
-/// The measure of one session's turns: how many names were taken, how many answers were wrong, and how long that took, in
-/// nanoseconds: in all, and for all names at best.
+/// The number of names that a session took, the number of wrong answers, and how long that took in nanoseconds: in all, and for the fastest
+/// round through all names.
 #[derive(Clone, Copy)]
 pub struct Done {
     taken: usize,
@@ -59,7 +60,7 @@ pub struct Seat<'a, R, E: Ending> {
     pub done: Option<Done>,
 }
 
-/// Whether a sorted list has an answer of a name, of which it makes one more owner.
+/// Returns whether a sorted list has an answer for a name, and makes one more owner of it.
 fn look_up(answers: &[Answered], name: &Name) -> bool {
     let place = answers.binary_search_by(|row| row.0.cmp(name));
     match answers.get(place.unwrap_or(usize::MAX)) {
@@ -69,7 +70,7 @@ fn look_up(answers: &[Answered], name: &Name) -> bool {
 }
 
 impl<R: AllocGlobal + Clock + Wait, E: Ending> Seat<'_, R, E> {
-    /// Puts the unit under a name. Gives whether it replaced one.
+    /// Puts the unit under a name. Returns whether it replaced one.
     fn put(&mut self, name: &Name) -> bool {
         let Ok(unit) = Arc::try_clone(self.unit) else {
             return false;
@@ -78,7 +79,7 @@ impl<R: AllocGlobal + Clock + Wait, E: Ending> Seat<'_, R, E> {
         matches!(reply, Ok(PutReply::Replaced))
     }
 
-    /// Puts the unit under a name in the book. Gives whether it replaced one.
+    /// Puts the unit under a name in the book. Returns whether it replaced one.
     fn put_in_book(&self, name: &Name) -> bool {
         let (rt, alloc) = (self.rt, self.rt.alloc());
         let Ok(unit) = Arc::try_clone(self.unit) else {
@@ -94,7 +95,7 @@ impl<R: AllocGlobal + Clock + Wait, E: Ending> Seat<'_, R, E> {
         }
     }
 
-    /// Takes a name. Gives whether the answer is right.
+    /// Takes a name. Returns whether the answer is right.
     fn take(&mut self, name: &Name) -> bool {
         match self.act {
             Act::LookUp => look_up(self.answers, name),
@@ -110,7 +111,7 @@ impl<R: AllocGlobal + Clock + Wait, E: Ending> Seat<'_, R, E> {
         }
     }
 
-    /// Takes each name. Gives how many answers are wrong.
+    /// Takes each name. Returns the number of wrong answers.
     fn take_each(&mut self) -> u64 {
         let mut wrong = 0u64;
         for name in self.names {
@@ -121,7 +122,7 @@ impl<R: AllocGlobal + Clock + Wait, E: Ending> Seat<'_, R, E> {
         wrong
     }
 
-    /// Takes its names again and again for a while. Fails where the clock does.
+    /// Takes its names again and again for a while. Fails if the clock does.
     fn act(&mut self) -> io::Result<Done> {
         let mut done = Done {
             taken: 0,
@@ -159,7 +160,7 @@ pub fn act_all<R: AllocGlobal + Clock + Threads + Wait + Sync, E: Ending + Send>
     );
 }
 
-/// Shows how many answers were wrong on standard output, and how fast each session was on standard error. Fails where a clock did.
+/// Writes the number of wrong answers to standard output, and to standard error how fast each session was. Fails if a clock did.
 pub fn show<R: Eprint + Print, E: Ending>(
     rt: &R,
     name: &str,

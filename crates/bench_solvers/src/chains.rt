@@ -16,7 +16,7 @@ const REGIONS: u32 = 1040;
 
 const ELEMENTS: u32 = 4112;
 
-/// How often each list is solved.
+/// The number of times that each list is solved.
 const TURNS: u32 = 10;
 
 /// Which regions outlive which.
@@ -24,14 +24,14 @@ const TURNS: u32 = 10;
 enum Shape {
     /// Each region outlives the one before it.
     Chain,
-    /// Each region outlives the one behind it.
+    /// Each region outlives the one after it.
     ChainBack,
-    /// Pairs of regions without a pattern.
+    /// Random pairs of regions.
     Random,
 }
 
-/// The lists of constraints: what each is called, how many there are, and of which shape. A chain through all regions and on to the
-/// first is a ring.
+/// The lists of constraints: their names, their numbers of constraints, and their shapes. A chain through all regions and back to the first
+/// is a ring.
 const LISTS: [(&str, u32, Shape); 4] = [
     ("chain", 1039, Shape::Chain),
     ("chain back", 1039, Shape::ChainBack),
@@ -77,7 +77,7 @@ fn start_of(turn: u32, random: &mut Pcg32) -> Entry
     }
 }
 
-/// Each region starts with up to three elements.
+/// Returns up to three start elements for each region.
 fn starts(alloc: Global) -> Result<Vec<Entry>, AllocError>
     ensures { IfOk result (λ entries. AreEntriesWithin entries.items 1040 4112) }
 {
@@ -89,7 +89,7 @@ fn starts(alloc: Global) -> Result<Vec<Entry>, AllocError>
     Ok(entries)
 }
 
-/// So many constraints of a shape, between regions that start with up to three elements each.
+/// Returns `count` constraints of a shape, between regions with up to three start elements each.
 fn facts_of(alloc: Global, shape: Shape, count: u32) -> Result<Facts, AllocError> {
     let pairs = pairs_of(alloc, shape, count)?;
     let entries = starts(alloc)?;
@@ -97,7 +97,7 @@ fn facts_of(alloc: Global, shape: Shape, count: u32) -> Result<Facts, AllocError
     Ok(Facts::new(16, rows, pairs, 4112))
 }
 
-/// How many elements are in the values of all regions.
+/// Returns the number of elements in the values of all regions.
 fn count(values: &Values) -> u64 {
     let mut members = 0u64;
     for place in 0..REGIONS * ELEMENTS {
@@ -109,7 +109,7 @@ fn count(values: &Values) -> u64 {
     members
 }
 
-/// Solves constraints by groups of regions, and by their list. Gives how many elements are in the values by the list.
+/// Solves constraints by groups of regions, and then by their list. Returns the number of elements in the values by the list.
 fn solved(rt: &HostRuntime, facts: &Facts, times: &mut Times) -> Result<u64, AllocError> {
     times.begin(rt);
     let by_groups = solve_components(rt.alloc(), facts)?;
@@ -121,8 +121,8 @@ fn solved(rt: &HostRuntime, facts: &Facts, times: &mut Times) -> Result<u64, All
     Ok(count(&values))
 }
 
-/// Solves a list of constraints, many times, and explains elements. Writes how many elements the values have, and how many regions the
-/// chains, to standard output, and how long that took at best to standard error.
+/// Solves a list of constraints many times, and explains elements. Writes the numbers of elements in the values and of regions in the
+/// chains to standard output, and the least times to standard error.
 fn measure_list(rt: &HostRuntime, name: &str, pairs: u32, shape: Shape) -> anyhow::Result<()> {
     let facts = facts_of(rt.alloc(), shape, pairs)?;
     let mut times = Times::new();
@@ -136,8 +136,8 @@ fn measure_list(rt: &HostRuntime, name: &str, pairs: u32, shape: Shape) -> anyho
     Ok(())
 }
 
-/// Solves four lists of constraints between regions that start with up to three elements each, and explains elements. Writes how many
-/// elements the values have, and how many regions the chains, to standard output, and how long that took at best to standard error.
+/// Solves four lists of constraints between regions with up to three start elements each, and explains elements. Writes the numbers of
+/// elements in the values and of regions in the chains to standard output, and the least times to standard error.
 pub fn measure_constraints(rt: &HostRuntime) -> anyhow::Result<()> {
     for (name, pairs, shape) in LISTS {
         measure_list(rt, name, pairs, shape)?;

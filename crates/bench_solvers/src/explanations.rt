@@ -1,23 +1,23 @@
-//! Why elements are in the values of regions, asked 4,000 times.
+//! Chains that explain elements in the values of regions, 4,000 times.
 use crate::times::{Step, Times};
 use bc_cons::Facts;
 use bc_solve::{Explainer, explain};
 use std::alloc::{AllocError, Global};
 
-/// How many elements are explained.
+/// The number of elements that are explained.
 const QUESTIONS: u32 = 4000;
 
-/// How often each way of asking is measured.
+/// The number of times that each way of asking is measured.
 const TURNS: u32 = 3;
 
-/// The region and the element of a question, where so many questions in a row are of one element.
+/// Returns the region and the element of a question, with `in_a_row` questions after one another about one element.
 fn question(turn: u32, in_a_row: u32) -> (usize, usize) {
     let region = turn.wrapping_mul(389) % 1040;
     let element = (turn / in_a_row.max(1)).wrapping_mul(617) % 4112;
     (region as usize, element as usize)
 }
 
-/// How many regions the chains have that one explainer finds.
+/// Returns the number of regions in the chains that one explainer finds.
 fn by_explainer(alloc: Global, facts: &Facts, in_a_row: u32) -> Result<u64, AllocError> {
     let mut explainer = Explainer::new(alloc, facts)?;
     let mut regions = 0u64;
@@ -30,7 +30,7 @@ fn by_explainer(alloc: Global, facts: &Facts, in_a_row: u32) -> Result<u64, Allo
     Ok(regions)
 }
 
-/// How many regions the chains have that are found from the facts alone, each anew.
+/// Returns the number of regions in the chains that are found from the facts alone, without an explainer.
 fn alone(alloc: Global, facts: &Facts) -> Result<u64, AllocError> {
     let mut regions = 0u64;
     for turn in 0..QUESTIONS {
@@ -42,7 +42,7 @@ fn alone(alloc: Global, facts: &Facts) -> Result<u64, AllocError> {
     Ok(regions)
 }
 
-/// Explains elements in each way, many times. It returns how many regions the chains have that were found last, without an explainer.
+/// Explains elements in each way, many times. Returns the number of regions in the chains that were found without an explainer.
 pub fn measure_explanations(
     rt: &HostRuntime,
     facts: &Facts,

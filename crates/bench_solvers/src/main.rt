@@ -1,5 +1,5 @@
-//! Solves constraints between many regions, and explains elements of their values, each step many times. What was found goes to standard output
-//! and is the same at each run; how long each step took at best goes to standard error.
+//! Solves constraints between many regions, and explains elements of their values, each step many times. What was found goes to standard
+//! output, and is the same at each run. The least time of each step goes to standard error.
 #![tactic(auto)]
 
 mod chains;

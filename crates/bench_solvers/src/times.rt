@@ -1,4 +1,4 @@
-//! How long each step takes at best.
+//! The least time of each step.
 use std::io;
 use std::time::Instant;
 
@@ -12,7 +12,7 @@ pub enum Step {
     ExplainingAlone,
 }
 
-/// What the steps are called, in their order.
+/// The names of the steps, in order.
 const NAMES: [&str; 5] = [
     "solving by groups",
     "solving",
@@ -21,7 +21,7 @@ const NAMES: [&str; 5] = [
     "4,000 explanations without an explainer",
 ];
 
-/// The least time of each step in nanoseconds, if it was taken, and when the step that is taken now began, if the clock tells.
+/// The least time of each step in nanoseconds, if it was taken, and the beginning of the step that is taken now, if the clock knows it.
 #[derive(Clone, Copy)]
 pub struct Times {
     least: [Option<u128>; 5],
@@ -29,7 +29,7 @@ pub struct Times {
 }
 
 impl Times {
-    /// Returns times of which no step was taken.
+    /// Returns times without any step.
     pub fn new() -> Times {
         Times {
             least: [None; 5],
@@ -52,7 +52,7 @@ impl Times {
         self.begin(rt);
     }
 
-    /// Writes a name to standard error, and below it each step that was taken with its least time.
+    /// Writes a name to standard error, and below it the least time of each step that was taken.
     pub fn show(&self, rt: &HostRuntime, name: &str) -> io::Result<()> {
         eprintln!(rt; "{name}")?;
         for (step, least) in NAMES.iter().zip(self.least) {

@@ -1,4 +1,4 @@
--- What JSON prints has no line feed.
+-- Printed JSON has no line feed.
 use Rattle.std.proofs.Common.{◌≡◌, ℕ, suc, ◌+◌, Bool, true, false, cond, List, [], ◌∷◌, ◌++◌, take, drop, Option, Some, None, refl, ap, sym, subst, ◌∙◌, arith, take-append-drop}
 use Rattle.std.specs.Prelude.{◌==◌, ◌||◌, ◌&&◌, nat_lt, option_and_then, ◌/◌, ◌%◌}
 use Rattle.std.specs.List.{prefix_len}
@@ -47,7 +47,7 @@ bytes (x ∷ xs) = feed_append (escape_byte x) (escape xs) (byte x) (bytes xs)
 quote : (xs : List ℕ) → IsOneLine (quoted xs)
 quote xs = feed_append (escape xs) (34 ∷ []) (bytes xs) refl
 
--- ---- numbers
+-- numbers
 
 no_digit : (x : ℕ) → is_ascii_digit x ≡ true → (x == 10) ≡ false
 no_digit x h = grind (arith, nat_tests)
@@ -125,7 +125,7 @@ numeral : (s : List ℕ) → IsNumber s → IsOneLine s
 unfolding after_number
 numeral s h = parts s (after_whole (after_minus s)) refl h
 
--- ---- tokens
+-- tokens
 
 text : (t : Token) → IsPrintableOrBad t → IsOneLine (token_text t)
 text begin_object h = refl
@@ -149,6 +149,6 @@ unfolding print_from
 printed after [] h = refl
 printed after (t ∷ ts) h = feed_append (separator after t) (token_text t ++ print_from (ends t) ts) (comma (after && begins t)) (feed_append (token_text t) (print_from (ends t) ts) (text t h.0) (printed (ends t) ts h.1))
 
--- a text that is printed so has no line feed
+-- a printed text has no line feed
 pub one_line : (line : List ℕ) → line ≡ print (tokens line) → IsOneLine line
 one_line line h = ap has_feed h ∙ printed false (tokens line) (ArePrintableOrBad-tokens line)

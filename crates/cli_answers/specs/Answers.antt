@@ -15,12 +15,12 @@ use Rattle.cli_answers.specs.Words.{refusal_word, kind_word}
 use Rattle.cli_answers.specs.declared.answer.Answer.{Answer}
 use Rattle.cli_answers.specs.declared.answer.Answer.TheVariants.{Entered, Glanced, Refused, Wrong}
 
--- the session that a request names, or null
+-- the session that a request names, or `null`
 abbrev pub session_data : Option ℕ → Data
 session_data None = null
 session_data (Some session) = number (unsigned session)
 
--- the object of a call that was made: how many calls its session had made before it, and what it was answered, by this key
+-- the object of a call that was made: the number of calls that its session had made before, and the reply, under this key
 abbrev pub entry_data : Data → Option ℕ → ℕ → List ℕ → Data → Data
 entry_data id session before key reply =
     object (member (codes "id") id (member (codes "number") (number (unsigned before)) (member key reply (member (codes "session") (session_data session) no_members))))
@@ -30,7 +30,7 @@ abbrev pub IsEntryOf : Data → Option ℕ → ℕ → Event → Data → Type 0
 IsEntryOf id session before event value =
     (reply : Data) × IsReplyData event reply × (value ≡ entry_data id session before (reply_key event) reply)
 
--- the answer that is published for a name, or null
+-- the answer that is published for a name, or `null`
 abbrev pub IsPublished : Option Outcome → Data → Type 0
 IsPublished None value = value ≡ null
 IsPublished (Some outcome) value = IsOutcomeData outcome value
@@ -45,12 +45,12 @@ abbrev pub fault_data : Data → Option ℕ → List ℕ → Data
 fault_data id session words =
     object (member (codes "fault") (string words) (member (codes "id") id (member (codes "session") (session_data session) no_members)))
 
--- the object of a fault that a text has: its kind, and its place by bytes, by line and by column
+-- the object of a fault that a text has: its kind, and its place in bytes and by line and column
 abbrev pub text_data : Data → Option ℕ → TextFault → Data
 text_data id session fault =
     object (member (codes "at") (number (unsigned fault.at)) (member (codes "column") (number (unsigned fault.position.column)) (member (codes "fault") (string (kind_word fault.kind)) (member (codes "id") id (member (codes "line") (number (unsigned fault.position.line)) (member (codes "session") (session_data session) no_members))))))
 
--- the object of a request that asks for nothing
+-- the object that says what is wrong with a request
 abbrev pub wrong_data : Data → Option ℕ → RequestFault → Data
 wrong_data id session NotJson = fault_data id session (codes "not json")
 wrong_data id session TooLong = fault_data id session (codes "too long")
@@ -60,7 +60,7 @@ wrong_data id session BadName = fault_data id session (codes "bad name")
 wrong_data id session BadText = fault_data id session (codes "bad text")
 wrong_data id session (Text fault) = text_data id session fault
 
--- the object of an answer to the request of this id, which names this session or none
+-- the value is the object of an answer to the request of this id, which names this session or none
 abbrev pub IsAnswerOf : Data → Option ℕ → Answer → Data → Type 0
 IsAnswerOf id session (Entered before event) value = IsEntryOf id session before event value
 IsAnswerOf id session (Glanced found) value =
@@ -68,13 +68,13 @@ IsAnswerOf id session (Glanced found) value =
 IsAnswerOf id session (Refused refusal) value = value ≡ fault_data id session (refusal_word refusal)
 IsAnswerOf id session (Wrong fault) value = value ≡ wrong_data id session fault
 
--- One line of JSON has this value. It is the value's compact text where this has no float, and it reads as the value where this nests no
--- deeper than what is read.
+-- A line of JSON is the text of this value. It is the value's compact text if the value has no float. It reads as the value if that is not
+-- nested too deep for the reader.
 pub record IsLineOf (value : Data) (line : List ℕ) : Type 0 where
   pub exact : has_float value ≡ false → line ≡ compact_text value
   pub one_line : IsOneLine line
   pub read_back : depth value ≤ max_depth → read line ≡ Some value
 
--- the line, without its line feed, of an answer
+-- the line of an answer, without its line feed
 abbrev pub IsAnswerLine : Data → Option ℕ → Answer → List ℕ → Type 0
 IsAnswerLine id session answer line = (value : Data) × IsAnswerOf id session answer value × IsLineOf value line

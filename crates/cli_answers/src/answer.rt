@@ -6,9 +6,9 @@ use cli_requests::RequestFault;
 use std::alloc::Global;
 use std::sync::Arc;
 
-/// The answer to a request: the call that its session made, with the reply, and how many calls the session had made before it; the
-/// answer that is published for a name, or that there is none; why the session refused the call; or what is wrong with the
-/// request.
+/// The answer to a request. `Entered` has the call with its reply, and the number of calls that the session had made before. `Glanced` has
+/// the answer that is published for a name, if there is one. `Refused` says why the session made no call, and `Wrong` what is wrong with
+/// the request.
 pub enum Answer {
     Entered { number: usize, event: Event },
     Glanced(Option<Arc<Outcome, Global>>),

@@ -11,7 +11,7 @@ use cli_requests::Id;
 use serde_json::Value;
 use std::alloc::{AllocError, Global};
 
-/// Returns the value of a call with its reply.
+/// Returns the object of a call with its reply.
 pub(crate) fn entry_value(
     alloc: Global,
     id: &Id,

@@ -13,7 +13,7 @@ use cli_requests::{Id, RequestFault, TextFault};
 use serde_json::Value;
 use std::alloc::{AllocError, Global};
 
-/// Returns the value of a fault in these words.
+/// Returns the object of a fault in these words.
 fn fault_value(
     alloc: Global,
     id: &Id,
@@ -27,7 +27,7 @@ fn fault_value(
     Ok(Value::Object(members))
 }
 
-/// Returns the value of a fault that a text has.
+/// Returns the object of a fault that a text has, with its place.
 fn text_value(
     alloc: Global,
     id: &Id,
@@ -44,7 +44,7 @@ fn text_value(
     Ok(Value::Object(members))
 }
 
-/// Returns the value of a refusal.
+/// Returns the object of a refusal.
 pub(crate) fn refusal_value(
     alloc: Global,
     id: &Id,
@@ -56,7 +56,7 @@ pub(crate) fn refusal_value(
     fault_value(alloc, id, session, refusal_name(refusal))
 }
 
-/// Returns the value of what is wrong with a request.
+/// Returns the object that says what is wrong with a request.
 pub(crate) fn wrong_value(
     alloc: Global,
     id: &Id,

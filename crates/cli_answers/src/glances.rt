@@ -14,7 +14,7 @@ use serde_json::{Value, put};
 use std::alloc::{AllocError, Global};
 use std::sync::Arc;
 
-/// Returns the value of the answer that is published for a name, or `null`.
+/// Returns the object of the answer that is published for a name, or `null` if there is none.
 fn published_value(
     alloc: Global,
     published: &Option<Arc<Outcome, Global>>,
@@ -27,7 +27,7 @@ fn published_value(
     }
 }
 
-/// Returns the value of a glance that has this value as its outcome.
+/// Returns the object of a glance with this value as its outcome.
 fn glance_object(
     alloc: Global,
     id: &Id,
@@ -41,7 +41,7 @@ fn glance_object(
     Ok(Value::Object(members))
 }
 
-/// Returns the value of a glance.
+/// Returns the object of a glance.
 pub(crate) fn glance_value(
     alloc: Global,
     id: &Id,

@@ -12,7 +12,7 @@ use cli_requests::Id;
 use serde_json::Value;
 use std::alloc::{AllocError, Global};
 
-/// Returns the value of an answer.
+/// Returns the object of an answer.
 fn answer_value(
     alloc: Global,
     id: &Id,
@@ -29,7 +29,7 @@ fn answer_value(
     }
 }
 
-/// Returns the line of a value.
+/// Returns the one line of a value.
 #[tactic(auto, using(crate::proofs::OneLine::one_line))]
 fn line_of(alloc: Global, value: &Value) -> Result<String, AllocError>
     ensures { IfOk result (λ line. IsLineOf (data_of value.now) (string_bytes line)) }
@@ -40,10 +40,9 @@ fn line_of(alloc: Global, value: &Value) -> Result<String, AllocError>
     }
 }
 
-/// Returns the line, without its line feed, that answers the request of this id, which names this session or none: one object of
-/// JSON, compact, its keys in byte order, with the id as it was sent. It has no line feed inside. Where the id has no float, the
-/// bytes are exactly those of the object; a float in the id is written with other digits if these read as the float that it
-/// was. Returns `AllocError` only if memory was refused. (RFC 8259 for the text of JSON.)
+/// Returns the line that answers the request of this id, without its line feed. It is one object of JSON, compact, its keys in byte order,
+/// with the id as it was sent. `session` is the session that the request names, if any. If the id has no float, the bytes are exactly those
+/// of the object; a float in the id may have other digits, which read as the same float. (RFC 8259 for the text of JSON.)
 pub fn answer_line(
     alloc: Global,
     id: &Id,

@@ -9,7 +9,7 @@ use cli_requests::Id;
 use serde_json::{Map, Value, put};
 use std::alloc::{AllocError, Global};
 
-/// Returns the value of a session.
+/// Returns the number of a session, or `null` for none.
 fn session_value(session: Option<u8>) -> Value
     ensures { data_of result ≡ session_data session }
 {

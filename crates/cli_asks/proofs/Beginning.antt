@@ -1,11 +1,10 @@
 -- Asks that are begun one after another.
 use Rattle.std.proofs.Common.{◌≡◌, List, [], ◌∷◌, ◌++◌, sym, ap, ◌∙◌, append_assoc}
 use Rattle.bc_names.specs.Names.{NameParts}
-use Rattle.bc_calls.proofs.Beginnings.{starts_again}
 use Rattle.bc_share.specs.Sessions.{SessionView, IsSame, Stays}
-use Rattle.bc_share.proofs.Noting.{same_session}
+use Rattle.bc_share.proofs.Noting.{same_session, same_then_stays}
 
--- of all names those that are not left have begun, and it is the same session
+-- of all names, those that are not left are begun, and the session is the same
 pub record HasBegun (all left begun : List NameParts) (old new : SessionView) : Type 0 where
   pub cut : all ≡ begun ++ left
   pub kept : IsSame old new
@@ -16,15 +15,7 @@ begun_none all left begun s is none = record {
   kept = same_session s;
 }
 
-same_then_stays : (old mid new : SessionView) → IsSame old mid → Stays mid new → IsSame old new
-same_then_stays old mid new first second = record {
-  tag = second.tag ∙ first.tag;
-  number = second.number ∙ first.number;
-  own = second.own ∙ first.own;
-  later = starts_again new.seen mid.seen old.seen second.later first.later;
-}
-
--- one name more
+-- one more name
 pub begun_kept : (all left begun : List NameParts) (old mid new : SessionView) → HasBegun all left begun old mid → Stays mid new → IsSame old new
 begun_kept all left begun old mid new h stays = same_then_stays old mid new h.kept stays
 

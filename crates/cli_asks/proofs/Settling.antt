@@ -4,7 +4,7 @@ use Rattle.std.specs.Prelude.{IfOk, OnErr}
 use Rattle.bc_calls.specs.declared.call.Event.{Event}
 use Rattle.bc_share.specs.Sessions.{SessionView, IsAnswered, IsSame, Stays}
 
--- a call whose event is this
+-- a call with this event
 pub told_as : {T E : Type 0} (r : Result T E) (event event' : T → Event) (old new : SessionView) → ((t : T) → event t ≡ event' t)
     → IfOk r (λ t. IsAnswered (event t) old new) → IfOk r (λ t. IsAnswered (event' t) old new)
 told_as (Ok t) event event' old new same told = subst (λ (e : Event). IsAnswered e old new) (same t) told

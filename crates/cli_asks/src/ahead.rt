@@ -1,4 +1,4 @@
-//! Asks of several names, worked on side by side before they are settled.
+//! Asks of several names, worked on in threads before they are settled.
 ghost use Rattle.std.specs.Prelude.{◌≡◌, IfOk};
 ghost use Rattle.bc_share.specs.Sessions.{IsSame};
 
@@ -12,7 +12,7 @@ use std::collections::BTreeSet;
 use std::thread;
 use std::thread::Threads;
 
-/// Begins an Ask of each name in a session, in the order of the names.
+/// Begins an ask of each name in a session, in the order of the names.
 fn begin_each<N: Ending>(
     alloc: Global,
     session: &mut Session<N>,
@@ -28,7 +28,7 @@ fn begin_each<N: Ending>(
     Ok(asks)
 }
 
-/// Works on each of these Asks, in so many threads at most.
+/// Works on each of these asks, in at most `threads` threads.
 fn work_each<R: Threads + Sync>(
     rt: &R,
     alloc: Global,
@@ -49,12 +49,11 @@ fn work_each<R: Threads + Sync>(
     );
 }
 
-/// Begins an Ask of each name in a session and works on all of them, side by side. Returns an Ask for each name, in the order of the names, which
-/// is still to be settled. None is a call yet: the session's own list stays as it is. There are so many threads at most, one at least, and fewer
-/// if no more can be made. They hold no lock meanwhile.
+/// Begins an ask of each name in a session and works on all of them in threads. Returns the pending asks, in the order of the names; none
+/// is a call yet. There are at most `threads` threads, at least one, and fewer if no more can be made. They hold no lock meanwhile.
 ///
-/// `AllocError` only if there is no room for the list of Asks. Where memory is refused to one of them, `PendingAsk::settle` reports it for that
-/// one, so that those before it can be answered.
+/// Returns `AllocError` only if there is no room for the list of asks. An ask that is out of memory is reported by its
+/// `PendingAsk::settle`, so that those before it can be answered.
 pub fn work_ahead<R: Threads + Sync, N: Ending>(
     rt: &R,
     alloc: Global,

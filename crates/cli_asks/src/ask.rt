@@ -1,4 +1,4 @@
-//! An Ask on its way: begun, worked on, and settled.
+//! A pending ask: begun, worked on, and settled.
 ghost use Rattle.std.specs.Prelude.{◌≡◌, IfOk, OnErr};
 ghost use Rattle.std.specs.Arc.{arc_value};
 ghost use Rattle.bc_calls.specs.declared.call.Event.TheVariants as events;
@@ -16,18 +16,18 @@ use std::marker::Model;
 use std::mem;
 use std::sync::{Arc, Wait};
 
-/// How far an Ask is.
+/// How far an ask is.
 #[derive(Drop)]
 pub(crate) enum Stage {
     /// It has begun.
     Begun(Begun),
     /// It was worked on.
     Worked(Work),
-    /// Memory was refused, and it is not made.
+    /// It is out of memory, and cannot be made.
     Refused,
 }
 
-/// Works on what was begun. It is refused if memory is, or if a provider says that memory is.
+/// Returns the stage after the work on what was begun. It is `Refused` if memory runs out, as a provider may report too.
 fn worked(alloc: Global, providers: &Providers, begun: Begun) -> Stage
     ensures { IsStageOf begun.root result }
 {
@@ -37,8 +37,8 @@ fn worked(alloc: Global, providers: &Providers, begun: Begun) -> Stage
     }
 }
 
-/// An Ask of a name that is still to be settled, whether it was worked on or not. Contracts see the name. The type keeps that what has begun, and
-/// the work on it, are that name's.
+/// An ask of a name that was begun and is not settled yet, whether it was worked on or not. Contracts see the name. What was begun, and the
+/// work on it, are always of that name.
 pub struct PendingAsk {
     name: Name,
     stage: Stage,
@@ -62,8 +62,8 @@ impl Model for PendingAsk {
 }
 
 impl PendingAsk {
-    /// Begins an Ask of a name in a session. It is no call yet: the session's own list stays as it is. It waits for nobody. Where memory or the
-    /// reading is refused, `settle` reports it.
+    /// Begins an ask of a name in a session. It is no call yet: the session's own list stays as it is. It waits for nobody. If it is out of
+    /// memory or the session refuses the reading, `settle` reports that.
     pub fn begin<N: Ending>(session: &mut Session<N>, name: &Name) -> PendingAsk
         ensures name { result ≡ name.now }
         ensures kept { Stays session.old session.new }
@@ -82,7 +82,7 @@ impl PendingAsk {
         self.name
     }
 
-    /// Returns this Ask with the work on it done, if it has begun.
+    /// Returns this ask after the work on it, if it was begun.
     fn into_worked(self, alloc: Global, providers: &Providers) -> PendingAsk
         ensures { result ≡ self }
     {
@@ -95,8 +95,8 @@ impl PendingAsk {
         PendingAsk { name, stage }
     }
 
-    /// Works on the Ask, if it has begun and was not worked on yet. It holds no lock and waits for nobody. Where memory is refused, or a
-    /// provider says that it is, `settle` reports it.
+    /// Works on the ask if that was begun and is not done yet. It holds no lock and waits for nobody. If it is out of memory, as a provider
+    /// may report too, `settle` reports that.
     pub fn work(&mut self, alloc: Global, providers: &Providers)
         ensures { self.new ≡ self.old }
     {
@@ -106,7 +106,8 @@ impl PendingAsk {
         *self = pending.into_worked(alloc, providers);
     }
 
-    /// Returns the work on the Ask, which is done now if it was not done yet. `AllocError` if memory is refused, or was.
+    /// Returns the work on the ask, which is done now if it was not done before. Returns `AllocError` if the ask is out of memory, now or
+    /// before.
     fn into_work(self, alloc: Global, providers: &Providers) -> Result<Work, AllocError>
         ensures { IfOk result (λ work. work.snapshot.root ≡ self) }
     {
@@ -118,10 +119,11 @@ impl PendingAsk {
         }
     }
 
-    /// Settles the Ask in a session, and returns the outcome of its name by what is stored now, as `Session::settle` does (its errors by RFC 2094,
-    /// "Borrow checker phase 2" and "Named lifetimes"). This is the call; before it none was made.
+    /// Settles the ask in a session, and returns the outcome of its name by what is stored now, as `Session::settle` does (its errors by
+    /// RFC 2094, "Borrow checker phase 2" and "Named lifetimes"). This is the call; before it none was made.
     ///
-    /// Refused as `Session::settle` is, and with `NoMemory`, with no call made, if memory was refused when it began or was worked on.
+    /// Fails as `Session::settle` does. Returns `NoMemory` too if the ask was out of memory when it was begun or worked on. No call is made
+    /// then.
     pub fn settle<R: Wait, N: Ending>(
         self,
         rt: &R,

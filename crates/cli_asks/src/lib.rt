@@ -1,5 +1,5 @@
-//! Asks of several names, with the work on them shared by several threads: all are begun in a session, then the threads work on them and hold no
-//! lock, and then each is settled in the session, in order.
+//! Asks of several names, with the work shared by threads. All asks are begun in a session, threads work on them without the lock, and then
+//! each is settled in the session, in order.
 #![tactic(auto)]
 
 mod ahead;

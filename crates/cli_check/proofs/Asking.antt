@@ -1,4 +1,4 @@
--- Names that are gathered in their order.
+-- Names that are gathered in order.
 use Rattle.std.proofs.Common.{◌≡◌, ℕ, ◌<◌, ◌≤◌, ◌+◌, List, [], ◌∷◌, ◌++◌, length, get_or, take, map, Option, Some, None, refl, sym, ap, ◌∙◌, subst, arith, Ordering, Less, Equal, Greater, inl, inr}
 use Rattle.std.specs.List.{All, Contains}
 use Rattle.std.specs.List.Sorted.{IsStrictlySortedBy}
@@ -14,19 +14,19 @@ use Rattle.bc_calls.specs.declared.call.Call.{Call}
 use Rattle.cli_check.specs.Asked.{root_put, AreAsked}
 use Rattle.cli_check.proofs.Members.{Contains-one, Contains-head, Contains-later}
 
--- an ordering with what is known of it
+-- an ordering, with what is known about it
 chosen : {X : Type 0} (P : List X → Type 0) (o : Ordering) (a b c : List X) → P a → (o ≡ Equal → P b) → P c → P (match_ordering o a b c)
 chosen P Less a b c x y z = x
 chosen P Equal a b c x y z = y refl
 chosen P Greater a b c x y z = z
 
--- a name that is put in is there
+-- a name that is inserted is there
 put_in : {X : Type 0} (cmp : X → X → Ordering) → CmpEqualImpliesEq cmp → (k : X) (ks : List X) → Contains (insert_key cmp ks k) k
 put_in cmp exact k [] = Contains-head k []
 put_in cmp exact k (x ∷ ks) =
     chosen (λ xs. Contains xs k) (cmp k x) _ _ _ (Contains-head k (x ∷ ks)) (λ e. subst (λ y. Contains (y ∷ ks) k) (exact k x e) (Contains-head k ks)) (Contains-later x _ k (put_in cmp exact k ks))
 
--- and those that were there stay
+-- names that were there remain
 stays_in : {X : Type 0} (cmp : X → X → Ordering) (k q : X) (ks : List X) → Contains ks q → Contains (insert_key cmp ks k) q
 stays_in cmp k q [] h = absurd (omega (arith, h.1))
 stays_in cmp k q (x ∷ ks) h =
@@ -38,11 +38,11 @@ stays_in cmp k q (x ∷ ks) h =
 same_some : {X : Type 0} (x y : X) → Some x ≡ Some y → x ≡ y
 same_some x y e = cc
 
--- the roots of one call more
+-- the roots of one more call
 roots-snoc : (calls : List Call) (call : Call) (found : Option NameParts) → root_put call ≡ found → map root_put (calls ++ call ∷ []) ≡ map root_put calls ++ found ∷ []
 roots-snoc calls call found is = map-append root_put calls (call ∷ []) ∙ ap (λ (o : Option NameParts). map root_put calls ++ o ∷ []) is
 
--- one root name more
+-- one more root
 added : NamesAreToldApart → (calls : List Call) (call : Call) (name : NameParts) (names new : List NameParts) → AreAsked calls names → root_put call ≡ Some name → new ≡ insert_key name_order names name → IsStrictlySortedBy name_order new → AreAsked (calls ++ call ∷ []) new
 added apart calls call name names new h root is sorted =
     let roots = map root_put calls in

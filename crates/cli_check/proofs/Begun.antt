@@ -1,4 +1,4 @@
--- Names that are asked by a session that has read before.
+-- Names that are asked for by a session that has read before.
 use Rattle.std.proofs.Common.{◌≡◌, ℕ, List, [], Option, map, refl, subst, inl}
 use Rattle.std.specs.Prelude.{true, Result, Ok, Err, IfOk, IfErr}
 use Rattle.bc_names.specs.Names.{NameParts}
@@ -43,7 +43,7 @@ part_none list text old new u same = record {
   last = inl same;
 }
 
--- the Asks that were begun are of these names
+-- the asks that were begun are of these names
 pub asked_ahead : (asks names : List NameParts) (text : Event → List ℕ) (old mid new : SessionView) (u v : Option (List ℕ)) (r : Result ℕ Stop) → asks ≡ names → IsSame old mid
     → IfOk r (λ n. Served (map Ask asks) text n mid new u v) → IfOk r (λ n. Served (map Ask names) text n old new u v)
 asked_ahead asks names text old mid new u v (Ok n) is same h =

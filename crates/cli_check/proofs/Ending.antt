@@ -30,7 +30,7 @@ use Rattle.cli_check.proofs.Members.{Contains-one}
 use Rattle.cli_check.proofs.Shorter.{the_last, legal_shorter}
 use Rattle.cli_check.proofs.Serving.{adds_one, adds_then}
 
--- nothing is told of an Ask
+-- an ask prints nothing on standard error
 told_ask : (e : Event) (name : NameParts) → call_of e ≡ calls_made.Ask name → told e ≡ []
 told_ask (Types types) name is = refl
 told_ask (Put other body reply) name is = absurd cc
@@ -46,7 +46,7 @@ told_asks (name ∷ names) (e ∷ events) ahead h =
     let rest : map call_of events ++ ahead ≡ map calls_made.Ask names = cc in
     ap (λ (text : List ℕ). text ++ flat_map told events) (told_ask e name one) ∙ told_asks names events ahead rest
 
--- nothing is shown of a change
+-- a change prints nothing on standard output
 shown_change : (form : Form) (e : Event) (change : Change) → call_of e ≡ seen change → shown form e ≡ []
 shown_change form (Types types) change is = refl
 shown_change form (Put name body reply) change is = refl
@@ -67,7 +67,7 @@ greatest-append : (a b : List Event) → greatest (a ++ b) ≡ max (greatest a) 
 greatest-append [] b = omega arith
 greatest-append (e ∷ a) b = let more = greatest-append a b in omega (arith, more)
 
--- a session that a database closed with made a legal history
+-- a session with which a database closed made a legal history
 legal_of : (s : SessionView) (h : List Entry) (events : List Event) → IsOneHistory (s ∷ []) h → s.number ≡ 0 → s.own ≡ events → AreLegal events
 legal_of s h events one zero_is own =
     let agrees = one.1 in record {
@@ -88,7 +88,7 @@ legal_begun events s between t h is adds last one = elim last [
   | inr more ↦ (let event : Event = more.0 in let all = adds_then events (event ∷ []) s between t adds (adds_one event between t more.1) in legal_shorter events event (legal_added (events ++ event ∷ []) s t h is all.number all.own one))
 ]
 
--- nothing stands anywhere in an empty history
+-- an empty history is legal
 legal_none : IsLegal []
 legal_none [] e rest is = absurd cc
 legal_none (b ∷ bs) e rest is = absurd cc
@@ -104,7 +104,7 @@ replied_of events s t is adds =
       own = ap (λ (n : ℕ). calls n seen.noted) (sym (adds.number ∙ ap (λ (x : SessionView). x.number) is)) ∙ seen.own ∙ adds.own ∙ ap (λ (x : SessionView). x.own ++ events) is;
     }
 
--- all changes and all Asks
+-- all changes and all asks
 pub served_all : (form : Form) (list : List Change) (names : List NameParts) (m n : ℕ) (s0 s1 s2 : SessionView) (o0 o1 e0 e1 : Option (List ℕ)) → Served (map seen list) told m s0 s1 e0 e1 → Served (map calls_made.Ask names) (shown form) n s1 s2 o0 o1 → ServedAll form (map seen list) names (max m n) s0 s2 o0 o1 e0 e1
 served_all form list names m n s0 s1 s2 o0 o1 e0 e1 p a =
     let silent : flat_map told p.events ≡ flat_map told (p.events ++ a.events) =
@@ -135,7 +135,7 @@ first_changes form list names s0 s1 o e0 e1 h =
       errors = h.served.printed;
     }
 
--- all changes and some of the Asks
+-- all changes and some of the asks
 pub first_asks : (form : Form) (list : List Change) (names : List NameParts) (m : ℕ) (s0 s1 s2 : SessionView) (o0 o1 e0 e1 : Option (List ℕ)) → Served (map seen list) told m s0 s1 e0 e1 → ServedPart (map calls_made.Ask names) (shown form) s1 s2 o0 o1 → ServedFirst form (map seen list) names s0 s2 o0 o1 e0 e1
 first_asks form list names m s0 s1 s2 o0 o1 e0 e1 p h =
     let asks : List Event = h.served.events in
@@ -163,7 +163,7 @@ closed_with opened left handed s t h new popped pushed one =
     let last : (left ≡ []) × (s ≡ new_session 0 0) = the_last _ _ _ (sym new ∙ popped) in
     (last.1, subst (λ (ss : List SessionView). IsOneHistory ss h) (pushed ∙ ap (λ (ss : List SessionView). ss ++ t ∷ []) last.0) one)
 
--- the database closed well behind the calls that a new session made
+-- the database closed well after the calls that a new session made
 pub runs_of : (form : Form) (first : List Call) (names : List NameParts) (s t : SessionView) (o o' e e' : Option (List ℕ)) (h : List Entry) (r : Result ℕ Stop) → s ≡ new_session 0 0 → length first + length names ≤ MOST_ENTRIES → IsOneHistory (t ∷ []) h → IfOk r (λ exit. ServedAll form first names exit s t o o' e e') → IfOk r (λ exit. Runs form first names exit o o' e e')
 runs_of form first names s t o o' e e' h (Ok exit) is few one all = record {
   events = all.events;
@@ -186,7 +186,7 @@ begins_of form first names s t o o' e e' h is one some = record {
   errors = some.errors;
 }
 
--- what was printed of calls that a new session answered
+-- what was printed about calls that a new session answered
 pub prints_of : (list : List Call) (text : Event → List ℕ) (s : SessionView) (u v : Option (List ℕ)) → s ≡ new_session 0 0 → ServedThen list text s u v → Prints list text u v
 prints_of list text s u v is h = record {
   events = h.served.events;
@@ -195,7 +195,7 @@ prints_of list text s u v is h = record {
   printed = h.served.printed;
 }
 
--- the calls up to one of which a line was not told
+-- the calls up to one whose line was not printed
 pub owed_of : (P Q : List Event → Type 0) (list : List Call) → ((events : List Event) → P events → Q events) → OwesLast P list → OwesLast Q list
 owed_of P Q list f h = record { events = h.events; last = h.last; ahead = h.ahead; made = h.made; holds = f (h.events ++ h.last ∷ []) h.holds; owed = h.owed }
 
@@ -223,7 +223,7 @@ shown_first form first names s t o o' e e' is some = record {
   errors = some.errors;
 }
 
--- where standard output has not failed: what was printed, or that a line was not told
+-- what was printed, or a line that was not, if standard output has not failed
 pub shown_of : (form : Form) (first : List Call) (names : List NameParts) (s t : SessionView) (o o' e e' : Option (List ℕ)) (r : Result ℕ Stop) → s ≡ new_session 0 0
     → IfOk r (λ exit. ServedAll form first names exit s t o o' e e')
     → IfErr r (λ stop. is_refused stop ≡ true → ServedFirst form first names s t o o' e e')
@@ -255,7 +255,7 @@ begins_none form first names o e = record {
   errors = nothing_added e;
 }
 
--- a fact about what was read is one about the known bytes
+-- a fact about what was read is a fact about the known bytes
 pub known_is : (known : Option (List ℕ)) (file : List ℕ) (P : List ℕ → Type 0) → IfSome known (λ bytes. file ≡ bytes) → P file → IfSome known P
 known_is None file P e p = tt
 known_is (Some bytes) file P e p = subst P e p

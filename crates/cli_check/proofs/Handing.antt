@@ -1,4 +1,4 @@
--- Reports that are handed on.
+-- Reports that are flushed.
 use Rattle.std.proofs.Common.{◌≡◌, ℕ, List, Option, sym, subst, inl, inr}
 use Rattle.std.specs.Prelude.{◌⊎◌, true, Result, Ok, Err, IfOk, IfErr}
 use Rattle.std.specs.Io.KnownBytes.{Keeps}
@@ -11,7 +11,7 @@ use Rattle.cli_file.specs.Stops.{is_refused}
 use Rattle.cli_check.specs.Served.{Served, ServedPart}
 use Rattle.cli_check.proofs.Serving.{refused_map, served_kept}
 
--- what the Asks came to, or a writer that failed
+-- what the asks returned, or the failure of a writer
 abbrev pub Handed : Result ℕ Stop → Result ℕ Stop → Type 0
 Handed asked result = (result ≡ asked) ⊎ (result ≡ Err CannotWrite)
 

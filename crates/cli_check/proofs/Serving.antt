@@ -66,7 +66,7 @@ served_none text s u = record {
   status = refl;
 }
 
--- one call more
+-- one more call
 pub served_more : (list : List Call) (call : Call) (text : Event → List ℕ) (m n : ℕ) (old mid new : SessionView) (u v w : Option (List ℕ)) → Served list text m old mid u v → Serves call text n mid new v w → Served (list ++ call ∷ []) text (max m n) old new u w
 served_more list call text m n old mid new u v w h k =
     let event : Event = k.event in
@@ -80,7 +80,7 @@ served_more list call text m n old mid new u v w h k =
       status = let more = greatest-snoc h.events event in omega (arith, more, h.status, k.status);
     }
 
--- of all items those that are not left have their calls made
+-- of all items, those that are not left have made their calls
 pub record Making {X : Type 0} (call_at : X → Call) (all left : List X) (text : Event → List ℕ) (exit : ℕ) (old new : SessionView) (before after : Option (List ℕ)) : Type 0 where
   pub front : List X
   pub cut : all ≡ front ++ left
@@ -105,7 +105,7 @@ served_kept list text exit old new u v w h k = record {
   status = h.status;
 }
 
--- the calls that were made where one more was refused
+-- the calls that were made before one was refused
 pub making_part : {X : Type 0} (call_at : X → Call) (all left : List X) (text : Event → List ℕ) (exit : ℕ) (old mid new : SessionView) (u v w : Option (List ℕ)) → Making call_at all left text exit old mid u v → IsAtMostOneMore mid new → Keeps v w → ServedPart (map call_at all) text old new u w
 making_part {X} call_at all left text exit old mid new u v w h last k = record {
   front = map call_at h.front;
@@ -117,7 +117,7 @@ making_part {X} call_at all left text exit old mid new u v w h last k = record {
   last = last;
 }
 
--- the calls that were made, up to one of which a line was not told
+-- the calls that were made, up to one whose line was not printed
 pub owes_last : {X : Type 0} (call_at : X → Call) (all left rest : List X) (x : X) (text : Event → List ℕ) (exit : ℕ) (old mid new : SessionView) (u v : Option (List ℕ)) → Making call_at all left text exit old mid u v → left ≡ x ∷ rest → Owes (call_at x) mid new → OwesLast (λ events. Adds events old new) (map call_at all)
 owes_last {X} call_at all left rest x text exit old mid new u v h next owes =
     let event : Event = owes.0 in
@@ -140,7 +140,7 @@ pub same_stop : {A B : Type 0} (r : Result A Stop) (x n : Stop) → IsErrAnd r (
 same_stop (Ok a) x n h e = absurd h
 same_stop (Err y) x n h e = cc
 
--- and what holds where that was refused holds of it
+-- what holds of a stop that is of a refused call, and is passed on
 pub same_refused : {A P : Type 0} (r : Result A Stop) (x : Stop) → IsErrAnd r (λ y. y ≡ x) → (is_refused x ≡ true → P) → IfErr r (λ stop. is_refused stop ≡ true → P)
 same_refused (Ok a) x h p = tt
 same_refused (Err y) x h p = λ e. p (sym (ap is_refused h) ∙ e)

@@ -10,7 +10,7 @@ use Rattle.bc_calls.specs.Calls.{IsLegal, calls}
 use Rattle.bc_calls.proofs.Beginnings.{calls-append}
 use Rattle.cli_check.specs.Run.{AreLegal}
 
--- what is taken from the end of a list of one
+-- what is taken from the end of a list with one item
 pub the_last : {X : Type 0} (x y : X) (rest : List X) → x ∷ [] ≡ rest ++ y ∷ [] → (rest ≡ []) × (y ≡ x)
 the_last x y [] h = (refl, cc)
 the_last x y (z ∷ []) h = absurd cc
@@ -28,7 +28,7 @@ nothing_last : {X : Type 0} (xs : List X) (x : X) → [] ≡ xs ++ x ∷ [] → 
 nothing_last [] x h = absurd cc
 nothing_last (y ∷ xs) x h = absurd cc
 
--- where a list ends
+-- the end of a list
 ends : {X : Type 0} (xs : List X) → (xs ≡ []) ⊎ ((front : List X) × (x : X) × (xs ≡ front ++ x ∷ []))
 ends [] = inl refl
 ends {X} (y ∷ xs) = elim (ends xs) [
@@ -36,7 +36,7 @@ ends {X} (y ∷ xs) = elim (ends xs) [
   | inr some ↦ inr (y ∷ some.0, some.1, ap (λ (l : List X). y ∷ l) some.2)
 ]
 
--- a history without its last entry is as legal
+-- a legal history without its last entry is legal
 legal_before : (h : List Entry) (x : Entry) → IsLegal (h ++ x ∷ []) → IsLegal h
 legal_before h x legal before e rest cut = legal before e (rest ++ x ∷ []) (ap (λ (l : List Entry). l ++ x ∷ []) cut ∙ append_assoc before (e ∷ rest) (x ∷ []))
 
@@ -55,7 +55,7 @@ shorter events event front x h cut =
       own = snoc_same (calls 0 front) events x.event event (ap (λ (l : List Event). calls 0 front ++ l) (sym (one_call x mine)) ∙ sym (calls-append 0 front (x ∷ [])) ∙ ap (calls 0) (sym cut) ∙ h.own);
     }
 
--- the calls of a legal history without the last are those of one
+-- the calls of a legal history without the last are those of a legal history
 pub legal_shorter : (events : List Event) (event : Event) → AreLegal (events ++ event ∷ []) → AreLegal events
 legal_shorter events event h = elim (ends h.history) [
   | inl none ↦ (let never : [] ≡ events ++ event ∷ [] = ap (calls 0) (sym none) ∙ h.own in absurd (nothing_last events event never))

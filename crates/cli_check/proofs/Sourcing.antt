@@ -14,7 +14,7 @@ use Rattle.bc_source.specs.Sources.{SourceParts}
 use Rattle.cli_file.specs.Parts.{Part}
 use Rattle.cli_check.specs.Forms.{suits_kind, does_suit, source_put, sources_of}
 
--- ---- units that suit their names
+-- units that suit their names
 
 none_true : (xs : List ℕ) → xs ≡ [] → (length xs == 0) ≡ true
 none_true [] h = refl
@@ -86,13 +86,13 @@ suit_of body name h =
     let both = and_of (suits_kind body.header.kind name) (length (children_of body) == 0 || nat_lt (length name.segments) 7) h in
     record { kind = kind_of body.header.kind name both.0; room = room_of name body both.1 }
 
--- ---- the texts that are left
+-- the texts that are left
 
 pub none_made : (sections : List Part) → sources_of sections [] ≡ []
 none_made [] = refl
 none_made (section ∷ sections) = refl
 
--- one section more
+-- one more section
 pub one_made : (sources : List SourceParts) (section : Part) (sections : List Part) (call : Call) (made : List Call)
     → sources ++ sources_of (section ∷ sections) (call ∷ made) ≡ (sources ++ source_put section call) ++ sources_of sections made
 one_made sources section sections call made = sym (append_assoc sources (source_put section call) (sources_of sections made))

@@ -1,4 +1,4 @@
--- What is found and left where the command stops.
+-- What is found and left if the command stops.
 use Rattle.std.proofs.Common.{◌≡◌, ◌≤◌, ◌<◌, ◌+◌, ℕ, List, length, Option, Some, None, refl, ap, sym, subst, arith, inl, inr}
 use Rattle.std.specs.Prelude.{◌⊎◌, Bool, Result, Ok, Err, IfOk, OnOk, IfErr, IsErrAnd, IsErrOf, IfSome, true}
 use Rattle.std.specs.Io.KnownBytes.{Appends, Keeps}
@@ -23,7 +23,7 @@ use Rattle.cli_check.specs.Served.{Begins, OwesLast, Prints}
 use Rattle.cli_check.specs.Ends.{HasBegun, HasTold, HasTooManyCalls, HasUntold, IsEnd, Leaves}
 use Rattle.cli_check.proofs.Ending.{known_is}
 
--- the calls of a file, that is one without a fault, were not all made
+-- the calls of a file without a fault were not all made
 pub record Broken (line : CheckParts) (r : Result ℕ Stop) (file : List ℕ) (made : List Call) (names : List NameParts) (o o' e e' : Option (List ℕ)) : Type 0 where
   pub short : length file ≤ most_bytes
   pub good : MakeAll (sections_of file) made
@@ -44,7 +44,7 @@ few_of r x f either = elim either [
   | inr few ↦ inr (f few)
 ]
 
--- but for too many calls there are not too many
+-- unless there are too many calls, there are not too many
 few_where : {P Q : Type 0} → (Q → ⊥) → Q ⊎ P → P
 few_where other either = elim either [
   | inl many ↦ absurd (other many)
@@ -98,7 +98,7 @@ unread_file Good line HistoryFull known o e file whole short bad = absurd bad
 unread_file Good line Foreign known o e file whole short bad = absurd bad
 unread_file Good line Audit known o e file whole short bad = absurd bad
 
--- the file has a fault, or there was no room to read it
+-- the file has a fault, or reading it ran out of memory
 pub unread : {T : Type 0} (Good : T → Type 0) (line : CheckParts) (positions : Bool) (stop : Stop) (r : Result ℕ Stop) (known o e : Option (List ℕ)) (file bytes : List ℕ)
     → IsErrAnd r (λ y. y ≡ stop) → IfSome known (λ all. file ≡ all) → length file ≤ most_bytes → bytes ≡ file → positions ≡ line.positions
     → Answers Good (IsToldFault positions bytes) (Err stop) → IfErr r (λ y. Leaves line y known o o e e)

@@ -1,4 +1,4 @@
--- Names of a file that are asked, and what is printed of them.
+-- Asks for the names of a file, and what is printed about them.
 use Rattle.std.specs.Prelude.{◌≡◌, ℕ, true, Option, List, Result, IfErr, IfOk, map}
 use Rattle.std.specs.Io.KnownBytes.{Keeps}
 use Rattle.bc_names.specs.Names.{NameParts}
@@ -14,7 +14,7 @@ use Rattle.cli_check.specs.Served.{IsAtMostOneMore, Served, ServedPart, Serves}
 abbrev pub AsksOne : Form → NameParts → Result ℕ Stop → SessionView → SessionView → Option (List ℕ) → Option (List ℕ) → Type 0
 AsksOne form name result old new before after = IfOk result (λ status. Serves (calls_made.Ask name) (shown form) status old new before after)
 
--- if a call was refused, no more than this one was made, and nothing was printed
+-- if a call was refused, at most this one was made, and nothing was printed
 abbrev pub RefusesOne : Result ℕ Stop → SessionView → SessionView → Option (List ℕ) → Option (List ℕ) → Type 0
 RefusesOne result old new before after = IfErr result (λ stop. is_refused stop ≡ true → IsAtMostOneMore old new × Keeps before after)
 

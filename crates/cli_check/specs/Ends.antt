@@ -1,4 +1,4 @@
--- How the command ends, and what it leaves where it stops.
+-- How the command ends, and what it leaves if it stops.
 use Rattle.std.specs.Prelude.{◌⊎◌, ℕ, ◌+◌, ◌<◌, ◌≤◌, Option, List, length}
 use Rattle.std.specs.Io.KnownBytes.{Keeps}
 use Rattle.bc_names.specs.Names.{NameParts}
@@ -18,8 +18,7 @@ use Rattle.cli_check.specs.Forms.{form_of}
 use Rattle.cli_check.specs.Run.{told, AreLegal, AreReplied}
 use Rattle.cli_check.specs.Served.{Runs, Begins, OwesLast, Prints}
 
--- each section made its call, each root name under which one put a body was asked, and what belongs to these calls was
--- printed
+-- each section made its call, each root under which one put a body was asked for, and what belongs to these calls was printed
 pub record Checked (line : CheckParts) (file : List ℕ) (exit : ℕ) (out out' err err' : Option (List ℕ)) : Type 0 where
   pub made : List Call
   pub names : List NameParts
@@ -27,7 +26,7 @@ pub record Checked (line : CheckParts) (file : List ℕ) (exit : ℕ) (out out' 
   pub asked : AreAsked made names
   pub runs : Runs (form_of line (sections_of file) made) made names exit out out' err err'
 
--- a file without a fault that makes more calls than a history may have
+-- the file has no fault, and makes more calls than a history may have
 pub record HasTooManyCalls (file : List ℕ) : Type 0 where
   pub made : List Call
   pub names : List NameParts
@@ -35,7 +34,7 @@ pub record HasTooManyCalls (file : List ℕ) : Type 0 where
   pub asked : AreAsked made names
   pub many : MOST_ENTRIES < length made + length names
 
--- a file without a fault, of a beginning of whose calls was printed what belongs to them, and this holds of their replies
+-- the file has no fault, what belongs to a beginning of its calls was printed, and `Holds` holds of these and their replies
 pub record HasBegun (Holds : List Event → Type 0) (line : CheckParts) (file : List ℕ) (out out' err err' : Option (List ℕ)) : Type 0 where
   pub made : List Call
   pub names : List NameParts
@@ -44,7 +43,7 @@ pub record HasBegun (Holds : List Event → Type 0) (line : CheckParts) (file : 
   pub few : length made + length names ≤ MOST_ENTRIES
   pub begins : Begins Holds (form_of line (sections_of file) made) made names out out' err err'
 
--- a file without a fault, of whose sections standard error has what belongs to their calls
+-- the file has no fault, and what belongs to the calls of its sections was printed on standard error
 pub record HasTold (file : List ℕ) (err err' : Option (List ℕ)) : Type 0 where
   pub made : List Call
   pub names : List NameParts
@@ -53,7 +52,8 @@ pub record HasTold (file : List ℕ) (err err' : Option (List ℕ)) : Type 0 whe
   pub few : length made + length names ≤ MOST_ENTRIES
   pub prints : Prints made told err err'
 
--- a file without a fault, of a beginning of whose sections this holds of the replies, the last of which owes standard error a line
+-- the file has no fault, `Holds` holds of a beginning of its calls and their replies, and standard error is owed a line about the last of
+-- these
 pub record HasUntold (Holds : List Event → Type 0) (file : List ℕ) : Type 0 where
   pub made : List Call
   pub names : List NameParts
@@ -62,8 +62,7 @@ pub record HasUntold (Holds : List Event → Type 0) (file : List ℕ) : Type 0 
   pub few : length made + length names ≤ MOST_ENTRIES
   pub untold : OwesLast Holds made
 
--- What the command finds and leaves where it stops, but for the line that says so. What a writer that failed took is
--- not known.
+-- What the command finds if it stops, and what it leaves apart from the line that says why. What a failed writer took is not known.
 abbrev pub Leaves : CheckParts → Stop → Option (List ℕ) → Option (List ℕ) → Option (List ℕ) → Option (List ℕ) → Option (List ℕ) → Type 0
 Leaves line WrongUse known out out' err err' = ⊥
 Leaves line CannotRead known out out' err err' = IsSilent out out' err err'
@@ -76,11 +75,11 @@ Leaves line HistoryFull known out out' err err' = OfFile known (λ file. HasBegu
 Leaves line Foreign known out out' err err' = ⊥
 Leaves line Audit known out out' err err' = OfFile known (λ file. HasBegun AreReplied line file out out' err err') ⊎ (OfFile known (HasUntold AreReplied) × Keeps out out')
 
--- the command on the file that its line names ended with this status: at its end, or where it stopped
+-- the command ended with this status on the file that its line names: at its end, or after a stop
 abbrev pub IsEnd : CheckParts → Option (List ℕ) → ℕ → Option (List ℕ) → Option (List ℕ) → Option (List ℕ) → Option (List ℕ) → Type 0
 IsEnd line known exit out out' err err' = OfFile known (λ file. Checked line file exit out out' err err') ⊎ StopsWith (λ stop told. Leaves line stop known out out' err told) line.file exit err'
 
--- the command on the file that a line of `check` names ended with this status
+-- the command ended with this status on the file that a line of `check` names
 abbrev pub IsEndOf : Line → Option (List ℕ) → ℕ → Option (List ℕ) → Option (List ℕ) → Option (List ℕ) → Option (List ℕ) → Type 0
 IsEndOf (Check line) known exit out out' err err' = IsEnd line known exit out out' err err'
 IsEndOf (Run line) known exit out out' err err' = ⊥

@@ -1,4 +1,4 @@
--- In which form the answers of a file are printed.
+-- The forms in which the answers of a file are printed.
 use Rattle.std.specs.Prelude.{ℕ, Bool, true, false, not, ◌&&◌, ◌||◌, ◌==◌, nat_lt, List, [], ◌∷◌, ◌++◌, length, if◌then◌else◌}
 use Rattle.bc_syntax.specs.declared.syntax.Body.{Body}
 use Rattle.bc_syntax.specs.declared.syntax.UnitKind.{UnitKind}
@@ -22,7 +22,7 @@ abbrev pub suits_kind : UnitKind → NameParts → Bool
 suits_kind Function name = length name.segments == 0
 suits_kind Closure name = not (length name.segments == 0)
 
--- a unit may be held at this name: one that may not is refused when it is put, whatever is held
+-- a unit suits this name; a put of one that does not stores nothing, whatever is stored
 abbrev pub does_suit : Body → NameParts → Bool
 does_suit body name = suits_kind body.header.kind name && (length (children_of body) == 0 || nat_lt (length name.segments) 7)
 
@@ -34,12 +34,12 @@ source_put section (Remove name) = []
 source_put section (Ask name) = []
 source_put section EveryRoot = []
 
--- the texts of sections that make these calls, one each
+-- the texts of sections that make these calls, one each, if their units suit their names
 abbrev pub sources_of : List Part → List Call → List SourceParts
 sources_of [] made = []
 sources_of (section ∷ sections) [] = []
 sources_of (section ∷ sections) (call ∷ made) = source_put section call ++ sources_of sections made
 
--- what the line asks for: JSON, text with sources, or else text alone
+-- the form for which the line asks: JSON, text with sources, or text alone
 abbrev pub form_of : CheckParts → List Part → List Call → Form
 form_of line sections made = if line.json then Json else if line.source then Sourced (sources_of sections made) else Text

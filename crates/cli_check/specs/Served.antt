@@ -1,4 +1,4 @@
--- Calls that a session answered, and what was printed of them.
+-- Calls that a session answered, and what was printed about them.
 use Rattle.std.specs.Prelude.{◌≡◌, ◌≢◌, ◌⊎◌, ℕ, ◌+◌, ◌≤◌, Option, List, [], ◌∷◌, ◌++◌, map, flat_map, length}
 use Rattle.std.specs.Io.KnownBytes.{Appends}
 use Rattle.bc_names.specs.Names.{NameParts}
@@ -12,7 +12,7 @@ use Rattle.cli_file.specs.Statuses.{event_status, greatest}
 use Rattle.cli_check.specs.declared.form.Form.{Form}
 use Rattle.cli_check.specs.Run.{calls_of, shown, told, AreLegal, AreReplied}
 
--- one call was answered and printed; its status
+-- one call was answered and printed, and this is its status
 pub record Serves (call : Call) (text : Event → List ℕ) (exit : ℕ) (old new : SessionView) (before after : Option (List ℕ)) : Type 0 where
   pub event : Event
   pub made : call_of event ≡ call
@@ -31,18 +31,18 @@ pub record HasSeenItsOwn (session : SessionView) : Type 0 where
   pub legal : IsLegal noted
   pub own : calls session.number noted ≡ session.own
 
--- the session's own list is longer by these calls, and it is the same session; it has still seen its own
+-- the same session has these calls after those of its own list; if it had seen its own calls, it has seen these too
 pub record Adds (events : List Event) (old new : SessionView) : Type 0 where
   pub tag : new.tag ≡ old.tag
   pub number : new.number ≡ old.number
   pub own : new.own ≡ old.own ++ events
   pub seen : HasSeenItsOwn old → HasSeenItsOwn new
 
--- no call more was answered, or one
+-- no call was answered, or one
 abbrev pub IsAtMostOneMore : SessionView → SessionView → Type 0
 IsAtMostOneMore old new = IsSame old new ⊎ ((event : Event) × IsAnswered event old new)
 
--- some calls were answered and printed, in this order; the greatest of their statuses
+-- some calls were answered and printed in this order, and this is the greatest of their statuses
 pub record Served (list : List Call) (text : Event → List ℕ) (exit : ℕ) (old new : SessionView) (before after : Option (List ℕ)) : Type 0 where
   pub events : List Event
   pub made : map call_of events ≡ list
@@ -50,7 +50,7 @@ pub record Served (list : List Call) (text : Event → List ℕ) (exit : ℕ) (o
   pub printed : Appends before after (flat_map text events)
   pub status : exit ≡ greatest events
 
--- a beginning of some calls was answered and printed, and at most one call more was answered
+-- a beginning of some calls was answered and printed, and at most one more call was answered
 pub record ServedPart (list : List Call) (text : Event → List ℕ) (old new : SessionView) (before after : Option (List ℕ)) : Type 0 where
   pub front : List Call
   pub ahead : List Call
@@ -60,14 +60,14 @@ pub record ServedPart (list : List Call) (text : Event → List ℕ) (old new : 
   pub served : Served front text exit old between before after
   pub last : IsAtMostOneMore between new
 
--- some calls were answered as a legal history has them, and of each was printed what belongs to it
+-- some calls were answered as a legal history has them, and what belongs to each was printed
 pub record Prints (list : List Call) (text : Event → List ℕ) (before after : Option (List ℕ)) : Type 0 where
   pub events : List Event
   pub made : map call_of events ≡ list
   pub replied : AreReplied events
   pub printed : Appends before after (flat_map text events)
 
--- some calls begin with these, of whose replies this holds, and standard error is owed a line about the last of these
+-- `Holds` holds of a beginning of some calls and their replies, and standard error is owed a line about the last of these
 pub record OwesLast (Holds : List Event → Type 0) (list : List Call) : Type 0 where
   pub events : List Event
   pub last : Event
@@ -82,7 +82,7 @@ pub record ServedThen (list : List Call) (text : Event → List ℕ) (old : Sess
   pub between : SessionView
   pub served : Served list text exit old between before after
 
--- the calls of the sections were answered and the names asked; of each call was printed what belongs to it, and the status is the
+-- the calls of the sections were answered and the names were asked for, what belongs to each call was printed, and the status is the
 -- greatest of theirs
 pub record ServedAll (form : Form) (first : List Call) (names : List NameParts) (exit : ℕ) (old new : SessionView) (out out' err err' : Option (List ℕ)) : Type 0 where
   pub events : List Event
@@ -92,7 +92,7 @@ pub record ServedAll (form : Form) (first : List Call) (names : List NameParts) 
   pub errors : Appends err err' (flat_map told events)
   pub status : exit ≡ greatest events
 
--- a beginning of these calls was answered and printed, and at most one call more was answered
+-- a beginning of these calls was answered and printed, and at most one more call was answered
 pub record ServedFirst (form : Form) (first : List Call) (names : List NameParts) (old new : SessionView) (out out' err err' : Option (List ℕ)) : Type 0 where
   pub events : List Event
   pub ahead : List Call
@@ -103,8 +103,8 @@ pub record ServedFirst (form : Form) (first : List Call) (names : List NameParts
   pub output : Appends out out' (flat_map (shown form) events)
   pub errors : Appends err err' (flat_map told events)
 
--- The calls of the sections were made and the names asked, at most as many as a history may have, as one session's legal history; of
--- each call was printed what belongs to it, and the status is the greatest of theirs.
+-- The calls of the sections were made and the names were asked for, at most as many as a history may have, as the legal history of one
+-- session. What belongs to each call was printed, and the status is the greatest of theirs.
 pub record Runs (form : Form) (first : List Call) (names : List NameParts) (exit : ℕ) (out out' err err' : Option (List ℕ)) : Type 0 where
   pub events : List Event
   pub made : map call_of events ≡ calls_of first names
@@ -114,8 +114,7 @@ pub record Runs (form : Form) (first : List Call) (names : List NameParts) (exit
   pub errors : Appends err err' (flat_map told events)
   pub status : exit ≡ greatest events
 
--- The calls of the sections were made and the names asked, as above; of a beginning of the calls alone was printed what belongs to it,
--- and this holds of their replies.
+-- what belongs to a beginning of the calls was printed, and `Holds` holds of these and their replies
 pub record Begins (Holds : List Event → Type 0) (form : Form) (first : List Call) (names : List NameParts) (out out' err err' : Option (List ℕ)) : Type 0 where
   pub events : List Event
   pub ahead : List Call

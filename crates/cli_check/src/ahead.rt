@@ -1,4 +1,4 @@
-//! Names that are asked with the work on them side by side.
+//! Asks whose work threads share.
 ghost use Rattle.std.specs.Prelude.{◌≡◌, ◌≤◌, ◌⊎◌, true, IfOk, IfErr, IfSome, IsErrOf, map};
 ghost use Rattle.bc_calls.specs.declared.call.Call.TheVariants as calls;
 ghost use Rattle.bc_share.specs.Sessions.{Makes};
@@ -18,7 +18,8 @@ use std::sync::Wait;
 use std::thread;
 use std::thread::Threads;
 
-/// Returns how many threads share the work: as many as are asked for, or else as many as there are processors, or one if the runtime cannot say.
+/// Returns the number of threads that share the work: `jobs` if it is given, otherwise one for each processor, or one if the runtime does
+/// not know.
 pub(crate) fn find_threads<R: Threads>(rt: &R, jobs: Option<u8>) -> usize
     ensures { IfSome jobs (λ count. result ≡ count) }
 {
@@ -31,7 +32,7 @@ pub(crate) fn find_threads<R: Threads>(rt: &R, jobs: Option<u8>) -> usize
     }
 }
 
-/// Settles an Ask, and prints its report. Returns the status of the outcome.
+/// Settles an ask and prints its report. Returns the status of the outcome.
 fn settle_ask<R: AllocGlobal + Wait, N: Ending, O: Write>(
     rt: &R,
     session: &mut Session<N>,
@@ -52,7 +53,7 @@ fn settle_ask<R: AllocGlobal + Wait, N: Ending, O: Write>(
     Ok(outcome_status(&outcome))
 }
 
-/// Settles the Asks in order, and prints their reports. Returns the greatest status of the outcomes.
+/// Settles the asks in order and prints their reports. Returns the greatest status of the outcomes.
 fn settle_asks<R: AllocGlobal + Wait, N: Ending, O: Write>(
     rt: &R,
     session: &mut Session<N>,
@@ -76,9 +77,8 @@ fn settle_asks<R: AllocGlobal + Wait, N: Ending, O: Write>(
     Ok(status)
 }
 
-/// Asks the names in order, and prints their reports: all are begun first, then so many threads share the work on them, and then each is settled
-/// and printed. Where memory is refused to one of them, those before it are settled and printed all the same. Returns the greatest status of the
-/// outcomes.
+/// Asks for the names in order and prints their reports: all asks are begun, then threads share the work on them, then each is settled and
+/// printed. If one is out of memory, those before it are settled and printed all the same. Returns the greatest status of the outcomes.
 pub(crate) fn ask_ahead<R: AllocGlobal + Threads + Wait + Sync, N: Ending, O: Write>(
     rt: &R,
     session: &mut Session<N>,

@@ -1,4 +1,4 @@
-//! The names that are asked.
+//! The names for which a file asks.
 ghost use Rattle.std.specs.Prelude.{◌≡◌, IfOk, IfErr, map};
 ghost use Rattle.cli_file.specs.Changes.{seen};
 ghost use Rattle.cli_check.specs.Asked.{AreAsked, root_put as root};
@@ -8,7 +8,7 @@ use cli_file::{Change, Stop};
 use std::alloc::Global;
 use std::collections::BTreeSet;
 
-/// Returns the root name under which a change puts a body, if it puts one under a root.
+/// Returns the root under which a change puts a body, if it puts one under a root.
 fn root_put(change: &Change) -> Option<Name>
     ensures { result ≡ root (seen change.now) }
 {
@@ -18,7 +18,8 @@ fn root_put(change: &Change) -> Option<Name>
     }
 }
 
-/// Returns the root names under which these changes put bodies, in the order of names, each once. `NoMemory` if there is no room for them.
+/// Returns the roots under which these changes put bodies, in the order of names, each once. Returns `NoMemory` if there is no room for
+/// them.
 pub fn find_asked(alloc: Global, changes: &[Change]) -> Result<BTreeSet<Name>, Stop>
     ensures asked { IfOk result (λ names. AreAsked (map seen changes.now) names.keys) }
     ensures stop { IfErr result (λ stop. stop ≡ Stop.NoMemory) }

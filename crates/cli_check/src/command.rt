@@ -1,4 +1,4 @@
-//! The calls of a file, and what is printed of them.
+//! The calls of a file, and what is printed about them.
 ghost use Rattle.std.specs.Prelude.{◌≡◌, ◌≢◌, ◌↔◌, ◌≤◌, ◌<◌, ◌+◌, ◌⊎◌, ◌++◌, [], true, Err, OnOk, OnErr, IfOk, IfErr, IsErrOf, IsTrue, codes, length, map};
 ghost use Rattle.std.specs.Io.Buffered.{writer_buffer, writer_contents};
 ghost use Rattle.std.specs.Io.KnownBytes.{Appends, Keeps};
@@ -52,7 +52,7 @@ fn write_refusal<E: Write>(name: &Name, reply: PutReply, err: &mut E) -> io::Res
     }
 }
 
-/// Writes the line of an Ask, and its report.
+/// Writes the line of an ask, and its report.
 fn write_text<O: Write>(name: &Name, outcome: &Outcome, out: &mut O) -> io::Result<()>
     ensures { OnOk result (Appends (O.contents out.old) (O.contents out.new) (answer_lines Form.Text name.now outcome.now)) }
 {
@@ -60,7 +60,7 @@ fn write_text<O: Write>(name: &Name, outcome: &Outcome, out: &mut O) -> io::Resu
     Ok(write_report(outcome, out)?)
 }
 
-/// Writes the line of an Ask, and its report with the texts that explain its errors.
+/// Writes the line of an ask, and its report with the texts that explain its errors.
 fn write_sourced_text<O: Write>(
     name: &Name,
     outcome: &Outcome,
@@ -74,8 +74,8 @@ fn write_sourced_text<O: Write>(
     Ok(write_sourced_report(outcome, bodies, out)?)
 }
 
-/// Writes the line of an Ask, and its report with the texts that explain its errors. `NoMemory`, with nothing written, if there is no
-/// room for what they are found by.
+/// Writes the line of an ask, and its report with the texts that explain its errors. Returns `NoMemory`, with nothing written, if there is
+/// no room to find these.
 fn write_sourced<O: Write>(
     alloc: Global,
     sources: &Sources<'_>,
@@ -96,7 +96,7 @@ fn write_sourced<O: Write>(
     Ok(())
 }
 
-/// Writes the JSON line of an Ask. `NoMemory`, with nothing written, if there is no room for it.
+/// Writes the JSON line of an ask. Returns `NoMemory`, with nothing written, if there is no room for it.
 fn write_json<O: Write>(
     alloc: Global,
     name: &Name,
@@ -116,7 +116,7 @@ fn write_json<O: Write>(
     Ok(())
 }
 
-/// Writes an Ask with its outcome, in this form. `NoMemory`, with nothing written, if there is no room for it.
+/// Writes an ask and its outcome in this form. Returns `NoMemory`, with nothing written, if there is no room for it.
 pub(crate) fn write_answer<O: Write>(
     alloc: Global,
     form: &Form<'_>,
@@ -169,9 +169,8 @@ fn make_change<R: Wait, N: Ending, E: Write>(
     }
 }
 
-/// How the names of a file are asked: by which providers, in which form each answer is printed, which names, in their order, and how many threads
-/// share the work.
-// The changes are not in it: they are used up before a name is asked.
+/// How the names of a file are asked for: with which providers, in which form each answer is printed, which names, in their order, and how
+/// many threads share the work. It does not have the changes: they are used up before the first ask.
 #[derive(Drop)]
 pub(crate) struct Asking<'a, 'b> {
     pub providers: &'a Providers,
@@ -180,7 +179,7 @@ pub(crate) struct Asking<'a, 'b> {
     pub threads: usize,
 }
 
-/// Asks a name, and prints its report. Returns the status of the outcome.
+/// Asks for a name and prints its report. Returns the status of the outcome.
 fn make_ask<R: AllocGlobal + Wait, N: Ending, O: Write>(
     rt: &R,
     session: &mut Session<N>,
@@ -223,7 +222,7 @@ fn make_changes<R: Wait, N: Ending, E: Write>(
     Ok(status)
 }
 
-/// Asks the names in order, and prints their reports. Returns the greatest status of the outcomes.
+/// Asks for the names in order and prints their reports. Returns the greatest status of the outcomes.
 fn make_asks<R: AllocGlobal + Wait, N: Ending, O: Write>(
     rt: &R,
     session: &mut Session<N>,
@@ -244,7 +243,7 @@ fn make_asks<R: AllocGlobal + Wait, N: Ending, O: Write>(
     Ok(status)
 }
 
-/// Asks the names in order, and prints their reports. Several threads share the work if there are several threads and several names. Returns the
+/// Asks for the names in order and prints their reports. Threads share the work if there are at least two, and two names. Returns the
 /// greatest status of the outcomes.
 fn ask_names<R: AllocGlobal + Threads + Wait + Sync, N: Ending, O: Write>(
     rt: &R,
@@ -286,8 +285,8 @@ fn is_unwritten(made: &Result<u8, Stop>) -> bool
     }
 }
 
-/// Flushes the reports that the buffer holds, unless the writer behind it failed already. Returns what the Asks returned, or `CannotWrite` if
-/// the writer fails here.
+/// Flushes the reports in the buffer, unless its writer failed already. Returns what the asks returned, or `CannotWrite` if the writer
+/// fails here.
 fn hand_on<O: Write + Drop>(asked: Result<u8, Stop>, out: &mut BufWriter<O>) -> Result<u8, Stop>
     ensures asked { (result ≡ asked) ⊎ (result ≡ Err Stop.CannotWrite) }
     ensures kept { Keeps (writer_contents O.contents out.old) (writer_contents O.contents out.new) }
@@ -302,8 +301,7 @@ fn hand_on<O: Write + Drop>(asked: Result<u8, Stop>, out: &mut BufWriter<O>) -> 
     }
 }
 
-/// Asks the names in order, prints their reports and flushes them, also if this stops before its end. Returns the greatest status of the
-/// outcomes.
+/// Asks for the names in order, prints their reports and flushes them, even if it stops early. Returns the greatest status of the outcomes.
 fn answer_all<R: AllocGlobal + Threads + Wait + Sync, N: Ending, O: Write + Drop>(
     rt: &R,
     session: &mut Session<N>,
@@ -323,7 +321,7 @@ fn answer_all<R: AllocGlobal + Threads + Wait + Sync, N: Ending, O: Write + Drop
     hand_on(asked, out)
 }
 
-/// Makes the changes in order, then asks the names in order, and flushes what is printed. Returns the greatest status of the calls.
+/// Makes the changes in order, then asks for the names in order, and flushes the reports. Returns the greatest status of the calls.
 fn make_all<R: AllocGlobal + Threads + Wait + Sync, N: Ending, O: Write + Drop, E: Write>(
     rt: &R,
     session: &mut Session<N>,
@@ -350,9 +348,9 @@ fn make_all<R: AllocGlobal + Threads + Wait + Sync, N: Ending, O: Write + Drop, 
     Ok(changed.max(asked))
 }
 
-/// Opens a database, makes the changes in order, asks the names in order, and closes the database, also if a call is refused or a writer fails.
-/// Returns the greatest status of the calls, whose reports the writer behind `out` then has. `TooManyCalls` exactly if there are more than
-/// `MOST_ENTRIES` of them.
+/// Opens a database, makes the changes in order, asks for the names in order, and closes the database, even if a call is refused or a
+/// writer fails. Returns the greatest status of the calls; the writer of `out` then has all reports. Returns `TooManyCalls` exactly if
+/// there are more than `MOST_ENTRIES` calls.
 ///
 /// A failure of `out` is reported first, then a fault of the close, then a refused call or a line that was not written.
 fn call_and_close<R: AllocGlobal + Threads + Wait + Sync, O: Write + Drop, E: Write>(
@@ -396,16 +394,16 @@ fn call_and_close<R: AllocGlobal + Threads + Wait + Sync, O: Write + Drop, E: Wr
     made
 }
 
-/// Reads the whole input, makes the changes of its sections, asks each root name under which one puts a body, and prints what belongs to each call:
-/// of an Ask its line and its report, or one line that has both if the line of the command asks for JSON. Returns the greatest status of the
-/// calls. If `out` held nothing before, it holds nothing afterwards, unless the writer behind it failed.
+/// Reads the whole input, makes the calls of its sections, and asks for each root under which one puts a body. It prints what belongs to
+/// each call: for an ask a line and a report, or one line of JSON for both if the command line says so. Returns the greatest status of the
+/// calls. If the buffer of `out` was empty, it is empty afterwards, unless its writer failed.
 ///
-/// As many threads share the reading of the sections and the work on the Asks as the line says with `--jobs`, or as there are processors where it
-/// has no `--jobs`, or fewer if no more can be made. What is printed does not depend on how many.
+/// Threads share the reading of the sections and the work on the asks: as many as `--jobs` says, otherwise one for each processor, and
+/// fewer if no more can be made. The output does not depend on their number.
 ///
 /// Stops with `CannotRead` if the input cannot be read or is over 16 MiB; with `File` at its first fault; with `TooManyCalls` if it makes
-/// more than 1,000,000 calls; with `CannotWrite` or `CannotTell` if a writer fails; with `NoMemory` if there is no room; with `HistoryFull`
-/// if a call finds a full history, and with `Audit` if the history does not agree with the session at the close.
+/// more than 1,000,000 calls; with `CannotWrite` or `CannotTell` if a writer fails; with `NoMemory` if it is out of memory; with
+/// `HistoryFull` if a call finds a full history; and with `Audit` if history and session do not agree at the close.
 pub fn check<R, I, O, E>(
     rt: &R,
     providers: &Providers,
@@ -441,13 +439,13 @@ where
     call_and_close(rt, changes, &asking, out, err)
 }
 
-/// Runs the whole command `check` on the input of the file that the line names: writes reports to `out` and faults to `err`, and returns the exit
-/// status, the greatest that applies. Before a line on `err` says why the command stops, `out` was flushed; after `cannot write` it still holds
-/// what the writer behind it did not take.
+/// Runs the whole command `check` on the input of the file that the line names: writes reports to `out` and faults to `err`, and returns
+/// the exit status, the greatest that applies. It flushes `out` before a line on `err` says why the command stops. After `cannot write`,
+/// `out` still holds what its writer did not take.
 ///
-/// 0 if no report has an error; 1 if one has; 2 where the file has a fault, a put stores nothing or an outcome is no report; 3 where the
-/// command stops for another reason, which is the last line on `err`. The fault of `err` if that line cannot be written: then nothing more can
-/// be said.
+/// The status is 0 if no report has an error; 1 if one has; 2 if the file has a fault, a put stores nothing or an outcome is no report; 3
+/// if the command stops for another reason, which is the last line on `err`. It returns the fault of `err` if that line cannot be written:
+/// then nothing more can be said.
 pub fn check_and_tell<R, I, O, E>(
     rt: &R,
     providers: &Providers,
@@ -472,10 +470,11 @@ where
     }
 }
 
-/// Runs the whole command `check` on the input of the file that the line names, and returns the exit status, the greatest that applies: 0 where no
-/// report has an error; 1 if one has; 2 where the file has a fault, a put stores nothing or an outcome is no report; 3 where the command stops
-/// for another reason, which is the last line on `err`, or if standard error fails. Reports go to `out` and faults to `err`. The line has to be
-/// one of `check`.
+/// Runs the whole command `check` on the input of the file that the line names: writes reports to `out` and faults to `err`, and returns
+/// the exit status, the greatest that applies. The line has to be one of `check`.
+///
+/// The status is 0 if no report has an error; 1 if one has; 2 if the file has a fault, a put stores nothing or an outcome is no report; 3
+/// if the command stops for another reason, which is the last line on `err`, or if standard error fails.
 pub fn check_over<R, I, O, E>(
     rt: &R,
     providers: &Providers,

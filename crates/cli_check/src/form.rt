@@ -1,4 +1,4 @@
-//! In which form the answers of a file are printed.
+//! The forms in which the answers of a file are printed.
 ghost use Rattle.std.specs.Prelude.{◌≡◌, ◌++◌, ◌↔◌, IfOk, IfErr, OnOk, IsTrue, map};
 ghost use Rattle.cli_file.specs.Parts.{sections_of};
 ghost use Rattle.cli_file.specs.Left.{part_of};
@@ -11,7 +11,7 @@ use cli_file::{Change, Section, Sections, Stop};
 use cli_line::CheckLine;
 use std::alloc::{AllocError, Global};
 
-/// In which form the answers of a file are printed: as text, as JSON, or as text with the lines of the file that explain its errors.
+/// The form in which the answers of a file are printed: as text, as JSON, or as text with the lines of the file that explain its errors.
 #[derive(Drop)]
 pub(crate) enum Form<'a> {
     Text,
@@ -19,7 +19,7 @@ pub(crate) enum Form<'a> {
     Sourced(Sources<'a>),
 }
 
-/// Puts the text of a section behind the others, if its change puts a unit that suits its name.
+/// Appends the text of a section to the sources if its change puts a unit that suits its name.
 fn push_source<'a>(
     alloc: Global,
     sources: &mut Sources<'a>,
@@ -39,7 +39,7 @@ fn push_source<'a>(
     }
 }
 
-/// Returns the texts of the sections of a file that makes these changes, of those that put units that suit their names.
+/// Returns the texts of those sections of a file that put units that suit their names. `changes` are what the sections make.
 fn find_sources<'a>(
     alloc: Global,
     file: &'a [u8],
@@ -58,7 +58,8 @@ fn find_sources<'a>(
     Ok(sources)
 }
 
-/// Returns the form that a line asks for, of the answers to a file that makes these changes. `NoMemory` if there is no room for the texts.
+/// Returns the form that a line asks for, with the texts of a file that makes these changes. Returns `NoMemory` if there is no room for the
+/// texts.
 pub(crate) fn find_form<'a>(
     alloc: Global,
     line: &CheckLine,

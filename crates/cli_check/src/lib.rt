@@ -1,4 +1,4 @@
-//! The command `check`: the sections of a file stored and asked, and what is printed of them.
+//! The command `check`: it makes the calls of a file's sections, asks for its roots, and prints the reports.
 #![tactic(auto)]
 
 mod ahead;

@@ -16,7 +16,7 @@ use Rattle.cli_entries.specs.Words.{put_word, remove_word}
 use Rattle.cli_entries.specs.Replies.{IsRoot, IsReplyData, reply_key}
 use Rattle.cli_entries.specs.Json.{root_json, entry_json}
 
--- a value without a float that is written so
+-- the value has no float, and this is its compact text
 abbrev pub IsWritten : Data → List ℕ → Type 0
 IsWritten value text = (has_float value ≡ false) × (compact_text value ≡ text)
 
@@ -38,7 +38,7 @@ roots_no_float [] (d ∷ ds) h = absurd h
 roots_no_float (r ∷ rs) [] h = absurd h
 roots_no_float (r ∷ rs) (d ∷ ds) h = no_float _ _ (root_written r d h.0).0 (roots_no_float rs ds h.1)
 
--- the roots behind the first
+-- the roots after the first
 later_roots : (rows : List (NameParts × Outcome)) (roots : List Data) → AllZip IsRoot rows roots → items_text true (items_of roots) ≡ flat_map (λ later. codes "," ++ later) (map root_json rows) ++ 93 ∷ []
 later_roots [] [] h = refl
 later_roots [] (d ∷ ds) h = absurd h
@@ -69,7 +69,7 @@ listed : (session before : ℕ) (roots : Data) (text : List ℕ) → IsWritten r
 unfolding serde_json_on_literals
 listed session before roots text is = (rw is.0 refl, rw is.1 (entry_parts (codes "{\"number\":") (decimal before) (codes ",") (codes "\"roots\":") text (codes ",\"session\":") (decimal session) (codes "}")))
 
--- the object of an entry, whose session was put first, is written as its line
+-- the object of an entry is written as its line, if its session was put first
 pub entry_written : (session before : ℕ) (event : Event) (reply : Data) → IsReplyData event reply
     → IsWritten (object (put (reply_key event) reply (put (codes "number") (number (unsigned before)) (member (codes "session") (number (unsigned session)) no_members))))
     (entry_json (record { session = session; number = before; event = event }))

@@ -1,4 +1,4 @@
--- What a call was answered, as members of an object of JSON.
+-- Replies to calls, as members of an object of JSON.
 use Rattle.std.specs.Prelude.{◌≡◌, ℕ, List, codes, false}
 use Rattle.std.specs.List.{AllZip}
 use Rattle.serde_json.specs.Data.{Data, Members, string, number, unsigned, array, object, member, no_members, put}
@@ -11,17 +11,17 @@ use Rattle.bc_calls.specs.declared.call.Event.TheVariants as events
 use Rattle.bc_json.specs.Json.{outcome_json}
 use Rattle.cli_entries.specs.Words.{put_word, remove_word}
 
--- the object that `check --json` prints of an outcome
+-- the value is the object that `check --json` prints for an outcome
 abbrev pub IsOutcomeData : Outcome → Data → Type 0
 IsOutcomeData outcome value = (has_float value ≡ false) × (compact_text value ≡ outcome_json outcome)
 
--- the object of a root's name and its outcome
+-- the value is the object of a root's name and its outcome
 abbrev pub IsRoot : NameParts × Outcome → Data → Type 0
 IsRoot row value =
     (outcome : Data) × IsOutcomeData row.1 outcome
     × (value ≡ object (member (codes "name") (string (name_text row.0)) (member (codes "outcome") outcome no_members)))
 
--- the key of what a call was answered
+-- the key of a call's reply
 abbrev pub reply_key : Event → List ℕ
 reply_key (events.Types types) = codes "reply"
 reply_key (events.Put name body reply) = codes "reply"
@@ -29,7 +29,7 @@ reply_key (events.Remove name reply) = codes "reply"
 reply_key (events.Ask name outcome) = codes "outcome"
 reply_key (events.All rows) = codes "roots"
 
--- what a call was answered
+-- the value is a call's reply
 abbrev pub IsReplyData : Event → Data → Type 0
 IsReplyData (events.Types types) value = value ≡ string (codes "stored")
 IsReplyData (events.Put name body reply) value = value ≡ string (put_word reply)
@@ -37,7 +37,7 @@ IsReplyData (events.Remove name reply) value = value ≡ string (remove_word rep
 IsReplyData (events.Ask name outcome) value = IsOutcomeData outcome value
 IsReplyData (events.All rows) value = (roots : List Data) × AllZip IsRoot rows roots × (value ≡ array (items_of roots))
 
--- an object got how many calls its session had made before this one, and what it was answered
+-- an object got the number of calls that the session had made before this one, and its reply
 abbrev pub PutsEntry : ℕ → Event → Members → Members → Type 0
 PutsEntry before event old new =
     (reply : Data) × IsReplyData event reply × (new ≡ put (reply_key event) reply (put (codes "number") (number (unsigned before)) old))

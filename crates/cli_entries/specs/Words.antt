@@ -5,14 +5,14 @@ use Rattle.bc_calls.specs.declared.call.PutReply.TheVariants.{Added, Replaced, F
 use Rattle.bc_calls.specs.declared.call.RemoveReply.{RemoveReply}
 use Rattle.bc_calls.specs.declared.call.RemoveReply.TheVariants.{Removed, Absent}
 
--- the reply to a put
+-- the word of the reply to a put
 abbrev pub put_word : PutReply → List ℕ
 put_word Added = codes "added"
 put_word Replaced = codes "replaced"
 put_word Full = codes "full"
 put_word WrongKind = codes "wrongkind"
 
--- the reply to a removal
+-- the word of the reply to a removal
 abbrev pub remove_word : RemoveReply → List ℕ
 remove_word Removed = codes "removed"
 remove_word Absent = codes "absent"

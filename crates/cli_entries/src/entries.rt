@@ -10,9 +10,9 @@ use bc_calls::{Entry, Event};
 use serde_json::{Map, Value, put};
 use std::alloc::{AllocError, Global};
 
-/// Puts a call with its reply into an object: `number`, how many calls its session had made before it, and the reply. The reply is
-/// `reply` with its word for declarations, a put and a removal, `outcome` for an Ask, and `roots`, a list of objects with `name` and
-/// `outcome`, for an Ask for all. Returns `AllocError` only if memory was refused. (RFC 8259 for the text of JSON.)
+/// Puts a call with its reply into an object: `number`, the number of calls that its session had made before, and the reply. The reply is
+/// the word `reply` for declarations, a put and a removal, `outcome` for an ask, and `roots`, a list of objects with `name` and `outcome`,
+/// for an ask for all. (RFC 8259 for the text of JSON.)
 pub fn put_entry(
     members: &mut Map<String, Value>,
     alloc: Global,
@@ -26,7 +26,7 @@ pub fn put_entry(
     put(members, alloc, reply_key(event), reply)
 }
 
-/// Returns the value of an entry.
+/// Returns the object of an entry.
 fn entry_value(alloc: Global, entry: &Entry) -> Result<Value, AllocError>
     ensures { IfOk result (λ value. HasText value (entry_json entry.now)) }
 {
@@ -36,9 +36,8 @@ fn entry_value(alloc: Global, entry: &Entry) -> Result<Value, AllocError>
     Ok(Value::Object(members))
 }
 
-/// Returns the line of an entry, without its line feed: one object of JSON, compact, its keys in byte order, and exactly these bytes. It
-/// says which session made the call, from 0, and else what `put_entry` says. Returns `AllocError` only if memory was refused. (RFC
-/// 8259 for the text of JSON.)
+/// Returns the line of an entry, without its line feed: one object of JSON, compact, its keys in byte order. It has the number of the
+/// session that made the call, from 0, and what `put_entry` puts. (RFC 8259 for the text of JSON.)
 pub fn entry_line(alloc: Global, entry: &Entry) -> Result<String, AllocError>
     ensures { IfOk result (λ line. string_bytes line ≡ entry_json entry.now) }
 {

@@ -1,4 +1,4 @@
-//! The JSON values of what calls were answered.
+//! The JSON values of replies.
 ghost use Rattle.std.specs.Prelude.{◌≡◌, List, IfOk};
 ghost use Rattle.std.specs.List.{AllZip};
 ghost use Rattle.serde_json.specs.Data.{Data, array};
@@ -13,7 +13,7 @@ use bc_prov::{Outcome, Shared};
 use serde_json::{Map, ToValue, Value, put};
 use std::alloc::{AllocError, Global};
 
-/// Returns the value of a root's name and its outcome.
+/// Returns the object of a root's name and its outcome.
 fn root_value(alloc: Global, name: &Name, outcome: &Outcome) -> Result<Value, AllocError>
     ensures { IfOk result (λ value. IsRoot (name.now, outcome.now) (data_of value)) }
 {
@@ -35,7 +35,7 @@ fn roots_value(alloc: Global, rows: &[(Name, Shared<Outcome>)]) -> Result<Value,
     Ok(Value::Array(values))
 }
 
-/// Returns the key of what a call was answered.
+/// Returns the key of a call's reply.
 pub(crate) fn reply_key(event: &Event) -> &'static str
     ensures { result.now ≡ reply_key event.now }
 {
@@ -46,7 +46,7 @@ pub(crate) fn reply_key(event: &Event) -> &'static str
     }
 }
 
-/// Returns the value of what a call was answered.
+/// Returns the value of a call's reply.
 pub(crate) fn reply_value(alloc: Global, event: &Event) -> Result<Value, AllocError>
     ensures { IfOk result (λ value. IsReplyData event.now (data_of value)) }
 {

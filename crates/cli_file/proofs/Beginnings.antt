@@ -19,7 +19,7 @@ begins_otherwise text beginning rest other is =
     let front : take (length beginning) text ≡ beginning = ap (take (length beginning)) is ∙ take-append_seam beginning rest in
     absurd (true≢false (sym ((slice_eq-Decides Decides-eqb (take (length beginning) text) beginning _ refl).1 front) ∙ other))
 
--- what `strip_prefix` finds, and where it finds nothing
+-- what `strip_prefix` finds, and when it finds nothing
 pub found_behind : {S : Type 0} (r : Option S) (now : S → List ℕ) (text beginning : List ℕ) → MatchOption r (pointwise ◌==◌ (take (length beginning) text) beginning ≡ false) (λ x. (pointwise ◌==◌ (take (length beginning) text) beginning ≡ true) × (now x ≡ drop (length beginning) text) × (length (now x) + length beginning ≡ length text)) → IfSome r (λ x. text ≡ beginning ++ now x)
 found_behind None now text beginning h = tt
 found_behind (Some x) now text beginning h = begins_so text beginning (now x) h.0 h.1
@@ -28,7 +28,7 @@ pub none_behind : {S : Type 0} (r : Option S) (now : S → List ℕ) (text begin
 none_behind None now text beginning h = λ rest is. begins_otherwise text beginning rest h is
 none_behind (Some x) now text beginning h = tt
 
--- what stands behind a beginning is no name
+-- what follows a beginning is no name
 pub none_named : (text beginning rest : List ℕ) (r : Option NameParts) → text ≡ beginning ++ rest → ((name : NameParts) → IsName name → rest ≡ name_text name → r ≡ Some name) → IfNone r ((name : NameParts) → IsName name → text ≡ beginning ++ name_text name → ⊥)
 none_named text beginning rest None is only = λ name well same. (let found : None ≡ Some name = only name well (append_cancel_left beginning rest (name_text name) (sym is ∙ same)) in absurd cc)
 none_named text beginning rest (Some x) is only = tt

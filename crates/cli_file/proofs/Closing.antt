@@ -8,7 +8,7 @@ use Rattle.bc_share.specs.declared.db.CloseFault.TheVariants.{Foreign, Audit}
 use Rattle.cli_file.specs.declared.stop.Stop.TheVariants as stops
 use Rattle.cli_file.specs.Stops.{close_stop}
 
--- sessions that stand in the order of their numbers
+-- sessions in the order of their numbers
 pub are_sessions : (tag count : ℕ) (sessions : List SessionView) → length sessions ≡ count
     → ((k : ℕ) (d : SessionView) → k < count → ((get_or sessions k d).tag ≡ tag) × ((get_or sessions k d).number ≡ k))
     → AreSessionsOf tag count sessions
@@ -22,7 +22,7 @@ are_sessions tag count sessions long at = record {
   );
 }
 
--- a new database that is closed with its own sessions is closed well, or its history does not agree
+-- a new database that is closed with its own sessions is closed well, or its history and its sessions do not agree
 pub only_audited : (db : DbView) (count : ℕ) (sessions : List SessionView) (fault : CloseFault) → db ≡ record { tag = 0; count = count } → AreSessionsOf 0 count sessions → IsCloseFault db.tag db.count sessions fault → close_stop fault ≡ stops.Audit
 only_audited db count sessions Foreign is are not = absurd (not (subst (λ (d : DbView). AreSessionsOf d.tag d.count sessions) (sym is) are))
 only_audited db count sessions (Audit h) is are not = refl

@@ -5,7 +5,7 @@ use Rattle.std.proofs.lemmas.Bool.{cond-true, cond-false, eq-eqb, eqb-true, ne_e
 use Rattle.memchr.specs.Find.{IsFirstByte, is_byte}
 use Rattle.cli_file.specs.Parts.{without_end}
 
--- a slice up to the end is what is left behind its beginning
+-- a slice up to the end is what is left after its beginning
 pub slice_to_end : (text : List ℕ) (from : ℕ) → take (length text - from) (drop from text) ≡ drop from text
 slice_to_end text from = take_all (length text - from) (drop from text) (omega (arith, length-drop from text))
 
@@ -53,7 +53,7 @@ found_feed bytes end found =
 pub found_none : (bytes : List ℕ) → IsFirstByte (is_byte 10) bytes None → HasNoFeed bytes
 found_none bytes none = has_no_feed bytes (λ k below is. none k (omega arith) below (eq-eqb _ _ is))
 
--- the code's spelling of what is behind the line feed
+-- the code's spelling of what is after the line feed
 pub cut_behind : (bytes : List ℕ) (end : ℕ) → IsFirstByte (is_byte 10) bytes (Some end) → take (length bytes - (end + 1)) (drop (end + 1) bytes) ≡ drop_through 10 bytes
 cut_behind bytes end found =
     let same : end + 1 ≡ suc end = omega arith in

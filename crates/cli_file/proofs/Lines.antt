@@ -23,7 +23,7 @@ without_end_first (b ∷ bytes) =
       | false ↦ λ e. rw e (ap (λ (t : List ℕ). b ∷ t) (without_end_first bytes))
     ] refl
 
--- a file is its first section and the others, where its first line is cut off and the next header line is found
+-- a file is its first section and the others, if its first line is cut off and the next header line is found
 pub first_section : (file behind : List ℕ) (line next len : ℕ) → 0 < length file → behind ≡ drop_through 10 file → parts (line + 1) (lines_of behind) ≡ record { text = take len behind; sections = sections_from next (lines_of (drop len behind)) } → sections_from line (lines_of file) ≡ record { line = line; header = without_end file; text = take len behind } ∷ sections_from next (lines_of (drop len behind))
 first_section [] behind line next len some cut found = absurd (omega arith)
 first_section (b ∷ bytes) behind line next len some cut found =

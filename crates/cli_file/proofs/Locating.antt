@@ -1,4 +1,4 @@
--- Faults of a file that get their positions.
+-- Faults of a file, with their positions.
 use Rattle.std.proofs.Common.{ℕ, Bool, List, refl}
 use Rattle.std.specs.Prelude.{Err}
 use Rattle.cli_file.specs.declared.heading.Heading.{Heading}
@@ -8,7 +8,7 @@ use Rattle.cli_file.specs.Parts.{Part}
 use Rattle.cli_file.specs.Located.{IsLocated, located_stop}
 use Rattle.cli_file.specs.Sections.{IsFirstFault, Answers}
 
--- the first fault of some sections stays that with its position
+-- the first fault of some sections is still the first with its position
 pub located_answers : {T Given : Type 0} (Good : T → Type 0) (Gives : Part → Given → Type 0) (Takes : Heading → List ℕ → Type 0) (sections : List Part) (positions : Bool) (file : List ℕ) (stop : Stop)
     → Answers Good (IsFirstFault Gives Takes sections) (Err stop) → Answers Good (λ fault. IsFirstFault Gives Takes sections fault × IsLocated positions file fault) (Err (located_stop positions file stop))
 located_answers Good Gives Takes sections positions file WrongUse h = h

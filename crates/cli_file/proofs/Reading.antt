@@ -13,7 +13,7 @@ use Rattle.cli_file.specs.declared.heading.Heading.TheVariants as headings
 use Rattle.cli_file.specs.Parts.{Part}
 use Rattle.cli_file.specs.Sections.{IsUnread, IsTextFault, IsFault, IsFirstFault, Answers, stop_of}
 
--- of all sections those that are not left give these
+-- of all sections, those that are not left give these
 pub record HasRead {Given : Type 0} (Gives : Part → Given → Type 0) (all left : List Part) (given : List Given) : Type 0 where
   pub before : List Part
   pub cut : all ≡ before ++ left
@@ -25,7 +25,7 @@ given_more Gives [] (g ∷ given) section one h is = absurd h
 given_more Gives (s ∷ sections) [] section one h is = absurd h
 given_more Gives (s ∷ sections) (g ∷ given) section one h is = (h.0, given_more Gives sections given section one h.1 is)
 
--- one section more
+-- one more section
 pub read_more : {Given : Type 0} (Gives : Part → Given → Type 0) (all left rest : List Part) (given : List Given) (section : Part) (one : Given) → HasRead Gives all left given → left ≡ section ∷ rest → Gives section one → HasRead Gives all rest (given ++ one ∷ [])
 read_more Gives all left rest given section one h next is = record {
   before = h.before ++ section ∷ [];
@@ -52,11 +52,11 @@ read_fault Gives Takes all left rest given section fault h next line kind = reco
   kind = kind;
 }
 
--- this fault of a section is told, at its line
+-- this fault of a section is reported, at its line
 abbrev pub Tells : (Heading → List ℕ → Type 0) → Part → FileFault → Type 0
 Tells Takes section fault = (fault.line ≡ section.line) × IsFault Takes section fault.kind
 
--- the text behind a header line that is taken cannot be read
+-- the text after a header line of the command cannot be read
 told_unread : {T V : Type 0} (Good : T → Type 0) (Takes : Heading → List ℕ → Type 0) (section : Part) (heading : Heading) (found : Result V ReadFault) (fault : ReadFault)
     → Takes heading section.header → ((kind : FaultKind) → IsUnread found kind → IsTextFault heading section.text kind)
     → (fault ≢ read_faults.NoMemory → found ≡ Err fault) → Answers Good (Tells Takes section) (Err (stop_of section.line fault))

@@ -9,7 +9,7 @@ use Rattle.cli_file.specs.Parts.{Part, Parts, lines_of, is_header, parts, sectio
 use Rattle.cli_file.proofs.Feeds.{slice_to_end, found_feed, found_none}
 use Rattle.cli_file.proofs.Lines.{lines_of_first}
 
--- these sections behind this text
+-- these sections after this text
 abbrev pub before : List Part → List ℕ → Parts
 before sections text = record { text = text; sections = sections }
 
@@ -64,7 +64,7 @@ left_first text at =
 behind_both : (s t : List ℕ) (p : Parts) → behind s (behind t p) ≡ behind (s ++ t) p
 behind_both s t p = ap (before p.sections) (sym (append_assoc s t p.text))
 
--- where all is passed, the text is cut at its end
+-- if all is passed, the text is cut at its end
 cut_at_end : (number : ℕ) (text : List ℕ) → before [] text ≡ before (sections_from number (lines_of (drop (length text) text))) (take (length text) text)
 cut_at_end number text =
     ap (before []) (sym (take_all (length text) text (omega arith)))

@@ -9,7 +9,7 @@ rows_status-snoc : (rows : List (NameParts × Outcome)) (row : NameParts × Outc
 rows_status-snoc [] row = omega arith
 rows_status-snoc (r ∷ rows) row = let more = rows_status-snoc rows row in omega (arith, more)
 
--- one row more
+-- one more row
 pub rows_status-more : (rows : List (NameParts × Outcome)) (i : ℕ) (row : NameParts × Outcome) → i < length rows → row ≡ get_or rows i row
     → rows_status (take (i + 1) rows) ≡ max (rows_status (take i rows)) (outcome_status row.1)
 rows_status-more rows i row below at =

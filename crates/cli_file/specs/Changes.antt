@@ -15,7 +15,7 @@ use Rattle.cli_file.specs.Headings.{IsHeader, heading_of}
 use Rattle.cli_file.specs.Located.{IsLocated}
 use Rattle.cli_file.specs.Sections as sections
 
--- what asks for a change: `types` and `put`
+-- the heading asks for a change: it is `types` or a put
 abbrev pub is_change : Heading → Bool
 is_change headings.Types = true
 is_change (headings.Put name) = true
@@ -23,12 +23,11 @@ is_change (headings.Remove name) = false
 is_change (headings.Ask name) = false
 is_change headings.All = false
 
--- a header line of `check`: it asks for a change, and names no session
+-- the header line of `check` asks for this change, and names no session
 abbrev pub Takes : Heading → List ℕ → Type 0
 Takes heading header = (is_change heading ≡ true) × IsHeader None heading header
 
--- a section makes a call: it stores the declarations that its text is read as, or puts the body that its text is read as
--- under the name in its header
+-- a section makes this call: its header line asks for the call, and its text spells the declarations or the unit
 abbrev pub Makes : Part → Call → Type 0
 Makes section call = Takes (heading_of call) section.header × sections.GivesCall call section.text
 
@@ -36,7 +35,7 @@ Makes section call = Takes (heading_of call) section.header × sections.GivesCal
 abbrev pub MakeAll : List Part → List Call → Type 0
 MakeAll parts list = AllZip Makes parts list
 
--- the first fault of some sections: those before it make calls
+-- this is the first fault of some sections: those before it make calls
 abbrev pub IsFirstFault : List Part → FileFault → Type 0
 IsFirstFault parts fault = sections.IsFirstFault Makes Takes parts fault
 
@@ -45,19 +44,19 @@ abbrev pub seen : Change → Call
 seen (changes.Types types) = calls.Types types
 seen (changes.Put name unit) = calls.Put name unit
 
--- what was returned says which call the section makes, or what is wrong with it, want of memory aside
+-- the result is the call that the section makes, or what is wrong with the section, unless memory ran out
 abbrev pub GivesChange : Part → Result Change Stop → Type 0
 GivesChange section result =
     sections.Answers (λ change. Makes section (seen change)) (λ fault. (fault.line ≡ section.line) × sections.IsFault Takes section fault.kind) result
 
--- what was returned says which calls all sections make, or the first thing that is wrong with them, want of memory aside
+-- the result is the calls that the sections make, or the first fault among them, unless memory ran out
 abbrev pub GivesChanges : List Part → Result (Vec Change Global) Stop → Type 0
 GivesChanges parts result = sections.Answers (λ list. MakeAll parts (map seen list.items)) (IsFirstFault parts) result
 
--- the first fault of a file, with its position where positions are asked for
+-- this is the first fault of a file, with its position if asked for
 abbrev pub IsToldFault : Bool → List ℕ → FileFault → Type 0
 IsToldFault positions file fault = IsFirstFault (sections_of file) fault × IsLocated positions file fault
 
--- what was returned says which calls a file makes, or which fault of it is told
+-- the result is the calls that a file makes, or its first fault, with its position if asked for, unless memory ran out
 abbrev pub GivesTold : Bool → List ℕ → Result (Vec Change Global) Stop → Type 0
 GivesTold positions file result = sections.Answers (λ list. MakeAll (sections_of file) (map seen list.items)) (IsToldFault positions file) result

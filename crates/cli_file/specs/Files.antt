@@ -1,6 +1,6 @@
--- How long a file may be.
+-- The size of a file.
 use Rattle.std.specs.Prelude.{ℕ}
 
--- how many bytes a file may have: 16 MiB
+-- the most bytes of a file: 16 MiB
 abbrev pub most_bytes : ℕ
 most_bytes = 16777216

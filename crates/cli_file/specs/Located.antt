@@ -1,4 +1,4 @@
--- Where in a file its fault is.
+-- The place of a fault in its file.
 use Rattle.std.specs.Prelude.{◌≡◌, ℕ, Bool, List, Option, Some, None, option_map, if◌then◌else◌}
 use Rattle.bc_position.specs.declared.position.Position.{Position}
 use Rattle.bc_position.specs.Positions.{position_below}
@@ -8,7 +8,7 @@ use Rattle.cli_file.specs.declared.fault.FileFault.{FileFault}
 use Rattle.cli_file.specs.declared.stop.Stop.{Stop}
 use Rattle.cli_file.specs.declared.stop.Stop.TheVariants.{WrongUse, CannotRead, CannotWrite, CannotTell, NoMemory, File, TooManyCalls, HistoryFull, Foreign, Audit}
 
--- the byte that a fault tells of, by how many bytes of the section's text are in front of it
+-- the byte of a fault, counted from 0 in the section's text
 abbrev pub byte_of : FaultKind → Option ℕ
 byte_of BadHeader = None
 byte_of TextAfterCall = None
@@ -18,23 +18,23 @@ byte_of (Token at) = Some at
 byte_of (Grammar at) = Some at
 byte_of (Limit at) = Some at
 
--- where in the file this byte is: the text of a section begins behind its header line
+-- the place in the file of a fault's byte; the text of a section begins after its header line
 abbrev pub byte_position : List ℕ → FileFault → Option Position
 byte_position file fault = option_map (λ at. position_below file fault.line at) (byte_of fault.kind)
 
--- where in the file the byte of a fault is, where positions are asked for
+-- the place in the file of a fault's byte, if asked for
 abbrev pub asked_position : Bool → List ℕ → FileFault → Option Position
 asked_position positions file fault = if positions then byte_position file fault else None
 
--- a fault of the file has its position, where positions are asked for, and else none
+-- a fault of the file has its position if asked for, and none otherwise
 abbrev pub IsLocated : Bool → List ℕ → FileFault → Type 0
 IsLocated positions file fault = fault.position ≡ asked_position positions file fault
 
--- a fault of the file with that position
+-- a fault of the file, with its position if asked for
 abbrev pub located : Bool → List ℕ → FileFault → FileFault
 located positions file fault = record { line = fault.line; kind = fault.kind; position = asked_position positions file fault }
 
--- a stop, of which a fault of the file gets that position
+-- a stop, with the position of its fault of the file if asked for
 abbrev pub located_stop : Bool → List ℕ → Stop → Stop
 located_stop positions file WrongUse = WrongUse
 located_stop positions file CannotRead = CannotRead

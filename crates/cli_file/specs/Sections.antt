@@ -1,4 +1,4 @@
--- What the sections of a file ask for, and its first fault, for every command.
+-- What the sections of a file ask for, and its first fault, for all commands.
 use Rattle.std.specs.Prelude.{◌≡◌, ◌⊎◌, ◌||◌, ◌==◌, ℕ, true, List, ◌∷◌, ◌++◌, Result, Ok, Err, Option, Some, None}
 use Rattle.std.specs.List.{AllZip, list_all}
 use Rattle.bc_text.specs.declared.fault.ReadFault.{ReadFault}
@@ -15,11 +15,11 @@ use Rattle.cli_file.specs.declared.stop.Stop.{Stop}
 use Rattle.cli_file.specs.declared.stop.Stop.TheVariants.{WrongUse, CannotRead, CannotWrite, CannotTell, NoMemory, File, TooManyCalls, HistoryFull, Foreign, Audit}
 use Rattle.cli_file.specs.Parts.{Part}
 
--- a text of spaces and line feeds alone
+-- a text has spaces and line feeds alone
 abbrev pub IsBlank : List ℕ → Type 0
 IsBlank text = list_all (λ b. b == 32 || b == 10) text ≡ true
 
--- the text behind a header line gives this call
+-- with the text after its header line, a section makes this call
 abbrev pub GivesCall : Call → List ℕ → Type 0
 GivesCall (calls.Types types) text = read_types text ≡ Ok types
 GivesCall (calls.Put name body) text = read text ≡ Ok body
@@ -36,11 +36,11 @@ text_fault (read_faults.Grammar at) = Some (Grammar at)
 text_fault (read_faults.Limit at) = Some (Limit at)
 text_fault read_faults.NoMemory = None
 
--- a text is read with this fault
+-- this is the fault of a text that was read
 abbrev pub IsUnread : {T : Type 0} → Result T ReadFault → FaultKind → Type 0
 IsUnread read kind = (fault : ReadFault) × (read ≡ Err fault) × (text_fault fault ≡ Some kind)
 
--- what is wrong with the text behind a header line
+-- this is what is wrong with the text after a header line
 abbrev pub IsTextFault : Heading → List ℕ → FaultKind → Type 0
 IsTextFault headings.Types text kind = IsUnread (read_types text) kind
 IsTextFault (headings.Put name) text kind = IsUnread (read text) kind
@@ -48,13 +48,13 @@ IsTextFault (headings.Remove name) text kind = ¬ IsBlank text × (kind ≡ Text
 IsTextFault (headings.Ask name) text kind = ¬ IsBlank text × (kind ≡ TextAfterCall)
 IsTextFault headings.All text kind = ¬ IsBlank text × (kind ≡ TextAfterCall)
 
--- what is wrong with a section, where these header lines are taken: its header line is none of them, or its text is wrong
+-- this is what is wrong with a section: no heading that the command takes is in its header line, or its text is wrong
 abbrev pub IsFault : (Heading → List ℕ → Type 0) → Part → FaultKind → Type 0
 IsFault Takes section kind =
     ((kind ≡ BadHeader) × ((heading : Heading) → ¬ Takes heading section.header))
     ⊎ ((heading : Heading) × Takes heading section.header × IsTextFault heading section.text kind)
 
--- the first fault of some sections: those before it give what they should
+-- this is the first fault of some sections: those before it give what they should
 pub record IsFirstFault {Given : Type 0} (Gives : Part → Given → Type 0) (Takes : Heading → List ℕ → Type 0) (sections : List Part) (fault : FileFault) : Type 0 where
   pub before : List Part
   pub section : Part
@@ -65,7 +65,7 @@ pub record IsFirstFault {Given : Type 0} (Gives : Part → Given → Type 0) (Ta
   pub line : fault.line ≡ section.line
   pub kind : IsFault Takes section fault.kind
 
--- what was returned: a good value, or a fault of the file of which this holds, want of memory aside
+-- the result is a good value or a bad fault of the file, unless memory ran out
 abbrev pub Answers : {T : Type 0} → (T → Type 0) → (FileFault → Type 0) → Result T Stop → Type 0
 Answers Good Bad (Ok value) = Good value
 Answers Good Bad (Err (File fault)) = Bad fault
@@ -79,7 +79,7 @@ Answers Good Bad (Err HistoryFull) = ⊥
 Answers Good Bad (Err Foreign) = ⊥
 Answers Good Bad (Err Audit) = ⊥
 
--- why the section at this line gives no call, where its text cannot be read
+-- why a command stops at the section of this line, if its text cannot be read
 abbrev pub stop_of : ℕ → ReadFault → Stop
 stop_of line read_faults.TooLong = File (record { line = line; kind = TooLong; position = None })
 stop_of line (read_faults.NotAscii at) = File (record { line = line; kind = NotAscii at; position = None })

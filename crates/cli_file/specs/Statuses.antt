@@ -10,7 +10,7 @@ use Rattle.bc_calls.specs.declared.call.PutReply.TheVariants.{Added, Replaced, F
 use Rattle.bc_calls.specs.declared.call.Event.{Event}
 use Rattle.bc_calls.specs.declared.call.Event.TheVariants.{Types, Put, Remove, Ask, All as EveryRoot}
 
--- 2 for a put that stored nothing
+-- the status of a put: 2 if it stored nothing
 abbrev pub put_status : PutReply → ℕ
 put_status Added = 0
 put_status Replaced = 0
@@ -21,7 +21,7 @@ put_status WrongKind = 2
 abbrev pub are_clean : List BodyErrors → Bool
 are_clean bodies = list_all (λ (body : BodyErrors). length body.errors == 0) bodies
 
--- 2 for an outcome that is no report, 1 for a report with an error
+-- the status of an outcome: 2 if it is no report, 1 if it has an error
 abbrev pub outcome_status : Outcome → ℕ
 outcome_status NoBody = 2
 outcome_status (Missing name) = 2

@@ -1,4 +1,4 @@
--- What is said where the command stops before its end, and its status.
+-- The last line and the status of a command that stops before its end.
 use Rattle.std.specs.Prelude.{ℕ, Bool, true, false, List, [], ◌++◌, map, codes}
 use Rattle.cli_file.specs.declared.stop.Stop.{Stop}
 use Rattle.cli_file.specs.declared.stop.Stop.TheVariants.{WrongUse, CannotRead, CannotWrite, CannotTell, NoMemory, File, TooManyCalls, HistoryFull, Foreign, Audit}
@@ -25,7 +25,7 @@ last_line file HistoryFull = line (codes "history full")
 last_line file Foreign = line (codes "close: foreign")
 last_line file Audit = line (codes "close: audit")
 
--- the exit status
+-- the exit status of a command that stops
 abbrev pub stop_status : Stop → ℕ
 stop_status WrongUse = 3
 stop_status CannotRead = 3
@@ -38,20 +38,22 @@ stop_status HistoryFull = 3
 stop_status Foreign = 3
 stop_status Audit = 3
 
--- where the database refuses a call, is not opened, or is not closed well
+-- why a command stops at a call that is refused
 abbrev pub refusal_stop : Refusal → Stop
 refusal_stop refusals.NoMemory = NoMemory
 refusal_stop refusals.HistoryFull = HistoryFull
 
+-- why a command stops if the database is not opened
 abbrev pub open_stop : OpenFault → Stop
 open_stop open_faults.Range = TooManyCalls
 open_stop open_faults.NoMemory = NoMemory
 
+-- why a command stops if the database is not closed well
 abbrev pub close_stop : CloseFault → Stop
 close_stop close_faults.Foreign = Foreign
 close_stop (close_faults.Audit history) = Audit
 
--- memory was refused, or a call by a full history
+-- a call was refused: out of memory, or the history is full
 abbrev pub is_refused : Stop → Bool
 is_refused WrongUse = false
 is_refused CannotRead = false

@@ -5,8 +5,8 @@ ghost use Rattle.cli_file.specs.Faults.{kind_text, message};
 use bc_position::Position;
 use std::fmt;
 
-/// What is wrong with a section: its header line is none of the command's; it removes or asks a name, and its text is more than spaces and line
-/// feeds; or its text is refused for one of the reader's reasons. A place counts bytes from the beginning of the section's text.
+/// What is wrong with a section: the header line is none of the command's; the section removes or asks for a name, and its text is not
+/// blank; or its text cannot be read. A place counts bytes from 0 in the section's text.
 #[derive(Clone, Copy, Debug, PartialEq, Eq)]
 pub enum FaultKind {
     BadHeader,
@@ -18,8 +18,8 @@ pub enum FaultKind {
     Limit { at: usize },
 }
 
-/// A fault of a file: the number of the section's header line, from 1, and what is wrong with the section. Where a byte is at fault and positions
-/// are asked for, it has that byte's line and column in the file too.
+/// A fault of a file: the number of the section's header line, from 1, and what is wrong with the section. If a byte is at fault and
+/// positions are asked for, the fault also has the line and column of that byte in the file.
 #[derive(Clone, Copy, Debug, PartialEq, Eq)]
 pub struct FileFault {
     pub line: usize,

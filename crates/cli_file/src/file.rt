@@ -1,4 +1,4 @@
-//! The changes that a file makes.
+//! The changes that a file of `check` makes.
 ghost use Rattle.std.specs.Prelude.{◌≡◌, ◌≢◌, ◌↔◌, IsTrue, IfOk, IfErr, IfSome, IfNone, None, Ok, Err, List, map, codes};
 ghost use Rattle.bc_text.specs.Reading.{read, read_types};
 ghost use Rattle.cli_file.specs.declared.heading.Heading.{Heading};
@@ -20,14 +20,14 @@ use bc_text::{ReadFault, read_types, read_unit};
 use std::alloc::Global;
 use std::sync::Arc;
 
-/// A change that a section makes: its declarations are stored, or its body is stored under a name.
+/// A change that a section makes: it stores declarations, or a body under a name.
 #[derive(Drop)]
 pub enum Change {
     Types(Shared<Types>),
     Put(Name, Shared<Unit>),
 }
 
-/// Returns the declarations that a text spells, in a pointer that can be shared; or the text's fault, or `NoMemory` if there is no room.
+/// Returns the declarations that a text spells, in a pointer that can be shared. Returns the text's fault if it has one, or `NoMemory`.
 pub fn read_declarations(alloc: Global, text: &[u8]) -> Result<Shared<Types>, ReadFault>
     ensures read { IfOk result (λ types. read_types text.now ≡ Ok types) }
     ensures unread { IfErr result (λ fault. fault ≢ ReadFault.NoMemory → read_types text.now ≡ Err fault) }
@@ -39,7 +39,7 @@ pub fn read_declarations(alloc: Global, text: &[u8]) -> Result<Shared<Types>, Re
     }
 }
 
-/// Returns the body that a text spells, in a pointer that can be shared; or the text's fault, or `NoMemory` if there is no room.
+/// Returns the unit that a text spells, in a pointer that can be shared. Returns the text's fault if it has one, or `NoMemory`.
 pub fn read_body(alloc: Global, text: &[u8]) -> Result<Shared<Unit>, ReadFault>
     ensures read { IfOk result (λ unit. read text.now ≡ Ok unit) }
     ensures unread { IfErr result (λ fault. fault ≢ ReadFault.NoMemory → read text.now ≡ Err fault) }
@@ -51,7 +51,8 @@ pub fn read_body(alloc: Global, text: &[u8]) -> Result<Shared<Unit>, ReadFault>
     }
 }
 
-/// Returns the stop of a command at a section whose text cannot be read: the fault of the file at the line of the section's header, or `NoMemory`.
+/// Returns why a command stops at a section whose text cannot be read: a fault of the file at the line of the section's header, or
+/// `NoMemory`.
 pub fn text_stop(line: usize, fault: ReadFault) -> Stop
     ensures { result ≡ stop_of line fault }
 {
@@ -70,7 +71,7 @@ pub fn text_stop(line: usize, fault: ReadFault) -> Stop
     })
 }
 
-/// Returns the stop of a command at a section that has this fault: the fault of the file at the line of the section's header.
+/// Returns why a command stops at a section with this fault: a fault of the file at the line of the section's header.
 pub fn stop_at(section: &Section<'_>, kind: FaultKind) -> Stop
     ensures { result ≡ Stop.File (record { line = section.now.line; kind = kind; position = None }) }
 {
@@ -82,7 +83,7 @@ pub fn stop_at(section: &Section<'_>, kind: FaultKind) -> Stop
     })
 }
 
-/// Returns what a header line asks for that names no session, or `None` exactly if it asks for nothing.
+/// Returns the heading of a header line that names no session, or `None` exactly if it has none.
 fn read_header(header: &[u8]) -> Option<Heading>
     ensures found { IfSome result (λ heading. IsHeader None heading header.now) }
     ensures none { IfNone result ((heading : Heading) → ¬ IsHeader None heading header.now) }
@@ -101,7 +102,7 @@ fn read_stored(alloc: Global, section: &Section<'_>) -> Result<Change, Stop>
     }
 }
 
-/// Returns the change of a section with the header line `@put` and this name.
+/// Returns the change of a section that puts a body under this name.
 fn read_put(alloc: Global, section: &Section<'_>, name: Name) -> Result<Change, Stop>
     requires { IsHeader None (Heading.Put name) section.now.header.now }
     ensures { GivesChange (part_of section.now) result }
@@ -112,7 +113,7 @@ fn read_put(alloc: Global, section: &Section<'_>, name: Name) -> Result<Change, 
     }
 }
 
-/// Returns the change of a section whose header line asks for this.
+/// Returns the change of a section with this heading.
 fn read_asked(alloc: Global, section: &Section<'_>, heading: Heading) -> Result<Change, Stop>
     requires { IsHeader None heading section.now.header.now }
     ensures { GivesChange (part_of section.now) result }
@@ -136,8 +137,8 @@ pub(crate) fn read_change(alloc: Global, section: &Section<'_>) -> Result<Change
     }
 }
 
-/// Returns the changes that a file makes, in the order of its sections. `File` with the file's first fault if it has one, `NoMemory` if there
-/// is no room.
+/// Returns the changes that a file makes, in the order of its sections. Returns `File` with the first fault of the file if it has one, or
+/// `NoMemory`.
 pub fn read_changes(alloc: Global, file: &[u8]) -> Result<Vec<Change>, Stop>
     ensures { GivesChanges (sections_of file.now) result }
 {
@@ -148,8 +149,8 @@ pub fn read_changes(alloc: Global, file: &[u8]) -> Result<Vec<Change>, Stop>
     Ok(changes)
 }
 
-/// Returns the changes that a file makes, in the order of its sections. `File` with the file's first fault if it has one, with its position in the
-/// file if positions are asked for; `NoMemory` if there is no room.
+/// Returns the changes that a file makes, in the order of its sections. Returns `File` with the first fault of the file if it has one, and
+/// with its position there if `positions` says so, or `NoMemory`.
 pub fn read_told_changes(alloc: Global, positions: bool, file: &[u8]) -> Result<Vec<Change>, Stop>
     ensures { GivesTold positions file.now result }
 {

@@ -1,4 +1,4 @@
-//! What a header line asks for.
+//! The call that a header line asks for.
 ghost use Rattle.std.specs.Prelude.{◌≡◌, ◌++◌, ℕ, List, IfSome, IfNone};
 ghost use Rattle.bc_names.specs.Names.{NameParts, IsName, name_text};
 ghost use Rattle.cli_file.specs.declared.heading.Heading.{Heading};
@@ -6,8 +6,8 @@ ghost use Rattle.cli_file.specs.Headings.{IsHeading};
 
 use bc_names::Name;
 
-/// What a header line of a file asks for: to store the declarations of its text, to put the body of its text under a name, to take the body of a
-/// name away, to ask a name, or to ask for all.
+/// The call that a header line asks for: it stores the declarations of the section's text, puts the unit of the text under a name, removes
+/// the body of a name, asks for the outcome of a name, or asks for all roots.
 #[derive(Clone, Copy, Debug)]
 pub enum Heading {
     Types,
@@ -17,7 +17,7 @@ pub enum Heading {
     All,
 }
 
-/// Returns the rest of a text behind this beginning, or `None` exactly if the text does not begin so.
+/// Returns what follows this beginning in a text, or `None` exactly if the text does not begin with it.
 pub fn behind<'a>(text: &'a [u8], beginning: &[u8]) -> Option<&'a [u8]>
     ensures found { IfSome result (λ rest. text.now ≡ beginning.now ++ rest.now) }
     ensures none { IfNone result ((rest : List ℕ) → ¬ (text.now ≡ beginning.now ++ rest)) }
@@ -25,7 +25,7 @@ pub fn behind<'a>(text: &'a [u8], beginning: &[u8]) -> Option<&'a [u8]>
     text.strip_prefix(beginning)
 }
 
-/// Returns the name behind a verb, or `None` exactly if the words are not the verb and a name.
+/// Returns the name after a verb, or `None` exactly if the words are not the verb and a name.
 fn read_named(words: &[u8], verb: &[u8]) -> Option<Name>
     ensures found { IfSome result (λ name. IsName name × (words.now ≡ verb.now ++ name_text name)) }
     ensures none { IfNone result ((name : NameParts) → IsName name → ¬ (words.now ≡ verb.now ++ name_text name)) }
@@ -33,8 +33,8 @@ fn read_named(words: &[u8], verb: &[u8]) -> Option<Name>
     Name::read(behind(words, verb)?)
 }
 
-/// Returns what the words of a header line ask for, behind its `@` and the number of a session if there is one: `types` or `askall`, or `put`,
-/// `remove` or `ask`, one blank and a name. `None` exactly if they ask for nothing.
+/// Returns the heading that some words spell: those after the `@` and, if the command has sessions, the number of one. It is `types` or
+/// `askall`, or `put`, `remove` or `ask` with one space and a name. Returns `None` exactly if the words are no heading.
 pub fn read_heading(words: &[u8]) -> Option<Heading>
     ensures found { IfSome result (λ heading. IsHeading heading words.now) }
     ensures none { IfNone result ((heading : Heading) → ¬ IsHeading heading words.now) }

@@ -1,4 +1,4 @@
-//! The file, read whole.
+//! Reading a whole file.
 ghost use Rattle.std.specs.Prelude.{◌≡◌, ◌≤◌, ◌⊎◌, IfSome, IfOk, IfErr, length};
 ghost use Rattle.cli_file.specs.Files.{most_bytes};
 
@@ -10,7 +10,7 @@ use std::io::{ErrorKind, Read};
 /// The longest file that is read, in bytes: 16 MiB.
 pub const LIMIT: usize = 16_777_216;
 
-/// A reader that never answers `OutOfMemory`: if that is what reading it comes to, memory of our own was refused.
+/// A reader that never reports `OutOfMemory`: if a read into a `Vec` does, the `Vec` is out of memory.
 #[derive(Drop)]
 struct Foreign<R> {
     reader: R,
@@ -30,8 +30,8 @@ impl<R: Read> Read for Foreign<R> {
     }
 }
 
-/// Reads the whole of the input: its bytes, at most 16 MiB. `CannotRead` if a read fails or the input is longer; `NoMemory` if there is no
-/// room for it.
+/// Reads the whole input, and returns its bytes, at most 16 MiB. Returns `CannotRead` if a read fails or the input is longer, or
+/// `NoMemory`.
 pub fn read_whole<I: Read>(alloc: Global, input: &mut I) -> Result<Vec<u8>, Stop>
     ensures whole { IfOk result (λ file. IfSome (I.remaining input.old) (λ bytes. file.items ≡ bytes)) }
     ensures short { IfOk result (λ file. length file.items ≤ most_bytes) }

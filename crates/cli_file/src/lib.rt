@@ -1,4 +1,5 @@
-//! What the commands on a file share: the file cut into its sections and read, the statuses of calls, and what is said where a command stops.
+//! What the commands on a file share: cutting it into sections, reading these, the statuses of calls, and the last line of a command that
+//! stops.
 #![tactic(auto)]
 
 mod capacity;

@@ -1,4 +1,4 @@
-//! Where in a file its fault is.
+//! The place of a fault in its file.
 ghost use Rattle.std.specs.Prelude.{◌≡◌};
 ghost use Rattle.cli_file.specs.Located.{byte_of, byte_position, located, located_stop};
 
@@ -6,7 +6,7 @@ use crate::fault::{FaultKind, FileFault};
 use crate::stop::Stop;
 use bc_position::{Position, position_below};
 
-/// Returns the byte that a fault tells of, by how many bytes of the section's text are in front of it; `None` if it tells of no byte.
+/// Returns the byte of a fault, counted from 0 in the section's text, or `None` if the fault has none.
 fn byte_of(kind: FaultKind) -> Option<usize>
     ensures { result ≡ byte_of kind }
 {
@@ -19,7 +19,7 @@ fn byte_of(kind: FaultKind) -> Option<usize>
     }
 }
 
-/// Returns where in the file the byte is that its fault tells of.
+/// Returns the place in the file of a fault's byte.
 fn byte_position(file: &[u8], fault: FileFault) -> Option<Position>
     ensures { result ≡ byte_position file.now fault }
 {
@@ -27,7 +27,7 @@ fn byte_position(file: &[u8], fault: FileFault) -> Option<Position>
     Some(position_below(file, fault.line, at))
 }
 
-/// Returns a fault of the file with its position, if positions are asked for, and else with none.
+/// Returns a fault of the file, with its position if positions are asked for, and with none otherwise.
 fn locate_fault(positions: bool, file: &[u8], fault: FileFault) -> FileFault
     ensures { result ≡ located positions file.now fault }
 {
@@ -43,8 +43,8 @@ fn locate_fault(positions: bool, file: &[u8], fault: FileFault) -> FileFault
     }
 }
 
-/// Returns the stop of a command on this file, with the line and column of its byte if it is a fault of the file that has a byte and positions are
-/// asked for. Any other stop is as it was.
+/// Returns the stop, with the line and column of its byte if it is a fault of this file that has a byte, and positions are asked for. Any
+/// other stop is unchanged.
 pub fn locate(positions: bool, file: &[u8], stop: Stop) -> Stop
     ensures { result ≡ located_stop positions file.now stop }
 {

@@ -8,7 +8,7 @@ ghost use Rattle.cli_file.specs.OneLine.{in_one_line};
 use std::io;
 use std::io::Write;
 
-/// Returns what stands for a byte in a line.
+/// Returns what is printed for a byte in a line.
 fn in_one_line(byte: u8) -> u8
     ensures { result ≡ in_one_line byte }
 {
@@ -22,7 +22,7 @@ fn have_control(bytes: &[u8]) -> bool
     bytes.iter().any(|byte| byte.is_ascii_control())
 }
 
-/// Writes a name in one line: each control character as `?`. Returns the writer's fault where it fails.
+/// Writes a name in one line: each control character as `?`. Returns the writer's fault if it fails.
 pub(crate) fn write_in_one_line<W: Write>(name: &str, out: &mut W) -> io::Result<()>
     ensures { OnOk result (Appends (W.contents out.old) (W.contents out.new) (map in_one_line name.now)) }
 {

@@ -1,11 +1,11 @@
-//! A file cut at its header lines.
+//! A file, cut at its header lines.
 ghost use Rattle.std.specs.Prelude.{◌≡◌, ◌≤◌, ◌<◌, ◌+◌, ◌^◌, ◌-◌, ℕ, List, take, drop, length};
 ghost use Rattle.std.specs.Io.BufRead.{drop_through};
 ghost use Rattle.cli_file.specs.Parts.{sections_from, lines_of, without_end, parts, sections_of};
 
 use memchr::memchr;
 
-/// A section: its header line without the line feed, the number of that line, and the text behind it.
+/// A section: its header line without the line feed, the number of that line, and the text after it.
 #[derive(Clone, Copy)]
 pub struct Section<'a> {
     pub line: usize,
@@ -13,8 +13,8 @@ pub struct Section<'a> {
     pub text: &'a [u8],
 }
 
-/// The sections of a file, from the front. The first line of a file is a header, whatever it begins with, and after it each line that begins with
-/// `@`.
+/// The sections of a file, from the front. The first line of a file is a header line, whatever it begins with, and so is each later line
+/// that begins with `@`.
 #[derive(Clone, Copy)]
 pub struct Sections<'a> {
     rest: &'a [u8],
@@ -35,7 +35,7 @@ fn cut_line(text: &[u8]) -> (&[u8], &[u8])
     }
 }
 
-/// Returns how long the text is up to the next header line, and the number of that line, if the text begins with the line `first`.
+/// Returns the length of the text before the next header line, and the number of that line, if the text begins with the line `first`.
 fn find_header(text: &[u8], first: usize) -> (usize, usize)
     requires { first + length text.now < 2 ^ 64 }
     ensures within { result.0 ≤ length text.now }
@@ -45,7 +45,7 @@ fn find_header(text: &[u8], first: usize) -> (usize, usize)
 {
     let mut at = 0;
     let mut number = first;
-    // Only the first byte of a line can begin a header, so `memchr` skips from line feed to line feed.
+    // Only the first byte of a line can begin a header line, so `memchr` skips from line feed to line feed.
     while at < text.len() {
         if text[at] == b'@' {
             return (at, number);
@@ -83,7 +83,7 @@ impl<'a> Iterator for Sections<'a> {
 
     ghost remaining = { item_count left };
 
-    /// Returns the next section, or `None` if there is no more.
+    /// Returns the next section, or `None` if there is none.
     fn next(&mut self) -> Option<Section<'a>> {
         if self.rest.is_empty() {
             return None;

@@ -1,4 +1,4 @@
-//! The sections of a file, read side by side.
+//! Threads that share the reading of a file's sections.
 ghost use Rattle.std.specs.Prelude.{◌≡◌, IfOk};
 ghost use Rattle.cli_file.specs.Parts.{sections_of};
 ghost use Rattle.cli_file.specs.Left.{part_of};
@@ -13,7 +13,7 @@ use std::marker::Model;
 use std::thread;
 use std::thread::Threads;
 
-/// A section of a file, and what it was read as, once it was read. Contracts see the section. The type keeps that what was read is what the section
+/// A section of a file, and what it was read as, once it was read. Contracts see the section. What was read is always what the section
 /// spells.
 #[derive(Drop)]
 struct PendingSection<'a> {
@@ -45,7 +45,7 @@ impl<'a> PendingSection<'a> {
         }
     }
 
-    /// Reads the section.
+    /// Reads the section, and keeps the result.
     fn read(&mut self, alloc: Global)
         ensures { self.new ≡ self.old }
     {
@@ -75,7 +75,7 @@ fn list_sections<'a>(alloc: Global, file: &'a [u8]) -> Result<Vec<PendingSection
     Ok(sections)
 }
 
-/// Reads each of these sections, in so many threads at most.
+/// Reads each of these sections, in at most `threads` threads.
 fn read_each<R: Threads + Sync>(
     rt: &R,
     alloc: Global,
@@ -95,7 +95,7 @@ fn read_each<R: Threads + Sync>(
     );
 }
 
-/// Returns the sections of a file, all of them read, in so many threads at most.
+/// Returns the sections of a file, all of them read, in at most `threads` threads.
 fn read_sections<'a, R: Threads + Sync>(
     rt: &R,
     alloc: Global,
@@ -109,8 +109,7 @@ fn read_sections<'a, R: Threads + Sync>(
     Ok(sections)
 }
 
-/// Returns the changes that these sections make, in their order. `File` with the first fault of them if one has a fault, `NoMemory` if there is
-/// no room.
+/// Returns the changes that these sections make, in their order. Returns `File` with their first fault if one has a fault, or `NoMemory`.
 fn gather(alloc: Global, sections: Vec<PendingSection<'_>>) -> Result<Vec<Change>, Stop>
     ensures { GivesChanges sections.entry.items result }
 {
@@ -122,7 +121,7 @@ fn gather(alloc: Global, sections: Vec<PendingSection<'_>>) -> Result<Vec<Change
     Ok(changes)
 }
 
-/// The changes that a file makes, as `read_changes` returns them. So many threads at most share the reading of its sections.
+/// Returns the changes that a file makes, as `read_changes` does. At most `threads` threads share the reading of its sections.
 fn read_changes_ahead<R: Threads + Sync>(
     rt: &R,
     alloc: Global,
@@ -135,9 +134,9 @@ fn read_changes_ahead<R: Threads + Sync>(
     gather(alloc, sections)
 }
 
-/// Returns the changes that a file makes, in the order of its sections. Where there are several threads, they share the reading of the sections.
-/// `File` with the first fault of the file if it has one, with its position in the file if positions are asked for; `NoMemory` if there is
-/// no room.
+/// Returns the changes that a file makes, in the order of its sections. If there are several threads, they share the reading of the
+/// sections. Returns `File` with the first fault of the file if it has one, and with its position there if `positions` says so, or
+/// `NoMemory`.
 pub fn read_changes_by<R: Threads + Sync>(
     rt: &R,
     alloc: Global,

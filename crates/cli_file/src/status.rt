@@ -6,7 +6,7 @@ use bc_calls::{Event, PutReply};
 use bc_names::Name;
 use bc_prov::{BodyErrors, Outcome, Shared};
 
-/// Returns the status of a put with this reply.
+/// Returns the status of a put with this reply: 2 if nothing was stored, otherwise 0.
 pub fn put_status(reply: PutReply) -> u8
     ensures value { result ≡ put_status reply }
     ensures range { result ≤ 2 }
@@ -24,7 +24,7 @@ fn are_clean(bodies: &[BodyErrors]) -> bool
     bodies.iter().all(|body| body.errors.get().len() == 0)
 }
 
-/// Returns the status of an Ask with this outcome.
+/// Returns the status of an ask with this outcome: 0, 1 for a report with an error, or 2 for no report.
 pub fn outcome_status(outcome: &Outcome) -> u8
     ensures value { result ≡ outcome_status outcome.now }
     ensures range { result ≤ 2 }
@@ -47,8 +47,8 @@ fn rows_status(rows: &[(Name, Shared<Outcome>)]) -> u8
     status
 }
 
-/// Returns the status of a call by its reply: 0; 1 for a report with an error; 2 for a put that stored nothing, and for an Ask that found no report;
-/// the greatest of those of its outcomes for an Ask for all.
+/// Returns the status of a call by its reply: 0; 1 for a report with an error; 2 for a put that stored nothing, and for an ask that found
+/// no report. An ask for all has the greatest status of its outcomes.
 pub fn event_status(event: &Event) -> u8
     ensures value { result ≡ event_status event.now }
     ensures range { result ≤ 2 }

@@ -1,4 +1,4 @@
-//! Why the command stops before its end.
+//! The reasons for which a command stops early.
 ghost use Rattle.std.specs.Prelude.{◌≡◌, ◌≤◌, IfOk, OnOk};
 ghost use Rattle.std.specs.Io.KnownBytes.{Appends};
 ghost use Rattle.cli_file.specs.Stops.{last_line, stop_status, refusal_stop, open_stop, close_stop};
@@ -14,7 +14,7 @@ use std::io::Write;
 /// Why a command stops before its end.
 #[derive(Clone, Copy, Debug, PartialEq, Eq)]
 pub enum Stop {
-    /// The words of the command line are not those of a command.
+    /// The words are not a command line.
     WrongUse,
     /// The file cannot be read, or is too long.
     CannotRead,
@@ -22,11 +22,11 @@ pub enum Stop {
     CannotWrite,
     /// Standard error failed, so that nothing more can be said.
     CannotTell,
-    /// Memory ran out.
+    /// Out of memory.
     NoMemory,
     /// The file has a fault.
     File(FileFault),
-    /// The file puts and asks more than a history may hold.
+    /// The file makes more calls than a history may have.
     TooManyCalls,
     /// The history is full.
     HistoryFull,
@@ -89,7 +89,7 @@ impl From<CloseFault> for Stop {
     }
 }
 
-/// Returns the status of a command that stops: 2 for a fault of the file, 3 for all else.
+/// Returns the status of a command that stops: 2 for a fault of the file, otherwise 3.
 fn exit_status(stop: &Stop) -> u8
     ensures value { result ≡ stop_status stop.now }
     ensures range { result ≤ 3 }
@@ -117,7 +117,7 @@ fn write_unread<E: Write>(file: &str, err: &mut E) -> io::Result<()>
     err.write_all(b"\n")
 }
 
-/// Writes why a command on the file of this name stops: one line, and none if standard error failed already.
+/// Writes one line that says why a command on the file of this name stops, or nothing if standard error failed already.
 fn write_last_line<E: Write>(file: &str, stop: &Stop, err: &mut E) -> io::Result<()>
     ensures { OnOk result (Appends (E.contents err.old) (E.contents err.new) (last_line file.now stop.now)) }
 {
@@ -135,8 +135,8 @@ fn write_last_line<E: Write>(file: &str, stop: &Stop, err: &mut E) -> io::Result
     }
 }
 
-/// Writes why a command on the file of this name stops, and returns its exit status: 2 where the file has a fault, 3 for all else. A control
-/// character of the name is written as `?`, so that this is one line. The writer's fault if this cannot be written.
+/// Writes why a command on the file of this name stops, and returns its exit status: 2 if the file has a fault, otherwise 3. A control
+/// character of the name is written as `?`, so this is one line. Returns the writer's fault if the line cannot be written.
 pub fn stop_with<E: Write>(file: &str, stop: &Stop, err: &mut E) -> io::Result<u8>
     ensures range { IfOk result (λ status. status ≤ 3) }
     ensures status { IfOk result (λ status. status ≡ stop_status stop.now) }

@@ -1,4 +1,4 @@
-//! What is answered to words of the command line that write no line.
+//! The answer to words that are no command line, such as `--help`.
 ghost use Rattle.std.specs.Prelude.{◌≤◌, IfOk};
 ghost use Rattle.cli_file.specs.Words.{Answers};
 
@@ -7,7 +7,7 @@ use cli_line::{LineFault, Topic, write_usage, write_version};
 use std::io;
 use std::io::Write;
 
-/// Prints the text of help about a topic, or says that standard output failed.
+/// Prints the help on a topic, or says that standard output failed.
 fn help<O: Write, E: Write>(topic: Topic, out: &mut O, err: &mut E) -> io::Result<u8>
     ensures range { IfOk result (λ status. status ≤ 3) }
     ensures answered { IfOk result (λ status. Answers (LineFault.Help topic) status
@@ -31,9 +31,9 @@ fn version<O: Write, E: Write>(out: &mut O, err: &mut E) -> io::Result<u8>
     }
 }
 
-/// Answers words that write no line, and returns the exit status: 0 with the text of help about a topic or the line of the version on `out`; else 3
-/// with one line on `err` that says why, which is `cannot write` if `out` failed. The fault of `err` if that cannot be written. It allocates
-/// nothing.
+/// Answers words that are no command line, and returns the exit status. It is 0 after the help on a topic or the line of the version on
+/// `out`; otherwise it is 3, and one line on `err` says why, which is `cannot write` if `out` failed. Returns the fault of `err` if that
+/// line cannot be written.
 pub fn answer_words<O: Write, E: Write>(
     fault: LineFault,
     out: &mut O,

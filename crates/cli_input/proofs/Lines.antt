@@ -27,7 +27,7 @@ last_lines : (line : List ℕ) → 0 < length line → HasNoFeed line → lines_
 last_lines [] some clean = absurd (omega arith)
 last_lines (b ∷ line) some clean = last_line b line clean
 
--- what is kept of a line that goes on
+-- what is kept of a line that continues
 keeps_more : (most : ℕ) (line piece : List ℕ) → take most (take most line ++ piece) ≡ take most (line ++ piece)
 keeps_more zero line piece = refl
 keeps_more (suc most) [] piece = refl
@@ -49,7 +49,7 @@ goes_on (Some x) (Some y) None before piece feed one two none = absurd two
 goes_on (Some x) (Some y) (Some z) before piece feed one two none =
     one ∙ ap (λ (t : List ℕ). before ++ t) (two ∙ ap (λ (t : List ℕ). (piece ++ t) ++ z) none ∙ ap (λ (t : List ℕ). t ++ z) (append-nil piece)) ∙ sym (append_assoc before piece z)
 
--- the line goes on
+-- the line continues
 pub begins_more : (most : ℕ) (known mid new : Option (List ℕ)) (line line' : List ℕ) → HasBegun most known mid line → TakesPiece most mid new line line' More → HasBegun most known new line'
 begins_more most known mid new line line' h p = record {
   bytes = h.bytes ++ p.piece;

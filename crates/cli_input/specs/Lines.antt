@@ -9,7 +9,7 @@ abbrev pub lines_of : List ℕ → List (List ℕ)
 lines_of [] = []
 lines_of (b ∷ bytes) = if b == 10 then [] ∷ lines_of bytes else onto_first b (lines_of bytes)
 
--- these bytes are a line, which is too long where they are more than the limit
+-- these bytes are the line, or too long for the limit
 abbrev pub IsLine : ℕ → List ℕ → InputLine → Type 0
 IsLine limit bytes (Text text) = (text.items ≡ bytes) × (length bytes ≤ limit)
 IsLine limit bytes TooLong = limit < length bytes
@@ -19,7 +19,7 @@ abbrev pub ReadsFirst : ℕ → List (List ℕ) → List (List ℕ) → Option I
 ReadsFirst limit lines left None = (lines ≡ []) × (left ≡ [])
 ReadsFirst limit lines left (Some line) = (bytes : List ℕ) × (lines ≡ bytes ∷ left) × IsLine limit bytes line
 
--- the next line of an input was read; where its bytes are known, it is the first of their lines, and the other lines are left
+-- the next line of an input was read: if the bytes are known, it is the first of their lines, and the others are left
 abbrev pub ReadsNext : ℕ → Option (List ℕ) → Option (List ℕ) → Option InputLine → Type 0
 ReadsNext limit None new line = ⊤
 ReadsNext limit (Some bytes) None line = ⊥

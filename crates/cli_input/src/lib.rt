@@ -1,4 +1,4 @@
-//! The lines of an input, one at a time. Nothing behind a line is waited for, and a line over the limit is not kept.
+//! The lines of an input, one at a time. Reading waits for nothing after a line, and a line over the limit is not kept.
 #![tactic(auto)]
 
 mod line;

@@ -14,7 +14,7 @@ pub enum InputLine {
     TooLong,
 }
 
-/// Returns the line of which at most `limit + 1` bytes were kept.
+/// Returns the line from its first bytes, of which at most `limit + 1` were kept.
 fn finish(line: Vec<u8>, limit: usize) -> InputLine
     requires { limit < 2 ^ 64 - 1 }
     ensures { (bytes : List ℕ) → line.items ≡ take (limit + 1) bytes → IsLine limit bytes result }
@@ -25,13 +25,13 @@ fn finish(line: Vec<u8>, limit: usize) -> InputLine
     InputLine::Text(line)
 }
 
-/// Returns the next line of an input, or `None` at its end. A line ends behind its line feed; the last one may have none. Nothing
-/// behind the line is waited for. Of a line with more than `limit` bytes no more than `limit + 1` are held in memory at a time: it
-/// is read to its end and is `TooLong`.
+/// Returns the next line of an input, or `None` at its end. A line ends after its line feed; the last one may have none. Nothing after the
+/// line is waited for. Of a line with more than `limit` bytes, at most `limit + 1` are in memory at a time: it is read to its end, and is
+/// `TooLong`.
 ///
-/// Returns an error of the input as it is, but for `ErrorKind::Interrupted`, after which reading goes on, and
-/// `ErrorKind::OutOfMemory`, in place of which it is `ErrorKind::Other`; and `ErrorKind::OutOfMemory` only if memory was
-/// refused. Behind an error nothing is known of what was read.
+/// Returns an error of the input as it is, with two exceptions: after `ErrorKind::Interrupted` it reads on, and `ErrorKind::OutOfMemory`
+/// becomes `ErrorKind::Other`. It returns `ErrorKind::OutOfMemory` only if it is itself out of memory. After an error it is not known what
+/// was read.
 pub fn read_input_line<I: BufRead>(
     alloc: Global,
     input: &mut I,

@@ -1,11 +1,11 @@
-//! Pieces of a line, as an input shows them.
+//! Pieces of a line, as an input lends them.
 ghost use Rattle.std.specs.Prelude.{◌≡◌, ◌≤◌, IfOk, length, vec_len};
 ghost use Rattle.cli_input.specs.Pieces.{IsCut, TakesPiece};
 
 use std::io;
 use std::io::{BufRead, ErrorKind};
 
-/// The mark that comes behind a piece of a line: more of the line, its line feed, or the end of the input.
+/// What comes after a piece of a line: more of the line, its line feed, or the end of the input.
 #[derive(Clone, Copy, Debug, PartialEq, Eq)]
 pub enum Met {
     More,
@@ -13,7 +13,7 @@ pub enum Met {
     End,
 }
 
-/// The first piece of a line in some bytes: its length, its length with the line feed, and what comes behind it.
+/// The first piece of a line in some bytes: its length, its length with the line feed, and what comes after it.
 #[derive(Drop)]
 struct Cut {
     piece: usize,
@@ -21,7 +21,7 @@ struct Cut {
     met: Met,
 }
 
-/// Returns the piece in front of the first line feed; all of the bytes, where they have no line feed.
+/// Returns the piece before the first line feed, or all bytes if there is none.
 fn find_cut(bytes: &[u8]) -> Cut
     ensures { IsCut bytes.now result.piece result.through result.met }
 {
@@ -42,8 +42,8 @@ fn find_cut(bytes: &[u8]) -> Cut
 }
 
 /// Takes from the input as much of its first line as one read gives, with the line feed, and appends it to what was read of that line
-/// before, of which at most `most` bytes are kept. An interrupted read takes nothing. An error of the input is returned as it is, but of
-/// the kind `Other` if it was `OutOfMemory`, which is refused memory alone. Behind an error nothing is known of what was taken.
+/// before. At most `most` bytes of the line are kept. An interrupted read takes nothing. Returns an error of the input as it is, except
+/// that `OutOfMemory` becomes `Other`; so `OutOfMemory` means that `line` is out of memory. After an error it is not known what was taken.
 pub(crate) fn take_piece<I: BufRead>(
     input: &mut I,
     most: usize,

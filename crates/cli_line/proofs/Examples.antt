@@ -1,4 +1,4 @@
--- Which lines some words write.
+-- The lines that some words are.
 use Rattle.std.proofs.Common.{◌≡◌, [], ◌∷◌, Some, None, true, false, refl, codes}
 use Rattle.clap.proofs.OnLiterals.{clap_on_literals}
 use Rattle.clap.specs.declared.error.kind.ErrorKind.TheVariants.{DisplayHelp, DisplayVersion}
@@ -9,7 +9,7 @@ use Rattle.cli_line.specs.declared.topic.Topic.TheVariants as topics
 use Rattle.cli_line.specs.Topics.{topic_of}
 use Rattle.cli_line.specs.Written.{check_given, command_of, faults_of, line_written, print_given, run_given, serve_given}
 
--- what is unfolded to compute them
+-- what has to be unfolded to compute them
 unfoldable on_words : Unit {0}
 unfolding clap_on_literals nlldb program check_app run_app serve_app print_app check_given run_given serve_given print_given command_of faults_of line_written
 on_words = tt

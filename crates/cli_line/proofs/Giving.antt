@@ -1,4 +1,4 @@
--- What is returned of the words.
+-- What is returned for the words.
 use Rattle.std.proofs.Common.{◌≡◌, ◌∙◌, List, [], ◌∷◌, Option, Some, None, Result, Ok, Err, ap, ap₂, refl, sym, subst, true, false, inl, inr}
 use Rattle.std.specs.Prelude.{◌⊎◌, is_some, option_map, Box}
 use Rattle.std.specs.Box.{box_value}
@@ -36,7 +36,7 @@ unfolding faults_of
 clean command words is none =
     subst (λ (app : App). fault_of app words ≡ []) is.0 (none (ap is_simple_and_free is.0 ∙ free))
 
--- the parser failed by one of the faults of the words, or for want of memory
+-- the parser failed by one of the faults of the words, or ran out of memory
 pub fails : (command : Command) (words : List Text) (k : ErrorKind) → IsCommand nlldb command
     → (is_simple_and_free (app_of command) ≡ true → (k ≡ kinds.OutOfMemory) ⊎ IsAmong k (fault_of (app_of command) words))
     → (k ≡ kinds.OutOfMemory) ⊎ IsAmong k (faults_of words)

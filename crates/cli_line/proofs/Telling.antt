@@ -1,4 +1,4 @@
--- What the parser is told of the commands.
+-- What the parser gets of the commands.
 use Rattle.std.proofs.Common.{◌≡◌, ◌∙◌, ℕ, List, Some, ap, ap₂, codes, true, false}
 use Rattle.std.specs.Prelude.{◌||◌}
 use Rattle.std.specs.Borrow.{Bor}

@@ -1,4 +1,4 @@
--- What the words behind the options say.
+-- The values of options.
 use Rattle.std.proofs.Common.{◌≡◌, ◌<◌, ◌≤◌, ◌^◌, ℕ, Bool, List, [], ◌∷◌, Option, Some, None, Result, Ok, Err, true, false, refl, ap, arith, nat_lt}
 use Rattle.std.specs.Prelude.{if◌then◌else◌, length}
 use Rattle.std.specs.List.{list_all}
@@ -11,12 +11,12 @@ use Rattle.clap.specs.ValueTests.{is_numeral}
 use Rattle.clap.proofs.WalkLemmas.{both}
 use Rattle.cli_line.specs.Values.{capacity_named, is_capacity, is_job_count, is_session_count, jobs_named, sessions_named}
 
--- the number of a word, where it is one of sessions
+-- the number of a word, if it is one of sessions
 pub named : (word : List ℕ) (count : ℕ) (is_count : Bool) → count ≡ byte_or_zero word → is_count ≡ is_session_count count
     → (if is_count then Some count else None) ≡ sessions_named word
 named word count is_count is fits = rw (fits, is) refl
 
--- the same, where it is one of jobs
+-- the number of a word, if it is one of jobs
 pub jobs_of : (word : List ℕ) (count : ℕ) (is_count : Bool) → count ≡ byte_or_zero word → is_count ≡ is_job_count count
     → (if is_count then Some count else None) ≡ jobs_named word
 jobs_of word count is_count is fits = rw (fits, is) refl
@@ -44,7 +44,7 @@ numeral_from ds e =
 abbrev chosen : ℕ → Option ℕ
 chosen count = if is_capacity count then Some count else None
 
--- a capacity is read of each word that writes one
+-- a capacity is read from each word that names one
 read : {E : Type 0} (word : List ℕ) (r : Result ℕ E) → ParsesUnsigned 32 10 word r → chosen (result_unwrap_or r 0) ≡ capacity_named word
 read word (Ok n) h = rw (numeral_passes (without_leading_plus word) h.0.0) (ap chosen h.1)
 read word (Err e) h = go (is_numeral (without_leading_plus word)) refl
@@ -61,7 +61,7 @@ read word (Err e) h = go (is_numeral (without_leading_plus word)) refl
     go false is = rw is refl
     go true is = rw is (large (is_capacity (digits_value 10 (without_leading_plus word))) refl is)
 
--- the number of a word, where it is a capacity
+-- the number of a word, if it is a capacity
 pub capacity_of : {E : Type 0} (word : List ℕ) (count : ℕ) (r : Result ℕ E) (is_count : Bool) → ParsesUnsigned 32 10 word r → count ≡ result_unwrap_or r 0
     → is_count ≡ is_capacity count → (if is_count then Some count else None) ≡ capacity_named word
 capacity_of word count r is_count parses is fits = rw (fits, is) (read word r parses)

@@ -6,7 +6,7 @@ use Rattle.clap.specs.declared.builder.action.ArgAction.TheVariants.{SetTrue}
 use Rattle.clap.specs.declared.builder.command.Command.{Command}
 use Rattle.clap.specs.declared.builder.command.Command.TheViews.{out-Command}
 
--- FILE, which must stand
+-- FILE, which is required
 abbrev pub file_rule : Rule
 file_rule = record (new_rule (codes "FILE")) { required = true }
 
@@ -22,19 +22,19 @@ source_rule = record (new_rule (codes "source")) { long = Some (codes "source");
 abbrev pub positions_rule : Rule
 positions_rule = record (new_rule (codes "positions")) { long = Some (codes "positions"); action = Some SetTrue }
 
--- `--sessions N`, 1 where it does not stand
+-- `--sessions N`, by default 1
 abbrev pub sessions_rule : Rule
 sessions_rule = record (new_rule (codes "sessions")) { long = Some (codes "sessions"); defaults = codes "1" ∷ [] }
 
--- `--solver S`, `components` where it does not stand
+-- `--solver S`, by default `components`
 abbrev pub solver_rule : Rule
 solver_rule = record (new_rule (codes "solver")) { long = Some (codes "solver"); defaults = codes "components" ∷ [] }
 
--- `--jobs N`, with no value where it does not stand
+-- `--jobs N`, which has no default
 abbrev pub jobs_rule : Rule
 jobs_rule = record (new_rule (codes "jobs")) { long = Some (codes "jobs") }
 
--- `--capacity C`, 1000000 where it does not stand
+-- `--capacity C`, by default 1000000
 abbrev pub capacity_rule : Rule
 capacity_rule = record (new_rule (codes "capacity")) { long = Some (codes "capacity"); defaults = codes "1000000" ∷ [] }
 
@@ -54,8 +54,8 @@ serve_app = with_rule (with_rule (with_rule (new_app (codes "serve")) sessions_r
 unfoldable pub print_app : App
 print_app = with_rule (with_rule (new_app (codes "print")) file_rule) positions_rule
 
--- the program, before it has commands: its name is not among the words, one of its commands must stand, `help` is none, and it has a
--- version, which its commands have not
+-- the program without its commands: its own name is not among the words, one of its commands is required, `help` is none, and it alone has
+-- a version
 unfoldable pub program : App
 program =
     let named = new_app (codes "nlldb") in
@@ -65,6 +65,6 @@ program =
 unfoldable pub nlldb : App
 nlldb = with_subcommand (with_subcommand (with_subcommand (with_subcommand program check_app.top) run_app.top) serve_app.top) print_app.top
 
--- a command that the parser sees so, with no argument that is handed down
+-- the parser's command is this one, and hands no argument down to its subcommands
 abbrev pub IsCommand : App → Command → Type 0
 IsCommand app command = (app_of command ≡ app) × ((out-Command command).has_globals ≡ false)

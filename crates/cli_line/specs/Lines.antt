@@ -19,15 +19,15 @@ is_run (Run run) = true
 is_run (Serve serve) = false
 is_run (Print print) = false
 
--- its solver; `print` solves nothing, and counts as by components
+-- the solver of a line; `print` solves nothing, and counts as by components
 abbrev pub solver_of : Line → Solver
 solver_of (Check check) = check.solver
 solver_of (Run run) = run.solver
 solver_of (Serve serve) = serve.solver
 solver_of (Print print) = Components
 
--- in a line of `check` `--json` and `--source` do not both stand; one of `run` or `serve` has 1 to 16 sessions, and the history of one of
--- `serve` 1 to 1,000,000 entries
+-- a line of `check` does not have both `--json` and `--source`, a line of `run` or `serve` has 1 to 16 sessions, and the history of a line
+-- of `serve` has 1 to 1,000,000 entries
 abbrev pub IsInRange : Line → Type 0
 IsInRange (Check check) = (check.json && check.source) ≡ false
 IsInRange (Run run) = (1 ≤ run.sessions) × (run.sessions ≤ 16)

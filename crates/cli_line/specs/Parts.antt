@@ -1,4 +1,4 @@
--- What a line holds.
+-- The parts of a command line.
 use Rattle.std.specs.Prelude.{ℕ, Bool, List, Option}
 use Rattle.cli_line.specs.declared.solver.Solver.{Solver}
 

@@ -1,4 +1,4 @@
--- Which line the words write.
+-- The command line that words are.
 use Rattle.std.specs.Prelude.{◌≡◌, ◌&&◌, ℕ, Bool, false, List, [], ◌∷◌, Option, Some, None, Result, Ok, Err, codes, option_map, option_and_then, if◌then◌else◌}
 use Rattle.std.specs.Option.{option_map_or}
 use Rattle.std.specs.Str.{bytes_eq}
@@ -17,7 +17,7 @@ use Rattle.cli_line.specs.Values.{capacity_named, jobs_named, solver_named, sess
 use Rattle.cli_line.specs.Commands.{nlldb}
 use Rattle.cli_line.specs.Topics.{topic_of}
 
--- a flag stands
+-- a flag is set
 abbrev pub is_set : Text → List Row → Bool
 is_set id rows = option_map_or (λ text. bytes_eq text (codes "true")) (first_of id rows) false
 
@@ -25,19 +25,19 @@ is_set id rows = option_map_or (λ text. bytes_eq text (codes "true")) (first_of
 abbrev pub solver_given : List Row → Option Solver
 solver_given rows = option_and_then solver_named (first_of (codes "solver") rows)
 
--- the number of sessions that they name
+-- the number of sessions that the arguments name
 abbrev pub sessions_given : List Row → Option ℕ
 sessions_given rows = option_and_then sessions_named (first_of (codes "sessions") rows)
 
--- the capacity that they name
+-- the capacity that the arguments name
 abbrev pub capacity_given : List Row → Option ℕ
 capacity_given rows = option_and_then capacity_named (first_of (codes "capacity") rows)
 
--- the number of jobs that they name; none is named where the option does not stand
+-- the number of jobs that the arguments name, if they name one
 abbrev pub jobs_given : List Row → Option (Option ℕ)
 jobs_given rows = option_map_or (λ word. option_map Some (jobs_named word)) (first_of (codes "jobs") rows) (Some None)
 
--- they ask for JSON and for sources, which no line does
+-- the arguments have both `--json` and `--source`, as no line has
 abbrev pub asks_for_both : List Row → Bool
 asks_for_both rows = is_set (codes "json") rows && is_set (codes "source") rows
 
@@ -72,7 +72,7 @@ line_given (name, rows) =
     else if bytes_eq name (codes "print") then option_map Print (print_given rows)
     else None
 
--- the line of the command that the parser entered, where it found no fault
+-- the line of the command that the parser entered, if it found no fault
 abbrev pub line_entered : Kinds → Option (Text × List Row) → Option Line
 line_entered [] entered = option_and_then line_given entered
 line_entered (fault ∷ faults) entered = None
@@ -81,15 +81,15 @@ line_entered (fault ∷ faults) entered = None
 unfoldable pub faults_of : List Text → Kinds
 faults_of words = fault_of nlldb words
 
--- the command that it enters by them, with its arguments
+-- the command that the parser enters for the words, with its arguments
 unfoldable pub command_of : List Text → Option (Text × List Row)
 command_of words = subcommand_of nlldb words
 
--- the line that the words write
+-- the line that the words are, if they are one
 unfoldable pub line_written : List Text → Option Line
 line_written words = line_entered (faults_of words) (command_of words)
 
--- what is returned are these parts, where there are such; want of memory aside
+-- the result has these parts if there are any, and is wrong use otherwise, unless memory ran out
 abbrev pub GivesParts : {X : Type 0} → Option X → Result X LineFault → Type 0
 GivesParts parts (Ok given) = parts ≡ Some given
 GivesParts parts (Err WrongUse) = parts ≡ None
@@ -97,8 +97,8 @@ GivesParts parts (Err (Help topic)) = ⊥
 GivesParts parts (Err Version) = ⊥
 GivesParts parts (Err NoMemory) = Unit {0}
 
--- What is returned: the line that the words write, or that they write none and do not just ask for help or for the version, or that
--- the parser finds that they ask for it, and on what they ask for help. Want of memory says nothing.
+-- The result is the line that the words are. It is wrong use if they are none and do not just ask for help or the version. It is help or
+-- the version if the parser finds that they ask for that, and help is on their topic. Out of memory says nothing about them.
 abbrev pub GivesLine : List Text → Result Line LineFault → Type 0
 GivesLine words (Ok line) = line_written words ≡ Some line
 GivesLine words (Err WrongUse) = (line_written words ≡ None) × ¬ (faults_of words ≡ DisplayHelp ∷ []) × ¬ (faults_of words ≡ DisplayVersion ∷ [])

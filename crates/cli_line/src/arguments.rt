@@ -1,4 +1,4 @@
-//! The commands and their arguments, as the parser is told of them.
+//! The commands and their arguments, as the parser gets them.
 ghost use Rattle.std.specs.Prelude.{◌≡◌, IfOk, false};
 ghost use Rattle.clap.specs.Simple.{App, new_app, with_rule, with_subcommand};
 ghost use Rattle.clap.specs.Words.{rule_of};
@@ -9,7 +9,7 @@ use crate::usage::VERSION;
 use clap::{Arg, ArgAction, Command};
 use std::alloc::{AllocError, Global};
 
-/// FILE, which must stand.
+/// Returns the argument FILE, which is required.
 fn file_argument<'a>(alloc: Global) -> Arg<'a>
     ensures rule { rule_of result ≡ file_rule }
     ensures local { result.global ≡ false }
@@ -17,7 +17,7 @@ fn file_argument<'a>(alloc: Global) -> Arg<'a>
     Arg::new(alloc, "FILE").required(true)
 }
 
-/// `--json`.
+/// Returns the option `--json`.
 fn json_option<'a>(alloc: Global) -> Arg<'a>
     ensures rule { rule_of result ≡ json_rule }
     ensures local { result.global ≡ false }
@@ -27,7 +27,7 @@ fn json_option<'a>(alloc: Global) -> Arg<'a>
         .action(ArgAction::SetTrue)
 }
 
-/// `--source`.
+/// Returns the option `--source`.
 fn source_option<'a>(alloc: Global) -> Arg<'a>
     ensures rule { rule_of result ≡ source_rule }
     ensures local { result.global ≡ false }
@@ -37,7 +37,7 @@ fn source_option<'a>(alloc: Global) -> Arg<'a>
         .action(ArgAction::SetTrue)
 }
 
-/// `--positions`.
+/// Returns the option `--positions`.
 fn positions_option<'a>(alloc: Global) -> Arg<'a>
     ensures rule { rule_of result ≡ positions_rule }
     ensures local { result.global ≡ false }
@@ -47,7 +47,7 @@ fn positions_option<'a>(alloc: Global) -> Arg<'a>
         .action(ArgAction::SetTrue)
 }
 
-/// `--sessions N`.
+/// Returns the option `--sessions N`, by default 1.
 fn sessions_option<'a>(alloc: Global) -> Arg<'a>
     ensures rule { rule_of result ≡ sessions_rule }
     ensures local { result.global ≡ false }
@@ -57,7 +57,7 @@ fn sessions_option<'a>(alloc: Global) -> Arg<'a>
         .default_value("1")
 }
 
-/// `--solver S`.
+/// Returns the option `--solver S`, by default `components`.
 fn solver_option<'a>(alloc: Global) -> Arg<'a>
     ensures rule { rule_of result ≡ solver_rule }
     ensures local { result.global ≡ false }
@@ -67,7 +67,7 @@ fn solver_option<'a>(alloc: Global) -> Arg<'a>
         .default_value("components")
 }
 
-/// `--jobs N`.
+/// Returns the option `--jobs N`.
 fn jobs_option<'a>(alloc: Global) -> Arg<'a>
     ensures rule { rule_of result ≡ jobs_rule }
     ensures local { result.global ≡ false }
@@ -75,7 +75,7 @@ fn jobs_option<'a>(alloc: Global) -> Arg<'a>
     Arg::new(alloc, "jobs").long("jobs")
 }
 
-/// `--capacity C`.
+/// Returns the option `--capacity C`, by default 1,000,000.
 fn capacity_option<'a>(alloc: Global) -> Arg<'a>
     ensures rule { rule_of result ≡ capacity_rule }
     ensures local { result.global ≡ false }
@@ -85,7 +85,7 @@ fn capacity_option<'a>(alloc: Global) -> Arg<'a>
         .default_value("1000000")
 }
 
-/// `NAME FILE [--json]`, to which a command adds what else it takes.
+/// Returns the command `NAME FILE [--json]`, to which a command adds its other options.
 fn file_command<'a>(alloc: Global, name: &'a str) -> Result<Command<'a>, AllocError>
     ensures { IfOk result (IsCommand (with_rule (with_rule (new_app name.now) file_rule) json_rule)) }
 {
@@ -94,7 +94,8 @@ fn file_command<'a>(alloc: Global, name: &'a str) -> Result<Command<'a>, AllocEr
         .arg(json_option(alloc))
 }
 
-/// `check FILE [--json] [--source] [--positions] [--jobs N] [--solver S]`. That `--json` and `--source` do not both stand is looked at behind the parser.
+/// Returns `check FILE [--json] [--source] [--positions] [--jobs N] [--solver S]`. That `--json` and `--source` exclude each other is
+/// checked after the parser.
 fn check_command<'a>(alloc: Global) -> Result<Command<'a>, AllocError>
     ensures { IfOk result (IsCommand check_app) }
 {
@@ -105,7 +106,7 @@ fn check_command<'a>(alloc: Global) -> Result<Command<'a>, AllocError>
         .arg(solver_option(alloc))
 }
 
-/// `run FILE [--json] [--positions] [--sessions N] [--solver S]`.
+/// Returns `run FILE [--json] [--positions] [--sessions N] [--solver S]`.
 fn run_command<'a>(alloc: Global) -> Result<Command<'a>, AllocError>
     ensures { IfOk result (IsCommand run_app) }
 {
@@ -115,7 +116,7 @@ fn run_command<'a>(alloc: Global) -> Result<Command<'a>, AllocError>
         .arg(solver_option(alloc))
 }
 
-/// `serve [--sessions N] [--capacity C] [--solver S]`.
+/// Returns `serve [--sessions N] [--capacity C] [--solver S]`.
 fn serve_command<'a>(alloc: Global) -> Result<Command<'a>, AllocError>
     ensures { IfOk result (IsCommand serve_app) }
 {
@@ -125,7 +126,7 @@ fn serve_command<'a>(alloc: Global) -> Result<Command<'a>, AllocError>
         .arg(solver_option(alloc))
 }
 
-/// `print FILE [--positions]`.
+/// Returns `print FILE [--positions]`.
 fn print_command<'a>(alloc: Global) -> Result<Command<'a>, AllocError>
     ensures { IfOk result (IsCommand print_app) }
 {
@@ -134,7 +135,7 @@ fn print_command<'a>(alloc: Global) -> Result<Command<'a>, AllocError>
         .arg(positions_option(alloc))
 }
 
-/// Returns the program, before it has its commands.
+/// Returns the program without its commands.
 fn program<'a>(alloc: Global) -> Command<'a>
     ensures { IsCommand program result }
 {
@@ -145,7 +146,7 @@ fn program<'a>(alloc: Global) -> Command<'a>
         .version(VERSION)
 }
 
-/// Returns a program with one more command, where that could be made.
+/// Returns a program with one more command, or the error of that command.
 fn with_command<'a>(
     program: Command<'a>,
     command: Result<Command<'a>, AllocError>,
@@ -158,7 +159,7 @@ fn with_command<'a>(
     }
 }
 
-/// Returns what the parser is told of the whole program: its commands, their options and their values. `AllocError` only if memory was refused.
+/// Returns the whole program for the parser: its commands, with their options and values.
 pub(crate) fn nlldb_command<'a>(alloc: Global) -> Result<Command<'a>, AllocError>
     ensures { IfOk result (IsCommand nlldb) }
 {

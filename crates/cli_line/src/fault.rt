@@ -1,4 +1,4 @@
-//! Why words are no line.
+//! Why words are not a command line.
 ghost use Rattle.std.specs.Prelude.{◌≡◌};
 ghost use Rattle.cli_line.specs.Faults.{fault_of_kind};
 ghost use Rattle.clap.specs.Words.{kind_of};
@@ -8,7 +8,8 @@ use clap::error::ErrorKind;
 use std::alloc::{AllocError, AllocFailed};
 use thiserror::Error;
 
-/// Why words are no line: they ask for help on a topic or for the version, they are none of a command, or memory was refused.
+/// Why words are not a command line: they ask for help on a topic or for the version, they are wrong use, or reading them ran out of
+/// memory.
 #[derive(Clone, Copy, Debug, PartialEq, Eq, Error)]
 pub enum LineFault {
     #[error("help")]
@@ -42,8 +43,8 @@ impl<T: Drop> From<AllocFailed<T>> for LineFault {
 }
 
 impl LineFault {
-    /// Returns the fault for a refusal of the parser, of words that would ask for help on this topic: `Help` of the topic or `Version` if they are
-    /// asked for, `NoMemory` if memory was refused, and else `WrongUse`.
+    /// Returns the fault for an error of the parser. It is `Help` on this topic or `Version` if the words ask for that, `NoMemory` if the
+    /// parser is out of memory, and otherwise `WrongUse`.
     pub(crate) fn of_refusal(topic: Topic, error: &clap::Error) -> Self
         ensures { result ≡ fault_of_kind topic (kind_of error.now) }
     {

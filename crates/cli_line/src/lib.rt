@@ -1,4 +1,4 @@
-//! The words of the command line: which command they give, on which file, with which options.
+//! The words of the command line: the command that they give, with its file and options.
 #![tactic(auto)]
 
 mod arguments;

@@ -1,17 +1,17 @@
-//! A line: a command with its options, and the file that it names.
+//! A command line: a command with its options, and the file that it names.
 ghost use Rattle.std.specs.Prelude.{◌≡◌, ◌≤◌, ◌&&◌, false, string_bytes};
 ghost use Rattle.cli_line.specs.Lines.{solver_of};
 
 use crate::Solver;
 use std::marker::Model;
 
-/// The most sessions that a line may ask for.
+/// The most sessions for which a line may ask.
 pub const MOST_SESSIONS: u8 = 16;
 
-/// The most entries that a line of `serve` may ask for in its history.
+/// The most entries of a history for which a line of `serve` may ask.
 pub const MOST_CAPACITY: u32 = 1_000_000;
 
-/// A line of `check`: the name of its file and its options. Contracts see these parts. It never has both `--json` and `--source`.
+/// A line of `check`: the name of its file, and its options. Contracts see these parts. It never has both `--json` and `--source`.
 #[derive_where(Debug)]
 pub struct CheckLine {
     file: String,
@@ -54,7 +54,7 @@ impl Model for CheckLine {
 }
 
 impl CheckLine {
-    /// Returns the line of these parts.
+    /// Returns the line with these parts.
     pub(crate) fn new(
         file: String,
         json: bool,
@@ -76,7 +76,7 @@ impl CheckLine {
         }
     }
 
-    /// Returns the name of the file, which may be any text. The name `-` means standard input.
+    /// Returns the name of the file, which may be any text. The name `-` is standard input.
     pub fn file(&self) -> &str
         ensures { result.now ≡ self.now.file }
     {
@@ -106,14 +106,14 @@ impl CheckLine {
         self.positions
     }
 
-    /// Returns how many threads are to share the work, 1 to 255: as many as `--jobs` says, or `None` if the line has no `--jobs`.
+    /// Returns the number of threads that are to share the work, 1 to 255, or `None` if the line has no `--jobs`.
     pub fn jobs(&self) -> Option<u8>
         ensures { result ≡ self.now.jobs }
     {
         self.jobs
     }
 
-    /// Returns the solver that `--solver` names, or the one by components if the line has no `--solver`.
+    /// Returns the solver of `--solver`, by default `Components`.
     pub fn solver(&self) -> Solver
         ensures { result ≡ self.now.solver }
     {
@@ -121,7 +121,7 @@ impl CheckLine {
     }
 }
 
-/// A line of `run`: the name of its file and its options. Contracts see these parts. It has 1 to 16 sessions.
+/// A line of `run`: the name of its file, and its options. Contracts see these parts. It has 1 to 16 sessions.
 #[derive_where(Debug)]
 pub struct RunLine {
     file: String,
@@ -161,7 +161,7 @@ impl Model for RunLine {
 }
 
 impl RunLine {
-    /// Returns the line of these parts.
+    /// Returns the line with these parts.
     pub(crate) fn new(
         file: String,
         json: bool,
@@ -182,7 +182,7 @@ impl RunLine {
         }
     }
 
-    /// Returns the name of the file, which may be any text. The name `-` means standard input.
+    /// Returns the name of the file, which may be any text. The name `-` is standard input.
     pub fn file(&self) -> &str
         ensures { result.now ≡ self.now.file }
     {
@@ -203,7 +203,7 @@ impl RunLine {
         self.positions
     }
 
-    /// Returns how many sessions there are, 1 to 16: as many as `--sessions` says, or 1 if the line has no `--sessions`.
+    /// Returns the number of sessions, 1 to 16, by default 1.
     pub fn sessions(&self) -> u8
         ensures value { result ≡ self.now.sessions }
         ensures least { 1 ≤ result }
@@ -212,7 +212,7 @@ impl RunLine {
         self.sessions
     }
 
-    /// Returns the solver that `--solver` names, or the one by components if the line has no `--solver`.
+    /// Returns the solver of `--solver`, by default `Components`.
     pub fn solver(&self) -> Solver
         ensures { result ≡ self.now.solver }
     {
@@ -245,7 +245,7 @@ impl Model for ServeLine {
 }
 
 impl ServeLine {
-    /// Returns the line of these parts.
+    /// Returns the line with these parts.
     pub(crate) fn new(sessions: u8, capacity: u32, solver: Solver) -> Self
         requires least { 1 ≤ sessions }
         requires most { sessions ≤ 16 }
@@ -260,7 +260,7 @@ impl ServeLine {
         }
     }
 
-    /// Returns how many sessions there are, 1 to 16: as many as `--sessions` says, or 1 if the line has no `--sessions`.
+    /// Returns the number of sessions, 1 to 16, by default 1.
     pub fn sessions(&self) -> u8
         ensures value { result ≡ self.now.sessions }
         ensures least { 1 ≤ result }
@@ -269,7 +269,7 @@ impl ServeLine {
         self.sessions
     }
 
-    /// Returns how many entries the history may have, 1 to 1,000,000: as many as `--capacity` says, or 1,000,000 if the line has no `--capacity`.
+    /// Returns the most entries of the history, 1 to 1,000,000, by default 1,000,000.
     pub fn capacity(&self) -> u32
         ensures value { result ≡ self.now.capacity }
         ensures least { 1 ≤ result }
@@ -278,7 +278,7 @@ impl ServeLine {
         self.capacity
     }
 
-    /// Returns the solver that `--solver` names, or the one by components if the line has no `--solver`.
+    /// Returns the solver of `--solver`, by default `Components`.
     pub fn solver(&self) -> Solver
         ensures { result ≡ self.now.solver }
     {
@@ -286,7 +286,7 @@ impl ServeLine {
     }
 }
 
-/// A line of `print`: the name of its file and its option. Contracts see these parts.
+/// A line of `print`: the name of its file, and its option. Contracts see these parts.
 #[derive_where(Debug)]
 pub struct PrintLine {
     file: String,
@@ -315,14 +315,14 @@ impl Model for PrintLine {
 }
 
 impl PrintLine {
-    /// Returns the line of these parts.
+    /// Returns the line with these parts.
     pub(crate) fn new(file: String, positions: bool) -> Self
         ensures { result ≡ record { file = string_bytes file; positions = positions } }
     {
         PrintLine { file, positions }
     }
 
-    /// Returns the name of the file, which may be any text. The name `-` means standard input.
+    /// Returns the name of the file, which may be any text. The name `-` is standard input.
     pub fn file(&self) -> &str
         ensures { result.now ≡ self.now.file }
     {
@@ -362,7 +362,7 @@ impl Drop for Line {
 }
 
 impl Line {
-    /// Returns the solver of the line. For a line of `print`, which solves nothing, it is the one by components.
+    /// Returns the solver of the line. A line of `print` solves nothing, and returns `Components`.
     pub fn solver(&self) -> Solver
         ensures { result ≡ solver_of self.now }
     {

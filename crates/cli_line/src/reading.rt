@@ -1,4 +1,4 @@
-//! Words are read as a line.
+//! Reading words as a command line.
 ghost use Rattle.std.specs.Prelude.{◌≡◌, IfOk, option_map, map};
 ghost use Rattle.clap.specs.Words.{first_of, found_of, rows_of};
 ghost use Rattle.cli_line.specs.Values.{capacity_named, is_capacity, is_job_count, is_session_count, jobs_named, sessions_named};
@@ -15,14 +15,14 @@ use crate::{
 use clap::ArgMatches;
 use std::alloc::Global;
 
-/// Returns the first value of an argument.
+/// Returns the first value of an argument, if it has one.
 fn value_of<'a>(matches: &ArgMatches<'a>, id: &str) -> Option<&'a str>
     ensures { option_map (λ text. text.now) result ≡ first_of id.now (rows_of (found_of matches.now)) }
 {
     matches.get_str(id)
 }
 
-/// Returns whether a flag stands: its value is then `true`, and else `false`.
+/// Returns whether a flag is set: its value is then `true`, otherwise `false`.
 fn is_set(matches: &ArgMatches<'_>, id: &str) -> bool
     ensures { result ≡ is_set id.now (rows_of (found_of matches.now)) }
 {
@@ -32,14 +32,14 @@ fn is_set(matches: &ArgMatches<'_>, id: &str) -> bool
     }
 }
 
-/// Returns whether there may be so many sessions.
+/// Returns whether there may be `count` sessions.
 fn is_session_count(count: u8) -> bool
     ensures { result ≡ is_session_count count }
 {
     1 <= count && count <= MOST_SESSIONS
 }
 
-/// Returns the number that a word writes, where there may be so many sessions. A word that writes no number counts as 0.
+/// Returns the number of sessions that a word names, if there may be that many. A word that is no number counts as 0.
 fn sessions_named(word: &str) -> Option<u8>
     ensures { result ≡ sessions_named word.now }
 {
@@ -51,14 +51,14 @@ fn sessions_named(word: &str) -> Option<u8>
     }
 }
 
-/// Returns whether there may be so many jobs.
+/// Returns whether `count` threads may share the work.
 fn is_job_count(count: u8) -> bool
     ensures { result ≡ is_job_count count }
 {
     count >= 1
 }
 
-/// Returns the number that a word writes, where there may be so many jobs. A word that writes no number counts as 0.
+/// Returns the number of threads that a word names, if there may be that many. A word that is no number counts as 0.
 fn jobs_named(word: &str) -> Option<u8>
     ensures { result ≡ jobs_named word.now }
 {
@@ -66,14 +66,14 @@ fn jobs_named(word: &str) -> Option<u8>
     if is_job_count(jobs) { Some(jobs) } else { None }
 }
 
-/// Returns whether a history may have so many entries.
+/// Returns whether a history may have `count` entries.
 fn is_capacity(count: u32) -> bool
     ensures { result ≡ is_capacity count }
 {
     1 <= count && count <= MOST_CAPACITY
 }
 
-/// Returns the number that a word writes, where a history may have so many entries. A word that writes no number counts as 0.
+/// Returns the capacity that a word names, if a history may have it. A word that is no number counts as 0.
 fn capacity_named(word: &str) -> Option<u32>
     ensures { result ≡ capacity_named word.now }
 {
@@ -85,28 +85,28 @@ fn capacity_named(word: &str) -> Option<u32>
     }
 }
 
-/// Returns the solver that the arguments name.
+/// Returns the solver that the arguments name, if it exists.
 fn solver_given(matches: &ArgMatches<'_>) -> Option<Solver>
     ensures { result ≡ solver_given (rows_of (found_of matches.now)) }
 {
     solver_named(value_of(matches, "solver")?)
 }
 
-/// Returns the number of sessions that the arguments name.
+/// Returns the number of sessions that the arguments name, if it is in range.
 fn sessions_given(matches: &ArgMatches<'_>) -> Option<u8>
     ensures { result ≡ sessions_given (rows_of (found_of matches.now)) }
 {
     sessions_named(value_of(matches, "sessions")?)
 }
 
-/// Returns the capacity that the arguments name.
+/// Returns the capacity that the arguments name, if it is in range.
 fn capacity_given(matches: &ArgMatches<'_>) -> Option<u32>
     ensures { result ≡ capacity_given (rows_of (found_of matches.now)) }
 {
     capacity_named(value_of(matches, "capacity")?)
 }
 
-/// Returns the number of jobs that the arguments name, where they name one.
+/// Returns the value of `--jobs`, if it is given; `None` if it is out of range.
 fn jobs_given(matches: &ArgMatches<'_>) -> Option<Option<u8>>
     ensures { result ≡ jobs_given (rows_of (found_of matches.now)) }
 {
@@ -119,14 +119,14 @@ fn jobs_given(matches: &ArgMatches<'_>) -> Option<Option<u8>>
     }
 }
 
-/// Returns whether the arguments ask for JSON and for sources.
+/// Returns whether the arguments have both `--json` and `--source`.
 fn asks_for_both(matches: &ArgMatches<'_>) -> bool
     ensures { result ≡ asks_for_both (rows_of (found_of matches.now)) }
 {
     is_set(matches, "json") && is_set(matches, "source")
 }
 
-/// Returns the line of `check` with these arguments.
+/// Returns the line of `check` with these arguments, or `WrongUse`.
 fn read_check(alloc: Global, matches: &ArgMatches<'_>) -> Result<CheckLine, LineFault>
     ensures { GivesParts (check_given (rows_of (found_of matches.now))) result }
 {
@@ -149,7 +149,7 @@ fn read_check(alloc: Global, matches: &ArgMatches<'_>) -> Result<CheckLine, Line
     Ok(CheckLine::new(file, json, source, positions, jobs, solver))
 }
 
-/// Returns the line of `run` with these arguments.
+/// Returns the line of `run` with these arguments, or `WrongUse`.
 fn read_run(alloc: Global, matches: &ArgMatches<'_>) -> Result<RunLine, LineFault>
     ensures { GivesParts (run_given (rows_of (found_of matches.now))) result }
 {
@@ -168,7 +168,7 @@ fn read_run(alloc: Global, matches: &ArgMatches<'_>) -> Result<RunLine, LineFaul
     Ok(RunLine::new(file, json, positions, sessions, solver))
 }
 
-/// Returns the line of `serve` with these arguments.
+/// Returns the line of `serve` with these arguments, or `WrongUse`.
 fn read_serve(matches: &ArgMatches<'_>) -> Result<ServeLine, LineFault>
     ensures { GivesParts (serve_given (rows_of (found_of matches.now))) result }
 {
@@ -184,7 +184,7 @@ fn read_serve(matches: &ArgMatches<'_>) -> Result<ServeLine, LineFault>
     Ok(ServeLine::new(sessions, capacity, solver))
 }
 
-/// Returns the line of `print` with these arguments.
+/// Returns the line of `print` with these arguments, or `WrongUse`.
 fn read_print(alloc: Global, matches: &ArgMatches<'_>) -> Result<PrintLine, LineFault>
     ensures { GivesParts (print_given (rows_of (found_of matches.now))) result }
 {
@@ -196,7 +196,7 @@ fn read_print(alloc: Global, matches: &ArgMatches<'_>) -> Result<PrintLine, Line
     Ok(PrintLine::new(file, positions))
 }
 
-/// Returns the line of the command of this name.
+/// Returns the line of the command of this name with these arguments, or `WrongUse`.
 fn read_command(alloc: Global, name: &str, matches: &ArgMatches<'_>) -> Result<Line, LineFault>
     ensures line { GivesParts (line_given (name.now, rows_of (found_of matches.now))) result }
     ensures range { IfOk result IsInRange }
@@ -214,17 +214,18 @@ fn read_command(alloc: Global, name: &str, matches: &ArgMatches<'_>) -> Result<L
     }
 }
 
-/// Reads the words of the command line, those behind the program's own name: `check FILE [--json | --source] [--positions] [--jobs J] [--solver
-/// S]`, `run FILE [--json] [--positions] [--sessions N] [--solver S]`, `serve [--sessions N] [--solver S] [--capacity C]` or `print FILE
-/// [--positions]`, where J is 1 to 255 (no number by default), S is `plain` or `components` (the default), N is 1 to 16 (1 by default) and C is 1
-/// to 1,000,000 (which is the default). Options stand behind the command, before FILE or behind it, and take their value as the next word or behind
-/// a `=`. J, N and C are written in decimal digits, with leading zeros or none and a `+` before them or none. Behind a word `--` each word is FILE,
-/// so that its name may begin with `-`. How words are split into options and values is the rule of the crate `clap`.
+/// Reads the words of the command line, without the program's own name. They are `check FILE [--json | --source] [--positions] [--jobs J]
+/// [--solver S]`, `run FILE [--json] [--positions] [--sessions N] [--solver S]`, `serve [--sessions N] [--solver S] [--capacity C]` or
+/// `print FILE [--positions]`. J is 1 to 255, without a default. N is 1 to 16, by default 1. C is 1 to 1,000,000, which is its default. S
+/// is `plain` or `components`, by default the latter. Options come after the command, before or after FILE; their value is the next word,
+/// or follows a `=`. J, N and C are decimal digits; leading zeros are allowed, and one `+` before them. After a word `--` each word is
+/// FILE, so its name may begin with `-`. The crate `clap` splits words into options and values.
 ///
-/// `Help` if the words ask for it by `--help` or `-h`, also behind a command, before a word that has no place in the line, whatever the values of
-/// options say: on the command that the first word names, or else on the program. `Version` if they ask for it by `--version` or `-V`, which stands before a command. `NoMemory` only if
-/// memory was refused. `WrongUse` if the words write no line: no words, another command, no FILE or one too many, `--json` beside `--source`, an
-/// option that the command does not have, that stands twice, or whose value is missing or none of those above.
+/// Returns `Help` if `--help` or `-h` comes before the first word that has no place in the line, whatever the values of options are. It is
+/// about the command that the first word names, otherwise about the program. Returns `Version` if `--version` or `-V` comes before a
+/// command. Returns `NoMemory` if it is out of memory. Returns `WrongUse` if the words are not a line: no words, another command, no FILE
+/// or more than one, `--json` with `--source`, or an option that the command does not have, that is given twice, or whose value is missing
+/// or not one of those above.
 pub fn read_line<'a>(alloc: Global, words: &'a [&'a str]) -> Result<Line, LineFault>
     ensures line { GivesLine (map (λ word. word.now) words.now) result }
     ensures range { IfOk result IsInRange }

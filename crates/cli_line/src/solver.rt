@@ -2,16 +2,16 @@
 ghost use Rattle.std.specs.Prelude.{◌≡◌};
 ghost use Rattle.cli_line.specs.Values.{solver_named};
 
-/// How the values of region variables are found. The reports do not depend on it.
+/// The solver that finds the values of region variables. Reports do not depend on it.
 #[derive(Clone, Copy, Debug, PartialEq, Eq)]
 pub enum Solver {
-    /// Round by round, over all constraints.
+    /// Repeats all constraints until no value changes.
     Plain,
-    /// Variables that outlive each other together, as one.
+    /// Treats variables that must outlive each other as one.
     Components,
 }
 
-/// Returns the solver that a word names, or `None` if it names none.
+/// Returns the solver of this name, or `None` if there is none.
 pub(crate) fn solver_named(word: &str) -> Option<Solver>
     ensures { result ≡ solver_named word.now }
 {

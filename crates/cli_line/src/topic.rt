@@ -1,11 +1,11 @@
-//! What a text of help is about, and the words for it.
+//! The topics of help, and the words for them.
 ghost use Rattle.std.specs.Prelude.{◌≡◌, map};
 ghost use Rattle.cli_line.specs.Topics.{topic_named, topic_of};
 
-/// What a text of help is about: the whole program, or one of its commands.
+/// What help is about: the whole program, or one of its commands.
 #[derive(Clone, Copy, Debug, PartialEq, Eq)]
 pub enum Topic {
-    /// The program, with all of its commands.
+    /// The program, with all its commands.
     Program,
     /// `check` alone.
     Check,
@@ -17,7 +17,7 @@ pub enum Topic {
     Print,
 }
 
-/// Returns the command of this name, or the program if it is no command's.
+/// Returns the command of this name, or the program if no command has it.
 fn topic_named(word: &str) -> Topic
     ensures { result ≡ topic_named word.now }
 {
@@ -34,7 +34,7 @@ fn topic_named(word: &str) -> Topic
     }
 }
 
-/// Returns what help is about where these words ask for it: the command that the first of them names, or else the program.
+/// Returns the topic of these words if they ask for help: the command that the first word names, otherwise the program.
 pub(crate) fn topic_of(words: &[&str]) -> Topic
     ensures { result ≡ topic_of (map (λ word. word.now) words.now) }
 {

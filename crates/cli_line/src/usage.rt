@@ -10,7 +10,7 @@ use std::io::Write;
 /// The version of the program, by Semantic Versioning 2.0.0.
 pub const VERSION: &str = "0.1.0";
 
-/// What `--help` prints about the program.
+/// The text of `--help` about the program.
 pub const USAGE: &str = "nlldb checks the borrows of functions and closures in a textual MIR.
 
 Usage:
@@ -87,7 +87,7 @@ use at the point, here that of _2. That of 'lifetime A must outlive B' leads
 from A to B, or to 0, which is 'static.
 ";
 
-/// What `check --help` prints.
+/// The text of `check --help`.
 pub const CHECK_USAGE: &str =
     "nlldb check stores what FILE puts, then asks each root name that it puts, and
 prints a report for each.
@@ -123,7 +123,7 @@ Exit status, the greatest that applies:
       out of memory, or a refused call or close.
 ";
 
-/// What `run --help` prints.
+/// The text of `run --help`.
 pub const RUN_USAGE: &str =
     "nlldb run makes the calls that FILE lists for each session, those of a session
 in their order on a thread of its own, and prints the history: all calls in the
@@ -156,7 +156,7 @@ Exit status, the greatest that applies:
       out of memory, a refused call or close, or a session that did not end.
 ";
 
-/// What `serve --help` prints.
+/// The text of `serve --help`.
 pub const SERVE_USAGE: &str = "nlldb serve answers requests until standard input ends.
 
 Usage:
@@ -182,7 +182,7 @@ Exit status:
       close failed.
 ";
 
-/// What `print --help` prints.
+/// The text of `print --help`.
 pub const PRINT_USAGE: &str =
     "nlldb print prints each section of FILE, a file of 'check', with its text in its
 one spelling.
@@ -204,7 +204,7 @@ Exit status, the greatest that applies:
   3   Wrong use, a file that cannot be read, a failed output, or out of memory.
 ";
 
-/// Returns what `--help` prints about this topic: about the program, or about one of its commands.
+/// Returns the text of `--help` about this topic.
 fn usage_of(topic: Topic) -> &'static str
     ensures { result.now ≡ usage_of topic }
 {
@@ -217,14 +217,14 @@ fn usage_of(topic: Topic) -> &'static str
     }
 }
 
-/// Writes the text of `--help` about a topic, exactly its bytes, or returns the writer's fault. It allocates nothing.
+/// Writes the text of `--help` about a topic. Returns the writer's fault if it fails.
 pub fn write_usage<W: Write>(topic: Topic, out: &mut W) -> io::Result<()>
     ensures { OnOk result (Appends (W.contents out.old) (W.contents out.new) (usage_of topic)) }
 {
     out.write_all(usage_of(topic).as_bytes())
 }
 
-/// Writes the line of `--version`: `nlldb` and the version. Returns the writer's fault where it fails. It allocates nothing.
+/// Writes the line of `--version`: `nlldb` and the version. Returns the writer's fault if it fails.
 pub fn write_version<W: Write>(out: &mut W) -> io::Result<()>
     ensures { OnOk result (Appends (W.contents out.old) (W.contents out.new) version_line) }
 {

@@ -9,14 +9,14 @@ use Rattle.std.proofs.lemmas.Grind.{flat_map-append}
 use Rattle.std.proofs.lemmas.List.Elements.{filter-append, All-push, All-head, All-tail}
 use Rattle.cli_output.specs.Logs.{texts_of, bytes_of, AreBelow}
 
--- of a log that is one text longer, its author has one text more
+-- if a log is one text longer, the author of this has one more text
 pub texts_of-own : (author : ℕ) (log : List (ℕ × List ℕ)) (text : List ℕ) → texts_of author (log ++ (author, text) ∷ []) ≡ texts_of author log ++ text ∷ []
 texts_of-own author log text =
     ap (map (λ (e : ℕ × List ℕ). e.1)) (filter-append (λ (e : ℕ × List ℕ). eqb e.0 author) log ((author, text) ∷ []))
     ∙ map-append (λ (e : ℕ × List ℕ). e.1) (filter (λ (e : ℕ × List ℕ). eqb e.0 author) log) (filter (λ (e : ℕ × List ℕ). eqb e.0 author) ((author, text) ∷ []))
     ∙ ap (λ b. texts_of author log ++ map (λ (e : ℕ × List ℕ). e.1) (if b then (author, text) ∷ [] else [])) (eq-eqb author author refl)
 
--- and another has what it had
+-- any other author has what it had
 pub texts_of-other : (author other : ℕ) (log : List (ℕ × List ℕ)) (text : List ℕ) → other ≢ author → texts_of author (log ++ (other, text) ∷ []) ≡ texts_of author log
 texts_of-other author other log text apart =
     ap (map (λ (e : ℕ × List ℕ). e.1)) (filter-append (λ (e : ℕ × List ℕ). eqb e.0 author) log ((other, text) ∷ []))
@@ -27,7 +27,7 @@ texts_of-other author other log text apart =
 pub bytes_of-more : (log : List (ℕ × List ℕ)) (author : ℕ) (text : List ℕ) → bytes_of (log ++ (author, text) ∷ []) ≡ bytes_of log ++ text
 bytes_of-more log author text = flat_map-append (λ (e : ℕ × List ℕ). e.1) log ((author, text) ∷ []) ∙ ap (λ (l : List ℕ). bytes_of log ++ l) (append-nil text)
 
--- who wrote nothing has no text
+-- an author who wrote nothing has no text
 pub texts_of-none : (count : ℕ) (log : List (ℕ × List ℕ)) → AreBelow count log → texts_of count log ≡ []
 texts_of-none count [] below = refl
 texts_of-none count (e ∷ log) below =
@@ -42,7 +42,7 @@ below_more count log below k d low = let h = below k d low in omega (arith, h)
 pub below_push : (count : ℕ) (log : List (ℕ × List ℕ)) (author : ℕ) (text : List ℕ) → AreBelow count log → author < count → AreBelow count (log ++ (author, text) ∷ [])
 below_push count log author text below low = All-push (λ (e : ℕ × List ℕ). e.0 < count) log (author, text) below low
 
--- what was written, as the clauses of a writer say it
+-- what was written, in the form of a writer's clauses
 pub appends : (before after : Option (List ℕ)) (bytes : List ℕ) → ForSome before (λ b. after ≡ Some (b ++ bytes)) → Appends before after bytes
 appends None after bytes h = tt
 appends (Some b) after bytes h = subst (λ (a : Option (List ℕ)). Appends (Some b) a bytes) (sym (h b refl)) refl

@@ -14,7 +14,7 @@ use Rattle.cli_output.proofs.Logs.{texts_of-own, texts_of-other, texts_of-none, 
 off : false ≡ true → ⊥
 off e = true≢false (sym e)
 
--- a place of a longer list
+-- an item of a list that got one more
 at_end : {A : Type 0} (l : List A) (a b : A) (j : ℕ) → get_elem? (l ++ a ∷ []) j ≡ some b → (get_elem? l j ≡ some b) ⊎ ((j ≡ length l) × (a ≡ b))
 at_end [] a b zero e = inr (refl, some-injective a b e)
 at_end [] a b (suc j) e = absurd (some-ne-none b (sym e))
@@ -90,7 +90,7 @@ leaves id v knows makes s (keeping, making, seat, log, made, low, each) at =
           (λ j u apart e. (let h = each j u e in record { keeps = h.keeps; makes = λ m. absurd (apart ((h.makes m).0 ∙ sym made_by.0)); writes = h.writes })),
     )
 
--- an author more
+-- one more author
 pub admits : (id : ℕ) (v : Known) → v.makes ≡ true → Splits Kept id v (maker (v.made + 1)) (writer v.made [])
 admits id v makes s (keeping, making, seat, log, made, low, each) at =
     let made_by = (each id v at).makes makes in
@@ -179,7 +179,7 @@ takes_maker id v other w makes s (keeping, making, seat, log, made, low, each) a
           (λ j u apart' others e. (let h = each j u e in record { keeps = h.keeps; makes = λ m. absurd (others ((h.makes m).0 ∙ sym made_by.0)); writes = h.writes })),
     )
 
--- the author whose token was taken in wrote a text more
+-- the author whose token was taken in wrote one more text
 pub wrote : (id : ℕ) (v : Known) (text : List ℕ) → v.keeps ≡ true → v.writes ≡ true
     → Splits Kept id v (keeper (v.log ++ (v.author, text) ∷ [])) (writer v.author (v.texts ++ text ∷ []))
 wrote id v text knows writes s (keeping, making, seat, log, made, low, each) at =

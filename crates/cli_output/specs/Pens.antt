@@ -10,7 +10,7 @@ pub record PenView : Type 0 where
   pub number : ℕ
   pub texts : List (List ℕ)
 
--- a token of the table with this name is that of the author of this number
+-- the token belongs to the author of this number, and to this table
 pub record IsPenOf (table : TableId) (number : ℕ) (named : TableId) (me : Me ℕ Known) : Type 0 where
   pub table_is : named ≡ table
   pub holds : me.1 ≡ []
@@ -19,6 +19,6 @@ pub record IsPenOf (table : TableId) (number : ℕ) (named : TableId) (me : Me �
   pub makes : me.0.makes ≡ false
   pub author : me.0.author ≡ number
 
--- the log has just these texts of this author
+-- the log has exactly these texts of this author
 abbrev pub IsLogged : List (ℕ × List ℕ) → PenView → Type 0
 IsLogged log pen = pen.texts ≡ texts_of pen.number log

@@ -1,5 +1,5 @@
-//! An output that several authors print on, a line at a time. Its log, which is in proofs alone, has each line with its author; at the end
-//! it is known that the log has just the lines of each author, in its order, and that just the log was written.
+//! An output on which several authors print, one line at a time. Its log exists in proofs alone, and has each line with its author. At the
+//! end it is proved that the log has exactly the lines of each author, in order, and that exactly the log was written.
 #![tactic(auto)]
 
 mod output;

@@ -1,4 +1,4 @@
-//! The output.
+//! The output, from its opening to its close.
 ghost use Rattle.std.specs.Prelude.{◌≡◌, ◌≢◌, ◌<◌, ◌+◌, [], ◌∷◌, ◌++◌, Some, IfOk, IfSome, true, false, OnErr, OnOk};
 ghost use Rattle.std.specs.Option.{ForSome};
 ghost use Rattle.std.specs.Io.Buffered.{writer_buffer, writer_contents};
@@ -15,7 +15,7 @@ use std::alloc::{AllocError, Global};
 use std::io::{BufWriter, Write};
 use std::marker::{Brand, PhantomData};
 
-/// The error that a line was not printed: the writer failed, now or before.
+/// The error that a line was not printed, since the writer failed, now or before.
 #[derive(Clone, Copy, Debug, PartialEq, Eq)]
 pub struct Failed;
 
@@ -29,13 +29,13 @@ pub struct Opening {
 }
 
 impl Opening {
-    /// Returns an empty log. Returns `AllocError` only if memory was refused.
+    /// Returns an empty log.
     pub fn new(alloc: Global) -> Result<Opening, AllocError> {
         let (table, first) = new_table(alloc)?;
         Ok(Opening { table, first })
     }
 
-    /// Returns an output on this writer, and the right to let in its authors, of which there is none yet.
+    /// Returns an output on this writer, and the right to admit authors, of which there are none yet.
     pub fn open<J: Sheet, O: Write + Drop>(self, out: BufWriter<O>) -> (Output<J, O>, Authors<J>)
         requires table { J.table ≡ self.table.shared.table_id }
         requires before { (J.before ≡ writer_contents O.contents out) × (J.buffer ≡ writer_buffer out) }
@@ -59,7 +59,7 @@ impl Opening {
     }
 }
 
-/// Where lines are printed. Once it failed, nothing more is written. While it has not, just its log was written.
+/// Where lines are printed. After its writer failed, nothing more is written. Until then exactly its log was written.
 #[derive(Drop)]
 pub struct Output<J: Sheet, O: Write + Drop> {
     out: BufWriter<O>,
@@ -74,8 +74,8 @@ pub struct Output<J: Sheet, O: Write + Drop> {
 }
 
 impl<J: Sheet, O: Write + Drop> Output<J, O> {
-    /// Lets in the author of this number, and returns its pen, by which it has printed nothing. Returns `None` if it is not its turn: the
-    /// numbers go up from 0, to 254.
+    /// Admits the author of this number, and returns its pen, with which nothing was printed. Returns `None` if it is not this number's
+    /// turn: the numbers ascend from 0 to 254.
     pub fn admit(&self, authors: &mut Authors<J>, number: u8) -> Option<Pen<J>>
         ensures { IfSome result (λ pen. pen ≡ record { number = number; texts = [] }) }
     {
@@ -91,7 +91,7 @@ impl<J: Sheet, O: Write + Drop> Output<J, O> {
         })
     }
 
-    /// Prints a line of an author, which has its line feed, and hands it on. Returns `Failed` if that fails, or failed before.
+    /// Prints a line of an author, which includes its line feed, and flushes it. Returns `Failed` if the writer fails, or failed before.
     pub fn print(&mut self, pen: &mut Pen<J>, line: &str) -> Result<(), Failed>
         ensures printed { OnOk result (Appends (writer_contents O.contents self.old.out) (writer_contents O.contents self.new.out) line.now) }
         ensures handed_on { OnOk result (writer_buffer self.new.out ≡ []) }
@@ -116,7 +116,7 @@ impl<J: Sheet, O: Write + Drop> Output<J, O> {
         Ok(())
     }
 
-    /// Takes a pen back: what its author printed by it is just what the log has of this author.
+    /// Takes a pen back: what its author printed with it is exactly what the log has of this author.
     pub fn take_back(&mut self, pen: Pen<J>)
         ensures log { (known self.new.keeper).log ≡ (known self.old.keeper).log }
         ensures texts { IsLogged (known self.old.keeper).log pen }
@@ -129,7 +129,7 @@ impl<J: Sheet, O: Write + Drop> Output<J, O> {
         learn_texts(&self.table, &mut self.keeper, token);
     }
 
-    /// Returns its writer, of which nothing is known.
+    /// Returns the writer, about which nothing is known.
     pub fn into_writer(self) -> BufWriter<O> {
         let Output {
             out,
@@ -141,8 +141,8 @@ impl<J: Sheet, O: Write + Drop> Output<J, O> {
         out
     }
 
-    /// Ends the output: returns its writer, and how many authors were let in. Just the log was written, and the log has no others than these
-    /// authors. Returns `Failed` if the writer failed.
+    /// Ends the output. Returns its writer, and the number of authors that were admitted. Exactly the log was written, and the log has no
+    /// other authors. Returns `Failed` if the writer failed.
     pub fn close(self, authors: Authors<J>) -> (BufWriter<O>, Result<u8, Failed>)
         ensures authors { IfOk result.1 (λ count. AreBelow count (known self.keeper).log) }
         ensures printed { OnOk result.1 (Appends J.before (writer_contents O.contents result.0) (bytes_of (known self.keeper).log)) }

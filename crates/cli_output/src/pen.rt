@@ -5,8 +5,8 @@ ghost use Rattle.cli_output.specs.Tokens.{known};
 use crate::token::Token;
 use std::marker::{Brand, Model, PhantomData};
 
-/// The parameters of an output, for contracts: the table of its tokens, and what was on its writer before, and in the writer's buffer. The
-/// call that opens an output picks them.
+/// The parameters of an output, for contracts: the table of its tokens, what its writer had before, and what was in the writer's buffer.
+/// The call that opens an output chooses them.
 pub trait Sheet {
     ghost use Rattle.std.specs.Prelude.{ℕ, List, Option};
     ghost use Rattle.atomic_table.specs.Seated.{TableId};
@@ -29,7 +29,7 @@ impl Sheet for Brand {
     ghost buffer = { [] };
 }
 
-/// The right of an author to print. Contracts see the author's number, and the texts that it printed.
+/// The right of an author to print. Contracts see the author's number and the texts that it printed.
 #[derive(Drop)]
 pub struct Pen<J: Sheet> {
     pub(crate) number: u8,
@@ -49,7 +49,7 @@ impl<J: Sheet> Model for Pen<J> {
 }
 
 impl<J: Sheet> Pen<J> {
-    /// Returns the number of its author.
+    /// Returns the number of the author.
     pub fn number(&self) -> u8
         ensures { result ≡ self.now.number }
     {
@@ -57,7 +57,7 @@ impl<J: Sheet> Pen<J> {
     }
 }
 
-/// The right to let in authors, whose numbers go up from 0.
+/// The right to admit authors, whose numbers ascend from 0.
 #[derive(Drop)]
 pub struct Authors<J: Sheet> {
     pub(crate) count: u8,

@@ -1,4 +1,4 @@
-//! The tokens of an output, which have no bytes: what each knows of the log, and the rule that they keep.
+//! The tokens of an output, which have no bytes: what each knows about the log, and the rule that they keep.
 ghost use Rattle.std.specs.Prelude.{◌≡◌, ◌<◌, ◌+◌, ◌++◌, ◌∷◌, [], true, false, IfOk};
 ghost use Rattle.cli_output.specs.Tokens.{first, keeper as keeper_of, known, maker as maker_of, writer as writer_of};
 ghost use Rattle.cli_output.specs.Logs.{AreBelow, texts_of};
@@ -8,7 +8,7 @@ use std::alloc::{AllocError, Global};
 use std::collections::LinkedList;
 use std::marker::{Brand, PhantomData};
 
-/// What a token knows. No value of it is made.
+/// What a token knows. No value of it is made at run time.
 pub struct Known {
     pub keeps: bool,
     pub log: LinkedList<(u64, LinkedList<u8>)>,
@@ -19,7 +19,7 @@ pub struct Known {
     pub texts: LinkedList<LinkedList<u8>>,
 }
 
-/// The rule of the log.
+/// The rule that the tokens keep.
 pub struct Law;
 
 impl TableRule<u8, Known, ()> for Law {
@@ -30,13 +30,13 @@ impl TableRule<u8, Known, ()> for Law {
     ghost first = { λ _. first };
 }
 
-/// The table of the tokens. It has one word, which nobody reads.
+/// The table of the tokens. It has one word, whose value nobody uses.
 pub type LogTable = Table<u8, Known, (), Law, Global>;
 
 /// A token. It has no bytes.
 pub type Token = Seat<u8, Known>;
 
-/// The maker of authors leaves the first token.
+/// The step that cuts the maker of authors from the first token, or takes it back.
 pub struct Maker;
 
 impl Split<Known> for Maker {
@@ -47,7 +47,7 @@ impl Split<Known> for Maker {
     ghost right = { λ v. maker v.made };
 }
 
-/// One author more.
+/// The step that cuts a new author from the maker.
 pub struct Author;
 
 impl Split<Known> for Author {
@@ -59,7 +59,7 @@ impl Split<Known> for Author {
     ghost right = { λ v. writer v.made [] };
 }
 
-/// All that a token knows goes to another.
+/// The step that moves all that a token knows to another.
 pub struct Whole;
 
 impl Split<Known> for Whole {
@@ -70,7 +70,7 @@ impl Split<Known> for Whole {
     ghost right = { λ v. v };
 }
 
-/// An author's token is taken in.
+/// The step that takes in an author's token.
 pub struct Writer;
 
 impl Join<Known> for Writer {
@@ -81,7 +81,6 @@ impl Join<Known> for Writer {
     ghost spent = { nobody };
 }
 
-/// The maker's token is taken in.
 impl Join<Known> for Maker {
     ghost use Rattle.cli_output.specs.Tokens.{nobody, with_maker};
 
@@ -90,7 +89,7 @@ impl Join<Known> for Maker {
     ghost spent = { nobody };
 }
 
-/// A text. Each call picks it.
+/// A text, for contracts. Each call chooses it.
 pub trait Text {
     ghost use Rattle.std.specs.Prelude.{ℕ, List};
 
@@ -103,7 +102,7 @@ impl Text for Brand {
     ghost text = { [] };
 }
 
-/// The author whose token was taken in wrote a text more.
+/// The step that gives an author its token back after one more text.
 pub struct Wrote<X: Text> {
     of: PhantomData<X>,
 }
@@ -117,7 +116,7 @@ impl<X: Text> Split<Known> for Wrote<X> {
     ghost right = { λ v. writer v.author (v.texts ++ X.text ∷ []) };
 }
 
-/// The token that knows the log learns.
+/// The step in which the keeper of the log learns.
 pub struct Check;
 
 impl Play<u8, Known> for Check {
@@ -126,14 +125,14 @@ impl Play<u8, Known> for Check {
     ghost then = { Learns };
 }
 
-/// The table of a log in which nothing is written, and its first token. Returns `AllocError` if memory was refused.
+/// Returns the table of an empty log, and its first token.
 pub(crate) fn new_table(alloc: Global) -> Result<(LogTable, Token), AllocError>
     ensures { IfOk result (λ t. (t.1.table_id ≡ t.0.shared.table_id) × (0 < t.0.shared.table_id.words) × (t.1.me ≡ (first, []))) }
 {
     LogTable::of_words(alloc, &[0], &())
 }
 
-/// Writes a text: the keeper of the log takes in the author's token, and both know of the text.
+/// Writes a text to the log: the keeper takes in the author's token, and both know the text afterwards.
 pub(crate) fn write<X: Text>(table: &LogTable, keeper: &mut Token, token: &mut Token, text: &[u8])
     requires text { X.text ≡ text.now }
     requires words { 0 < table.now.shared.table_id.words }
@@ -149,7 +148,7 @@ pub(crate) fn write<X: Text>(table: &LogTable, keeper: &mut Token, token: &mut T
     *token = table.shared.split_seat::<Wrote<X>>(keeper);
 }
 
-/// Leaves the keeper of the first token, and returns the maker.
+/// Returns the maker of authors, and leaves the keeper of the log in `first`.
 pub(crate) fn leave_maker(table: &LogTable, first: &mut Token) -> Token
     requires words { 0 < table.now.shared.table_id.words }
     requires tables { first.old.table_id ≡ table.now.shared.table_id }
@@ -161,7 +160,7 @@ pub(crate) fn leave_maker(table: &LogTable, first: &mut Token) -> Token
     table.shared.split_seat::<Maker>(first)
 }
 
-/// Makes one author more, and returns its token.
+/// Makes one more author, and returns its token.
 pub(crate) fn make_author(table: &LogTable, maker: &mut Token) -> Token
     requires words { 0 < table.now.shared.table_id.words }
     requires tables { maker.old.table_id ≡ table.now.shared.table_id }
@@ -173,7 +172,7 @@ pub(crate) fn make_author(table: &LogTable, maker: &mut Token) -> Token
     table.shared.split_seat::<Author>(maker)
 }
 
-/// Takes in an author's token, and knows then that its texts are all that the log has of it.
+/// Takes in an author's token, and learns that its texts are all that the log has of this author.
 pub(crate) fn learn_texts(table: &LogTable, keeper: &mut Token, token: Token)
     requires words { 0 < table.now.shared.table_id.words }
     requires tables { (keeper.old.table_id ≡ table.now.shared.table_id) × (token.table_id ≡ table.now.shared.table_id) }
@@ -187,7 +186,7 @@ pub(crate) fn learn_texts(table: &LogTable, keeper: &mut Token, token: Token)
     table.shared.load::<Check>(keeper, 0);
 }
 
-/// Takes in the maker, and knows then that the log has no others than the authors that were made.
+/// Takes in the maker's token, and learns that the log has no authors but those that were made.
 pub(crate) fn learn_authors(table: &LogTable, keeper: &mut Token, maker: Token)
     requires words { 0 < table.now.shared.table_id.words }
     requires tables { (keeper.old.table_id ≡ table.now.shared.table_id) × (maker.table_id ≡ table.now.shared.table_id) }

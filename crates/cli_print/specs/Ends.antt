@@ -1,4 +1,4 @@
--- How the command ends, and what it leaves where it stops.
+-- How the command ends, and what it leaves if it stops.
 use Rattle.std.specs.Prelude.{◌≡◌, ◌⊎◌, ℕ, Option, List}
 use Rattle.std.specs.Io.KnownBytes.{Appends, Keeps}
 use Rattle.bc_calls.specs.declared.call.Call.{Call}
@@ -10,17 +10,17 @@ use Rattle.cli_file.specs.Changes.{MakeAll, IsToldFault}
 use Rattle.cli_file.specs.Ends.{OfFile, StopsWith}
 use Rattle.cli_print.specs.Printed.{file_text}
 
--- a file without a fault
+-- the file has no fault
 abbrev pub IsGood : List ℕ → Type 0
 IsGood file = (made : List Call) × MakeAll (sections_of file) made
 
--- each section makes a call, and was printed with what that puts
+-- each section makes a call, and was printed with what the call stores
 pub record Printed (file : List ℕ) (out out' : Option (List ℕ)) : Type 0 where
   pub made : List Call
   pub good : MakeAll (sections_of file) made
   pub output : Appends out out' (file_text (sections_of file) made)
 
--- What the command finds and leaves where it stops. What a writer that failed took is not known.
+-- What the command finds if it stops, and what it leaves. What a failed writer took is not known.
 abbrev pub Leaves : PrintParts → Stop → Option (List ℕ) → Option (List ℕ) → Option (List ℕ) → Type 0
 Leaves line WrongUse known out out' = ⊥
 Leaves line CannotRead known out out' = Keeps out out'
@@ -33,7 +33,7 @@ Leaves line HistoryFull known out out' = ⊥
 Leaves line Foreign known out out' = ⊥
 Leaves line Audit known out out' = ⊥
 
--- the command on the file that its line names ended with this status: at its end, where standard error has nothing, or where it stopped
+-- the command ended with this status on the file that its line names: at its end, with nothing on standard error, or after a stop
 abbrev pub IsEnd : PrintParts → Option (List ℕ) → ℕ → Option (List ℕ) → Option (List ℕ) → Option (List ℕ) → Option (List ℕ) → Type 0
 IsEnd line known exit out out' err err' =
     ((exit ≡ 0) × OfFile known (λ file. Printed file out out') × Keeps err err')

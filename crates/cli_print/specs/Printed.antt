@@ -1,4 +1,4 @@
--- What is printed of a file: the header line of each section, and its text in its one spelling.
+-- A printed file: the header line of each section, and its text in its one spelling.
 use Rattle.std.specs.Prelude.{ℕ, List, [], ◌∷◌, ◌++◌, codes}
 use Rattle.bc_syntax.specs.Spelling.{unit, types}
 use Rattle.bc_print.specs.Printing.{printed}
@@ -6,7 +6,7 @@ use Rattle.bc_calls.specs.declared.call.Call.{Call}
 use Rattle.bc_calls.specs.declared.call.Call.TheVariants as calls
 use Rattle.cli_file.specs.Parts.{Part}
 
--- what a call puts, in its one spelling; no section of `print` makes another call
+-- what a call stores, in its one spelling; no section of `print` makes another call
 abbrev pub text_of : Call → List ℕ
 text_of (calls.Types ds) = printed (types ds)
 text_of (calls.Put name u) = printed (unit u)
@@ -14,11 +14,11 @@ text_of (calls.Remove name) = []
 text_of (calls.Ask name) = []
 text_of calls.All = []
 
--- a section with this header line that makes this call
+-- a printed section, with this header line and this call
 abbrev pub section_text : List ℕ → Call → List ℕ
 section_text header call = header ++ codes "\n" ++ text_of call
 
--- sections that make these calls, one behind the other
+-- printed sections that make these calls, one after another
 abbrev pub file_text : List Part → List Call → List ℕ
 file_text [] calls = []
 file_text (section ∷ sections) [] = []

@@ -1,4 +1,4 @@
-//! The command on a file.
+//! The command `print` on a file.
 ghost use Rattle.std.specs.Prelude.{◌≡◌, ◌≤◌, ◌<◌, ◌⊎◌, [], Err, IfOk, IfErr, OnOk};
 ghost use Rattle.std.specs.Io.Buffered.{writer_buffer, writer_contents};
 ghost use Rattle.cli_file.specs.Ends.{OfFile};
@@ -11,12 +11,12 @@ use std::alloc::Global;
 use std::io;
 use std::io::{BufWriter, Read, Write};
 
-/// Reads the whole input, and prints its sections: of each its header line as it is, and behind it its text in its one spelling, the
-/// tokens with one space between two and a line feed behind the last. A buffer that held nothing holds nothing then, but where the
-/// writer behind it failed. Nothing is printed before the whole file is read.
+/// Reads the whole input and prints its sections: each header line as it is, and after it the section's text in its one spelling, which is
+/// its tokens with one space between two and a line feed at the end. Nothing is printed before the whole file is read. If the buffer of
+/// `out` was empty, it is empty afterwards, unless its writer failed.
 ///
-/// Stops with `CannotRead` if the input cannot be read or is over 16 MiB; with `File` at its first fault, which is that of `check`;
-/// with `NoMemory` if there is no room, and with `CannotWrite` if the writer fails.
+/// Stops with `CannotRead` if the input cannot be read or is over 16 MiB; with `File` at its first fault, which is that of `check`; with
+/// `NoMemory` if it is out of memory; and with `CannotWrite` if the writer fails.
 pub fn print<I: Read, O: Write + Drop>(
     alloc: Global,
     line: &PrintLine,
@@ -40,12 +40,12 @@ pub fn print<I: Read, O: Write + Drop>(
     }
 }
 
-/// Runs the whole command `print` on the input of the file that the line names: writes its sections on `out`, and returns the exit status.
-/// Before a line on `err` says why the command stops, `out` has handed on what was printed; after `cannot write` it still holds what the
-/// writer behind it did not take.
+/// Runs the whole command `print` on the input of the file that the line names: writes its sections to `out`, and returns the exit status.
+/// It flushes `out` before a line on `err` says why the command stops. After `cannot write`, `out` still holds what its writer did not
+/// take.
 ///
-/// The status is 0 where the sections are printed; 2 where the file has a fault; 3 where the command stops for another reason. Why it stops
-/// is one line on `err`, and its fault if that line cannot be written: then nothing more can be said.
+/// The status is 0 if the sections are printed; 2 if the file has a fault; 3 if the command stops for another reason. One line on `err`
+/// says why it stops. It returns the fault of `err` if that line cannot be written: then nothing more can be said.
 pub fn print_and_tell<I: Read, O: Write + Drop, E: Write>(
     alloc: Global,
     line: &PrintLine,
@@ -64,8 +64,8 @@ pub fn print_and_tell<I: Read, O: Write + Drop, E: Write>(
     }
 }
 
-/// Runs the whole command `print` on the input of the file that the line names, as `print_and_tell` does, with status 3 where standard
-/// error fails.
+/// Runs the whole command `print` on the input of the file that the line names, and returns the exit status, as `print_and_tell` does; it
+/// is 3 if standard error fails.
 pub fn print_over<I: Read, O: Write + Drop, E: Write>(
     alloc: Global,
     line: &PrintLine,

@@ -1,4 +1,4 @@
-//! The command `print`: each text of a file of sections in its one spelling.
+//! The command `print`: a file of sections with each text in its one spelling.
 #![tactic(auto)]
 
 mod command;

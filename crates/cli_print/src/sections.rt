@@ -1,4 +1,4 @@
-//! Sections as they are printed.
+//! Printing sections.
 ghost use Rattle.std.specs.Prelude.{OnOk, map};
 ghost use Rattle.std.specs.Io.KnownBytes.{Appends};
 ghost use Rattle.cli_file.specs.Changes.{seen};
@@ -10,7 +10,7 @@ use cli_file::{Change, Sections};
 use std::io;
 use std::io::Write;
 
-/// Writes the declarations or the body that a change puts, in their one spelling.
+/// Writes the declarations or the unit that a change stores, in their one spelling.
 fn print_change<O: Write>(change: &Change, out: &mut O) -> io::Result<()>
     ensures { OnOk result (Appends (O.contents out.old) (O.contents out.new) (text_of (seen change.now))) }
 {
@@ -20,7 +20,7 @@ fn print_change<O: Write>(change: &Change, out: &mut O) -> io::Result<()>
     }
 }
 
-/// Writes a section: its header line, and behind it what its change puts.
+/// Writes a section: its header line, then what its change stores.
 fn print_section<O: Write>(header: &[u8], change: &Change, out: &mut O) -> io::Result<()>
     ensures { OnOk result (Appends (O.contents out.old) (O.contents out.new) (section_text header.now (seen change.now))) }
 {
@@ -29,7 +29,7 @@ fn print_section<O: Write>(header: &[u8], change: &Change, out: &mut O) -> io::R
     print_change(change, out)
 }
 
-/// Writes the sections of a file, each with its change.
+/// Writes the sections of a file, each with what its change stores.
 pub fn print_sections<O: Write>(file: &[u8], changes: &[Change], out: &mut O) -> io::Result<()>
     ensures { OnOk result (Appends (O.contents out.old) (O.contents out.new) (file_text (sections_of file.now) (map seen changes.now))) }
 {

@@ -1,4 +1,4 @@
--- Printed files make the calls of the files that they were printed of.
+-- Printed files make the calls of the files from which they were printed.
 use Rattle.std.proofs.Common.{◌≡◌, ℕ, ◌+◌, ◌≤◌, true, false, List, [], ◌∷◌, ◌++◌, length, refl, sym, ap, ◌∙◌, subst, append_assoc}
 use Rattle.std.proofs.lemmas.List.Elements.{All-head, All-tail}
 use Rattle.bc_syntax.specs.declared.syntax.UnitKind.{UnitKind}
@@ -22,7 +22,7 @@ use Rattle.cli_print_laws.specs.Laws.{AreShort, PrintedFilesAreRead, PrintedFile
 use Rattle.cli_print_laws.proofs.Ink.{IsInk, texts_ink}
 use Rattle.cli_print_laws.proofs.Cutting.{LinePair, IsLinePair, AreLinePairs, InkHeaders, put, anew, put_sections, sections_ink}
 
--- what a call puts, without its line feed
+-- what a call stores, without its line feed
 abbrev words_of : Call → List ℕ
 words_of (calls.Types ds) = texts (spell.types ds)
 words_of (calls.Put name u) = texts (spell.unit u)
@@ -52,7 +52,7 @@ file_is (section ∷ sections) (one ∷ made) good =
     ∙ ap (λ (l : List ℕ). h ++ (l ++ file_text sections made)) (text_is section one good.0)
     ∙ ap (λ (l : List ℕ). h ++ ((words_of one ++ 10 ∷ []) ++ l)) (file_is sections made good.1)
 
--- ---- each section is a piece
+-- each section is a piece
 
 begins_unit : (kind : UnitKind) (rest : List Token) → is_header (texts (spell.symbol (spell.kind_word kind) ++ rest) ++ 10 ∷ []) ≡ false
 unfolding text
@@ -87,7 +87,7 @@ cut_again file made good =
     let ps = pieces (sections_of file) made in
     ap sections_of (file_is sections made good) ∙ put_sections 1 ps (are_pieces sections made good (sections_ink 1 (lines_of file)))
 
--- ---- the calls
+-- the calls
 
 module _ (units : PrintedIsRead) (types : PrintedTypesAreRead) where
   makes_again : (section : Part) (number : ℕ) (one : Call) → Makes section one → length (text_of one) ≤ 1048576 → Makes (record { line = number; header = section.header; text = words_of one ++ 10 ∷ [] }) one
@@ -109,7 +109,7 @@ module _ (units : PrintedIsRead) (types : PrintedTypesAreRead) where
   read_again file made good short =
       subst (λ (sections : List Part). MakeAll sections made) (sym (cut_again file made good)) (make_again 1 (sections_of file) made good short)
 
--- ---- the text
+-- the text
 
 text_again : (number : ℕ) (sections : List Part) (made : List Call) → file_text (anew number (pieces sections made)) made ≡ file_text sections made
 text_again number [] made = refl

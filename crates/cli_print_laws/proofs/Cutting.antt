@@ -1,4 +1,4 @@
--- A file of header lines, each with a line of text behind it, is cut into them again.
+-- A file of header lines, each followed by a line of text, is cut into them again.
 use Rattle.std.proofs.Common.{◌≡◌, ℕ, ◌+◌, true, false, List, [], ◌∷◌, ◌++◌, refl, ap, ◌∙◌, append_assoc, append-nil, inl, inr, arith}
 use Rattle.std.specs.Prelude.{◌==◌}
 use Rattle.std.specs.List.{list_all, onto_first}
@@ -10,7 +10,7 @@ use Rattle.cli_print_laws.proofs.Ink.{is_ink, IsInk}
 abbrev pub LinePair : Type 0
 LinePair = List ℕ × List ℕ
 
--- each is one line, and the first alone is one of a header
+-- each is one line, and only the first is a header line
 abbrev pub IsLinePair : LinePair → Type 0
 IsLinePair p = IsInk p.0 × IsInk p.1 × (is_header (p.0 ++ 10 ∷ []) ≡ true) × (is_header (p.1 ++ 10 ∷ []) ≡ false)
 
@@ -18,7 +18,7 @@ abbrev pub AreLinePairs : List LinePair → Type 0
 AreLinePairs [] = Unit {0}
 AreLinePairs (p ∷ ps) = IsLinePair p × AreLinePairs ps
 
--- pieces one behind the other
+-- pieces, one after another
 abbrev pub put : List LinePair → List ℕ
 put [] = []
 put (p ∷ ps) = (p.0 ++ 10 ∷ []) ++ ((p.1 ++ 10 ∷ []) ++ put ps)
@@ -50,7 +50,7 @@ without_end_is (b ∷ xs) ink =
 abbrev nothing_more : List Part → Parts
 nothing_more sections = record { text = []; sections = sections }
 
--- a section at the front, behind whose text the next one begins
+-- a section at the front, after whose text the next one begins
 section_opens : (n : ℕ) (h t : List ℕ) (lines : List (List ℕ)) (later : List Part) → IsInk h → is_header (t ++ 10 ∷ []) ≡ false → parts (n + 2) lines ≡ nothing_more later
     → opened n (h ++ 10 ∷ []) (parts (n + 1) ((t ++ 10 ∷ []) ∷ lines)) ≡ record { line = n; header = h; text = t ++ 10 ∷ [] } ∷ later
 section_opens n h t lines later ink plain rest =
@@ -64,7 +64,7 @@ put_lines p rest whole =
     ∙ ap (λ (l : List ℕ). (p.0 ++ 10 ∷ []) ∷ lines_of l) (append_assoc p.1 (10 ∷ []) rest)
     ∙ ap (λ (ls : List (List ℕ)). (p.0 ++ 10 ∷ []) ∷ ls) (line_goes p.1 rest whole.1)
 
--- no text stands before the first
+-- no text comes before the first header line
 put_parts : (n : ℕ) (ps : List LinePair) → AreLinePairs ps → parts n (lines_of (put ps)) ≡ nothing_more (anew n ps)
 put_parts n [] whole = refl
 put_parts n (p ∷ ps) whole =
@@ -77,7 +77,7 @@ put_sections n (p ∷ ps) whole =
     ap (sections_from n) (put_lines p (put ps) whole.0)
     ∙ section_opens n p.0 p.1 (lines_of (put ps)) (anew (n + 2) ps) whole.0.0 whole.0.3 (put_parts (n + 2) ps whole.1)
 
--- ---- header lines
+-- header lines
 
 without_end_ink : (line : List ℕ) → IsInk (without_end line)
 without_end_ink [] = refl

@@ -1,4 +1,4 @@
--- The printed text of tokens has no line feed but the one behind the last.
+-- The printed text of tokens has one line feed, after the last token.
 use Rattle.std.proofs.Common.{◌≡◌, ℕ, ◌*◌, ◌+◌, ◌-◌, ◌<◌, ◌^◌, Bool, true, List, [], ◌∷◌, ◌++◌, refl, arith, rules}
 use Rattle.std.specs.Prelude.{not, ◌&&◌, ◌==◌, decimal, fold, slice_index}
 use Rattle.std.specs.Char.{is_ascii_digit, is_ascii_alphabetic, is_ascii_lowercase}
@@ -18,7 +18,7 @@ use Rattle.bc_print.specs.Printing.{token_text, spaced, texts}
 use Rattle.bc_text_laws.proofs.Lexemes.{IsWhole}
 use Rattle.bc_text_laws.proofs.Printed.{AllWhole}
 
--- no line feed
+-- the byte is no line feed
 abbrev pub is_ink : ℕ → Bool
 is_ink b = not (b == 10)
 
@@ -29,7 +29,7 @@ pub joined : (x y : List ℕ) → IsInk x → IsInk y → IsInk (x ++ y)
 joined [] y p q = q
 joined (b ∷ x) y p q = let parts = and_parts (is_ink b) (list_all is_ink x) p in and_from (is_ink b) (list_all is_ink (x ++ y)) parts.0 (joined x y parts.1 q)
 
--- what passes a test that line feeds do not pass
+-- bytes that pass a test that line feeds fail
 passed : (p : ℕ → Bool) → ((b : ℕ) → p b ≡ true → is_ink b ≡ true) → (bytes : List ℕ) → list_all p bytes ≡ true → IsInk bytes
 passed p to [] h = refl
 passed p to (b ∷ bytes) h =

@@ -1,4 +1,4 @@
-//! What printed files keep: the calls of the file that they were printed of, and their text.
+//! The laws of printed files: they make the same calls, and are printed as themselves.
 #![tactic(auto)]
 
 mod laws;

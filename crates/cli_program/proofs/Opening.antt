@@ -1,4 +1,4 @@
--- What is known of the file of a name serves the command that has opened it.
+-- What is known about the file of a name is known to the command that opened it.
 use Rattle.std.proofs.Common.{◌≡◌, ℕ, List, Option, Some, None, Result, Ok, Err, inl, inr, subst}
 use Rattle.std.specs.Prelude.{IfOk, IfSome}
 use Rattle.cli_line.specs.Parts.{PrintParts}

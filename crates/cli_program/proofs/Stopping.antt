@@ -1,4 +1,4 @@
--- How a command ends that stops before it has begun.
+-- How a command ends that stops before it begins.
 use Rattle.std.proofs.Common.{◌≡◌, ℕ, List, [], Option, Some, None, Result, Ok, Err, inl, inr, refl, subst, sym}
 use Rattle.std.specs.Prelude.{IfOk, OnOk}
 use Rattle.std.specs.Io.KnownBytes.{Appends, Keeps}
@@ -39,7 +39,7 @@ pub print_unopened : {E : Type 0} (line : PrintParts) (known o e e' : Option (Li
 print_unopened line known o e e' (Ok status) is said = inr (record { stop = CannotRead; told = e; left = (stays o, stays e); said = said; status = is })
 print_unopened line known o e e' (Err fault) is said = tt
 
--- a line for which there is no memory, where nothing was done
+-- a line whose command was out of memory, and did nothing
 pub without_memory : {E : Type 0} (files : List ℕ → Option (List ℕ)) (standard : Option (List ℕ)) (line : Line) (o o' e e1 e' : Option (List ℕ)) (r : Result ℕ E)
     → o' ≡ o → e1 ≡ e → IfOk r (λ status. status ≡ 3) → OnOk r (Appends e1 e' (last_line [] NoMemory)) → IfOk r (λ status. IsEndOfLine files standard line status o o' e e')
 without_memory files standard line o o' e e1 e' r same_out same_err is said =

@@ -1,4 +1,4 @@
--- What is told stays as it was where standard error hands it on.
+-- What standard error has is unchanged by its flush.
 use Rattle.std.proofs.Common.{◌≡◌, ℕ, Bool, List, [], Option, Some, None, Result, Ok, Err, inl, inr, subst, sym}
 use Rattle.std.proofs.KnownBytes.{Appends-kept, Keeps-trans}
 use Rattle.std.specs.Prelude.{IfOk, MatchResult}
@@ -70,7 +70,7 @@ end_kept files standard (Run line) exit o o' b e e' end k = run_kept line _ exit
 end_kept files standard (Serve line) exit o o' b e e' end k = serve_kept line.sessions _ exit b e e' end k
 end_kept files standard (Print line) exit o o' b e e' end k = print_kept line _ exit o o' b e e' end k
 
--- the end of a line, whose status is given once what was told is handed on
+-- the end of a line, whose status is returned after standard error is flushed
 pub line_kept : {E : Type 0} (files : List ℕ → Option (List ℕ)) (standard : Option (List ℕ)) (line : Line) (status : ℕ) (o o' b e e' : Option (List ℕ)) (r : Result ℕ E)
     → IfOk r (λ exit. exit ≡ status) → Keeps e e' → IsEndOfLine files standard line status o o' b e → IfOk r (λ exit. IsEndOfLine files standard line exit o o' b e')
 line_kept files standard line status o o' b e e' (Ok exit) same k end = end_kept files standard line exit o o' b e e' (subst (λ (n : ℕ). IsEndOfLine files standard line n o o' b e) (sym same) end) k
@@ -84,7 +84,7 @@ words_end_kept files standard words exit o o' b e e' end k = record { read = end
     kept (Ok line) end = end_kept files standard line exit o o' b e e' end k
     kept (Err fault) end = answers_kept fault exit o o' b e e' end k
 
--- the end of words, whose status is given once what was told is handed on
+-- the end of words, whose status is returned after standard error is flushed
 pub words_kept : {E : Type 0} (files : List ℕ → Option (List ℕ)) (standard : Option (List ℕ)) (words : List (List ℕ)) (status : ℕ) (o o' b e e' : Option (List ℕ)) (r : Result ℕ E)
     → IfOk r (λ exit. exit ≡ status) → Keeps e e' → IsEndOfWords files standard words status o o' b e → IfOk r (λ exit. IsEndOfWords files standard words exit o o' b e')
 words_kept files standard words status o o' b e e' (Ok exit) same k end = words_end_kept files standard words exit o o' b e e' (subst (λ (n : ℕ). IsEndOfWords files standard words n o o' b e) (sym same) end) k

@@ -1,4 +1,4 @@
-//! What is printed is flushed in the end, and so is standard error.
+//! Flushing standard output and standard error at the end.
 ghost use Rattle.std.specs.Prelude.{◌≡◌, ◌≤◌, ◌<◌, [], IfOk};
 ghost use Rattle.std.specs.Io.Buffered.{writer_buffer, writer_contents};
 ghost use Rattle.std.specs.Io.KnownBytes.{Keeps};
@@ -8,7 +8,7 @@ use cli_file::{Stop, stop_with};
 use std::io;
 use std::io::{BufWriter, Write};
 
-/// Flushes what the buffer holds, if nothing has failed yet, and writes that standard output failed if it does here.
+/// Flushes the buffer if nothing has failed yet, and writes that standard output failed if it does here. Returns the exit status.
 pub(crate) fn hand_on<O: Write + Drop, E: Write>(
     status: u8,
     out: &mut BufWriter<O>,
@@ -27,7 +27,7 @@ pub(crate) fn hand_on<O: Write + Drop, E: Write>(
     }
 }
 
-/// Flushes standard error, and returns the status that the command ended with. Returns the fault of standard error if the flush fails.
+/// Flushes standard error, and returns the status with which the command ended. Returns the fault of standard error if the flush fails.
 pub(crate) fn hand_on_told<E: Write>(status: u8, err: &mut E) -> io::Result<u8>
     ensures same { IfOk result (λ exit. exit ≡ status) }
     ensures kept { Keeps (E.contents err.old) (E.contents err.new) }

@@ -1,4 +1,4 @@
-//! Where the inputs come from.
+//! The inputs of commands.
 ghost use Rattle.std.specs.Prelude.{◌≡◌, ℕ, List, Option, Some, None, IfOk, IfSome};
 ghost use Rattle.cli_program.specs.Ends.{is_standard_input};
 
@@ -6,10 +6,10 @@ use std::fs::{File, Files};
 use std::io;
 use std::io::Read;
 
-/// The name that means standard input. A file of that name is `./-`. (POSIX.1-2017, Utility Syntax Guidelines, Guideline 13.)
+/// The name of standard input. A file of that name is `./-`. (POSIX.1-2017, Utility Syntax Guidelines, Guideline 13.)
 pub const STANDARD_INPUT: &str = "-";
 
-/// Returns whether a file's name means standard input.
+/// Returns whether a name is that of standard input.
 pub(crate) fn is_standard_input(name: &str) -> bool
     ensures { result ≡ is_standard_input name.now }
 {
@@ -24,12 +24,12 @@ pub trait Inputs {
     /// The bytes of the file of each name, if they are known.
     ghost bytes_of: { Self → List ℕ → Option (List ℕ) } = { λ _ _. None };
 
-    /// Opens the file of this name, to be read from its start. Fails if it cannot be opened.
+    /// Opens the file of this name, to be read from its start. Returns an error if it cannot be opened.
     fn open(&self, name: &str) -> io::Result<Self::Input>
         ensures { IfOk result (λ input. IfSome (bytes_of self.now name.now) (λ bytes. Self.Input.remaining input ≡ Some bytes)) };
 }
 
-/// The files of the system. No clause knows their bytes.
+/// The files of the system. No contract knows their bytes.
 #[derive(Drop)]
 pub struct SystemFiles<'a, R> {
     files: &'a R,

@@ -1,4 +1,4 @@
-//! The program: the words of its command line, the inputs that they name, and what they say to do.
+//! The program: the words of its command line, the inputs that they name, and the commands.
 #![tactic(auto)]
 
 mod handing;

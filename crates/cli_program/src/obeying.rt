@@ -1,4 +1,4 @@
-//! What a line says is done on its input.
+//! Running the command of a line on its input.
 ghost use Rattle.std.specs.Prelude.{◌≡◌, ◌≤◌, ◌<◌, [], IfOk};
 ghost use Rattle.std.specs.Io.Buffered.{writer_buffer, writer_contents};
 ghost use Rattle.cli_check.specs.Ends.{IsEnd as IsEndOfCheck};
@@ -22,7 +22,7 @@ use std::io::{BufRead, BufWriter, Write};
 use std::sync::Wait;
 use std::thread::Threads;
 
-/// What commands run on: the runtime, and the providers by which bodies are analysed.
+/// What commands run on: the runtime, and the providers that analyse bodies.
 #[derive(Drop)]
 pub struct Engine<'a, R> {
     pub rt: &'a R,
@@ -48,7 +48,7 @@ fn check_file<R: AllocGlobal + Threads + Wait + Sync, S: Inputs, O: Write + Drop
     }
 }
 
-/// Runs the command `check` on the input that its line names.
+/// Runs the command `check` on standard input or the file that its line names.
 fn obey_check<
     R: AllocGlobal + Threads + Wait + Sync,
     S: Inputs,
@@ -94,7 +94,7 @@ fn run_file<R: AllocGlobal + Threads + Wait + Sync, S: Inputs, O: Write + Drop, 
     }
 }
 
-/// Runs the command `run` on the input that its line names.
+/// Runs the command `run` on standard input or the file that its line names.
 fn obey_run<
     R: AllocGlobal + Threads + Wait + Sync,
     S: Inputs,
@@ -121,7 +121,7 @@ fn obey_run<
     }
 }
 
-/// Runs the command `serve` over standard input.
+/// Runs the command `serve` on standard input.
 fn obey_serve<R: AllocGlobal + Threads + Wait + Sync, I: BufRead, O: Write + Drop + Send, E: Write>(
     engine: &Engine<'_, R>,
     serve: &ServeLine,
@@ -141,7 +141,7 @@ fn obey_serve<R: AllocGlobal + Threads + Wait + Sync, I: BufRead, O: Write + Dro
     }
 }
 
-/// Does what a line says, as `obey_line` does, and does not flush standard error.
+/// Runs the command of a line, as `obey_line` does, without flushing standard error.
 pub(crate) fn obey_command<
     R: AllocGlobal + Threads + Wait + Sync,
     S: Inputs,
@@ -169,12 +169,12 @@ pub(crate) fn obey_command<
     }
 }
 
-/// Does what a line says, and returns the exit status of its command: `check`, `run` and `print` read the file that the line
-/// names, or standard input if it names `-`, and `serve` reads standard input. What is printed goes to `out`, which is flushed if the status
-/// is below 3, and faults go to `err`, which is flushed in the end.
+/// Runs the command of a line, and returns its exit status. `check`, `run` and `print` read the file that the line names, or standard input
+/// for the name `-`, and `serve` reads standard input. Output goes to `out`, which is flushed if the status is below 3. Faults go to `err`,
+/// which is flushed at the end.
 ///
-/// A file that cannot be opened is reported as one that cannot be read. The fault of `err` if the last line there cannot be written, or the
-/// flush fails: then nothing more can be said.
+/// A file that cannot be opened is reported as one that cannot be read. Returns the fault of `err` if the last line there cannot be written
+/// or the flush fails: then nothing more can be said.
 pub fn obey_line<
     R: AllocGlobal + Threads + Wait + Sync,
     S: Inputs,

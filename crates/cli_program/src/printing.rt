@@ -31,7 +31,7 @@ fn print_file<R: AllocGlobal, S: Inputs, O: Write + Drop, E: Write>(
     }
 }
 
-/// Runs the command `print` on the input that its line names.
+/// Runs the command `print` on standard input or the file that its line names.
 pub(crate) fn obey_print<R: AllocGlobal, S: Inputs, I: BufRead, O: Write + Drop, E: Write>(
     rt: &R,
     print: &PrintLine,

@@ -16,14 +16,15 @@ use std::io::{BufRead, BufWriter, Write};
 use std::sync::Wait;
 use std::thread::Threads;
 
-/// Has the C library keep what a body's analysis gives back, for the next body, and not hand it to the system each time: it keeps
-/// what is smaller than the greatest block that it was ever given back (mallopt(3), `M_MMAP_THRESHOLD`), which is this one.
+/// Has the C library keep freed memory for the next body, and not return it to the system each time: it keeps blocks smaller than the
+/// greatest one that was ever freed (mallopt(3), `M_MMAP_THRESHOLD`), which is this one.
 fn keep_memory<R: AllocGlobal>(rt: &R) {
     let block: Result<Vec<u8>, AllocError> = Vec::with_capacity(rt.alloc(), 1 << 24);
     drop(block);
 }
 
-/// Does what a line says with the solver by components. `AllocError`, with nothing done, if there is no room for the providers.
+/// Runs the command of a line with the solver by components. Returns `AllocError`, with nothing done, if there is no room for the
+/// providers.
 fn obey_by_components<
     R: AllocGlobal + Threads + Wait + Sync,
     S: Inputs,
@@ -52,7 +53,7 @@ fn obey_by_components<
     Ok(obey_command(&engine, line, inputs, standard, out, err))
 }
 
-/// Does what a line says with the plain solver. `AllocError`, with nothing done, if there is no room for the providers.
+/// Runs the command of a line with the plain solver. Returns `AllocError`, with nothing done, if there is no room for the providers.
 fn obey_plainly<
     R: AllocGlobal + Threads + Wait + Sync,
     S: Inputs,
@@ -81,7 +82,8 @@ fn obey_plainly<
     Ok(obey_command(&engine, line, inputs, standard, out, err))
 }
 
-/// Does what a line says with the solver that it names. `AllocError`, with nothing done, if there is no room for the providers.
+/// Runs the command of a line with the solver that the line names. Returns `AllocError`, with nothing done, if there is no room for the
+/// providers.
 fn obey_by_its_solver<
     R: AllocGlobal + Threads + Wait + Sync,
     S: Inputs,
@@ -108,7 +110,7 @@ fn obey_by_its_solver<
     }
 }
 
-/// Does what a line says, or tells that there is no room for the providers.
+/// Runs the command of a line, or reports that there is no room for the providers.
 fn obey<
     R: AllocGlobal + Threads + Wait + Sync,
     S: Inputs,
@@ -135,7 +137,7 @@ fn obey<
     }
 }
 
-/// Answers words that write no line, and hands on what is printed.
+/// Answers words that are no command line, and flushes the output.
 fn answer<O: Write + Drop, E: Write>(
     fault: LineFault,
     out: &mut BufWriter<O>,
@@ -152,7 +154,7 @@ fn answer<O: Write + Drop, E: Write>(
     }
 }
 
-/// Obeys the line that words write, or answers words that write none, and does not flush standard error.
+/// Runs the command of the line that words are, or answers words that are none, without flushing standard error.
 pub(crate) fn obey_words<
     R: AllocGlobal + Threads + Wait + Sync,
     S: Inputs,
@@ -178,13 +180,14 @@ pub(crate) fn obey_words<
     }
 }
 
-/// Runs the whole program for the words behind its own name, over any inputs and outputs: obeys the line that they write, or answers words that
-/// write none, and returns the exit status. What is printed goes to `out`, which is flushed if the status is below 3, and faults go to `err`,
-/// which is flushed in the end; `inputs` opens the file that a line names, and `standard` is standard input.
+/// Runs the whole program on the words after its own name, over any inputs and outputs, and returns the exit status. It runs the command of
+/// the line that the words are, or answers words that are none, such as `--help`. Output goes to `out`, which is flushed if the status is
+/// below 3. Faults go to `err`, which is flushed at the end. `inputs` opens the file that a line names, and `standard` is standard input.
 ///
-/// 0 if no report has an error, and for help and the version; 1 where a report has one; 2 where the file has a fault, a put stores nothing or an
-/// outcome is no report; 3 for wrong use, a file that cannot be opened or read, memory that is refused, a failed output, and the other stops of the
-/// commands. The fault of `err` if the last line there cannot be written, or the flush fails: then nothing more can be said.
+/// The status is 0 if no report has an error, and for help and the version; 1 if a report has an error; 2 if the file has a fault, a put
+/// stores nothing or an outcome is no report; 3 for wrong use, a file that cannot be opened or read, out of memory, a failed output, and
+/// the other stops of the commands. Returns the fault of `err` if the last line there cannot be written or the flush fails: then nothing
+/// more can be said.
 pub fn run_program<
     R: AllocGlobal + Threads + Wait + Sync,
     S: Inputs,

@@ -1,4 +1,4 @@
-//! The program on its own words, over the files of the system.
+//! The program on its own words and the files of the system.
 ghost use Rattle.std.specs.Prelude.{◌≤◌, IfOk};
 
 use crate::SystemFiles;
@@ -13,8 +13,8 @@ use std::sync::Wait;
 use std::thread::Threads;
 use std::{env, io};
 
-/// Returns the words of the command line, behind the program's own name. `NoMemory` if there is no room for them, and `WrongUse` if one is no
-/// UTF-8.
+/// Returns the words of the command line, without the program's own name. Returns `NoMemory` if there is no room for them, and `WrongUse`
+/// if one is not UTF-8.
 fn read_words<R: Env + AllocGlobal>(rt: &R) -> Result<Vec<String>, LineFault> {
     let own = match env::args(rt) {
         Ok(words) => words,
@@ -28,7 +28,8 @@ fn read_words<R: Env + AllocGlobal>(rt: &R) -> Result<Vec<String>, LineFault> {
     Ok(words)
 }
 
-/// Runs the program for these words, with the files of the system. `NoMemory`, with nothing done, if there is no room for a list of them.
+/// Runs the program on these words, with the files of the system. Returns `NoMemory`, with nothing done, if there is no room for a list of
+/// the words.
 fn run_words<
     R: Files + AllocGlobal + Threads + Wait + Sync,
     I: BufRead,
@@ -51,7 +52,7 @@ fn run_words<
     Ok(obey_words(rt, &views, &files, standard, out, err))
 }
 
-/// Runs the program for its own words, or answers why it has none.
+/// Runs the program on its own words, or answers why it has none.
 fn run_own_words<
     R: Env + Files + AllocGlobal + Threads + Wait + Sync,
     I: BufRead,
@@ -70,7 +71,8 @@ fn run_own_words<
     }
 }
 
-/// Runs the program for its own words over buffers. What the output's holds in the end is let go unwritten: its writer has failed then.
+/// Runs the program on its own words, over buffers. What is left in the buffer of `out` at the end is dropped unwritten: its writer has
+/// failed then.
 fn run_over_buffers<
     R: Env + Files + AllocGlobal + Threads + Wait + Sync,
     I: Read + Drop,
@@ -90,8 +92,9 @@ fn run_over_buffers<
     ended
 }
 
-/// Runs the program as the system starts it: reads the words of its command line, does what `run_program` says with the files of the system, and
-/// returns the exit status, which is 3 also if standard error fails, so that nothing more can be said. Standard error is flushed in the end.
+/// Runs the program as the system starts it, and returns the exit status: it reads the words of its command line, and does what
+/// `run_program` does with the files of the system. The status is 3 too if standard error fails, so that nothing more can be said. Standard
+/// error is flushed at the end.
 pub fn run_on_system<
     R: Env + Files + AllocGlobal + Threads + Wait + Sync,
     I: Read + Drop,

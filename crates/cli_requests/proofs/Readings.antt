@@ -18,11 +18,11 @@ use Rattle.cli_requests.proofs.Values.{too_long}
 value_of_long : (bytes : List ℕ) (line : InputLine) → line ≡ lines.TooLong → IsLine MOST_REQUEST_BYTES bytes line → value_of bytes ≡ Err TooLong
 value_of_long bytes line is long = too_long bytes (subst (IsLine MOST_REQUEST_BYTES bytes) is long)
 
--- a line that is too long is such a request
+-- a line that is too long is read as such a request
 pub long_request : (sessions : ℕ) (id : Id) (bytes : List ℕ) (line : InputLine) → told id ≡ null → line ≡ lines.TooLong → IsLine MOST_REQUEST_BYTES bytes line → IsRequest sessions bytes (Bad id None TooLong)
 long_request sessions id bytes line none is long =
     subst (λ (read : Result Data RequestFault). IsReading sessions read (Bad id None TooLong)) (sym (value_of_long bytes line is long)) (none, refl)
 
--- and names no session
+-- a line that is too long names no session
 pub long_session : (sessions : ℕ) (bytes : List ℕ) (line : InputLine) → line ≡ lines.TooLong → IsLine MOST_REQUEST_BYTES bytes line → None ≡ session_in sessions bytes
 long_session sessions bytes line is long = sym (ap (session_read sessions) (value_of_long bytes line is long))

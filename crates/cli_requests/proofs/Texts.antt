@@ -13,7 +13,7 @@ use Rattle.cli_requests.specs.declared.verb.Verb.TheVariants.{Put}
 use Rattle.cli_requests.specs.Asking.{Calls, HasName, HasText}
 use Rattle.cli_requests.specs.Faults.{HasBadText, IsTextFault, IsWrong, Stops, Tells}
 
--- a text's fault is one of two kinds
+-- a text's fault has one of two forms
 told_as : (text : List ℕ) (cause : ReadFault) (fault : RequestFault) → Tells text cause fault → (fault ≡ TooLong) ⊎ ((it : TextFault) × (fault ≡ Text it))
 told_as text causes.TooLong fault tells = inl tells
 told_as text (causes.NotAscii at) fault tells = inr (_, tells)
@@ -26,7 +26,7 @@ wrong_as : (value : Data) (fault : RequestFault) → HasBadText value fault → 
 wrong_as value fault bad (inl is) = subst (IsWrong value) (sym is) (subst (HasBadText value) is bad)
 wrong_as value fault bad (inr (it, is)) = subst (IsWrong value) (sym is) (subst (HasBadText value) is bad)
 
--- a value that asks for a put is wrong where it is right up to its text, which cannot be read
+-- a request for a put is wrong if it is right up to its text, which cannot be read
 pub bad_body : (value : Data) (name : NameParts) (text : List ℕ) (stop : Stop) → Calls value Put → HasName value name → HasText value text → Stops (IsTextFault Put text) stop → Stops (IsWrong value) stop
 bad_body value name text (Fault fault) calls named has told =
     wrong_as value fault (record { verb = Put; right = (calls, (name, named)); text = text; has = has; told = told }) (told_as text told.0 fault told.2)

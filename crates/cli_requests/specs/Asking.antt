@@ -1,4 +1,4 @@
--- What a value asks for.
+-- What a request asks for.
 use Rattle.std.specs.Prelude.{◌≡◌, List, ℕ, codes, Option, Some, Ok, option_and_then}
 use Rattle.serde_json.specs.Data.{Data}
 use Rattle.serde_json.specs.Find.{get, as_str}
@@ -10,11 +10,11 @@ use Rattle.cli_requests.specs.declared.request.Wanted.TheVariants.{Call, Glance}
 use Rattle.cli_requests.specs.declared.verb.Verb.{Verb}
 use Rattle.cli_requests.specs.declared.verb.Verb.TheVariants as verbs
 
--- the bytes of a member that is a string
+-- the bytes of a member, if it is a string
 abbrev pub word : List ℕ → Data → Option (List ℕ)
 word key value = option_and_then as_str (get key value)
 
--- how a request names a call
+-- the word with which a request names a call
 abbrev pub verb_text : Verb → List ℕ
 verb_text verbs.Types = codes "types"
 verb_text verbs.Put = codes "put"
@@ -23,19 +23,19 @@ verb_text verbs.Ask = codes "ask"
 verb_text verbs.AskAll = codes "askall"
 verb_text verbs.Glance = codes "glance"
 
--- a value names this call
+-- the request names this call
 abbrev pub Calls : Data → Verb → Type 0
 Calls value verb = word (codes "call") value ≡ Some (verb_text verb)
 
--- a value has this name
+-- the request has this name
 abbrev pub HasName : Data → NameParts → Type 0
 HasName value name = IsName name × (word (codes "name") value ≡ Some (name_text name))
 
--- a value has this text
+-- the request has this text
 abbrev pub HasText : Data → List ℕ → Type 0
 HasText value text = word (codes "text") value ≡ Some text
 
--- a value asks for this
+-- the request asks for this
 abbrev pub AsksFor : Data → Wanted → Type 0
 AsksFor value (Call (calls.Types types)) = Calls value verbs.Types × ((text : List ℕ) × HasText value text × (read_types text ≡ Ok types))
 AsksFor value (Call (calls.Put name unit)) = Calls value verbs.Put × HasName value name × ((text : List ℕ) × HasText value text × (read text ≡ Ok unit))

@@ -1,4 +1,4 @@
--- Why a value asks for nothing.
+-- What is wrong with a request.
 use Rattle.std.specs.Prelude.{◌≡◌, List, ℕ, Bool, true, false, codes, None, Err, ⊤}
 use Rattle.serde_json.specs.Data.{Data}
 use Rattle.bc_position.specs.Positions.{position_in}
@@ -16,7 +16,7 @@ use Rattle.cli_requests.specs.declared.verb.Verb.{Verb}
 use Rattle.cli_requests.specs.declared.verb.Verb.TheVariants as verbs
 use Rattle.cli_requests.specs.Asking.{Calls, HasName, HasText, word}
 
--- whether a request for such a call has a name
+-- this call needs a name
 abbrev pub takes_name : Verb → Bool
 takes_name verbs.Types = false
 takes_name verbs.Put = true
@@ -25,7 +25,7 @@ takes_name verbs.Ask = true
 takes_name verbs.AskAll = false
 takes_name verbs.Glance = true
 
--- a value asks for such a call, which has a text, and nothing is wrong in front of the text
+-- the request names this call, which needs a text, and nothing before the text is wrong
 abbrev pub IsRightUpToText : Data → Verb → Type 0
 IsRightUpToText value verbs.Types = Calls value verbs.Types
 IsRightUpToText value verbs.Put = Calls value verbs.Put × ((name : NameParts) × HasName value name)
@@ -34,7 +34,7 @@ IsRightUpToText value verbs.Ask = ⊥
 IsRightUpToText value verbs.AskAll = ⊥
 IsRightUpToText value verbs.Glance = ⊥
 
--- a text cannot be read as what such a call has, for this cause
+-- a text cannot be read as what this call stores, for this cause
 abbrev pub IsUnreadable : Verb → List ℕ → ReadFault → Type 0
 IsUnreadable verbs.Types text cause = read_types text ≡ Err cause
 IsUnreadable verbs.Put text cause = read text ≡ Err cause
@@ -43,11 +43,11 @@ IsUnreadable verbs.Ask text cause = ⊥
 IsUnreadable verbs.AskAll text cause = ⊥
 IsUnreadable verbs.Glance text cause = ⊥
 
--- the fault of such a kind at this byte of a text
+-- the fault of this kind at this byte of a text
 abbrev pub text_fault : TextFaultKind → List ℕ → ℕ → RequestFault
 text_fault kind text at = Text (record { kind = kind; at = at; position = position_in text at })
 
--- how a request tells the cause
+-- this fault reports the cause
 abbrev pub Tells : List ℕ → ReadFault → RequestFault → Type 0
 Tells text causes.TooLong fault = fault ≡ TooLong
 Tells text (causes.NotAscii at) fault = fault ≡ text_fault NotAscii text at
@@ -56,11 +56,11 @@ Tells text (causes.Grammar at) fault = fault ≡ text_fault Grammar text at
 Tells text (causes.Limit at) fault = fault ≡ text_fault Limit text at
 Tells text causes.NoMemory fault = ⊥
 
--- what such a call has cannot be read from a text, and this is told
+-- a text cannot be read as what this call stores, and this fault says why
 abbrev pub IsTextFault : Verb → List ℕ → RequestFault → Type 0
 IsTextFault verb text fault = (cause : ReadFault) × IsUnreadable verb text cause × Tells text cause fault
 
--- a value is right up to its text, which cannot be read
+-- the request is right up to its text, which cannot be read
 pub record HasBadText (value : Data) (fault : RequestFault) : Type 0 where
   pub verb : Verb
   pub right : IsRightUpToText value verb
@@ -68,7 +68,7 @@ pub record HasBadText (value : Data) (fault : RequestFault) : Type 0 where
   pub has : HasText value text
   pub told : IsTextFault verb text fault
 
--- the first of what is wrong with a value whose session is right
+-- this is the first thing that is wrong with a request whose session is right
 abbrev pub IsWrong : Data → RequestFault → Type 0
 IsWrong value NotJson = ⊥
 IsWrong value BadSession = ⊥
@@ -78,7 +78,7 @@ IsWrong value BadText = ((verb : Verb) × IsRightUpToText value verb) × (word (
 IsWrong value TooLong = HasBadText value TooLong
 IsWrong value (Text fault) = HasBadText value (Text fault)
 
--- what stopped a reading is such a fault, where it was a fault
+-- a reading stopped with such a fault, unless memory ran out
 abbrev pub Stops : (RequestFault → Type 0) → Stop → Type 0
 Stops Is (Fault fault) = Is fault
 Stops Is NoMemory = ⊤

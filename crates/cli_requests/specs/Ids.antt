@@ -1,4 +1,4 @@
--- What the answer to a request repeats of it.
+-- The id of a request, which its answer repeats.
 use Rattle.std.specs.Prelude.{codes, unwrap_or}
 use Rattle.serde_json.specs.Data.{Data, null}
 use Rattle.serde_json.specs.Find.{get}
@@ -9,6 +9,6 @@ use Rattle.cli_requests.specs.declared.id.Id.{Id}
 abbrev pub told : Id → Data
 told id = view id.value
 
--- the member `id`, or null where there is none
+-- the member `id`, or `null` if there is none
 abbrev pub id_of : Data → Data
 id_of value = unwrap_or (get (codes "id") value) null

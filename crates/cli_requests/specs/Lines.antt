@@ -11,7 +11,7 @@ use Rattle.cli_requests.specs.declared.request.TheConstants.{MOST_REQUEST_BYTES}
 abbrev pub json_of : List ℕ → Option Data
 json_of line = if is_utf8 line then read line else None
 
--- a value, or the fault that there is none
+-- a value, or the fault that a line is not JSON
 abbrev pub or_not_json : Option Data → Result Data RequestFault
 or_not_json None = Err NotJson
 or_not_json (Some value) = Ok value

@@ -1,8 +1,8 @@
-//! Why a line asks for nothing.
+//! Why a line is not a request.
 use bc_position::Position;
 
-/// The kind of fault in the text of a body or of declarations: a byte that is not ASCII, what is no token, a token that may not
-/// be there, or one too many or past its limit.
+/// The kind of fault in the text of a unit or of declarations: a byte that is not ASCII, something that is no token, a token that is not
+/// allowed there, or one past a limit.
 #[derive(Clone, Copy, Debug, PartialEq, Eq)]
 pub enum TextFaultKind {
     NotAscii,
@@ -11,8 +11,8 @@ pub enum TextFaultKind {
     Limit,
 }
 
-/// The reason why the text of a body or of declarations cannot be read: the first fault in it, the number of bytes of the text in
-/// front of the fault, and the fault's line and column in the text.
+/// Why the text of a unit or of declarations cannot be read: its first fault, the place of that in bytes from the start of the text, and
+/// its line and column in the text.
 #[derive(Clone, Copy, Debug, PartialEq, Eq)]
 pub struct TextFault {
     pub kind: TextFaultKind,
@@ -20,11 +20,10 @@ pub struct TextFault {
     pub position: Position,
 }
 
-/// The reason why a line asks for nothing: the first of what is wrong with it. `NotJson`: the line is no JSON (RFC 8259) in UTF-8, or
-/// nests deeper than 127. `TooLong`: the line, or the text in it, has too many bytes. `BadSession`: the member `session` is no whole
-/// number of a session. `BadCall`: there is no member `call`, or it is no call. `BadName`: the call wants a name, and there is no member
-/// `name`, or it is no name. `BadText`: the call wants a text, and there is no member `text` that is a string. `Text`: that text cannot be
-/// read.
+/// Why a line is not a request: the first thing that is wrong with it. `NotJson`: the line is not JSON (RFC 8259) in UTF-8, or nests deeper
+/// than 127. `TooLong`: the line, or the text in it, has too many bytes. `BadSession`: the member `session` is not the number of a session.
+/// `BadCall`: the member `call` is missing or no call. `BadName`: the call needs a name, and the member `name` is missing or none.
+/// `BadText`: the call needs a text, and the member `text` is missing or no string. `Text`: that text cannot be read.
 #[derive(Clone, Copy, Debug, PartialEq, Eq)]
 pub enum RequestFault {
     NotJson,
@@ -36,7 +35,7 @@ pub enum RequestFault {
     Text(TextFault),
 }
 
-/// Why a step of the reading has no result: what is wrong with the request, or memory was refused.
+/// Why a step of the reading has no result: something is wrong with the request, or memory ran out.
 #[derive(Clone, Copy, Debug)]
 pub enum Stop {
     Fault(RequestFault),

@@ -1,4 +1,4 @@
-//! What the answer to a request repeats of it.
+//! The id of a request, which its answer repeats.
 ghost use Rattle.std.specs.Prelude.{◌≡◌, IfOk};
 ghost use Rattle.serde_json.specs.Data.{null};
 ghost use Rattle.serde_json.specs.View.{view as data_of};
@@ -7,7 +7,7 @@ ghost use Rattle.cli_requests.specs.Ids.{told, id_of};
 use serde_json::Value;
 use std::alloc::AllocError;
 
-/// The `id` of a request, which is any JSON value. Contracts see its data by `told`.
+/// The `id` of a request, which is any JSON value. Contracts see its data, by `told`.
 pub struct Id {
     value: Value,
 }
@@ -26,7 +26,7 @@ impl Id {
         Id { value: Value::Null }
     }
 
-    /// The member `id` of a request, or `null` if it has none. Returns `AllocError` only if memory was refused.
+    /// Returns the member `id` of a request, or `null` if it has none.
     pub(crate) fn of(value: &Value) -> Result<Id, AllocError>
         ensures { IfOk result (λ id. told id ≡ id_of (data_of value.now)) }
     {
@@ -38,7 +38,7 @@ impl Id {
         }
     }
 
-    /// Returns the JSON value.
+    /// Returns the JSON value of the id.
     pub fn value(&self) -> &Value
         ensures { data_of result.now ≡ told self.now }
     {

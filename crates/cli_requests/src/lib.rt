@@ -1,4 +1,4 @@
-//! Requests: what a line of JSON asks a session for.
+//! Requests: what a line of JSON asks of a session.
 #![tactic(auto)]
 
 mod fault;

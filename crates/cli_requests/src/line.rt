@@ -9,8 +9,8 @@ use crate::request::MOST_REQUEST_BYTES;
 use serde_json::Value;
 use std::alloc::Global;
 
-/// Returns the value of a line. The fault is `TooLong` if the line has more than `MOST_REQUEST_BYTES` bytes, and else `NotJson` if it is no
-/// JSON.
+/// Returns the JSON value of a line. Stops with `TooLong` if the line has more than `MOST_REQUEST_BYTES` bytes, otherwise with `NotJson` if
+/// it is not JSON.
 #[tactic(auto, using(crate::proofs::Values::too_long, crate::proofs::Values::has_value, crate::proofs::Values::has_no_value))]
 pub(crate) fn read_line(alloc: Global, line: &[u8]) -> Result<Value, Stop>
     ensures read { IfOk result (λ value. value_of line.now ≡ Ok (data_of value)) }

@@ -14,7 +14,7 @@ pub(crate) fn find_word<'a>(value: &'a Value, key: &str) -> Option<&'a str>
     value.get(key).and_then(Value::as_str)
 }
 
-/// Returns the name in the member `name`, or `None` exactly if that is no string or spells no name.
+/// Returns the name in the member `name`, or `None` exactly if the member is no string or no name.
 pub(crate) fn find_name(value: &Value) -> Option<Name>
     ensures found { IfSome result (HasName (data_of value.now)) }
     ensures none { IfNone result ((name : NameParts) → ¬ HasName (data_of value.now) name) }

@@ -1,4 +1,4 @@
-//! Reading of requests.
+//! Reading requests.
 ghost use Rattle.std.specs.Prelude.{◌≡◌, true, IfOk, IfErr, List, ℕ};
 ghost use Rattle.serde_json.specs.View.{view as data_of};
 ghost use Rattle.cli_input.specs.Lines.{IsLine};
@@ -23,7 +23,7 @@ use cli_input::InputLine;
 use serde_json::Value;
 use std::alloc::{AllocError, Global};
 
-/// Returns the name of a request for this call, which has one.
+/// Returns the name in a request for this call, which needs one.
 fn read_name(value: &Value, verb: Verb) -> Result<Name, Stop>
     requires calls { Calls (data_of value.now) verb }
     requires named { takes_name verb ≡ true }
@@ -36,7 +36,7 @@ fn read_name(value: &Value, verb: Verb) -> Result<Name, Stop>
     }
 }
 
-/// Returns the text of a request for this call, which has one.
+/// Returns the text in a request for this call, which needs one.
 fn read_text<'a>(value: &'a Value, verb: Verb) -> Result<&'a [u8], Stop>
     requires { IsRightUpToText (data_of value.now) verb }
     ensures read { IfOk result (λ text. HasText (data_of value.now) text.now) }
@@ -48,7 +48,7 @@ fn read_text<'a>(value: &'a Value, verb: Verb) -> Result<&'a [u8], Stop>
     }
 }
 
-/// Returns what a request for `types` asks for.
+/// Returns what a request with the call `types` asks for.
 fn read_types_call(alloc: Global, value: &Value) -> Result<Wanted, Stop>
     requires { Calls (data_of value.now) Verb.Types }
     ensures read { IfOk result (AsksFor (data_of value.now)) }
@@ -64,7 +64,7 @@ fn read_types_call(alloc: Global, value: &Value) -> Result<Wanted, Stop>
     }
 }
 
-/// Returns what a request for `put` asks for.
+/// Returns what a request with the call `put` asks for.
 #[tactic(auto, using(crate::proofs::Texts::bad_body))]
 fn read_put(alloc: Global, value: &Value) -> Result<Wanted, Stop>
     requires { Calls (data_of value.now) Verb.Put }
@@ -136,10 +136,9 @@ fn read_bytes(alloc: Global, line: &[u8], sessions: u8) -> Result<Request, Alloc
     }
 }
 
-/// Reads what a line asks for, of so many sessions. The line was read by `cli_input::read_input_line` with the limit
+/// Returns the request of a line, for the given number of sessions. The line was read by `cli_input::read_input_line` with the limit
 /// `MOST_REQUEST_BYTES`. It is `Bad` at the first of these that is wrong: its length, its JSON (RFC 8259, in UTF-8, nested at most 127
-/// deep), `session`, `call`, `name`, `text`. Members that the call does not want are passed over. Returns `AllocError` only if
-/// memory was refused.
+/// deep), `session`, `call`, `name`, `text`. Members that the call does not need are ignored.
 #[tactic(auto, using(crate::proofs::Readings::long_request, crate::proofs::Readings::long_session))]
 pub fn read_request(alloc: Global, line: &InputLine, sessions: u8) -> Result<Request, AllocError>
     ensures reading { (bytes : List ℕ) → IsLine MOST_REQUEST_BYTES bytes line.now → IfOk result (IsRequest sessions bytes) }

@@ -9,7 +9,7 @@ use crate::line::read_line;
 use serde_json::Value;
 use std::alloc::{AllocError, Global};
 
-/// Returns the number that a value names in its member `session`, which is 0 if there is none.
+/// Returns the number in the member `session` of a value, or 0 if there is no such member. Returns `None` if the member is no whole number.
 fn find_number(value: &Value) -> Option<u64>
     ensures { result ≡ number_of (get (codes "session") (data_of value.now)) }
 {
@@ -19,7 +19,7 @@ fn find_number(value: &Value) -> Option<u64>
     }
 }
 
-/// Returns the session that a value names, of so many.
+/// Returns the session that a value names, if it is one of `sessions`.
 pub(crate) fn session_of(value: &Value, sessions: u8) -> Option<u8>
     ensures which { result ≡ session_at sessions (data_of value.now) }
     ensures below { IfSome result (λ session. session < sessions) }
@@ -31,9 +31,9 @@ pub(crate) fn session_of(value: &Value, sessions: u8) -> Option<u8>
     Some(number as u8)
 }
 
-/// Returns the session that a line names, of so many: the number in its member `session`, or 0 if the line is JSON without that member.
-/// Returns `None` exactly if the line has more than `MOST_REQUEST_BYTES` bytes, is no JSON (RFC 8259) in UTF-8, nests deeper than 127,
-/// or names no whole number below `sessions`. Returns `AllocError` only if memory was refused.
+/// Returns the session that a line names, if it is one of `sessions`: the number in its member `session`, or 0 if the line is JSON without
+/// that member. Returns `None` exactly if the line has more than `MOST_REQUEST_BYTES` bytes, is not JSON (RFC 8259) in UTF-8, nests deeper
+/// than 127, or does not name a whole number below `sessions`.
 pub fn find_session(alloc: Global, line: &[u8], sessions: u8) -> Result<Option<u8>, AllocError>
     ensures which { IfOk result (λ found. found ≡ session_in sessions line.now) }
     ensures below { IfOk result (λ found. IfSome found (λ session. session < sessions)) }

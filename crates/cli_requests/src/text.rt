@@ -1,4 +1,4 @@
-//! The texts of declarations and bodies.
+//! The texts of declarations and units.
 ghost use Rattle.std.specs.Prelude.{◌≡◌, Ok, IfOk, IfErr};
 ghost use Rattle.bc_text.specs.Reading.{read, read_types};
 ghost use Rattle.cli_requests.specs.declared.verb.Verb.{Verb};
@@ -11,7 +11,7 @@ use bc_syntax::{Types, Unit};
 use bc_text::{ReadFault, read_types, read_unit};
 use std::alloc::Global;
 
-/// Returns the fault of this kind behind so many bytes of a text.
+/// Returns the fault of this kind at the byte `at` of a text.
 fn text_fault(kind: TextFaultKind, text: &[u8], at: usize) -> Stop
     ensures { result ≡ Stop.Fault (text_fault kind text.now at) }
 {
@@ -19,7 +19,7 @@ fn text_fault(kind: TextFaultKind, text: &[u8], at: usize) -> Stop
     Stop::Fault(RequestFault::Text(TextFault { kind, at, position }))
 }
 
-/// Returns what a request is told if its text cannot be read for this cause.
+/// Returns the stop of a request whose text cannot be read for this cause.
 fn stop_of(text: &[u8], cause: ReadFault) -> Stop
     ensures { Stops (Tells text.now cause) result }
 {
@@ -33,7 +33,7 @@ fn stop_of(text: &[u8], cause: ReadFault) -> Stop
     }
 }
 
-/// Returns the declarations of a text.
+/// Returns the declarations that a text spells, or its fault.
 pub(crate) fn read_declarations(alloc: Global, text: &[u8]) -> Result<Shared<Types>, Stop>
     ensures read { IfOk result (λ types. read_types text.now ≡ Ok types) }
     ensures unread { IfErr result (Stops (IsTextFault Verb.Types text.now)) }
@@ -47,7 +47,7 @@ pub(crate) fn read_declarations(alloc: Global, text: &[u8]) -> Result<Shared<Typ
     }
 }
 
-/// Returns the body of a text.
+/// Returns the unit that a text spells, or its fault.
 pub(crate) fn read_body(alloc: Global, text: &[u8]) -> Result<Shared<Unit>, Stop>
     ensures read { IfOk result (λ unit. read text.now ≡ Ok unit) }
     ensures unread { IfErr result (Stops (IsTextFault Verb.Put text.now)) }

@@ -1,4 +1,4 @@
--- What sessions that ran leave of a file's calls.
+-- What the sessions that ran leave of a file's calls.
 use Rattle.std.proofs.Common.{◌≡◌, ℕ, zero, suc, ◌<◌, List, [], ◌∷◌, ◌++◌, map, take, length, length-append, get_or, refl, sym, ap, ◌∙◌, subst, arith, inl, inr}
 use Rattle.std.specs.List.{Contains}
 use Rattle.std.proofs.Math.Seq.{get_or-append_seam}
@@ -19,7 +19,7 @@ use Rattle.cli_run.specs.declared.file.SessionCall.{SessionCall}
 use Rattle.cli_run.specs.Calls.{calls_for, scripts}
 use Rattle.cli_run.specs.Runs.{AreMade, HasRun, sessions_of, ends_of}
 
--- what stands in a list that was made longer by one each time
+-- an item of a list that got one more item at a time
 last_or_before : {X : Type 0} (xs : List X) (n k : ℕ) (d : X) (f : ℕ → X) → length xs ≡ n → k < suc n → (k < n → get_or xs k d ≡ f k) → get_or (xs ++ f n ∷ []) k d ≡ f k
 last_or_before {X} xs n k d f long below before = elim (cases_lt k n) [
   | inl less ↦ get_or_append_left xs (f n ∷ []) d k (omega (arith, less, long)) ∙ before less
@@ -45,7 +45,7 @@ still_of : (old new : SessionView) (list : List Call) (end : End) → IsRun old 
 still_of old new list Done run = (run.tag, run.number)
 still_of old new list (Stopped number refusal) run = (run.1.tag, run.1.number)
 
--- the sessions of a new database stand in the order of their numbers, also where they ran
+-- the sessions of a new database are in the order of their numbers, even after they ran
 pub new_are_sessions : (sessions : ℕ) (opened back : List SessionView) → opened ≡ new_sessions 0 sessions → back ≡ opened → AreSessionsOf 0 sessions back
 new_are_sessions sessions opened back is same =
     subst (AreSessionsOf 0 sessions) (sym (same ∙ is)) (are_sessions 0 sessions (new_sessions 0 sessions) (length-new_sessions 0 sessions) (λ k d below.

@@ -1,4 +1,4 @@
--- A beginning of a history that is printed.
+-- A printed beginning of a history.
 use Rattle.std.proofs.Common.{◌≡◌, ◌<◌, ◌+◌, ℕ, zero, suc, Bool, true, Option, Some, None, List, [], ◌∷◌, ◌++◌, length, take, drop, get_or, sym, ap, ◌∙◌, subst, append-nil, append_assoc, arith}
 use Rattle.std.specs.List.{flat_map}
 use Rattle.std.specs.Io.KnownBytes.{Appends, Keeps}
@@ -13,7 +13,7 @@ added_kept (Some xs) None w a x y = absurd x
 added_kept (Some xs) (Some ys) None a x y = y
 added_kept (Some xs) (Some ys) (Some zs) a x y = y ∙ x
 
--- those before one of the entries are printed
+-- the entries before one of them are printed
 pub part_printed : (json : Bool) (entries : List Entry) (i : ℕ) (u v w : Option (List ℕ)) → i < length entries → json ≡ true
     → Appends u v (flat_map (entry_lines json) (take i entries)) → Keeps v w → PrintsPart entries u w
 part_printed json [] i u v w below is printed kept = absurd (omega (arith, below))
@@ -34,7 +34,7 @@ one_more_entry lines (entry ∷ entries) (suc i) d below =
     ap (λ k. flat_map lines (take k (entry ∷ entries))) turn ∙ ap (λ l. lines entry ++ l) (one_more_entry lines entries i d less)
     ∙ sym (append_assoc (lines entry) (flat_map lines (take i entries)) (lines (get_or entries i d)))
 
--- one entry more is printed
+-- one more entry is printed
 pub more_printed : (json : Bool) (u v w : Option (List ℕ)) (entries : List Entry) (i : ℕ) (entry : Entry) → i < length entries → entry ≡ get_or entries i entry
     → Appends u v (flat_map (entry_lines json) (take i entries)) → Appends v w (entry_lines json entry) → Appends u w (flat_map (entry_lines json) (take (i + 1) entries))
 more_printed json u v w entries i entry below is before last =

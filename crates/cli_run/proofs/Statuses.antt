@@ -24,7 +24,7 @@ ends_at_most : (ends : List End) → greatest_end ends ≤ 3
 ends_at_most [] = omega arith
 ends_at_most (end ∷ ends) = let one = end_at_most end in let rest = ends_at_most ends in omega (arith, one, rest)
 
--- a session that did not end decides
+-- a session that stopped early decides
 pub one_stopped : (ends : List End) (i : ℕ) (d : End) → i < length ends → end_status (get_or ends i d) ≡ 3 → greatest_end ends ≡ 3
 one_stopped [] i d below h = absurd (omega (arith, below))
 one_stopped (end ∷ ends) zero d below h = let rest = ends_at_most ends in omega (arith, h, rest)
@@ -36,6 +36,6 @@ stopped-snoc session (e ∷ ends) end =
     ap (λ (text : List ℕ). stopped_line session e ++ text) (stopped-snoc (session + 1) ends end ∙ ap (λ (n : ℕ). stopped_lines (session + 1) ends ++ stopped_line n end) (let same : session + 1 + length ends ≡ session + suc (length ends) = omega arith in same))
     ∙ sym (append_assoc (stopped_line session e) (stopped_lines (session + 1) ends) _)
 
--- one item more of a list
+-- one more item of a list
 pub taken_more : {X : Type 0} (xs : List X) (i : ℕ) (x : X) → i < length xs → x ≡ get_or xs i x → take (i + 1) xs ≡ take i xs ++ x ∷ []
 taken_more {X} xs i x below at = take_more xs i x below ∙ ap (λ (y : X). take i xs ++ y ∷ []) (sym at)

@@ -1,4 +1,4 @@
--- How the command ends, and what it leaves where it stops.
+-- How the command ends, and what it leaves if it stops.
 use Rattle.std.specs.Prelude.{◌≡◌, ◌⊎◌, ◌<◌, ◌≤◌, ℕ, Bool, true, max, Option, List, length}
 use Rattle.std.specs.List.{flat_map}
 use Rattle.std.specs.Io.KnownBytes.{Appends, Keeps}
@@ -18,8 +18,8 @@ use Rattle.cli_run.specs.Calls.{GiveAll, IsToldFault}
 use Rattle.cli_run.specs.Runs.{AreMade, events_of, greatest_end}
 use Rattle.cli_run.specs.Print.{entry_lines, stopped_lines, PrintsPart}
 
--- The sessions made the calls that the sections give, at most as many as a history may have, and each as far as it ended; standard
--- output has the lines of their history, standard error those of the sessions that did not end, and the status is the greatest of all.
+-- The sessions made the calls that the sections give, at most as many as a history may have, and each until it ended. Standard output has
+-- their history, standard error has a line for each session that stopped early, and the status is the greatest of all.
 pub record Ran (json : Bool) (sessions : ℕ) (file : List ℕ) (exit : ℕ) (out out' err err' : Option (List ℕ)) : Type 0 where
   pub given : List SessionCall
   pub history : List Entry
@@ -31,13 +31,13 @@ pub record Ran (json : Bool) (sessions : ℕ) (file : List ℕ) (exit : ℕ) (ou
   pub errors : Appends err err' (stopped_lines 0 ends)
   pub status : exit ≡ max (greatest (events_of history)) (greatest_end ends)
 
--- a file without a fault that gives at most as many calls as a history may have
+-- the file has no fault, and gives at most as many calls as a history may have
 pub record IsWell (sessions : ℕ) (file : List ℕ) : Type 0 where
   pub given : List SessionCall
   pub good : GiveAll sessions (sections_of file) given
   pub few : length given ≤ MOST_ENTRIES
 
--- a file without a fault, of whose calls standard output has the history, and some session did not end
+-- the file has no fault, standard output has the history of its calls, and some session stopped early
 pub record HasShown (json : Bool) (sessions : ℕ) (file : List ℕ) (out out' : Option (List ℕ)) : Type 0 where
   pub given : List SessionCall
   pub history : List Entry
@@ -48,7 +48,7 @@ pub record HasShown (json : Bool) (sessions : ℕ) (file : List ℕ) (out out' :
   pub output : Appends out out' (flat_map (entry_lines json) history)
   pub stopped : greatest_end ends ≡ 3
 
--- a file without a fault, of whose calls standard output has a beginning of the history as JSON, without the next of its entries
+-- the file has no fault, and standard output has a beginning of the history of its calls as JSON, without the next entry
 pub record HasBegun (sessions : ℕ) (file : List ℕ) (out out' : Option (List ℕ)) : Type 0 where
   pub given : List SessionCall
   pub history : List Entry
@@ -58,14 +58,13 @@ pub record HasBegun (sessions : ℕ) (file : List ℕ) (out out' : Option (List 
   pub made : AreMade sessions given history ends
   pub output : PrintsPart history out out'
 
--- a file without a fault that gives more calls than a history may have
+-- the file has no fault, and gives more calls than a history may have
 pub record HasTooManyCalls (sessions : ℕ) (file : List ℕ) : Type 0 where
   pub given : List SessionCall
   pub good : GiveAll sessions (sections_of file) given
   pub many : MOST_ENTRIES < length given
 
--- What the command finds and leaves where it stops, but for the line that says so. What a writer that failed took is
--- not known.
+-- What the command finds if it stops, and what it leaves apart from the line that says why. What a failed writer took is not known.
 abbrev pub Leaves : RunParts → Stop → Option (List ℕ) → Option (List ℕ) → Option (List ℕ) → Option (List ℕ) → Option (List ℕ) → Type 0
 Leaves line WrongUse known out out' err err' = ⊥
 Leaves line CannotRead known out out' err err' = IsSilent out out' err err'
@@ -79,12 +78,12 @@ Leaves line HistoryFull known out out' err err' = ⊥
 Leaves line Foreign known out out' err err' = ⊥
 Leaves line Audit known out out' err err' = OfFile known (IsWell line.sessions) × IsSilent out out' err err'
 
--- the command that a line of these parts asks for ended with this status: at its end, or where it stopped
+-- the command of a line with these parts ended with this status: at its end, or after a stop
 abbrev pub IsEnd : RunParts → Option (List ℕ) → ℕ → Option (List ℕ) → Option (List ℕ) → Option (List ℕ) → Option (List ℕ) → Type 0
 IsEnd line known exit out out' err err' =
     OfFile known (λ file. Ran line.json line.sessions file exit out out' err err') ⊎ StopsWith (λ stop told. Leaves line stop known out out' err told) line.file exit err'
 
--- the command on the file that a line of `run` names ended with this status
+-- the command ended with this status on the file that a line of `run` names
 abbrev pub IsEndOf : Line → Option (List ℕ) → ℕ → Option (List ℕ) → Option (List ℕ) → Option (List ℕ) → Option (List ℕ) → Type 0
 IsEndOf (Check line) known exit out out' err err' = ⊥
 IsEndOf (Run line) known exit out out' err err' = IsEnd line known exit out out' err err'

@@ -1,4 +1,4 @@
--- What is printed of a history, and of sessions that did not end.
+-- What is printed for a history, and for sessions that stopped early.
 use Rattle.std.specs.Prelude.{◌≡◌, ℕ, ◌+◌, Bool, true, Option, List, [], ◌∷◌, ◌++◌, length, codes, decimal, if◌then◌else◌}
 use Rattle.std.specs.List.{flat_map}
 use Rattle.std.specs.Io.KnownBytes.{Appends}
@@ -24,15 +24,15 @@ event_text (Remove name reply) = codes "remove " ++ name_text name ++ codes " " 
 event_text (Ask name outcome) = codes "ask " ++ name_text name
 event_text (EveryRoot rows) = codes "askall " ++ decimal (length rows)
 
--- the line of an entry: the session, how many calls it had made before, and the call
+-- the line of an entry: the session, the number of its earlier calls, and the call
 abbrev pub entry_line : Entry → List ℕ
 entry_line entry = decimal entry.session ++ codes " " ++ decimal entry.number ++ codes " " ++ line (event_text entry.event)
 
--- the lines of a root that an Ask for all lists: its name, and its report
+-- the lines of a root that an ask for all lists: its name, then its report
 abbrev pub root_lines : NameParts × Outcome → List ℕ
 root_lines row = line (codes "root " ++ name_text row.0) ++ report row.1
 
--- the report of an Ask, and the lines of the roots of an Ask for all
+-- the report of an ask, or the lines of the roots of an ask for all
 abbrev pub outcome_lines : Event → List ℕ
 outcome_lines (Types types) = []
 outcome_lines (Put name body reply) = []
@@ -40,11 +40,11 @@ outcome_lines (Remove name reply) = []
 outcome_lines (Ask name outcome) = report outcome
 outcome_lines (EveryRoot rows) = flat_map root_lines rows
 
--- an entry: its line and what it answers, or where JSON is wanted one line that has both
+-- an entry: its line and what it found, or one line of JSON
 abbrev pub entry_lines : Bool → Entry → List ℕ
 entry_lines json entry = if json then line (entry_json entry) else entry_line entry ++ outcome_lines entry.event
 
--- a beginning of some entries is printed as JSON, without the next of them
+-- a beginning of some entries is printed as JSON, without the next one
 pub record PrintsPart (entries : List Entry) (out out' : Option (List ℕ)) : Type 0 where
   pub front : List Entry
   pub next : Entry
@@ -52,17 +52,17 @@ pub record PrintsPart (entries : List Entry) (out out' : Option (List ℕ)) : Ty
   pub cut : front ++ next ∷ ahead ≡ entries
   pub printed : Appends out out' (flat_map (entry_lines true) front)
 
--- why a call was refused
+-- the words for why a call was refused
 abbrev pub refusal_text : Refusal → List ℕ
 refusal_text refusals.NoMemory = codes "no memory"
 refusal_text refusals.HistoryFull = codes "history full"
 
--- the line of a session that did not end
+-- the line of a session that stopped early
 abbrev pub stopped_line : ℕ → End → List ℕ
 stopped_line session Done = []
 stopped_line session (Stopped number refusal) = line (codes "session " ++ decimal session ++ codes " stopped: " ++ refusal_text refusal)
 
--- the lines of the sessions that did not end, of which the first has this number
+-- the lines of the sessions that stopped early, of which the first has this number
 abbrev pub stopped_lines : ℕ → List End → List ℕ
 stopped_lines session [] = []
 stopped_lines session (end ∷ ends) = stopped_line session end ++ stopped_lines (session + 1) ends

@@ -1,4 +1,4 @@
--- The history that sessions leave which make the calls of a file, and its status.
+-- The history that the sessions of a file leave, and its status.
 use Rattle.std.specs.Prelude.{◌≡◌, ◌<◌, ℕ, max, List, [], ◌∷◌, length, map, take, slice_index_or}
 use Rattle.std.specs.List.{All}
 use Rattle.bc_calls.specs.declared.call.Call.{Call}
@@ -11,10 +11,11 @@ use Rattle.bc_share.specs.Sessions.{SessionView}
 use Rattle.cli_run.specs.declared.file.SessionCall.{SessionCall}
 use Rattle.cli_run.specs.Calls.{calls_for}
 
--- the sessions that ran, and how each ended
+-- the sessions that ran
 abbrev pub sessions_of : List (SessionView × End) → List SessionView
 sessions_of ran = map (λ (r : SessionView × End). r.0) ran
 
+-- how each session ended
 abbrev pub ends_of : List (SessionView × End) → List End
 ends_of ran = map (λ (r : SessionView × End). r.1) ran
 
@@ -23,8 +24,7 @@ abbrev pub HasRun : List Event → List Call → End → Type 0
 HasRun events list Done = map call_of events ≡ list
 HasRun events list (Stopped number refusal) = (number < length list) × (map call_of events ≡ take number list)
 
--- A legal history in which the calls of each session stand as the file has them, in their order, up to where the session
--- ended, and no others.
+-- The history is legal. It has the calls of each session as the file has them, in order, until the session ended, and no others.
 pub record AreMade (sessions : ℕ) (given : List SessionCall) (history : List Entry) (ends : List End) : Type 0 where
   pub legal : IsLegal history
   pub sized : length ends ≡ sessions
@@ -35,7 +35,7 @@ pub record AreMade (sessions : ℕ) (given : List SessionCall) (history : List E
 abbrev pub events_of : List Entry → List Event
 events_of history = map (λ (entry : Entry). entry.event) history
 
--- 3 for a session that did not end
+-- the status of a session: 3 if it stopped early, otherwise 0
 abbrev pub end_status : End → ℕ
 end_status Done = 0
 end_status (Stopped number refusal) = 3

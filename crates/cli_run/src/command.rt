@@ -1,4 +1,4 @@
-//! The command `run`.
+//! The command `run` on a file.
 ghost use Rattle.std.specs.Prelude.{◌≡◌, ◌≤◌, ◌<◌, ◌⊎◌, [], true, Err, OnOk, OnErr, IfOk, IfErr, IsErrOf, length, max};
 ghost use Rattle.std.specs.List.{flat_map};
 ghost use Rattle.std.specs.Io.Buffered.{writer_buffer, writer_contents};
@@ -25,7 +25,7 @@ use std::io::{BufWriter, Read, Write};
 use std::sync::Wait;
 use std::thread::Threads;
 
-/// Prints a history, as text or as JSON, and flushes what the buffer holds of it, also if there is no room for the JSON of an entry.
+/// Prints a history as text or as JSON, and flushes the buffer, even if there is no room for the JSON of an entry.
 fn show<O: Write + Drop>(
     alloc: Global,
     json: bool,
@@ -51,7 +51,7 @@ fn show<O: Write + Drop>(
     }
 }
 
-/// Writes a line for each session that did not end.
+/// Writes a line for each session that stopped early.
 fn tell<E: Write>(ends: &[End], err: &mut E) -> Result<(), Stop>
     requires { length ends.now ≤ 16 }
     ensures told { OnOk result (Appends (E.contents err.old) (E.contents err.new) (stopped_lines 0 ends.now)) }
@@ -76,7 +76,7 @@ fn history_status(entries: &[Entry]) -> u8
     status
 }
 
-/// Returns the status of a session by how it ended.
+/// Returns the status of a session: 3 if it stopped early, otherwise 0.
 fn end_status(end: &End) -> u8
     ensures value { result ≡ end_status end.now }
     ensures range { result ≤ 3 }
@@ -102,15 +102,15 @@ fn ends_status(ends: &[End]) -> u8
     status
 }
 
-/// Reads the whole input, has each of the line's sessions make its calls on a thread of its own, and prints the history: a line for each entry, the
-/// report behind the line of an Ask, and each root with its report behind that of an Ask for all; or as JSON one object a line for each entry. Then
-/// it writes a line for each session that did not end. Returns the greatest status of the calls, and 3 if a session did not end. If `out` held
-/// nothing before, it holds nothing afterwards, unless the writer behind it failed.
+/// Reads the whole input, has each session make its calls on a thread of its own, and prints the history. Each entry has a line, followed
+/// by the report of an ask, or by the roots of an ask for all with their reports; as JSON it has one line alone. Then a line is written for
+/// each session that stopped early. Returns the greatest status of the calls, or 3 if a session stopped early. If the buffer of `out` was
+/// empty, it is empty afterwards, unless its writer failed.
 ///
-/// Stops with `CannotRead` if the input cannot be read or is over 16 MiB; with `File` at its first fault; with `TooManyCalls` if it has more
-/// than 1,000,000 calls; with `CannotWrite` or `CannotTell` if a writer fails; with `NoMemory` if there is no room, and with `Audit` if
-/// the history does not agree with the sessions at the close, both before anything is printed, but that as JSON a beginning of the history is
-/// printed if there is no room for the line of the next entry.
+/// Stops with `CannotRead` if the input cannot be read or is over 16 MiB; with `File` at its first fault; with `TooManyCalls` if it has
+/// more than 1,000,000 calls; with `CannotWrite` or `CannotTell` if a writer fails; with `NoMemory` if it is out of memory; and with
+/// `Audit` if history and sessions do not agree at the close. In the last two cases nothing is printed, with one exception: as JSON, a
+/// beginning of the history is printed if there is no room for the line of the next entry.
 pub fn run<R, I, O, E>(
     rt: &R,
     providers: &Providers,
@@ -141,13 +141,13 @@ where
     Ok(history_status(made.history.entries()).max(ends_status(&made.ends)))
 }
 
-/// Runs the whole command `run` on the input of the file that the line names: writes the history to `out` and faults to `err`, and returns the exit
-/// status, the greatest that applies. Before a line on `err` says why the command stops, `out` was flushed; after `cannot write` it still holds
-/// what the writer behind it did not take.
+/// Runs the whole command `run` on the input of the file that the line names: writes the history to `out` and faults to `err`, and returns
+/// the exit status, the greatest that applies. It flushes `out` before a line on `err` says why the command stops. After `cannot write`,
+/// `out` still holds what its writer did not take.
 ///
-/// 0 if no report has an error; 1 if one has; 2 where the file has a fault, a put stored nothing or an outcome is no report; 3 where a
-/// session did not end, or the command stops for another reason, which is the last line on `err`. The fault of `err` if that line cannot be
-/// written: then nothing more can be said.
+/// The status is 0 if no report has an error; 1 if one has; 2 if the file has a fault, a put stores nothing or an outcome is no report; 3
+/// if a session stops early, or if the command stops for another reason, which is the last line on `err`. It returns the fault of `err` if
+/// that line cannot be written: then nothing more can be said.
 pub fn run_and_tell<R, I, O, E>(
     rt: &R,
     providers: &Providers,
@@ -172,10 +172,11 @@ where
     }
 }
 
-/// Runs the whole command `run` on the input of the file that the line names, and returns the exit status, the greatest that applies: 0 where no
-/// report has an error; 1 if one has; 2 where the file has a fault, a put stored nothing or an outcome is no report; 3 if a session did not
-/// end, where the command stops for another reason, which is the last line on `err`, or if standard error fails. The history goes to `out` and
-/// faults to `err`. The line has to be one of `run`.
+/// Runs the whole command `run` on the input of the file that the line names: writes the history to `out` and faults to `err`, and returns
+/// the exit status, the greatest that applies. The line has to be one of `run`.
+///
+/// The status is 0 if no report has an error; 1 if one has; 2 if the file has a fault, a put stores nothing or an outcome is no report; 3
+/// if a session stops early, if the command stops for another reason, which is the last line on `err`, or if standard error fails.
 pub fn run_over<R, I, O, E>(
     rt: &R,
     providers: &Providers,

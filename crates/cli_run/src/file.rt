@@ -1,4 +1,4 @@
-//! The calls of a file, each with the session that is to make it.
+//! The calls of a file, each with its session.
 ghost use Rattle.std.specs.Prelude.{◌≡◌, ◌≤◌, ◌==◌, ◌||◌};
 ghost use Rattle.cli_file.specs.Parts.{sections_of};
 ghost use Rattle.cli_file.specs.Left.{part_of};
@@ -45,7 +45,7 @@ fn read_stored(alloc: Global, section: &Section<'_>) -> Result<Call, Stop>
     }
 }
 
-/// Returns the call that puts the body of a section under a name.
+/// Returns the call that puts the unit of a section under a name.
 fn read_put(alloc: Global, section: &Section<'_>, name: Name) -> Result<Call, Stop>
     ensures { GivesText (Heading.Put name) (part_of section.now) result }
 {
@@ -55,7 +55,7 @@ fn read_put(alloc: Global, section: &Section<'_>, name: Name) -> Result<Call, St
     }
 }
 
-/// Returns the call that takes the body of a name away, of a section without a text.
+/// Returns the call that removes the body of a name, of a section with a blank text.
 fn read_remove(section: &Section<'_>, name: Name) -> Result<Call, Stop>
     ensures { GivesText (Heading.Remove name) (part_of section.now) result }
 {
@@ -65,7 +65,7 @@ fn read_remove(section: &Section<'_>, name: Name) -> Result<Call, Stop>
     Ok(Call::Remove(name))
 }
 
-/// Returns the call that asks a name, of a section without a text.
+/// Returns the call that asks for a name, of a section with a blank text.
 fn read_ask(section: &Section<'_>, name: Name) -> Result<Call, Stop>
     ensures { GivesText (Heading.Ask name) (part_of section.now) result }
 {
@@ -75,7 +75,7 @@ fn read_ask(section: &Section<'_>, name: Name) -> Result<Call, Stop>
     Ok(Call::Ask(name))
 }
 
-/// Returns the call that asks for all, of a section without a text.
+/// Returns the call that asks for all roots, of a section with a blank text.
 fn read_all(section: &Section<'_>) -> Result<Call, Stop>
     ensures { GivesText Heading.All (part_of section.now) result }
 {
@@ -85,7 +85,7 @@ fn read_all(section: &Section<'_>) -> Result<Call, Stop>
     Ok(Call::All)
 }
 
-/// Returns the call that the text of a section gives behind this heading.
+/// Returns the call of a section with this heading.
 fn read_text(alloc: Global, section: &Section<'_>, heading: Heading) -> Result<Call, Stop>
     ensures { GivesText heading (part_of section.now) result }
 {
@@ -98,7 +98,7 @@ fn read_text(alloc: Global, section: &Section<'_>, heading: Heading) -> Result<C
     }
 }
 
-/// Returns the call of a section, and which of so many sessions is to make it.
+/// Returns the call of a section, and the session that is to make it, of the given number of sessions.
 fn read_call(alloc: Global, section: &Section<'_>, sessions: u8) -> Result<SessionCall, Stop>
     requires { sessions ≤ 16 }
     ensures { GivesOne sessions (part_of section.now) result }
@@ -110,8 +110,8 @@ fn read_call(alloc: Global, section: &Section<'_>, sessions: u8) -> Result<Sessi
     Ok(SessionCall { session, call })
 }
 
-/// Returns the calls of a file of so many sessions, in the order of its sections. `File` with the file's first fault if it has one, `NoMemory`
-/// if there is no room.
+/// Returns the calls of a file for the given number of sessions, in the order of its sections. Returns `File` with the first fault of the
+/// file if it has one, or `NoMemory`.
 pub fn read_calls(alloc: Global, file: &[u8], sessions: u8) -> Result<Vec<SessionCall>, Stop>
     requires { sessions ≤ 16 }
     ensures { GivesAll sessions (sections_of file.now) result }
@@ -123,8 +123,8 @@ pub fn read_calls(alloc: Global, file: &[u8], sessions: u8) -> Result<Vec<Sessio
     Ok(calls)
 }
 
-/// Returns the calls of a file of so many sessions, in the order of its sections. `File` with the file's first fault if it has one, with its
-/// position in the file if positions are asked for; `NoMemory` if there is no room.
+/// Returns the calls of a file for the given number of sessions, in the order of its sections. Returns `File` with the first fault of the
+/// file if it has one, and with its position there if `positions` says so, or `NoMemory`.
 pub fn read_told_calls(
     alloc: Global,
     sessions: u8,

@@ -1,4 +1,4 @@
-//! The command `run`: a file cut into the calls of its sessions, which make them on threads of their own, and the history that is printed.
+//! The command `run`: sessions make the calls of a file on threads of their own, and the history is printed.
 #![tactic(auto)]
 
 mod command;

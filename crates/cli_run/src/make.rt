@@ -1,4 +1,4 @@
-//! The calls of a file, made by sessions on threads of their own.
+//! The calls of a file, made by sessions on threads.
 ghost use Rattle.std.specs.Prelude.{◌≡◌, ◌≤◌, ◌<◌, ◌⊎◌, IfOk, IfErr, IsErrOf, [], length, vec_capacity};
 ghost use Rattle.bc_share.specs.declared.db.TheConstants.{MOST_ENTRIES};
 ghost use Rattle.cli_run.specs.Runs.{AreMade, sessions_of, ends_of};
@@ -14,14 +14,14 @@ use std::alloc::Global;
 use std::sync::Wait;
 use std::thread::Threads;
 
-/// A gate at which no session waits.
+/// A `Gate` that holds up no session.
 struct Open;
 
 impl Gate for Open {
     fn pause(&self, _session: u8, _stage: Stage) {}
 }
 
-/// The history of a file's calls, and how each session ended, in the order of the sessions.
+/// The history of a file's calls, and how each session ended, in the order of sessions.
 pub struct Made {
     pub history: History,
     pub ends: Vec<End>,
@@ -36,7 +36,7 @@ impl Drop for Made {
     }
 }
 
-/// Parts the sessions from how they ended, for each of which there is room.
+/// Separates the sessions from how they ended; there is room for all.
 fn part<N: Ending>(ran: Vec<(Session<N>, End)>, sessions: &mut Vec<Session<N>>, ends: &mut Vec<End>)
     requires no_sessions { sessions.old.items ≡ [] }
     requires no_ends { ends.old.items ≡ [] }
@@ -51,8 +51,9 @@ fn part<N: Ending>(ran: Vec<(Session<N>, End)>, sessions: &mut Vec<Session<N>>, 
     }
 }
 
-/// Opens a database, has each of so many sessions make its calls on a thread of its own, and closes it. Returns the history and how each session
-/// ended. `TooManyCalls` exactly if there are more than 1,000,000 calls; `NoMemory` only if memory was refused.
+/// Opens a database, has each session make its calls on a thread of its own, and closes the database. Returns the history, and how each
+/// session ended. Returns `TooManyCalls` exactly if there are more than 1,000,000 calls, and `Audit` if history and sessions do not agree
+/// at the close. Otherwise it fails only with `NoMemory`.
 pub fn make_calls<R: AllocGlobal + Threads + Wait + Sync>(
     rt: &R,
     providers: &Providers,

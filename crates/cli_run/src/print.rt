@@ -1,4 +1,4 @@
-//! What is printed of a history, and of sessions that did not end.
+//! Printing a history, and the sessions that stopped early.
 ghost use Rattle.std.specs.Prelude.{◌≡◌, ◌≤◌, true, false, IfOk, OnOk, OnErr, length};
 ghost use Rattle.std.specs.List.{flat_map};
 ghost use Rattle.std.specs.Io.KnownBytes.{Appends, Keeps};
@@ -17,7 +17,7 @@ use std::alloc::{AllocError, Global};
 use std::io;
 use std::io::Write;
 
-/// Writes the words of a call with its reply, to the end of the line.
+/// Writes a call with its reply in words, to the end of the line.
 fn write_event<O: Write>(event: &Event, out: &mut O) -> io::Result<()>
     ensures { OnOk result (Appends (O.contents out.old) (O.contents out.new) (line (event_text event.now))) }
 {
@@ -49,7 +49,7 @@ fn write_line<O: Write>(entry: &Entry, out: &mut O) -> io::Result<()>
     write_event(&entry.event, out)
 }
 
-/// Writes a root with its report.
+/// Writes a root, then its report.
 fn write_root<O: Write>(row: &(Name, Shared<Outcome>), out: &mut O) -> io::Result<()>
     ensures { OnOk result (Appends (O.contents out.old) (O.contents out.new) (root_lines row.now)) }
 {
@@ -58,7 +58,7 @@ fn write_root<O: Write>(row: &(Name, Shared<Outcome>), out: &mut O) -> io::Resul
     Ok(write_report(row.1.get(), out)?)
 }
 
-/// Writes roots with their reports, in their order.
+/// Writes roots with their reports, in order.
 fn write_roots<O: Write>(rows: &[(Name, Shared<Outcome>)], out: &mut O) -> io::Result<()>
     ensures { OnOk result (Appends (O.contents out.old) (O.contents out.new) (flat_map root_lines rows.now)) }
 {
@@ -68,7 +68,7 @@ fn write_roots<O: Write>(rows: &[(Name, Shared<Outcome>)], out: &mut O) -> io::R
     Ok(())
 }
 
-/// Writes the report of an Ask, and the roots of an Ask for all with their reports; nothing of another call.
+/// Writes the report of an ask, or the roots of an ask for all with their reports; nothing for another call.
 fn write_outcome<O: Write>(event: &Event, out: &mut O) -> io::Result<()>
     ensures { OnOk result (Appends (O.contents out.old) (O.contents out.new) (outcome_lines event.now)) }
 {
@@ -79,7 +79,7 @@ fn write_outcome<O: Write>(event: &Event, out: &mut O) -> io::Result<()>
     }
 }
 
-/// Writes the line of an entry, and behind the line of an Ask what it answers.
+/// Writes the line of an entry, then what an ask found.
 fn write_text<O: Write>(entry: &Entry, out: &mut O) -> io::Result<()>
     ensures { OnOk result (Appends (O.contents out.old) (O.contents out.new) (entry_lines false entry.now)) }
 {
@@ -87,7 +87,7 @@ fn write_text<O: Write>(entry: &Entry, out: &mut O) -> io::Result<()>
     write_outcome(&entry.event, out)
 }
 
-/// Writes the JSON line of an entry. `AllocError`, with nothing written, if there is no room for it.
+/// Writes the JSON line of an entry. Returns `AllocError`, with nothing written, if there is no room for it.
 fn write_json<O: Write>(
     alloc: Global,
     entry: &Entry,
@@ -105,7 +105,7 @@ fn write_json<O: Write>(
     }
 }
 
-/// Writes an entry as text, or as JSON. `AllocError`, with nothing written, if there is no room for its JSON.
+/// Writes an entry as text or as JSON. Returns `AllocError`, with nothing written, if there is no room for its JSON.
 fn write_entry<O: Write>(
     alloc: Global,
     json: bool,
@@ -122,8 +122,8 @@ fn write_entry<O: Write>(
     Ok(Ok(()))
 }
 
-/// Writes the entries of a history in their order, as text or as JSON, exactly their bytes, or returns the writer's fault. `AllocError` at the
-/// first entry for whose JSON there is no room: of it and of those behind it nothing is written. Text needs no room.
+/// Writes the entries of a history in order, as text or as JSON. Returns the writer's fault if it fails. Returns `AllocError` at the first
+/// entry for whose JSON there is no room: this entry and those after it are not written. Text needs no room.
 pub fn write_history<O: Write>(
     alloc: Global,
     json: bool,
@@ -142,7 +142,7 @@ pub fn write_history<O: Write>(
     Ok(Ok(()))
 }
 
-/// Returns why a call was refused.
+/// Returns the words for why a call was refused.
 fn refusal_word(refusal: Refusal) -> &'static str
     ensures { result.now ≡ refusal_text refusal }
 {
@@ -152,7 +152,7 @@ fn refusal_word(refusal: Refusal) -> &'static str
     }
 }
 
-/// Writes that a session did not end, where it did not. It fails only there.
+/// Writes the line of a session that stopped early, if it did. It fails only if there is such a line.
 fn write_stopped<E: Write>(session: u8, end: &End, err: &mut E) -> io::Result<()>
     ensures written { OnOk result (Appends (E.contents err.old) (E.contents err.new) (stopped_line session end.now)) }
     ensures owed { OnErr result (end_status end.now ≡ 3) }
@@ -166,8 +166,8 @@ fn write_stopped<E: Write>(session: u8, end: &End, err: &mut E) -> io::Result<()
     }
 }
 
-/// Writes which sessions did not end, in the order of the sessions, which are at most 16. Returns the writer's fault, and only if a session did
-/// not end.
+/// Writes a line for each session that stopped early, in order; there are at most 16 sessions. Returns the writer's fault, and only if
+/// there is such a line.
 pub fn write_all_stopped<E: Write>(ends: &[End], err: &mut E) -> io::Result<()>
     requires { length ends.now ≤ 16 }
     ensures written { OnOk result (Appends (E.contents err.old) (E.contents err.new) (stopped_lines 0 ends.now)) }

@@ -7,7 +7,7 @@ use bc_calls::Call;
 use bc_scripts::Script;
 use std::alloc::{AllocError, Global};
 
-/// Returns a copy of a call, which shares what the call brings. `AllocError` only if memory was refused.
+/// Returns a copy of a call, which shares the declarations or the unit.
 fn copy_of(call: &Call) -> Result<Call, AllocError>
     ensures { IfOk result (λ copy. copy ≡ call.now) }
 {
@@ -20,7 +20,7 @@ fn copy_of(call: &Call) -> Result<Call, AllocError>
     }
 }
 
-/// Puts a call at the end of a session's own, if it is the session's.
+/// Appends a call to a session's own if it is the session's.
 fn push_own(own: &mut Vec<Call>, given: &SessionCall, session: u8) -> Result<(), AllocError>
     ensures { OnOk result (own.new.items ≡ own.old.items ++ own_call session given.now) }
 {
@@ -30,7 +30,7 @@ fn push_own(own: &mut Vec<Call>, given: &SessionCall, session: u8) -> Result<(),
     Ok(())
 }
 
-/// Returns the script of a session: its calls, in their order.
+/// Returns the script of a session: its calls, in order.
 fn script_of(alloc: Global, calls: &[SessionCall], session: u8) -> Result<Script, AllocError>
     ensures { IfOk result (λ script. script ≡ calls_for session calls.now) }
 {
@@ -41,7 +41,7 @@ fn script_of(alloc: Global, calls: &[SessionCall], session: u8) -> Result<Script
     Ok(Script::new(own))
 }
 
-/// Returns the scripts of so many sessions, in the order of the sessions. `AllocError` only if memory was refused.
+/// Returns the scripts of the given number of sessions, in order.
 pub fn scripts_of(
     alloc: Global,
     calls: &[SessionCall],

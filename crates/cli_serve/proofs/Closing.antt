@@ -6,7 +6,7 @@ use Rattle.bc_share.specs.Closings.{AreSessionsOf, DbView, IsCloseFault}
 use Rattle.bc_share.specs.declared.db.CloseFault.TheVariants.{Foreign}
 use Rattle.cli_serve.specs.Talked.{AreOwn}
 
--- sessions at the places of their numbers are the database's
+-- sessions in the places of their numbers are the database's
 pub are_sessions : (count : ℕ) (sessions : List SessionView) → length sessions ≡ count → AreOwn sessions → AreSessionsOf 0 count sessions
 are_sessions count sessions long own = record {
   tags = λ k d below. (own k d below).0;
@@ -18,6 +18,6 @@ are_sessions count sessions long own = record {
   );
 }
 
--- so they are not foreign
+-- these sessions are not foreign
 pub not_foreign : (db : DbView) (count : ℕ) (sessions : List SessionView) → db ≡ record { tag = 0; count = count } → length sessions ≡ count → AreOwn sessions → IsCloseFault db.tag db.count sessions Foreign → ⊥
 not_foreign db count sessions is long own foreign = foreign (subst (λ (d : DbView). AreSessionsOf d.tag d.count sessions) (sym is) (are_sessions count sessions long own))

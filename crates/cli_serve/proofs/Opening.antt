@@ -4,7 +4,7 @@ use Rattle.std.specs.Prelude.{All}
 use Rattle.std.proofs.lemmas.List.Elements.{All-nil, All-push}
 use Rattle.bc_share.specs.Sessions.{SessionView, new_session, new_sessions}
 
--- it is new
+-- the session is new
 abbrev pub IsNew : SessionView → Type 0
 IsNew s = s ≡ new_session 0 s.number
 

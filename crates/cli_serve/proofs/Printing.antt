@@ -7,7 +7,7 @@ use Rattle.cli_serve.specs.Talked.{AreAllTold, IsWholeBy}
 use Rattle.cli_serve.specs.Served.{IsServed}
 use Rattle.cli_serve.specs.Printed.{HasServed, IsAllOf, IsPrinted}
 
--- a pen of which nothing is known
+-- a pen about which nothing is known
 blank : PenView
 blank = record { number = 0; texts = Rattle.std.proofs.Common.[] }
 

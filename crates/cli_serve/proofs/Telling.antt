@@ -6,7 +6,7 @@ use Rattle.cli_talk.specs.Routed.{GoesTo, RoutesNext}
 use Rattle.cli_serve.specs.Talked.{AreAllTold, AreTold}
 use Rattle.cli_serve.proofs.Told.{HasToldSoFar}
 
--- one line more
+-- one more line
 told_one : (sessions : ℕ) (front : List (List ℕ)) (texts : List (List ℕ)) (line : List ℕ) (message : Option (ℕ × List ℕ)) (now : List (List ℕ)) → AreTold sessions front texts → GoesTo sessions line message now → AreTold sessions (front ++ line ∷ []) (texts ++ now)
 told_one sessions [] texts line message now none goes = (message, now, [], goes, refl, ap (λ (l : List (List ℕ)). l ++ now) none ∙ sym (append-nil now))
 told_one sessions (first ∷ front) texts line message now (m, mine, later, sent, rest, is) goes =
@@ -23,13 +23,13 @@ told_more sessions (Some lines) (Some x) (Some y) message texts texts' h r = rec
   told = subst (AreTold sessions (h.front ++ r.line ∷ [])) (sym r.told) (told_one sessions h.front texts r.line message r.texts h.told r.goes);
 }
 
--- whether a line was routed
+-- the result has a line that was routed
 abbrev pub is_more : {X F : Type 0} → Result (Option X) F → Bool
 is_more (Ok (Some x)) = true
 is_more (Ok None) = false
 is_more (Err fault) = false
 
--- a line was routed, where one was
+-- a line was routed, if there was one
 pub told_step : {M F : Type 0} (view : M → ℕ × List ℕ) (sessions : ℕ) (known : Option (List (List ℕ))) (old new : Option (List ℕ)) (texts texts' : List (List ℕ)) (routed : Result (Option (Option M)) F) → HasToldSoFar sessions known old texts
     → IfOk routed (λ r. RoutesNext sessions old new (option_map (option_map view) r) (Some texts) (Some texts')) → is_more routed ≡ true → HasToldSoFar sessions known new texts'
 told_step view sessions known old new texts texts' (Ok (Some m)) h r more = told_more sessions known old new (option_map view m) texts texts' h r

@@ -3,7 +3,7 @@ use Rattle.std.specs.Prelude.{◌≡◌, ℕ, List, ◌++◌, Option, Some, None
 use Rattle.cli_input.specs.Lines.{lines_of}
 use Rattle.cli_serve.specs.Talked.{AreTold}
 
--- a beginning of the lines was routed, and these texts given
+-- a beginning of the lines was routed, and these texts were given
 pub record HasTold (sessions : ℕ) (lines left texts : List (List ℕ)) : Type 0 where
   pub front : List (List ℕ)
   pub cut : lines ≡ front ++ left

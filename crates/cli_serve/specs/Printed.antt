@@ -9,7 +9,7 @@ use Rattle.cli_output.specs.Pens.{IsLogged, PenView}
 use Rattle.cli_serve.specs.declared.stop.ServeStop.{ServeStop}
 use Rattle.cli_serve.specs.Talked.{AreAllTold, AreNumbered, AreWholeBy, IsWholeBy}
 
--- So many sessions of a new database answered the lines of an input that name them, and the router the others, by these pens. This is the
+-- The sessions of a new database answered the lines of an input that name them, and the router the others, with these pens, and this is the
 -- history of the sessions' calls.
 pub record HasServed (sessions : ℕ) (known : Option (List (List ℕ))) (history : List Entry) (pens : List PenView) (router : PenView) : Type 0 where
   pub ended : List SessionView
@@ -21,7 +21,7 @@ pub record HasServed (sessions : ℕ) (known : Option (List (List ℕ))) (histor
   pub whole : AreWholeBy sessions known ended pens
   pub told : AreAllTold sessions known router.texts
 
--- Just the texts of a log were written, one after another, and the log has just what these pens printed.
+-- Exactly the texts of a log were written, one after another, and the log has exactly what was printed with these pens.
 pub record IsAllOf (sessions : ℕ) (pens : List PenView) (router : PenView) (before after : Option (List ℕ)) : Type 0 where
   pub log : List (ℕ × List ℕ)
   pub each : All (IsLogged log) pens
@@ -29,8 +29,8 @@ pub record IsAllOf (sessions : ℕ) (pens : List PenView) (router : PenView) (be
   pub only : AreBelow (sessions + 1) log
   pub written : Appends before after (bytes_of log)
 
--- Each session answered its lines by just the texts that the log has of it, in order. They are those of the calls that this history has of
--- the session. The log has the texts of the router too, and nothing else; and just the texts of the log were written, one after another.
+-- Each session answered its lines by exactly the texts that the log has of it, in order. They are those of the calls that this history has
+-- of the session. The log has the texts of the router too, and nothing else, and exactly its texts were written, one after another.
 pub record IsPrinted (sessions : ℕ) (known : Option (List (List ℕ))) (history : List Entry) (before after : Option (List ℕ)) : Type 0 where
   pub ended : List SessionView
   pub sized : length ended ≡ sessions

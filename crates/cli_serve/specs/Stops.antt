@@ -1,19 +1,19 @@
--- What is said where the command stops.
+-- The line of a command that stops.
 use Rattle.std.specs.Prelude.{ℕ, List, ◌∷◌, [], ◌++◌, codes, Result, Ok, Err}
 use Rattle.cli_talk.specs.declared.fault.TalkFault.{TalkFault}
 use Rattle.cli_talk.specs.declared.fault.TalkFault.TheVariants as faults
 use Rattle.cli_serve.specs.declared.stop.ServeStop.{ServeStop}
 use Rattle.cli_serve.specs.declared.stop.ServeStop.TheVariants.{CannotRead, CannotWrite, NoMemory, NoThread, LostLine, Audit}
 
--- why the command stops where a conversation does
+-- why the command stops if a conversation does
 abbrev pub stop_of : TalkFault → ServeStop
 stop_of faults.CannotRead = CannotRead
 stop_of faults.CannotWrite = CannotWrite
 stop_of faults.NoMemory = NoMemory
 stop_of faults.OutOfTurn = LostLine
 
--- how two parts of a conversation ended: well where both did, and else as the first that did not; but with a lost line only where nothing
--- else was wrong
+-- how two parts of a conversation ended: well if both did, otherwise like the first that did not; a lost line counts only if nothing else
+-- was wrong
 abbrev pub both : Result Unit ServeStop → Result Unit ServeStop → Result Unit ServeStop
 both (Ok well) now = now
 both (Err CannotRead) now = Err CannotRead
@@ -24,7 +24,7 @@ both (Err LostLine) (Ok well) = Err LostLine
 both (Err LostLine) (Err stop) = Err stop
 both (Err Audit) now = Err Audit
 
--- what a stop is called
+-- the words for a stop
 abbrev pub stop_text : ServeStop → List ℕ
 stop_text CannotRead = codes "cannot read"
 stop_text CannotWrite = codes "cannot write"
@@ -33,6 +33,6 @@ stop_text NoThread = codes "cannot start a thread"
 stop_text LostLine = codes "a line was lost"
 stop_text Audit = codes "close: audit"
 
--- the line on standard error
+-- the line of a stop on standard error
 abbrev pub stop_line : ServeStop → List ℕ
 stop_line stop = stop_text stop ++ 10 ∷ []

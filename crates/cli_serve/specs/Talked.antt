@@ -1,4 +1,4 @@
--- What workers left of their sessions.
+-- What workers leave of their sessions.
 use Rattle.std.specs.Prelude.{◌≡◌, ℕ, ◌<◌, ◌≤◌, false, List, [], ◌∷◌, ◌++◌, length, slice_index_or, Option, Some, None, Result, IfOk, OnOk, OnErr, option_map, ⊤}
 use Rattle.std.specs.List.{All}
 use Rattle.bc_share.specs.Sessions.{SessionView, new_session}
@@ -11,48 +11,48 @@ use Rattle.cli_talk.specs.Talks.{HasAnswered, HasStopped}
 use Rattle.cli_talk.specs.Routed.{GoesTo}
 use Rattle.cli_serve.specs.declared.stop.ServeStop.{ServeStop}
 
--- the lines of an input that has these bytes left, where they are known
+-- the lines of an input with these bytes left, if they are known
 abbrev pub lines_left : Option (List ℕ) → Option (List (List ℕ))
 lines_left known = option_map lines_of known
 
--- new sessions of a conversation, as many as it has
+-- these are new sessions of a conversation, at most 16
 pub record AreNew (sessions : ℕ) (all : List SessionView) : Type 0 where
   pub few : sessions ≤ 16
   pub sized : length all ≡ sessions
   pub each : All (λ (s : SessionView). s ≡ new_session 0 s.number) all
 
--- it is the session of this number of a database of the tag 0
+-- the session has this number, in a database with the tag 0
 abbrev pub IsOwn : ℕ → SessionView → Type 0
 IsOwn number session = (session.tag ≡ 0) × (session.number ≡ number)
 
--- A new session answered the first lines that name it, in order, as many as it says, by just these texts. Or it stopped, and answered some,
--- of which answers may be lost, and perhaps one line more for which no text was given.
+-- A new session answered the first lines that name it, in order, as many as it says, by exactly these texts. Or it stopped after it
+-- answered some: some of its answers may be lost, and it may have answered one more line without a text.
 pub record HasTalked (sessions number : ℕ) (known : Option (List (List ℕ))) (new : SessionView) (texts : List (List ℕ)) (ended : Result ℕ TalkFault) : Type 0 where
   pub own : IsOwn number new
   pub answered : IfOk ended (λ count. HasAnswered sessions number count false known (new_session 0 number) new (Some []) (Some texts))
   pub stopped : OnErr ended (HasStopped sessions number known (new_session 0 number) new)
 
--- these are the lines that name a session, where the lines of the input are known
+-- these are the lines that name a session, if the lines of the input are known
 abbrev pub AreAll : ℕ → ℕ → Option (List (List ℕ)) → List (List ℕ) → Type 0
 AreAll sessions number None lines = ⊤
 AreAll sessions number (Some known) lines = lines ≡ lines_for sessions number known
 
--- A new session answered the lines that name it, in order, one text each: its own list is the calls of those lines that were made, each
--- once, in order, and no others.
+-- A new session answered the lines that name it, in order, with one text each. Its own list is the calls of those lines that were made, in
+-- order, each once, and no others.
 pub record IsWhole (sessions number : ℕ) (known : Option (List (List ℕ))) (new : SessionView) : Type 0 where
   pub lines : List (List ℕ)
   pub all : AreAll sessions number known lines
   pub texts : List (List ℕ)
   pub turns : Turns sessions number false lines (new_session 0 number) new texts
 
--- A new session answered the lines that name it, in order, by these texts, one each: its own list is the calls of those lines that were
--- made, each once, in order, and no others.
+-- A new session answered the lines that name it, in order, with these texts, one each. Its own list is the calls of those lines that were
+-- made, in order, each once, and no others.
 pub record IsWholeBy (sessions number : ℕ) (known : Option (List (List ℕ))) (new : SessionView) (texts : List (List ℕ)) : Type 0 where
   pub lines : List (List ℕ)
   pub all : AreAll sessions number known lines
   pub turns : Turns sessions number false lines (new_session 0 number) new texts
 
--- each of these sessions is the one of its place
+-- each of these sessions has the number of its place
 abbrev pub AreOwn : List SessionView → Type 0
 AreOwn all = (k : ℕ) (d : SessionView) → k < length all → IsOwn k (slice_index_or all k d)
 
@@ -60,29 +60,29 @@ AreOwn all = (k : ℕ) (d : SessionView) → k < length all → IsOwn k (slice_i
 abbrev pub AreWhole : ℕ → Option (List (List ℕ)) → List SessionView → Type 0
 AreWhole sessions known all = (k : ℕ) (d : SessionView) → k < length all → IsWhole sessions k known (slice_index_or all k d)
 
--- these are the pens of the authors from 0 on, one at each place
+-- these are the pens of the authors from 0, each in its place
 abbrev pub AreNumbered : List PenView → Type 0
 AreNumbered pens = (k : ℕ) (d : PenView) → k < length pens → (slice_index_or pens k d).number ≡ k
 
--- each of these sessions answered its lines by what the pen of its place printed
+-- each of these sessions answered its lines by what was printed with the pen of its place
 abbrev pub AreWholeBy : ℕ → Option (List (List ℕ)) → List SessionView → List PenView → Type 0
 AreWholeBy sessions known all pens =
     (k : ℕ) (d : SessionView) (e : PenView) → k < length all → IsWholeBy sessions k known (slice_index_or all k d) (slice_index_or pens k e).texts
 
--- The texts of the router for these lines, in order: a line that names a session has none, and another has one that tells what is wrong
--- with it.
+-- These are the texts of the router for these lines, in order: none for a line that names a session, and for any other line one that says
+-- what is wrong with it.
 abbrev pub AreTold : ℕ → List (List ℕ) → List (List ℕ) → Type 0
 AreTold sessions [] texts = texts ≡ []
 AreTold sessions (line ∷ lines) texts =
     (message : Option (ℕ × List ℕ)) × (now : List (List ℕ)) × (later : List (List ℕ)) × GoesTo sessions line message now × AreTold sessions lines later × (texts ≡ now ++ later)
 
--- the texts of the router for the lines of an input, where they are known
+-- these are the texts of the router for the lines of an input, if they are known
 abbrev pub AreAllTold : ℕ → Option (List (List ℕ)) → List (List ℕ) → Type 0
 AreAllTold sessions None texts = ⊤
 AreAllTold sessions (Some lines) texts = AreTold sessions lines texts
 
--- The sessions of a conversation, their pens, the router's pen, whose number counts the sessions, and how the conversation ended. Where it ended well, each session answered its
--- lines, and the router those that name none.
+-- A conversation has these sessions, their pens, and the router's pen, whose number is the number of sessions, and ended like this. If it
+-- ended well, each session answered its lines, and the router those that name no session.
 pub record IsTalk (sessions : ℕ) (known : Option (List (List ℕ))) (all : List SessionView) (pens : List PenView) (router : PenView) (ended : Result Unit ServeStop) : Type 0 where
   pub sized : length all ≡ sessions
   pub own : AreOwn all

@@ -1,20 +1,21 @@
-//! The backlog: the lines that the router has read and no worker has answered. It has a bound, and so a conversation has one.
+//! The backlog: the lines that the router has read and no worker has answered. It has a bound, so a conversation needs a bounded memory for
+//! its lines.
 ghost use Rattle.std.specs.Prelude.{◌≡◌, ◌≤◌, ◌<◌, ◌+◌, ◌-◌, ◌/◌, ◌↔◌, IsFalse, IsTrue};
 ghost use Rattle.cli_serve.specs.declared.backlog.TheConstants.{MOST_BYTES, MOST_LINES};
 
 use cli_requests::MOST_REQUEST_BYTES;
 use std::sync::{Condvar, Mutex, Wait};
 
-/// How many lines a backlog may have.
+/// The most lines of a backlog.
 const MOST_LINES: usize = 1024;
 
-/// How many bytes its lines may have together.
+/// The most bytes of its lines together.
 const MOST_BYTES: usize = 8 * 1024 * 1024;
 
-// Each line fits once the backlog is low, which is when the router is woken.
+/// Each line fits once the backlog is low, which is when the router wakes.
 const _: () = prove!(MOST_REQUEST_BYTES <= MOST_BYTES / 2);
 
-/// The size of a backlog, which is never past the bound, and whether a worker stopped.
+/// The size of a backlog, which never exceeds the bound, and whether a worker stopped.
 #[derive(Drop)]
 struct Size {
     lines: usize,
@@ -34,7 +35,7 @@ impl Size {
         }
     }
 
-    /// Adds a line of so many bytes if that is within the bound, and returns whether it is.
+    /// Adds a line with the given number of bytes if it is within the bound, and returns whether it is.
     fn add(&mut self, bytes: usize) -> bool
         ensures fits { IsTrue result ↔ ((self.old.lines < MOST_LINES) × (self.old.bytes + bytes ≤ MOST_BYTES)) }
         ensures added { IsTrue result → (self.new.lines ≡ self.old.lines + 1) × (self.new.bytes ≡ self.old.bytes + bytes) }
@@ -48,7 +49,7 @@ impl Size {
         true
     }
 
-    /// Removes a line of so many bytes, and returns whether the backlog is low: at most half of the bound is left.
+    /// Removes a line with the given number of bytes, and returns whether the backlog is low: at most half of the bound.
     fn remove(&mut self, bytes: usize) -> bool
         ensures lines { self.new.lines ≡ self.old.lines - 1 }
         ensures bytes { self.new.bytes ≡ self.old.bytes - bytes }
@@ -60,8 +61,7 @@ impl Size {
     }
 }
 
-/// The lines that the router has read and no worker has answered: how many there are, and how many bytes they have, within a bound that
-/// the router waits at.
+/// The backlog: the number of lines that the router has read and no worker has answered, and of their bytes. At its bound the router waits.
 #[derive(Drop)]
 pub(crate) struct Backlog {
     size: Mutex<Size>,
@@ -77,7 +77,8 @@ impl Backlog {
         }
     }
 
-    /// Waits until a line of so many bytes is within the bound, and adds it. Returns `false` once a worker stopped, and waits no longer.
+    /// Waits until a line with the given number of bytes is within the bound, and adds it. Returns `false`, without waiting, once a worker
+    /// stopped.
     pub(crate) fn add<R: Wait>(&self, rt: &R, bytes: usize) -> bool {
         let mut size = self.size.lock(rt);
         for _ in rt.forever() {
@@ -92,7 +93,7 @@ impl Backlog {
         unreachable!()
     }
 
-    /// Removes a line of so many bytes, which was answered. The router is woken once the backlog is low, and not at each line.
+    /// Removes a line with the given number of bytes, which was answered. It wakes the router only once the backlog is low.
     pub(crate) fn remove<R: Wait>(&self, rt: &R, bytes: usize) {
         let is_low = self.size.lock(rt).remove(bytes);
         if is_low {

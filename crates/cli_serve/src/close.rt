@@ -1,4 +1,4 @@
-//! The end of the output: what was printed.
+//! The end of the output, and what was printed.
 ghost use Rattle.std.specs.Prelude.{◌≡◌, [], OnOk};
 ghost use Rattle.std.specs.List.{All};
 ghost use Rattle.std.specs.Io.Buffered.{writer_buffer, writer_contents};
@@ -10,7 +10,7 @@ use crate::stop::ServeStop;
 use cli_output::{Authors, Output, Pen, Sheet};
 use std::io::{BufWriter, Write};
 
-/// Takes pens back: the log has just what was printed by each.
+/// Takes pens back: for each, the log has exactly what was printed with it.
 fn take_all<J: Sheet, O: Write + Drop>(output: &mut Output<J, O>, pens: Vec<Pen<J>>)
     ensures log { (known output.new.keeper).log ≡ (known output.old.keeper).log }
     ensures each { All (IsLogged (known output.old.keeper).log) pens.items }
@@ -20,8 +20,8 @@ fn take_all<J: Sheet, O: Write + Drop>(output: &mut Output<J, O>, pens: Vec<Pen<
     }
 }
 
-/// Ends the output on which so many sessions and the router printed by these pens, and returns its writer. Just what was printed by them
-/// was written, and it was handed on. Returns `CannotWrite` if the writer failed, and `LostLine` if others were let in.
+/// Ends the output on which the sessions and the router printed with these pens, and returns its writer. Exactly what they printed was
+/// written, and it was flushed. Returns `CannotWrite` if the writer failed, and `LostLine` if there were other authors.
 pub(crate) fn close<J: Sheet, O: Write + Drop>(
     output: Output<J, O>,
     authors: Authors<J>,

@@ -19,7 +19,7 @@ use std::marker::Brand;
 use std::sync::{Mutex, Wait};
 use std::thread::Threads;
 
-/// A conversation whose database is closed: the history, the pens by which the sessions' answers were printed, and the router's pen.
+/// A conversation whose database is closed: the history, the pens with which the sessions' answers were printed, and the router's pen.
 #[derive(Drop)]
 struct Served<J: Sheet> {
     history: History,
@@ -71,7 +71,7 @@ where
     }
 }
 
-/// Serves as `serve` does, on an output that is opened for the sessions on this writer, and returns the writer too.
+/// Serves as `serve` does, on an output that it opens for the sessions on this writer, and returns the writer too.
 fn serve_on<J, R, I, O>(
     rt: &R,
     service: &Service<'_>,
@@ -126,15 +126,15 @@ fn serve_by<R: AllocGlobal + Threads + Wait + Sync, I: BufRead, O: Write + Drop 
 }
 
 /// Has each session of a new database answer the lines of an input that name it, on a thread of its own, until the input ends. Each answer
-/// is one line on `out`, and is handed on before the session reads its next; nothing else is written. Then the database is closed, and the
-/// history of all calls is returned. Lines that were read and not yet answered are at most 1,024, and 8 MiB together; at this bound no
-/// more is read until half of it is free.
+/// is one line on `out`, and is flushed before the session reads its next line. Nothing else is written. Then it closes the database, and
+/// returns the history of all calls. At most 1,024 lines, of 8 MiB in all, are read and not answered; at this bound no more is read until
+/// at most half of both is left.
 ///
-/// Stops with `CannotRead` if the input fails; with `CannotWrite` if the output fails, after which nothing more is written; with
-/// `NoMemory` if there is no room for the database or for finding the session of a line, and at the end of the input if an answer was
-/// lost, in whose place a line said so (a call or a line for which memory is refused is answered so, which is no stop); with `NoThread`
-/// if the threads cannot be made, before a line is read; with `Audit` if the history does not agree with the sessions at the close,
-/// which is reported before all else; and with `LostLine` if a session did not answer all its lines.
+/// Stops with `CannotRead` if the input fails; with `CannotWrite` if the output fails, after which nothing more is written; with `NoThread`
+/// if the threads cannot be made, before a line is read; with `Audit` if history and sessions do not agree at the close, which is reported
+/// before anything else; and with `LostLine` if a session did not answer all its lines. Stops with `NoMemory` if there is no room for the
+/// database or for finding the session of a line, and at the end of the input if an answer was lost, in whose place a line said so. A call
+/// or a line that is out of memory is answered with a fault, and is no reason to stop.
 pub fn serve<R: AllocGlobal + Threads + Wait + Sync, I: BufRead, O: Write + Drop + Send>(
     rt: &R,
     service: &Service<'_>,
@@ -146,7 +146,7 @@ pub fn serve<R: AllocGlobal + Threads + Wait + Sync, I: BufRead, O: Write + Drop
         (writer_contents O.contents out.old) (writer_contents O.contents out.new) }
     ensures handed_on { OnOk result (writer_buffer out.old ≡ [] → writer_buffer out.new ≡ []) }
 {
-    // No clause follows a `&mut` that lies under a lock, so the writer itself is moved there.
+    // No contract describes a `&mut` inside a lock, so the writer itself is moved there.
     replace_with(
         out,
         (),
@@ -184,8 +184,8 @@ where
 }
 
 /// Runs the whole command `serve`: the sessions of a new database answer the lines of an input, each by one line on `out`. Returns the exit
-/// status: 0 at the end of the input, whatever was answered; 3 if the input or the output fails, memory is refused, a thread cannot be
-/// made, or the history does not agree with the sessions at the close, with one line on `err` that says so, if that can be written.
+/// status: 0 at the end of the input, whatever was answered; 3 if the input or the output fails, memory runs out, a thread cannot be made,
+/// or history and sessions do not agree at the close. One line on `err` says why, if it can be written.
 pub fn serve_over<R, I, O, E>(
     rt: &R,
     service: &Service<'_>,
@@ -207,7 +207,7 @@ where
     }
 }
 
-/// Returns why the command stops if the history does not agree with its sessions.
+/// Returns why the command stops if history and sessions do not agree.
 fn stop_of_audit(_history: &History) -> ServeStop
     ensures { result ≡ ServeStop.Audit }
 {

@@ -1,4 +1,4 @@
-//! The ends of a worker: the queue that its messages come from, and the output that its answers go to.
+//! The two ends of a worker: the queue from which its messages come, and the output to which its answers go.
 ghost use Rattle.std.specs.Prelude.{◌≡◌};
 
 use crate::backlog::Backlog;
@@ -18,7 +18,7 @@ pub(crate) struct Inbox<'a, L: Talk + Drop, R: Wait> {
 }
 
 impl<'a, L: Talk + Drop, R: Wait> Inbox<'a, L, R> {
-    /// Returns the inbox of the messages of a queue, which are in this backlog.
+    /// Returns the inbox for the messages of a queue, which are in this backlog.
     pub(crate) fn new(
         rt: &'a R,
         messages: Receiver<Message<L>>,
@@ -34,7 +34,7 @@ impl<'a, L: Talk + Drop, R: Wait> Inbox<'a, L, R> {
     }
 }
 
-// A worker that lets its inbox go before the end of its messages has stopped, and all others stop too.
+// A worker that drops its inbox before the end of its messages has stopped, and all others stop too.
 impl<L: Talk + Drop, R: Wait> Drop for Inbox<'_, L, R> {
     fn drop(self) {
         let Self {
@@ -68,7 +68,7 @@ impl<L: Talk + Drop, R: Wait> Messages<L> for Inbox<'_, L, R> {
     }
 }
 
-/// The output, which others print on too, a line at a time, and the pen that this one prints by. Its texts are what was given.
+/// The output on which others print too, a line at a time, with this author's pen. The texts of the pen are what was given.
 #[derive(Drop)]
 pub(crate) struct Printer<'a, J: Sheet, R: Wait, O: Write + Drop> {
     rt: &'a R,
@@ -77,7 +77,7 @@ pub(crate) struct Printer<'a, J: Sheet, R: Wait, O: Write + Drop> {
 }
 
 impl<'a, J: Sheet, R: Wait, O: Write + Drop> Printer<'a, J, R, O> {
-    /// Returns the printer of this pen.
+    /// Returns the printer with this pen.
     pub(crate) fn new(rt: &'a R, out: &'a Mutex<Output<J, O>>, pen: Pen<J>) -> Printer<'a, J, R, O>
         ensures { result.pen ≡ pen }
     {
@@ -98,11 +98,11 @@ impl<J: Sheet, R: Wait, O: Write + Drop> Replies for Printer<'_, J, R, O> {
     }
 }
 
-/// The end of a worker or of the router that its pen comes back from.
+/// The end of a worker or of the router, which returns its pen.
 pub(crate) trait Prints<J: Sheet>: Replies {
     ghost use Rattle.std.specs.Prelude.{◌≡◌, Some};
 
-    /// Returns the pen, by which just what was given was printed.
+    /// Returns the pen, with which exactly what was given was printed.
     fn into_pen(self) -> Pen<J>
         ensures { Self.given self ≡ Some result.texts };
 }

@@ -1,5 +1,5 @@
-//! The command `serve`: sessions of a new database answer requests, one line each, on threads of their own, until the input ends; then
-//! the database is closed.
+//! The command `serve`: sessions of a new database answer requests, one line each, on threads of their own. When the input ends, the
+//! database is closed.
 #![tactic(auto)]
 
 mod backlog;

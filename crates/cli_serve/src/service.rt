@@ -1,10 +1,10 @@
-//! What a server is set up with.
+//! The settings of a server.
 ghost use Rattle.std.specs.Prelude.{◌≡◌, ◌≤◌};
 
 use bc_prov::Providers;
 
-/// What the command serves with: the providers by which bodies are analysed, how many sessions there are, and how many calls the history
-/// may have. The type keeps that there are 1 to 16 sessions, and a capacity of 1 to 1,000,000.
+/// The settings of a server: the providers that analyse bodies, the number of sessions, 1 to 16, and the most calls of the history, 1 to
+/// 1,000,000.
 #[derive(Drop)]
 pub struct Service<'a> {
     pub providers: &'a Providers,
@@ -17,7 +17,7 @@ pub struct Service<'a> {
 }
 
 impl<'a> Service<'a> {
-    /// Returns a service by these providers. It asks for 1 to 16 sessions, and for a capacity of 1 to 1,000,000.
+    /// Returns a service with these providers, 1 to 16 sessions, and a capacity of 1 to 1,000,000 calls.
     pub fn new(providers: &'a Providers, sessions: u8, capacity: u32) -> Service<'a>
         requires some { 1 ≤ sessions }
         requires few { sessions ≤ 16 }

@@ -1,4 +1,4 @@
-//! Why the command stops.
+//! The reasons for which the command stops.
 ghost use Rattle.std.specs.Prelude.{◌≡◌, IsOk, OnOk};
 ghost use Rattle.std.specs.Io.KnownBytes.{Appends};
 ghost use Rattle.cli_serve.specs.Stops.{both, stop_line, stop_of};
@@ -7,24 +7,24 @@ use cli_talk::TalkFault;
 use std::io;
 use std::io::Write;
 
-/// The reason why the command stops before the end of its input, or is not well at its end.
+/// Why the command stops before the end of its input, or did not end well.
 #[derive(Clone, Copy, Debug, PartialEq, Eq)]
 pub enum ServeStop {
     /// The input failed.
     CannotRead,
     /// The output failed.
     CannotWrite,
-    /// Memory was refused.
+    /// Out of memory.
     NoMemory,
-    /// The system starts no thread more.
+    /// The system starts no more threads.
     NoThread,
-    /// A session did not answer each line that names it, and nothing else was wrong. No run is known to end so.
+    /// A session did not answer each line that names it, and nothing else was wrong. No run is known to end like this.
     LostLine,
-    /// The history does not agree with the sessions.
+    /// History and sessions do not agree.
     Audit,
 }
 
-/// Returns why the command stops, where a conversation does.
+/// Returns why the command stops if a conversation does.
 pub(crate) fn stop_of(fault: TalkFault) -> ServeStop
     ensures { result ≡ stop_of fault }
 {
@@ -36,7 +36,7 @@ pub(crate) fn stop_of(fault: TalkFault) -> ServeStop
     }
 }
 
-/// Returns how two parts of a conversation ended: well if both did, and else as the first that did not; but with `LostLine` only if
+/// Returns how two parts of a conversation ended: well if both did, otherwise like the first that did not. `LostLine` counts only if
 /// nothing else was wrong.
 pub(crate) fn both(
     before: Result<(), ServeStop>,
@@ -53,7 +53,7 @@ pub(crate) fn both(
     }
 }
 
-/// Writes why the command stops: one line.
+/// Writes the line that says why the command stops.
 pub(crate) fn write_stop<E: Write>(stop: ServeStop, err: &mut E) -> io::Result<()>
     ensures { OnOk result (Appends (E.contents err.old) (E.contents err.new) (stop_line stop)) }
 {

@@ -1,4 +1,4 @@
-//! The conversation: the router on this thread, and a worker for each session on a thread of its own.
+//! A conversation: the router on this thread, and a worker for each session on a thread of its own.
 ghost use Rattle.std.specs.Prelude.{◌≡◌, [], IfErr, IfOk, OnOk, length};
 ghost use Rattle.bc_share.specs.Sessions.{new_session};
 ghost use Rattle.cli_talk.specs.Counted.{CountsAll};
@@ -21,7 +21,7 @@ use std::sync::{Mutex, Wait};
 use std::thread;
 use std::thread::{Scope, Threads};
 
-/// The sessions of a conversation, in their order, with the pens by which their answers were printed, and the router's pen; and how the
+/// The sessions of a conversation, in order, with the pens with which their answers were printed, the router's pen, and how the
 /// conversation ended.
 #[derive(Drop)]
 pub(crate) struct Talked<J: Sheet, N: Ending> {
@@ -40,14 +40,14 @@ struct Conversation<'s, J: Sheet, R, O: Write + Drop> {
     out: &'s Mutex<Output<J, O>>,
 }
 
-/// The workers of a conversation, in the order of their sessions, with the ends of their queues.
+/// The workers of a conversation, in the order of their sessions, with the sending ends of their queues.
 #[derive(Drop)]
 struct Staff<L: Talk + Drop, J: Sheet, N: Ending> {
     queues: Vec<Sender<Message<L>>>,
     workers: Vec<Worker<L, J, N>>,
 }
 
-/// Room for the sessions and the pens that come back.
+/// Room for the sessions and pens that come back.
 #[derive(Drop)]
 struct Room<J: Sheet, N: Ending> {
     sessions: Vec<Session<N>>,
@@ -56,7 +56,7 @@ struct Room<J: Sheet, N: Ending> {
 }
 
 impl<J: Sheet, N: Ending> Room<J, N> {
-    /// Returns room for so many sessions. Returns `AllocError` only if memory was refused.
+    /// Returns room for `count` sessions.
     fn new(alloc: Global, count: usize) -> Result<Room<J, N>, AllocError> {
         Ok(Room {
             sessions: Vec::with_capacity(alloc, count)?,
@@ -66,7 +66,7 @@ impl<J: Sheet, N: Ending> Room<J, N> {
 }
 
 /// Puts a message into the queue of its session, once the backlog has room for its line. Returns `LostLine` once a worker stopped, which
-/// knows why, and `NoMemory` only if memory was refused.
+/// knows why. Otherwise it fails only with `NoMemory`.
 fn send<L: Talk + Drop, R: Wait>(
     rt: &R,
     backlog: &Backlog,
@@ -86,8 +86,8 @@ fn send<L: Talk + Drop, R: Wait>(
     }
 }
 
-/// Routes each line of an input to the worker of its session, until the input ends, and returns how many lines each session had. A line
-/// that names no session is answered by the printer, by which nothing was printed before.
+/// Routes each line of an input to the worker of its session, until the input ends. Returns the number of lines for each session. The
+/// printer, with which nothing was printed before, answers each line that names no session.
 fn route_all<L: Talk + Drop, J: Sheet, I: BufRead, R: AllocGlobal + Wait, O: Write + Drop>(
     talk: &Conversation<'_, J, R, O>,
     input: &mut I,
@@ -120,9 +120,9 @@ fn route_all<L: Talk + Drop, J: Sheet, I: BufRead, R: AllocGlobal + Wait, O: Wri
     Err(ServeStop::CannotRead)
 }
 
-/// Joins the workers, and returns their sessions and pens with the router's pen and with how the conversation ended: as the first worker
-/// that stopped, in the order of the sessions; or, if none did, as the router. Returns `LostLine` if a worker is missing, or the router's
-/// pen is another's.
+/// Joins the workers. Returns their sessions and pens with the router's pen, and how the conversation ended: like the first worker that
+/// stopped, in the order of sessions, or like the router if none did. Returns `LostLine` if a worker is missing, or the router's pen is
+/// another's.
 fn join_all<L: Talk + Drop, J: Sheet, N: Ending, R: Threads>(
     rt: &R,
     count: u8,
@@ -173,7 +173,7 @@ fn dismiss<L: Talk + Drop, J: Sheet, N: Ending, R: Threads>(rt: &R, staff: Staff
     }
 }
 
-/// Returns both ends of a new queue, and `NoMemory` only if memory was refused.
+/// Returns both ends of a new queue. Fails only with `NoMemory`.
 fn open_queue<L: Talk + Drop>(
     alloc: Global,
 ) -> Result<(Sender<Message<L>>, Receiver<Message<L>>), ServeStop>
@@ -228,7 +228,7 @@ where
     Ok(())
 }
 
-/// Starts a worker for each session. If one cannot be started, those before it are dismissed.
+/// Starts a worker for each session. If one cannot be started, it dismisses those before it.
 fn start_all<'s, V, L, J, N, R, O>(
     scope: &Scope<'s, V>,
     talk: &Conversation<'s, J, R, O>,
@@ -261,7 +261,7 @@ where
     Ok(staff)
 }
 
-/// Holds the conversation of some new sessions about the lines of an input, in a scope of threads.
+/// Holds the conversation of new sessions about the lines of an input, in a scope of threads.
 fn converse_in<'s, V, L, J, N, R, I, O>(
     scope: &Scope<'s, V>,
     talk: &Conversation<'s, J, R, O>,
@@ -310,7 +310,7 @@ where
     )
 }
 
-/// Holds the conversation of some new sessions about the lines of an input.
+/// Holds the conversation of new sessions about the lines of an input.
 fn converse_about<L, J, N, R, I, O>(
     rt: &R,
     providers: &Providers,
@@ -348,13 +348,11 @@ where
     )
 }
 
-/// Has each of some new sessions of a database of the tag 0 answer the lines of an input that name it, on a thread of its own, until the
-/// input ends. Returns the sessions, in their order, and how the conversation ended. The answers are printed on the output, a line each,
-/// and each is handed on.
+/// Has each of some new sessions, of a database with the tag 0, answer the lines of an input that name it, on a thread of its own, until
+/// the input ends. Returns the sessions in order, and how the conversation ended. Each answer is one line on the output, and is flushed.
 ///
-/// The sessions come back also if the input or the output fails, or memory is refused, meanwhile. Fails if the workers cannot all be
-/// started: with `NoThread` if no thread can be made, with `NoMemory` if there is no room; no line was read then. It asks for at most 16
-/// sessions.
+/// The sessions come back even if the input or the output fails, or memory runs out, in between. If the workers cannot all be started, it
+/// returns `NoThread` or `NoMemory`, before any line is read. There may be at most 16 sessions.
 pub(crate) fn converse<J, N, R, I, O>(
     rt: &R,
     providers: &Providers,

@@ -14,7 +14,7 @@ use std::marker::PhantomData;
 use std::sync::Wait;
 use std::thread::{Promise, PromisedHandle, Scope, Threads};
 
-/// A session that answered its lines, how many or why it stopped, and the pen by which its answers were printed.
+/// A session that answered its lines, the number of these or why it stopped, and the pen with which its answers were printed.
 #[derive(Drop)]
 pub(crate) struct Ran<J: Sheet, N: Ending> {
     session: Session<N>,
@@ -22,7 +22,7 @@ pub(crate) struct Ran<J: Sheet, N: Ending> {
     pen: Pen<J>,
 }
 
-/// Answers the lines of the new session of a post.
+/// Answers the lines of a post's new session.
 fn run_worker<
     L: Talk + Drop,
     J: Sheet,
@@ -45,8 +45,8 @@ fn run_worker<
     }
 }
 
-/// What the worker of the session of this number promises: that its new session answered the first lines that name it, in order, as many
-/// as it says, by what was printed by its pen, or where it stopped.
+/// What the worker of the session of this number promises: its new session answered the first lines that name it, in order, as many as it
+/// says, by what was printed with its pen; or it stopped.
 #[derive(Drop)]
 pub(crate) struct Answering<L: Talk + Drop> {
     number: u8,
@@ -67,8 +67,8 @@ pub(crate) struct Worker<L: Talk + Drop, J: Sheet, N: Ending> {
     ghost promised: { handle.promise.number ≡ number },
 }
 
-/// Starts the worker of the new session of a post, which answers what comes to its inbox; `None` if no thread can be made. The two ends are
-/// type parameters, so that what goes to the thread is shown to be fit for it without their parts.
+/// Starts the worker of a post's new session, which answers what comes to its inbox. Returns `None` if no thread can be made. The two ends
+/// are type parameters, so the proof that they may go to another thread does not look into them.
 pub(crate) fn start<'s, V, L, J, N, M, P, R>(
     scope: &Scope<'s, V>,
     rt: &'s R,
@@ -118,8 +118,8 @@ where
     }
 }
 
-/// Returns whether the session of this number answered each line that names it, of which the router counted so many: what stopped its
-/// worker, or `LostLine` if it answered fewer, or the router stopped and did not count them.
+/// Returns whether the session of this number answered each line that names it, by the router's counts. Fails with what stopped its worker,
+/// or with `LostLine` if it answered fewer, or if the router stopped and did not count them.
 fn find_whole<L: Talk + Drop, J: Sheet, N: Ending>(
     sessions: u8,
     number: u8,
@@ -149,8 +149,8 @@ fn find_whole<L: Talk + Drop, J: Sheet, N: Ending>(
     Ok(())
 }
 
-/// Joins the worker of the session of this number, and returns the session, its pen, and whether it answered each line that names it, of
-/// which the router counted so many. Returns `None` if it is the worker, or the pen, of another session.
+/// Joins the worker of the session of this number. Returns the session, its pen, and whether it answered each line that names it, by the
+/// router's counts. Returns `None` if the worker or the pen is another session's.
 pub(crate) fn join<L: Talk + Drop, J: Sheet, N: Ending, R: Threads>(
     rt: &R,
     sessions: u8,

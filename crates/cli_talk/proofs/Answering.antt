@@ -49,13 +49,13 @@ turns_more sessions number lossy (l ∷ lines) line old mid new texts text (betw
   ap (λ (t : List (List ℕ)). t ++ text ∷ []) cut,
 )
 
--- what stands behind some lines
+-- what follows some lines
 behind : (xs rest : List (List ℕ)) (line : List ℕ) → slice_get (xs ++ rest) (length xs) ≡ Some line → (more : List (List ℕ)) × (rest ≡ line ∷ more)
 behind [] [] line h = absurd cc
 behind [] (x ∷ rest) line h = let e : x ≡ line = cc in (rest, ap (λ (l : List ℕ). l ∷ rest) e)
 behind (x ∷ xs) rest line h = behind xs rest line h
 
--- one line more
+-- one more line
 first_more : (sessions session n : ℕ) (known : Option (List (List ℕ))) (front : List (List ℕ)) (line : List ℕ) → AreFirst sessions session known front → length front ≡ n → IsLineOf sessions session n line known → AreFirst sessions session known (front ++ line ∷ [])
 first_more sessions session n None front line first sized is = tt
 first_more sessions session n (Some lines) front line first sized is =
@@ -85,7 +85,7 @@ goes_on sessions session n lossy now both known old mid new given given' given''
       told = takes_more given given' given'' h.texts (text ∷ []) h.told (takes_one given' given'' text told);
     }
 
--- no line more was answered
+-- no more lines were answered
 pub stops : (sessions session n : ℕ) (lossy : Bool) (known : Option (List (List ℕ))) (old new : SessionView) (given given' : Option (List (List ℕ))) → HasAnswered sessions session n lossy known old new given given' → HasStopped sessions session known old new
 stops sessions session n lossy known old new given given' h = record {
   lines = h.lines;
@@ -97,7 +97,7 @@ stops sessions session n lossy known old new given given' h = record {
   left = inl (refl, refl);
 }
 
--- the next line was answered at most, and no text given for it
+-- at most the next line was answered, and no text was given for it
 pub stops_in : (sessions session n : ℕ) (lossy : Bool) (known : Option (List (List ℕ))) (old mid new : SessionView) (given given' : Option (List (List ℕ))) (line : List ℕ) → HasAnswered sessions session n lossy known old mid given given' → IsLineOf sessions session n line known
     → StopsIn sessions line mid new → HasStopped sessions session known old new
 stops_in sessions session n lossy known old mid new given given' line h is (inl same) =
@@ -112,11 +112,11 @@ stops_in sessions session n lossy known old mid new given given' line h is (inr 
   left = inr (line, made.0, refl, made.1);
 }
 
--- where no answer was lost
+-- no answer was lost
 pub none_lost : (sessions session n : ℕ) (lossy : Bool) (known : Option (List (List ℕ))) (old new : SessionView) (given given' : Option (List (List ℕ))) → lossy ≡ false → HasAnswered sessions session n lossy known old new given given' → HasAnswered sessions session n false known old new given given'
 none_lost sessions session n lossy known old new given given' is h = subst (λ (b : Bool). HasAnswered sessions session n b known old new given given') is h
 
--- where one was
+-- an answer was lost
 pub some_lost : (sessions session n : ℕ) (lossy : Bool) (known : Option (List (List ℕ))) (old new : SessionView) (given given' : Option (List (List ℕ))) → lossy ≡ true → HasAnswered sessions session n lossy known old new given given' → HasAnswered sessions session n true known old new given given'
 some_lost sessions session n lossy known old new given given' is h = subst (λ (b : Bool). HasAnswered sessions session n b known old new given given') is h
 

@@ -1,4 +1,4 @@
--- Lines that are counted for their sessions, one after another.
+-- Lines that are counted for their sessions.
 use Rattle.std.proofs.Common.{◌≡◌, ◌≢◌, ℕ, ◌+◌, ◌<◌, Bool, true, false, cond, eqb, List, [], ◌∷◌, ◌++◌, length, Option, Some, None, refl, ap, sym, subst, ◌∙◌, arith, append-nil, append_assoc, eq-eqb, ne_eqb, set, get_or, length-append}
 use Rattle.std.specs.Prelude.{slice_index, option_map}
 use Rattle.std.specs.List.{slice_get}
@@ -16,7 +16,7 @@ get_behind : (xs ys : List (List ℕ)) (y : List ℕ) → slice_get (xs ++ y ∷
 get_behind [] ys y = refl
 get_behind (x ∷ xs) ys y = get_behind xs ys y
 
--- of a session, the lines and one more
+-- the lines of a session, and one more
 one_more : (sessions k : ℕ) (front rest : List (List ℕ)) (line : List ℕ) → is_for sessions k line ≡ true → lines_for sessions k (front ++ line ∷ rest) ≡ lines_for sessions k front ++ line ∷ lines_for sessions k rest
 one_more sessions k front rest line is =
     filter-append (is_for sessions k) front (line ∷ rest) ∙ ap (λ (b : Bool). lines_for sessions k front ++ cond b (line ∷ lines_for sessions k rest) (lines_for sessions k rest)) is
@@ -34,7 +34,7 @@ for_another sessions k j line is other = ap (is_at k) is ∙ ne_eqb j k other
 for_none : (sessions k : ℕ) (line : List ℕ) → session_in sessions line ≡ None → is_for sessions k line ≡ false
 for_none sessions k line is = ap (is_at k) is
 
--- a line is the next of its session's
+-- a line is the next of its session
 pub placed : (sessions session number : ℕ) (counts : List ℕ) (known : Option (List (List ℕ))) (old new : Option (List ℕ)) (line : InputLine) (text : List ℕ) → session < sessions → CountsSoFar sessions counts known old → ReadsNext MOST_REQUEST_BYTES old new (Some line)
     → ((bytes : List ℕ) → IsLine MOST_REQUEST_BYTES bytes line → (text ≡ bytes) × (session_in sessions bytes ≡ Some session)) → number ≡ slice_index counts session → IsLineOf sessions session number text known
 placed sessions session number counts None old new line text low h r is here = refl
@@ -50,7 +50,7 @@ placed sessions session number counts (Some lines) (Some x) (Some y) line text l
     ap (slice_get (lines_for sessions session lines)) place ∙ ap (λ (ls : List (List ℕ)). slice_get ls (length (lines_for sessions session h.front))) mine
     ∙ get_behind (lines_for sessions session h.front) (lines_for sessions session (lines_of y)) bytes ∙ ap Some (sym told.0)
 
--- it is counted
+-- this line is counted
 count_one : (sessions session number : ℕ) (counts : List ℕ) (front : List (List ℕ)) (line : List ℕ) → session < length counts → number ≡ slice_index counts session → session_in sessions line ≡ Some session → Counts sessions counts front
     → (k : ℕ) → k < sessions → (b : Bool) → eqb session k ≡ b → slice_index (set counts session (number + 1)) k ≡ length (lines_for sessions k (front ++ line ∷ []))
 count_one sessions session number counts front line within here is counted k low true e =

@@ -1,4 +1,4 @@
--- Known lists that grow, one step after another.
+-- Known lists that grow, step by step.
 use Rattle.std.proofs.Common.{List, [], ◌∷◌, ◌++◌, Option, Some, None, ap, sym, ◌∙◌, append_assoc, append-nil}
 use Rattle.cli_talk.specs.Wires.{Takes, TakesAll}
 

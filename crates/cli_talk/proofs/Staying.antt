@@ -1,4 +1,4 @@
--- A session stays the session that it is.
+-- A session stays the same session.
 use Rattle.std.proofs.Common.{◌≡◌, ℕ, Bool, true, List, [], ◌∷◌, Option, ap, ◌∙◌, inl, inr}
 use Rattle.bc_share.specs.Sessions.{SessionView}
 use Rattle.cli_requests.specs.declared.request.Request.{Request}
@@ -40,11 +40,11 @@ turns_still sessions number lossy [] old new texts h = same_still old new h.0
 turns_still sessions number lossy (line ∷ lines) old new texts (between, text, rest, turn, later, cut) =
     still_again old between new (turn_still sessions number lossy line old between text turn) (turns_still sessions number lossy lines between new rest later)
 
--- where it answered lines
+-- after it answered lines
 pub answered_still : (sessions session n : ℕ) (lossy : Bool) (known : Option (List (List ℕ))) (old new : SessionView) (given given' : Option (List (List ℕ))) → HasAnswered sessions session n lossy known old new given given' → IsStill old new
 answered_still sessions session n lossy known old new given given' h = turns_still sessions session lossy h.lines old new h.texts h.turns
 
--- and where it stopped
+-- after it stopped
 pub stopped_still : (sessions session : ℕ) (known : Option (List (List ℕ))) (old new : SessionView) → HasStopped sessions session known old new → IsStill old new
 stopped_still sessions session known old new h = still_again old h.between new (turns_still sessions session true h.lines old h.between h.texts h.turns) (elim h.left [
   | inl none ↦ same_still h.between new none.1

@@ -1,13 +1,13 @@
--- How many lines each session has.
+-- The number of lines of each session.
 use Rattle.std.specs.Prelude.{◌≡◌, ℕ, ◌<◌, List, ◌++◌, length, slice_index, Option, Some, None, MatchOption, ⊤}
 use Rattle.cli_input.specs.Lines.{lines_of}
 use Rattle.cli_requests.specs.Sessions.{lines_for}
 
--- there are so many lines of each session
+-- these are the numbers of lines of each session
 abbrev pub Counts : ℕ → List ℕ → List (List ℕ) → Type 0
 Counts sessions counts lines = (k : ℕ) → k < sessions → slice_index counts k ≡ length (lines_for sessions k lines)
 
--- there are so many lines of each session, where the lines are known
+-- these are the numbers of lines of each session, if the lines are known
 abbrev pub CountsAll : ℕ → List ℕ → Option (List (List ℕ)) → Type 0
 CountsAll sessions counts None = ⊤
 CountsAll sessions counts (Some lines) = Counts sessions counts lines
@@ -18,12 +18,12 @@ pub record HasCounted (sessions : ℕ) (counts : List ℕ) (lines left : List (L
   pub cut : lines ≡ front ++ left
   pub counted : Counts sessions counts front
 
--- the lines before those that are left were counted, where the lines are known
+-- the lines before those that are left were counted, if the lines are known
 abbrev pub CountsSoFar : ℕ → List ℕ → Option (List (List ℕ)) → Option (List ℕ) → Type 0
 CountsSoFar sessions counts None left = ⊤
 CountsSoFar sessions counts (Some lines) None = ⊥
 CountsSoFar sessions counts (Some lines) (Some left) = HasCounted sessions counts lines (lines_of left)
 
--- the counts once the next line was looked at: of all lines if there was none left, and else of those before what is left
+-- the counts after a look at the next line: of all lines if there was none, otherwise of those before what is left
 abbrev pub CountsWith : {M : Type 0} → ℕ → List ℕ → Option (List (List ℕ)) → Option (List ℕ) → Option M → Type 0
 CountsWith sessions counts known left next = MatchOption next (CountsAll sessions counts known) (λ _. CountsSoFar sessions counts known left)

@@ -1,4 +1,4 @@
--- What a worker did of the lines of its session.
+-- What a worker did about the lines of its session.
 use Rattle.std.specs.Prelude.{◌≡◌, ◌⊎◌, ℕ, Bool, true, List, [], ◌∷◌, ◌++◌, length, Option, Some, None, option_and_then, option_map, ⊤}
 use Rattle.std.specs.List.{slice_get}
 use Rattle.bc_share.specs.Sessions.{SessionView}
@@ -7,17 +7,17 @@ use Rattle.cli_talk.specs.declared.answer.Answered.{Answered}
 use Rattle.cli_talk.specs.Wires.{TakesAll}
 use Rattle.cli_talk.specs.Turns.{IsLineAnswered, Turns}
 
--- this line is the one of this number of those that name a session, where the lines of the input are known
+-- this line is the one of this number among those that name a session, if the lines of the input are known
 abbrev pub IsLineOf : ℕ → ℕ → ℕ → List ℕ → Option (List (List ℕ)) → Type 0
 IsLineOf sessions session number line known = option_and_then (λ lines. slice_get (lines_for sessions session lines) number) known ≡ option_map (λ _. line) known
 
--- these are the first lines of those that name a session, where the lines of the input are known
+-- these are the first lines that name a session, if the lines of the input are known
 abbrev pub AreFirst : ℕ → ℕ → Option (List (List ℕ)) → List (List ℕ) → Type 0
 AreFirst sessions session None front = ⊤
 AreFirst sessions session (Some lines) front = (rest : List (List ℕ)) × (lines_for sessions session lines ≡ front ++ rest)
 
--- the first lines of a session were answered, so many, in order, each by one text, and the texts were given; there may have been no memory
--- for some answers where they may be lost
+-- the first lines of a session were answered, this many, in order, each by one text, and the texts were given; some answers may be lost if
+-- `lossy` says so
 pub record HasAnswered (sessions session number : ℕ) (lossy : Bool) (known : Option (List (List ℕ))) (old new : SessionView) (given given' : Option (List (List ℕ))) : Type 0 where
   pub lines : List (List ℕ)
   pub sized : length lines ≡ number
@@ -26,7 +26,8 @@ pub record HasAnswered (sessions session number : ℕ) (lossy : Bool) (known : O
   pub turns : Turns sessions session lossy lines old new texts
   pub told : TakesAll given given' texts
 
--- the first lines of a session were answered, in order, but for lost answers, and perhaps one line more, for which no text was given
+-- the first lines of a session were answered in order, though some answers may be lost, and perhaps one more line, for which no text was
+-- given
 pub record HasStopped (sessions session : ℕ) (known : Option (List (List ℕ))) (old new : SessionView) : Type 0 where
   pub lines : List (List ℕ)
   pub last : List (List ℕ)

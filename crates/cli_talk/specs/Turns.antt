@@ -1,4 +1,4 @@
--- Turns of a conversation: a session's line, and the line that answers it.
+-- The turns of a conversation: a line of a session, and the line that answers it.
 use Rattle.std.specs.Prelude.{◌≡◌, ◌⊎◌, ℕ, Bool, true, List, [], ◌∷◌, ◌++◌, length, decimal, codes, Some, None}
 use Rattle.std.specs.Arc.{arc_value}
 use Rattle.std.specs.Option.{option_map}
@@ -19,12 +19,12 @@ use Rattle.cli_answers.specs.declared.answer.Answer.TheVariants.{Entered, Glance
 use Rattle.cli_answers.specs.Answers.{IsAnswerLine}
 use Rattle.cli_talk.specs.declared.answer.Answered.{Answered}
 
--- it is the session that it was, whatever calls it made
+-- the session is the same, whatever calls it made
 abbrev pub IsStill : SessionView → SessionView → Type 0
 IsStill old new = (new.tag ≡ old.tag) × (new.number ≡ old.number)
 
--- A session did what is wanted of it, and this is the answer: the call that it made with the reply, whose number is how many calls it had
--- made before; or what is published for the name, where its own list stays. Or it was refused, and its own list stays.
+-- A session did what was asked of it, and this is the answer: the call that it made, with the reply and the number of its earlier calls; or
+-- what is published for the name, and its own list is unchanged. Or it was refused, and its own list is unchanged.
 abbrev pub IsAnswerTo : Wanted → Answer → SessionView → SessionView → Type 0
 IsAnswerTo (Call asked) (Entered number event) old new = (call_of event ≡ asked) × IsAnswered event old new × (number ≡ length old.own)
 IsAnswerTo (Call asked) (Glanced found) old new = ⊥
@@ -35,8 +35,8 @@ IsAnswerTo (Glance name) (Glanced found) old new = Stays old new × IsAnswer new
 IsAnswerTo (Glance name) (Refused refusal) old new = Stays old new × (refusal ≡ NoMemory)
 IsAnswerTo (Glance name) (Wrong fault) old new = ⊥
 
--- a request was answered: its id and its session are repeated; what is wanted was done, or what is wrong with it is told and nothing else
--- happened
+-- a request was answered: its id and its session are repeated, and what it asks for was done, or what is wrong with it is reported and
+-- nothing else happened
 abbrev pub IsReplyTo : Request → Answered → SessionView → SessionView → Type 0
 IsReplyTo (Good id session wanted) answered old new = (told answered.id ≡ told id) × (answered.session ≡ Some session) × IsAnswerTo wanted answered.answer old new
 IsReplyTo (Bad id session fault) answered old new = (told answered.id ≡ told id) × (answered.session ≡ session) × (answered.answer ≡ Wrong fault) × (new ≡ old)
@@ -45,21 +45,21 @@ IsReplyTo (Bad id session fault) answered old new = (told answered.id ≡ told i
 abbrev pub IsWholeLine : Answered → List ℕ → Type 0
 IsWholeLine answered text = (line : List ℕ) × IsAnswerLine (told answered.id) answered.session answered.answer line × (text ≡ line ++ 10 ∷ [])
 
--- a line was read as a request, and answered so
+-- a line was read as a request, which was answered like this
 pub record IsLineAnswered (sessions : ℕ) (line : List ℕ) (answered : Answered) (old new : SessionView) : Type 0 where
   pub request : Request
   pub is : IsRequest sessions line request
   pub answers : IsReplyTo request answered old new
 
--- the line that tells, of the session of this number, that there was no memory, in these words
+-- the line that reports, in these words, that memory ran out in the session of this number
 abbrev pub lost_line : List ℕ → ℕ → List ℕ
 lost_line words session = codes "{\"fault\":\"" ++ words ++ codes "\",\"id\":null,\"session\":" ++ decimal session ++ codes "}\n"
 
--- there was no memory to read a line: nothing was done for it, and this text tells that
+-- there was no memory to read a line: nothing was done for it, and this text says so
 abbrev pub IsUnread : ℕ → SessionView → SessionView → List ℕ → Type 0
 IsUnread number old new text = (new ≡ old) × (text ≡ lost_line (codes "no memory") number)
 
--- this text is the line of an answer; or, where answers may be lost, it tells that there was no memory for that
+-- this text is the line of an answer; or, if answers may be lost, it says that there was no memory for that
 abbrev pub IsGiven : ℕ → Bool → Answered → List ℕ → Type 0
 IsGiven number lossy answered text = IsWholeLine answered text ⊎ ((lossy ≡ true) × (text ≡ lost_line (codes "no memory for the answer") number))
 
@@ -68,7 +68,7 @@ abbrev pub IsTurn : ℕ → ℕ → Bool → List ℕ → SessionView → Sessio
 IsTurn sessions number lossy line old new text =
     ((answered : Answered) × IsLineAnswered sessions line answered old new × IsGiven number lossy answered text) ⊎ IsUnread number old new text
 
--- nothing was done for a line, or it was answered, whatever became of the text
+-- nothing was done for a line, or it was answered, whatever happened to the text
 abbrev pub StopsIn : ℕ → List ℕ → SessionView → SessionView → Type 0
 StopsIn sessions line old new = (new ≡ old) ⊎ ((answered : Answered) × IsLineAnswered sessions line answered old new)
 
@@ -78,7 +78,7 @@ Turns sessions number lossy [] old new texts = (new ≡ old) × (texts ≡ [])
 Turns sessions number lossy (line ∷ lines) old new texts =
     (between : SessionView) × (text : List ℕ) × (rest : List (List ℕ)) × IsTurn sessions number lossy line old between text × Turns sessions number lossy lines between new rest × (texts ≡ text ∷ rest)
 
--- a line names no session, and this text tells its id and what is wrong with it
+-- a line names no session, and this text has its id and what is wrong with it
 pub record IsTold (sessions : ℕ) (line text : List ℕ) : Type 0 where
   pub id : Id
   pub fault : RequestFault

@@ -16,14 +16,14 @@ use cli_requests::{Id, Request, Wanted};
 use std::alloc::{AllocError, Global};
 use std::sync::Wait;
 
-/// What a request was answered, with what the line of the answer repeats of it.
+/// The answer to a request, with the id and the session that its line repeats.
 pub(crate) struct Answered {
     pub id: Id,
     pub session: Option<u8>,
     pub answer: Answer,
 }
 
-// Written out, so that what lets an answer go proves nothing of its parts again.
+// Handwritten, so that it is proved once.
 impl Drop for Answered {
     fn drop(self) {
         let Self {
@@ -60,8 +60,8 @@ fn prepare<E: Ending>(
     }
 }
 
-/// Makes a call: returns how many calls the session had made before, and the call with its reply. Refused as `Session::make` is, and with
-/// `NoMemory` if it cannot be prepared.
+/// Makes a call. Returns the number of calls that the session had made before, and the call with its reply. Fails as `Session::make` does,
+/// and with `NoMemory` if the call cannot be prepared.
 fn make<R: AllocGlobal + Wait, E: Ending>(
     rt: &R,
     session: &mut Session<E>,
@@ -76,7 +76,7 @@ fn make<R: AllocGlobal + Wait, E: Ending>(
     session.make(rt, operation, Some(providers))
 }
 
-/// Does what is wanted of a session, and returns the answer.
+/// Does what is asked of a session, and returns the answer.
 fn answer_wanted<R: AllocGlobal + Wait, E: Ending>(
     rt: &R,
     session: &mut Session<E>,
@@ -97,7 +97,7 @@ fn answer_wanted<R: AllocGlobal + Wait, E: Ending>(
     }
 }
 
-/// Answers a request: does what is wanted of the session, or says what is wrong with the request.
+/// Answers a request: does what is asked of the session, or says what is wrong with the request.
 pub(crate) fn answer_request<R: AllocGlobal + Wait, E: Ending>(
     rt: &R,
     session: &mut Session<E>,
@@ -120,7 +120,7 @@ pub(crate) fn answer_request<R: AllocGlobal + Wait, E: Ending>(
     }
 }
 
-/// The line of an answer, with its line feed. Returns `AllocError` only if memory was refused.
+/// Returns the line of an answer, with its line feed.
 pub(crate) fn whole_line(alloc: Global, answered: &Answered) -> Result<String, AllocError>
     ensures { IfOk result (λ line. IsWholeLine answered.now (string_bytes line)) }
 {

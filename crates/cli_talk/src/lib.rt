@@ -1,5 +1,5 @@
-//! The conversation of one session: its worker answers each line that names the session by one line, in order. The router numbers the
-//! lines for their sessions, so that what a worker did of the input is known whatever lies between the two.
+//! The conversation of one session: its worker answers each line that names the session by one line, in order. The router numbers the lines
+//! of each session, so it is known which lines of the input a worker answered, whatever is between the two.
 #![tactic(auto)]
 
 mod answer;

@@ -1,4 +1,4 @@
-//! The lines that tell that there was no memory, which take none.
+//! The lines that report that memory ran out. They allocate nothing.
 ghost use Rattle.std.specs.Prelude.{◌≡◌, ◌≤◌, OnOk, codes, length};
 ghost use Rattle.cli_talk.specs.Wires.{Takes};
 ghost use Rattle.cli_talk.specs.Turns.{lost_line};
@@ -7,10 +7,10 @@ use crate::replies::{Closed, Replies};
 use arrayvec::ArrayString;
 use itoa::Buffer;
 
-/// How many bytes such a line has at most.
+/// The most bytes of such a line.
 const LINE: usize = 64;
 
-/// Returns the line that tells, of the session of this number, that there was no memory, in these words.
+/// Returns the line that reports, in these words, that memory ran out in the session of this number.
 fn lost_line(words: &str, session: u8) -> ArrayString<LINE>
     requires { length words.now ≤ 24 }
     ensures { result.bytes ≡ lost_line words.now session }
@@ -24,7 +24,7 @@ fn lost_line(words: &str, session: u8) -> ArrayString<LINE>
     line
 }
 
-/// Tells that there was no memory to read a line of the session of this number.
+/// Reports that there was no memory to read a line of the session of this number.
 pub(crate) fn tell_unread<P: Replies>(session: u8, replies: &mut P) -> Result<(), Closed>
     ensures { OnOk result (Takes (P.given replies.old) (P.given replies.new) (lost_line (codes "no memory") session)) }
 {
@@ -32,7 +32,7 @@ pub(crate) fn tell_unread<P: Replies>(session: u8, replies: &mut P) -> Result<()
     replies.reply(line.as_str())
 }
 
-/// Tells that there was no memory for an answer of the session of this number.
+/// Reports that there was no memory for an answer of the session of this number.
 pub(crate) fn tell_untold<P: Replies>(session: u8, replies: &mut P) -> Result<(), Closed>
     ensures { OnOk result (Takes (P.given replies.old) (P.given replies.new) (lost_line (codes "no memory for the answer") session)) }
 {

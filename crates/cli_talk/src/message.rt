@@ -1,12 +1,12 @@
-//! Messages: lines of the input, numbered for their sessions.
+//! Messages: lines of the input, numbered within their sessions.
 ghost use Rattle.std.specs.Prelude.{◌≤◌, length};
 ghost use Rattle.cli_requests.specs.declared.request.TheConstants.{MOST_REQUEST_BYTES};
 ghost use Rattle.cli_talk.specs.Talks.{IsLineOf};
 
 use std::marker::{Brand, PhantomData};
 
-/// The parameters of a conversation, for contracts: how many sessions there are, and the lines of the input, if these are known.
-/// The call that begins a conversation picks both.
+/// The parameters of a conversation, for contracts: the number of sessions, and the lines of the input if they are known. The call that
+/// begins a conversation chooses both.
 pub trait Talk {
     ghost use Rattle.std.specs.Prelude.{ℕ, List, Option};
 
@@ -23,8 +23,8 @@ impl Talk for Brand {
     ghost lines = { None };
 }
 
-/// A line of the input that names a session, and its number among the lines that name this session, from 0. The type keeps that this is
-/// the line of that number, where the lines of the input are known.
+/// A line of the input that names a session, and its number among the lines that name this session, from 0. It is always the line of that
+/// number, if the lines of the input are known.
 #[derive(Drop)]
 pub struct Message<L: Talk> {
     pub session: u8,
@@ -35,7 +35,7 @@ pub struct Message<L: Talk> {
     ghost is_of: { IsLineOf L.sessions session number line.items L.lines },
 }
 
-/// A source of the messages of a session. Nothing is asked of it: a message that is not the next of its session is found by its number.
+/// A source of messages for a session. It may return any messages: the worker finds one that is not the next of its session by its number.
 pub trait Messages<L: Talk> {
     /// Returns the next message, or `None` if no more will come.
     fn next(&mut self) -> Option<Message<L>>;

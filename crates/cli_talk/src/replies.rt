@@ -1,8 +1,8 @@
-//! Where the lines of answers go.
+//! The sinks for lines of answers.
 ghost use Rattle.std.specs.Prelude.{List, Option, None, ℕ, OnOk};
 ghost use Rattle.cli_talk.specs.Wires.{Takes};
 
-/// The error that a line was not given on: the output failed, now or before.
+/// The error that a line was not written, since the output failed, now or before.
 #[derive(Clone, Copy, Debug, PartialEq, Eq)]
 pub struct Closed;
 
@@ -11,7 +11,7 @@ pub trait Replies {
     /// The lines that were given, if that is known.
     ghost given: { Self → Option (List (List ℕ)) } = { λ _. None };
 
-    /// Writes a line, which has its line feed, and hands it on at once. Returns `Closed` if that fails.
+    /// Writes a line, which includes its line feed, and flushes it. Returns `Closed` if that fails.
     fn reply(&mut self, line: &str) -> Result<(), Closed>
         ensures { OnOk result (Takes (given self.old) (given self.new) line.now) };
 }

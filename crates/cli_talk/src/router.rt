@@ -1,4 +1,4 @@
-//! The router, which numbers lines for their sessions.
+//! The router, which numbers the lines of each session.
 ghost use Rattle.std.specs.Prelude.{◌≡◌, ◌≤◌, ◌<◌, IfOk, IfSome, List, OnOk, length, option_map, ℕ};
 ghost use Rattle.cli_input.specs.Lines.{ReadsNext, lines_of};
 ghost use Rattle.cli_requests.specs.declared.request.TheConstants.{MOST_REQUEST_BYTES};
@@ -19,7 +19,7 @@ use std::alloc::Global;
 use std::io::{BufRead, ErrorKind};
 use std::marker::PhantomData;
 
-/// Returns the message of a line.
+/// Returns the message with a line.
 fn make_message<L: Talk>(session: u8, number: u64, line: Vec<u8>) -> Message<L>
     requires short { length line.items ≤ MOST_REQUEST_BYTES }
     requires is_of { IsLineOf L.sessions session number line.items L.lines }
@@ -34,7 +34,7 @@ fn make_message<L: Talk>(session: u8, number: u64, line: Vec<u8>) -> Message<L>
     }
 }
 
-/// Returns the next line of an input, or `None` if there is none left.
+/// Returns the next line of an input, or `None` if none is left.
 fn next_line<I: BufRead>(alloc: Global, input: &mut I) -> Result<Option<InputLine>, TalkFault>
     ensures { IfOk result (λ line. ReadsNext MOST_REQUEST_BYTES (I.remaining input.old) (I.remaining input.new) line) }
 {
@@ -47,7 +47,7 @@ fn next_line<I: BufRead>(alloc: Global, input: &mut I) -> Result<Option<InputLin
     }
 }
 
-/// Gives the line of an answer.
+/// Writes the line of an answer.
 fn give<P: Replies>(alloc: Global, answered: &Answered, replies: &mut P) -> Result<(), TalkFault>
     ensures { OnOk result ((text : List ℕ) × IsWholeLine answered.now text × Takes (P.given replies.old) (P.given replies.new) text) }
 {
@@ -60,7 +60,7 @@ fn give<P: Replies>(alloc: Global, answered: &Answered, replies: &mut P) -> Resu
     }
 }
 
-/// Says what is wrong with a line that names no session.
+/// Answers what is wrong with a line that names no session.
 fn tell<P: Replies>(
     alloc: Global,
     line: &InputLine,
@@ -100,13 +100,13 @@ fn session_of_line(alloc: Global, line: &InputLine, sessions: u8) -> Result<Opti
     }
 }
 
-/// Reads the next line of an input, of at most `MOST_REQUEST_BYTES` bytes, and returns it as the message for the session that it names,
-/// numbered for this session. Nothing is waited for behind the line. Inside it returns `None` if the line names no session: what is
-/// wrong with it was answered then. Outside it returns `None` if there is no line left. The message is to go to the worker of its
-/// session. The counts of lines, one for each session, are those that `no_counts` returned and the calls since then have left.
+/// Reads the next line of an input, of at most `MOST_REQUEST_BYTES` bytes, and returns it as a message, numbered within the session that it
+/// names. The message is for the worker of that session. Nothing after the line is waited for. Returns `Some(None)` if the line names no
+/// session: then it was answered what is wrong with it. Returns `None` if no line is left. `counts` has the number of earlier lines of each
+/// session: it is what `no_counts` returned, as the calls since then left it.
 ///
-/// Returns `CannotRead` if the input fails, `NoMemory` if there is no room for the line or its answer, and `CannotWrite` if the
-/// answer is not given on.
+/// Returns `CannotRead` if the input fails, `NoMemory` if there is no room for the line or its answer, and `CannotWrite` if the answer
+/// cannot be written.
 pub fn route_line<L: Talk + Drop, I: BufRead, P: Replies>(
     alloc: Global,
     input: &mut I,
@@ -152,7 +152,7 @@ pub fn route_line<L: Talk + Drop, I: BufRead, P: Replies>(
     Ok(Some(Some(message)))
 }
 
-/// Returns the counts of lines before any line is read: 0 for each of so many sessions. Returns `NoMemory` only if memory was refused.
+/// Returns the counts of lines before any line is read: 0 for each session. Fails only with `NoMemory`.
 pub fn no_counts<L: Talk + Drop, I: BufRead>(
     alloc: Global,
     _input: &I,

@@ -19,7 +19,8 @@ use cli_requests::read_request;
 use std::alloc::Global;
 use std::sync::Wait;
 
-/// Hands on the line of an answer of the session of this number, or says that there was no memory for it. Returns whether the answer is lost.
+/// Writes the line of an answer of the session of this number, or reports that there is no memory for it. Returns whether the answer is
+/// lost.
 fn give_or_tell<P: Replies>(
     alloc: Global,
     number: u8,
@@ -40,7 +41,7 @@ fn give_or_tell<P: Replies>(
     }
 }
 
-/// Which session a worker answers for, of how many, and by which providers its bodies are analysed.
+/// What a worker is set up with: the providers, the number of sessions, and the number of its own.
 #[derive(Drop)]
 pub struct Post<'a> {
     pub providers: &'a Providers,
@@ -48,7 +49,7 @@ pub struct Post<'a> {
     pub number: u8,
 }
 
-/// Answers a line of a worker's session, or says that there was no memory for that. Returns whether an answer is lost.
+/// Answers a line of a worker's session, or reports that there is no memory for that. Returns whether an answer is lost.
 fn serve_line<R: AllocGlobal + Wait, E: Ending, P: Replies>(
     rt: &R,
     post: &Post<'_>,
@@ -76,21 +77,20 @@ fn serve_line<R: AllocGlobal + Wait, E: Ending, P: Replies>(
     }
 }
 
-/// Returns whether an answer is lost: one of those before, or the one now.
+/// Returns whether an answer is lost, before or now.
 fn is_either(before: bool, now: bool) -> bool
     ensures { result ≡ (before || now) }
 {
     before || now
 }
 
-/// Answers the messages that come to a worker's session, one line each, until no more comes, and returns how many there were. Each line
-/// is answered before the next message is taken: its call is made, or what is wrong with it is reported, and a call that is refused is
-/// answered too. If there is no memory to read a line, nothing is done for it, and a line that takes no memory says so; if there is none
-/// for an answer, another such line says that.
+/// Answers the messages for a worker's session, one line each, until no more come, and returns their number. Each line is answered before
+/// the next message is taken: its call is made, or what is wrong with it is reported. A call that is refused is answered too. If there is
+/// no memory to read a line, nothing is done for it, and its answer says so. If there is none for an answer, another line says that.
 ///
-/// Returns `NoMemory` if an answer was lost so: each message had one line then too. Returns `OutOfTurn` at a message that is not the next
-/// of its session, and `CannotWrite` if a line is not handed on. Then the lines before were answered, but for lost answers, and of at
-/// most one line more the call was made, with no line handed on.
+/// Returns `NoMemory` if an answer was lost; each message was answered by one line even then. Returns `OutOfTurn` at a message that is not
+/// the next of its session, and `CannotWrite` if a line cannot be written. The lines before were answered then, except for lost answers,
+/// and at most one more call was made, without a line.
 pub fn serve_messages<L, M, R, E, P>(
     rt: &R,
     post: &Post<'_>,

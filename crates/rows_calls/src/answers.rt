@@ -1,11 +1,11 @@
-//! What rows are answered: lines.
+//! The answers to rows, as lines.
 use anyhow::{Error, Result};
 use bc_prov::{Listing, Outcome};
 use bc_report::write_report;
 use std::alloc::Global;
 use std::io::Write;
 
-/// The lines that a row is answered, or why it is refused.
+/// The lines that answer a row, or why it is refused.
 pub type Answer = Result<Vec<u8>>;
 
 /// Returns a line of this text.
@@ -13,21 +13,21 @@ pub fn line(alloc: Global, text: &str) -> Answer {
     marked(alloc, "", text)
 }
 
-/// Returns a line of this text behind a mark.
+/// Returns a line with a mark and this text.
 pub fn marked(alloc: Global, mark: &str, text: &str) -> Answer {
     let mut line = Vec::new(alloc);
     writeln!(line, "{mark}{text}")?;
     Ok(line)
 }
 
-/// Returns a line that tells a count of something.
+/// Returns a line with a count of something.
 pub fn counted(alloc: Global, count: usize, what: &str) -> Answer {
     let mut line = Vec::new(alloc);
     writeln!(line, "{count} {what}")?;
     Ok(line)
 }
 
-/// Returns the line that tells why something is refused.
+/// Returns the line that says why something is refused.
 pub fn refusal(alloc: Global, why: &Error) -> Answer {
     let mut line = Vec::new(alloc);
     writeln!(line, "{why}")?;
@@ -41,7 +41,7 @@ pub fn report(alloc: Global, outcome: &Outcome) -> Answer {
     Ok(lines)
 }
 
-/// Returns how many roots are listed, and of each its name and its report.
+/// Returns the number of listed roots, and the name and report of each.
 pub fn listed(alloc: Global, listing: &Listing) -> Answer {
     let mut lines = counted(alloc, listing.len(), "roots")?;
     for row in listing.as_slice() {

@@ -1,4 +1,4 @@
-//! What sessions do.
+//! What rows make sessions do.
 use crate::answers::{Answer, counted, line, listed, report};
 use crate::cases::{Case, session_at};
 use crate::rows::{Context, halves};
@@ -13,7 +13,7 @@ use std::sync::Wait;
 use test_fixtures::{name, shared_types, shared_unit};
 
 impl Context<'_> {
-    /// The put that a name and the name of a text spell.
+    /// Returns the put that a name and the name of a text spell.
     fn put_of(&self, row: &str) -> Result<Call> {
         let (at, text) = halves(row);
         let at = name(at.as_bytes())?;
@@ -21,13 +21,13 @@ impl Context<'_> {
         Ok(Call::Put(at, Shared::new(unit)))
     }
 
-    /// The declarations that the name of a text spells.
+    /// Returns the call that stores the declarations of a named text.
     fn types_of(&self, text: &str) -> Result<Call> {
         let types = shared_types(self.alloc, self.text(text)?.as_bytes())?;
         Ok(Call::Types(Shared::new(types)))
     }
 
-    /// Returns the call that a row spells; fails where it spells none.
+    /// Returns the call that a row spells. Fails if it spells none.
     pub fn call(&self, row: &str) -> Result<Call> {
         let (verb, rest) = halves(row);
         match verb {
@@ -40,7 +40,7 @@ impl Context<'_> {
         }
     }
 
-    /// What a session sees published of a name.
+    /// Returns the report that a session sees published for a name.
     fn glance<E: Ending>(&self, session: &mut Session<E>, at: &Name) -> Answer {
         match session.glance(at)? {
             Some(outcome) => report(self.alloc, &outcome),
@@ -48,7 +48,7 @@ impl Context<'_> {
         }
     }
 
-    /// Begins a name, finds its outcome, and answers how many pieces of bodies were made for that.
+    /// Begins an ask of a name, finds its outcome, and returns the number of pieces that were made for it.
     fn make<E: Ending>(&self, session: &mut Session<E>, at: &Name) -> Answer {
         let begun = session.begin(at)?;
         let found = begun.find(self.alloc, self.providers)?;
@@ -59,7 +59,7 @@ impl Context<'_> {
         counted(self.alloc, made, "made")
     }
 
-    /// Begins a name, works on it, and answers what that finds.
+    /// Begins an ask of a name, works on it, and returns the report.
     fn work<E: Ending>(
         &self,
         session: &mut Session<E>,
@@ -73,14 +73,14 @@ impl Context<'_> {
         Ok(answer)
     }
 
-    /// Begins all roots, and works on each.
+    /// Begins an ask of each root, and works on it.
     fn work_on_all<E: Ending>(&self, session: &mut Session<E>, works: &mut Vec<Work>) -> Answer {
         let begun = session.begin_all()?;
         works.append(&mut work_all(self.alloc, begun, self.providers)?)?;
         Ok(Vec::new(self.alloc))
     }
 
-    /// Has a session make a call.
+    /// Has a session make a call, and returns its answer.
     fn make_call<R: Wait, E: Ending>(
         &self,
         rt: &R,
@@ -108,7 +108,7 @@ impl Context<'_> {
         }
     }
 
-    /// Settles the work that was done last.
+    /// Settles the last work that is kept, and returns the report.
     fn settle<R: Wait, E: Ending>(
         &self,
         rt: &R,
@@ -122,7 +122,7 @@ impl Context<'_> {
         report(self.alloc, &outcome)
     }
 
-    /// Settles all works as an Ask for all.
+    /// Settles all works that are kept, as an ask for all.
     fn settle_all<R: Wait, E: Ending>(
         &self,
         rt: &R,
@@ -150,7 +150,7 @@ impl Context<'_> {
         }
     }
 
-    /// Has a session do what a row says.
+    /// Has a session do what a row says, and returns the answer.
     pub fn act<R: Wait, E: Ending>(
         &self,
         rt: &R,
@@ -171,7 +171,7 @@ impl Context<'_> {
     }
 }
 
-/// The word of the reply to a put.
+/// Returns the word of the reply to a put.
 fn put_word(reply: PutReply) -> &'static str {
     match reply {
         PutReply::Added => "added",
@@ -181,7 +181,7 @@ fn put_word(reply: PutReply) -> &'static str {
     }
 }
 
-/// The word of the reply to a removal.
+/// Returns the word of the reply to a removal.
 fn remove_word(reply: RemoveReply) -> &'static str {
     match reply {
         RemoveReply::Removed => "removed",

@@ -7,7 +7,7 @@ use bc_versions::Ending;
 use std::alloc::Global;
 use std::mem;
 
-/// A database, until it is closed; its sessions, until a database is closed with them; and the scripts that they are to make.
+/// A database until it is closed, its sessions until a database is closed with them, and the scripts that they are to make.
 #[derive(Drop)]
 pub struct Opened<E: Ending> {
     pub db: Option<Db<E>>,
@@ -15,14 +15,14 @@ pub struct Opened<E: Ending> {
     pub scripts: Vec<Script>,
 }
 
-/// The state of a case: what its rows have opened, and the works that were done and not settled yet.
+/// The state of a case: what its rows have opened, and the works that are not settled yet.
 #[derive(Drop)]
 pub struct Case<E: Ending> {
     pub opened: Vec<Opened<E>>,
     pub works: Vec<Work>,
 }
 
-/// The place of a letter; one that is too large where it is none.
+/// Returns the place of a letter, or one that is too large if the text is no letter.
 fn place(letter: &str) -> usize {
     match letter.as_bytes() {
         [letter] => usize::from(letter.wrapping_sub(b'a')),
@@ -30,7 +30,7 @@ fn place(letter: &str) -> usize {
     }
 }
 
-/// Returns the session of a letter and a number; fails where there is none.
+/// Returns the session with a letter and a number. Fails if there is none.
 pub fn session_at<'a, E: Ending>(
     opened: &'a mut [Opened<E>],
     who: &str,
@@ -47,7 +47,7 @@ pub fn session_at<'a, E: Ending>(
 }
 
 impl<E: Ending> Case<E> {
-    /// Returns a case in which nothing is opened, and no work was done.
+    /// Returns a case without databases and works.
     pub fn new(alloc: Global) -> Case<E> {
         Case {
             opened: Vec::new(alloc),
@@ -55,7 +55,7 @@ impl<E: Ending> Case<E> {
         }
     }
 
-    /// Keeps a database and its sessions, under the next letter.
+    /// Keeps a database and its sessions under the next letter.
     pub fn push(&mut self, alloc: Global, db: Db<E>, sessions: Vec<Session<E>>) -> Result<()> {
         self.opened.push(Opened {
             db: Some(db),
@@ -65,7 +65,7 @@ impl<E: Ending> Case<E> {
         Ok(())
     }
 
-    /// Returns what was opened under a letter; fails where nothing was.
+    /// Returns what was opened under a letter. Fails if nothing was.
     pub fn at(&mut self, letter: &str) -> Result<&mut Opened<E>> {
         match self.opened.get_mut(place(letter)) {
             Some(opened) => Ok(opened),
@@ -73,7 +73,7 @@ impl<E: Ending> Case<E> {
         }
     }
 
-    /// Takes the database of a letter; fails where it was closed before.
+    /// Takes the database of a letter. Fails if it was closed before.
     pub fn take_db(&mut self, letter: &str) -> Result<Db<E>> {
         match self.at(letter)?.db.take() {
             Some(db) => Ok(db),
@@ -81,7 +81,7 @@ impl<E: Ending> Case<E> {
         }
     }
 
-    /// Takes the sessions of a letter; none where the letter is empty.
+    /// Takes the sessions of a letter, or none if the letter is empty.
     pub fn take_sessions(&mut self, alloc: Global, letter: &str) -> Result<Vec<Session<E>>> {
         if letter.is_empty() {
             return Ok(Vec::new(alloc));

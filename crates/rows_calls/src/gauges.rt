@@ -1,4 +1,4 @@
-//! Gauges of providers, which count their calls and may have them want memory.
+//! Gauges of providers, which count their calls and may let them run out of memory.
 use crate::answers::Answer;
 use crate::meetings::Meeting;
 use anyhow::bail;
@@ -8,7 +8,7 @@ use std::sync::Arc;
 use std::sync::atomic::AtomicU64;
 use std::sync::atomic::Ordering::SeqCst;
 
-/// The count of the calls of a provider, and at how many of its first calls it returns `AllocError`.
+/// The number of calls of a provider, and at how many of its first calls it returns `AllocError`.
 #[derive(Drop)]
 pub struct Gauge {
     calls: AtomicU64,
@@ -23,7 +23,7 @@ impl Gauge {
         }
     }
 
-    /// Counts a call. Returns `AllocError` where the provider is set to run out of memory.
+    /// Counts a call. Returns `AllocError` if the provider is set to run out of memory at it.
     pub fn count(&self) -> Result<(), AllocError> {
         if self.calls.fetch_add(1, SeqCst) < self.refused.load(SeqCst) {
             return Err(AllocError);
@@ -31,19 +31,19 @@ impl Gauge {
         Ok(())
     }
 
-    /// Returns how often the provider was called.
+    /// Returns the number of calls.
     pub fn calls(&self) -> u64 {
         self.calls.load(SeqCst)
     }
 
-    /// Counts anew from now on, and wants memory at so many of the first calls.
+    /// Counts from 0 again, and lets the first `refused` calls run out of memory.
     fn set(&self, refused: u64) {
         self.calls.store(0, SeqCst);
         self.refused.store(refused, SeqCst);
     }
 }
 
-/// The gauges of the three providers, and whether two sessions meet at the solver.
+/// The gauges of the three providers, and whether two sessions meet in the solver.
 #[derive(Drop)]
 pub struct Gauges {
     pub live: Gauge,
@@ -53,8 +53,8 @@ pub struct Gauges {
 }
 
 impl Gauges {
-    /// Returns gauges behind an `Arc`, so that each provider may own a part: none was called, none is set to run out of memory,
-    /// and nobody meets.
+    /// Returns gauges in an `Arc`, so that each provider may share them. None was called, none is set to run out of memory, and nobody
+    /// meets.
     pub fn shared(alloc: Global) -> Result<Arc<Gauges, Global>, AllocError> {
         let gauges = Gauges {
             live: Gauge::new(),
@@ -68,8 +68,7 @@ impl Gauges {
         }
     }
 
-    /// Counts anew from now on, and has those providers run out of memory that a word names, and no other: at each call, or the solver
-    /// at its first one.
+    /// Counts from 0 again, and lets the named providers run out of memory, and no others: at each call, or the solver at its first one.
     pub fn refuse(&self, alloc: Global, which: &str) -> Answer {
         let (live, solve, scopes) = match which {
             "none" => (0, 0, 0),
@@ -84,19 +83,19 @@ impl Gauges {
         Ok(Vec::new(alloc))
     }
 
-    /// Counts anew from now on, and has each provider run out of memory at so many of its first calls.
+    /// Counts from 0 again, and lets each provider run out of memory at the given number of its first calls.
     fn want(&self, live: u64, solve: u64, scopes: u64) {
         self.live.set(live);
         self.solve.set(solve);
         self.scopes.set(scopes);
     }
 
-    /// Counts anew from now on, and has no provider run out of memory.
+    /// Counts from 0 again, and lets no provider run out of memory.
     pub fn want_none(&self) {
         self.want(0, 0, 0);
     }
 
-    /// Returns how often each provider was called, and counts anew.
+    /// Returns the number of calls of each provider, and counts from 0 again.
     pub fn counts(&self, alloc: Global) -> Answer {
         let live = self.live.calls.swap(0, SeqCst);
         let solve = self.solve.calls.swap(0, SeqCst);

@@ -18,8 +18,8 @@ use std::thread;
 use std::thread::Threads;
 use std::time::Clock;
 
-/// The state of a meeting: whether two sessions meet at the solver now, how often session 0 has come there, and how many steps
-/// session 1 has made.
+/// The state of a meeting: whether two sessions meet in the solver now, how often session 0 has come there, and how many steps session 1
+/// has made.
 #[derive(Drop)]
 pub struct Meeting {
     is_held: AtomicBool,
@@ -39,15 +39,14 @@ impl Meeting {
         }
     }
 
-    /// Holds a meeting to which nobody has come.
+    /// Begins a meeting to which nobody has come.
     fn open(&self) {
         self.solving.store(0, SeqCst);
         self.steps.store(0, SeqCst);
         self.is_held.store(true, SeqCst);
     }
 
-    /// Where a meeting is held, marks that session 0 has come to its solver, and waits there until session 1 has made as many steps
-    /// as session 0 has come there.
+    /// Waits in the solver of session 0, during a meeting, until session 1 has made as many steps as session 0 has come here.
     pub fn solve<C: Clock>(&self, clock: &C) {
         if self.is_held.load(SeqCst) {
             let before = self.solving.fetch_add(1, SeqCst);
@@ -56,7 +55,7 @@ impl Meeting {
         }
     }
 
-    /// Session 1 waits until session 0 has come to its solver so often.
+    /// Waits as session 1 until session 0 has come to its solver this many times.
     fn await_solving<C: Clock>(&self, clock: &C, times: u64) {
         self.patience.hold(clock, &self.solving, times);
     }
@@ -70,7 +69,8 @@ struct Parts {
     asks_all: bool,
 }
 
-/// Makes a put once session 0 works on the body that is at its name, and reads what is published once session 0 works on this one.
+/// Makes a put once session 0 works on the body that is stored under its name, and reads what is published once session 0 works on this
+/// one.
 fn put_and_read<R: Clock + Wait, E: Ending>(
     rt: &R,
     session: &mut Session<E>,
@@ -88,7 +88,7 @@ fn put_and_read<R: Clock + Wait, E: Ending>(
     Ok(())
 }
 
-/// Session 0 asks, and session 1 makes the put, and reads.
+/// Has session 0 ask, or session 1 make the put and read.
 fn take_part<R: Clock + Wait, E: Ending>(
     rt: &R,
     session: &mut Session<E>,
@@ -105,7 +105,7 @@ fn take_part<R: Clock + Wait, E: Ending>(
     }
 }
 
-/// Has session 0 ask while session 1 makes a put, and reads.
+/// Has session 0 ask while session 1 makes a put and reads.
 fn meet_at<R: AllocGlobal + Clock + Sync + Threads + Wait, E: Ending + Send>(
     rt: &R,
     sessions: &mut [Session<E>],
@@ -126,7 +126,7 @@ fn meet_at<R: AllocGlobal + Clock + Sync + Threads + Wait, E: Ending + Send>(
 }
 
 impl Context<'_> {
-    /// Has the two sessions of a letter meet at the put that a row spells, and answers that they did; fails where one waited too long.
+    /// Has the two sessions of a letter meet at the put that a row spells, and answers that they did. Fails if one waited too long.
     pub fn meet<R: AllocGlobal + Clock + Sync + Threads + Wait, E: Ending + Send>(
         &self,
         rt: &R,

@@ -11,7 +11,7 @@ use std::sync::Wait;
 use std::thread::Threads;
 use std::time::Clock;
 
-/// The surroundings of a row: what rows are answered by, and all lines of their file.
+/// What the answers to rows need, and all lines of their file.
 #[derive(Clone, Copy)]
 pub struct Context<'a> {
     pub alloc: Global,
@@ -20,24 +20,24 @@ pub struct Context<'a> {
     pub rows: &'a str,
 }
 
-/// Returns what is in front of the first blank, and what is behind it: nothing where there is none.
+/// Returns what comes before the first space, and what comes after it, which is empty if there is none.
 pub fn halves(text: &str) -> (&str, &str) {
     text.split_once(' ').unwrap_or((text, ""))
 }
 
-/// The tag, the capacity and the number of sessions that a row spells.
+/// Returns the tag, the capacity and the number of sessions that a row spells.
 fn sizes(row: &str) -> Result<(u64, u32, u8)> {
     let (tag, row) = halves(row);
     let (capacity, sessions) = halves(row);
     Ok((tag.parse()?, capacity.parse()?, sessions.parse()?))
 }
 
-/// Whether a line is a row: it is not empty, and neither begins a case nor gives a text a name.
+/// Returns whether a line is a row: it is not empty, begins no case, and names no text.
 fn is_row(line: &str) -> bool {
     !(line.is_empty() || line.starts_with('#') || line.starts_with("text "))
 }
 
-/// The line as it is printed: behind a mark where it is a row.
+/// Returns the line as it is printed: after a mark if it is a row.
 fn headed(alloc: Global, text: &str) -> Answer {
     if is_row(text) {
         return marked(alloc, "> ", text);
@@ -45,7 +45,7 @@ fn headed(alloc: Global, text: &str) -> Answer {
     line(alloc, text)
 }
 
-/// How often the row of a line is made, and the row.
+/// Returns the number of turns of a line, and its row.
 fn turns(line: &str) -> (u32, &str) {
     let (word, rest) = halves(line);
     match word.parse() {
@@ -55,7 +55,7 @@ fn turns(line: &str) -> (u32, &str) {
 }
 
 impl<'a> Context<'a> {
-    /// Returns the text that the file has under a name, and the empty one under none; fails where it has none.
+    /// Returns the text that the file has under a name, or the empty one without a name. Fails if there is none.
     pub fn text(&self, name: &str) -> Result<&'a str> {
         if name.is_empty() {
             return Ok("");
@@ -71,7 +71,7 @@ impl<'a> Context<'a> {
 }
 
 impl Context<'_> {
-    /// Opens a database of a tag, for so many entries and so many sessions.
+    /// Opens a database with the tag, the capacity and the number of sessions that a row spells.
     fn open<E: Ending>(&self, ending: E, case: &mut Case<E>, row: &str) -> Answer {
         let (tag, capacity, count) = sizes(row)?;
         let (db, sessions) = Db::open(self.alloc, ending, tag, capacity, count)?;
@@ -79,7 +79,7 @@ impl Context<'_> {
         line(self.alloc, "opened")
     }
 
-    /// Closes a database with the sessions that one has left, or with none; answers how many entries its history has.
+    /// Closes a database with the sessions that one has left, or with none. Returns the number of entries of its history.
     fn close<R: Wait, E: Ending>(&self, rt: &R, case: &mut Case<E>, row: &str) -> Answer {
         let (closed, others) = halves(row);
         let db = case.take_db(closed)?;
@@ -88,7 +88,7 @@ impl Context<'_> {
         counted(self.alloc, history.entries().len(), "entries")
     }
 
-    /// What a row is answered.
+    /// Returns the answer to a row.
     fn answer<R>(&self, rt: R, case: &mut Case<Waiting<R>>, row: &str) -> Answer
     where
         R: AllocGlobal + Clock + Copy + Send + Sync + Threads + Wait,
@@ -107,7 +107,7 @@ impl Context<'_> {
         }
     }
 
-    /// What a row is answered at a turn, or why it is refused.
+    /// Returns the answer to a row at a turn, or why it is refused.
     fn answer_at<R>(&self, rt: R, case: &mut Case<Waiting<R>>, row: &str, turn: u32) -> Answer
     where
         R: AllocGlobal + Clock + Copy + Send + Sync + Threads + Wait,
@@ -120,7 +120,7 @@ impl Context<'_> {
         }
     }
 
-    /// What a line is answered at each of so many turns; fails where two are answered differently.
+    /// Returns the answer to all turns of a line. Fails if two answers differ.
     fn answer_turns<R>(&self, rt: R, case: &mut Case<Waiting<R>>, line: &str) -> Answer
     where
         R: AllocGlobal + Clock + Copy + Send + Sync + Threads + Wait,
@@ -135,7 +135,7 @@ impl Context<'_> {
         Ok(first)
     }
 
-    /// Writes a line, and below a row what it is answered.
+    /// Writes a line, and below a row its answer.
     fn show_line<R>(
         &self,
         rt: R,
@@ -153,7 +153,7 @@ impl Context<'_> {
         Ok(())
     }
 
-    /// Writes each line of the file, and below a row what it is answered.
+    /// Writes each line of the file, and below a row its answer.
     pub fn show_rows<R>(&self, rt: R, out: &mut Vec<u8>) -> Result<()>
     where
         R: AllocGlobal + Clock + Copy + Send + Sync + Threads + Wait,

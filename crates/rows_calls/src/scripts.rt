@@ -1,4 +1,4 @@
-//! Scripts, which the sessions of a database make on threads, and where their Asks pause.
+//! Scripts, which the sessions of a database make on threads, and the stages at which their asks pause.
 use crate::answers::Answer;
 use crate::cases::{Case, Opened};
 use crate::gauges::Gauges;
@@ -17,7 +17,7 @@ use std::sync::atomic::Ordering::SeqCst;
 use std::thread::Threads;
 use std::time::Clock;
 
-/// How often session 0 came to a stage of an Ask, and how often the solver had been called when it came there last.
+/// The number of times that session 0 came to a stage of an ask, and the number of calls of the solver when it last did.
 #[derive(Drop)]
 struct Mark {
     came: AtomicU64,
@@ -32,7 +32,7 @@ impl Mark {
         }
     }
 
-    /// What is noted, between the name of the stage and an end.
+    /// Returns what is noted, between the name of the stage and an end.
     fn told(&self, alloc: Global, stage: &str, end: &str) -> Answer {
         let came = self.came.load(SeqCst);
         let solved = self.solved.load(SeqCst);
@@ -42,8 +42,8 @@ impl Mark {
     }
 }
 
-/// Where sessions are held up: session 0 at a stage of an Ask until the other sessions have begun so many Asks, and each of the others, where
-/// it has begun one, until session 0 has come to that stage and they all have begun so many.
+/// Where sessions are held up: session 0 at a stage of an ask until the other sessions have begun `first_awaits` asks; and each of the
+/// others, after it has begun one, until session 0 has come to that stage and they all have begun `others_await`.
 #[derive(Clone, Copy)]
 struct Hold {
     stage: Stage,
@@ -52,7 +52,7 @@ struct Hold {
 }
 
 impl Hold {
-    /// The one that words spell; none where there are no words.
+    /// Returns what some words spell, or `None` for no words.
     fn read(words: &str) -> Result<Option<Hold>> {
         let (stage, counts) = halves(words);
         let stage = match stage {
@@ -70,7 +70,7 @@ impl Hold {
     }
 }
 
-/// A gate that notes where session 0 comes, and may hold sessions up.
+/// A `Gate` that notes where session 0 comes, and may hold up sessions.
 #[derive(Drop)]
 struct Turnstile<'a, R> {
     rt: &'a R,
@@ -83,7 +83,7 @@ struct Turnstile<'a, R> {
 }
 
 impl<'a, R: Clock> Turnstile<'a, R> {
-    /// One that holds sessions up so, or nobody.
+    /// Returns a turnstile that holds up sessions like this, or nobody.
     fn new(rt: &'a R, gauges: &'a Gauges, hold: Option<Hold>) -> Turnstile<'a, R> {
         Turnstile {
             rt,
@@ -96,7 +96,7 @@ impl<'a, R: Clock> Turnstile<'a, R> {
         }
     }
 
-    /// What is noted of a stage.
+    /// Returns what is noted for a stage.
     fn mark(&self, stage: Stage) -> &Mark {
         match stage {
             Stage::Begun => &self.begun,
@@ -104,7 +104,7 @@ impl<'a, R: Clock> Turnstile<'a, R> {
         }
     }
 
-    /// Session 0 is at a stage.
+    /// Notes session 0 at a stage, and may hold it up.
     fn hold_first(&self, stage: Stage) {
         let mark = self.mark(stage);
         mark.solved.store(self.gauges.solve.calls(), SeqCst);
@@ -117,7 +117,7 @@ impl<'a, R: Clock> Turnstile<'a, R> {
         }
     }
 
-    /// Another session has begun an Ask.
+    /// Notes an ask of another session, and may hold it up.
     fn hold_other(&self) {
         self.begun_beside.fetch_add(1, SeqCst);
         if let Some(hold) = self.hold {
@@ -127,7 +127,7 @@ impl<'a, R: Clock> Turnstile<'a, R> {
         }
     }
 
-    /// What is noted; fails where a session waited too long.
+    /// Returns what is noted. Fails if a session waited too long.
     fn marks(&self, alloc: Global) -> Answer {
         self.patience.is_kept()?;
         let mut marks = self.begun.told(alloc, "begun", "; ")?;
@@ -155,7 +155,7 @@ fn write_end(end: End, out: &mut Vec<u8>) -> Result<()> {
     Ok(())
 }
 
-/// Gives sessions back, and returns how the script of each ended.
+/// Puts sessions back, and returns how the script of each ended.
 fn ends<E: Ending>(
     alloc: Global,
     ran: Vec<(Session<E>, End)>,
@@ -170,7 +170,7 @@ fn ends<E: Ending>(
 }
 
 impl Context<'_> {
-    /// The script of the calls that a row spells, with a semicolon and a blank between two.
+    /// Returns the script of the calls that a row spells, with a semicolon and a space between each two.
     fn script(&self, row: &str) -> Result<Script> {
         let mut calls = Vec::new(self.alloc);
         for call in row.split(';') {
@@ -188,7 +188,7 @@ impl Context<'_> {
     }
 }
 
-/// Has each session make the calls of its script, on a thread of its own. Gives them back, each with how that ended.
+/// Has each session make the calls of its script, on a thread of its own. Returns the sessions, each with how its script ended.
 fn make_scripts<R: AllocGlobal + Clock + Sync + Threads + Wait, E: Ending + Send>(
     rt: &R,
     context: &Context<'_>,
@@ -210,7 +210,7 @@ fn make_scripts<R: AllocGlobal + Clock + Sync + Threads + Wait, E: Ending + Send
     }
 }
 
-/// Has sessions make their scripts, held up or not, and answers how each ended, and where session 0 came.
+/// Has sessions make their scripts, held up or not. Returns how each ended, and where session 0 came.
 fn run_held<R: AllocGlobal + Clock + Sync + Threads + Wait, E: Ending + Send>(
     rt: &R,
     context: &Context<'_>,
@@ -225,7 +225,7 @@ fn run_held<R: AllocGlobal + Clock + Sync + Threads + Wait, E: Ending + Send>(
 }
 
 impl Context<'_> {
-    /// Has the sessions of a letter make their scripts, and answers how each ended, and where session 0 came.
+    /// Has the sessions of a letter make their scripts. Returns how each ended, and where session 0 came.
     pub fn run<R: AllocGlobal + Clock + Sync + Threads + Wait, E: Ending + Send>(
         &self,
         rt: &R,

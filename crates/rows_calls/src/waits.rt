@@ -5,24 +5,24 @@ use std::sync::atomic::Ordering::SeqCst;
 use std::thread;
 use std::time::{Clock, Duration};
 
-/// How many turns of a millisecond a wait may take before it is given up.
+/// The most turns of a wait, each of one millisecond.
 const MOST_TURNS: u32 = 10_000;
 
-/// The count of the waits that were given up; once there is one, nobody waits any more.
+/// The number of waits that were given up. Once there is one, nobody waits any more.
 #[derive(Drop)]
 pub struct Patience {
     late: AtomicU64,
 }
 
 impl Patience {
-    /// Returns a count of waits of which none was given up.
+    /// Returns a count without any wait that was given up.
     pub fn new() -> Patience {
         Patience {
             late: AtomicU64::new(0),
         }
     }
 
-    /// Waits until something was done so often, or gives the wait up.
+    /// Waits until something was done this many times, or gives up.
     pub fn hold<C: Clock>(&self, clock: &C, done: &AtomicU64, times: u64) {
         for _turn in 0..MOST_TURNS {
             if done.load(SeqCst) >= times || self.late.load(SeqCst) > 0 {
@@ -33,7 +33,7 @@ impl Patience {
         self.late.fetch_add(1, SeqCst);
     }
 
-    /// Fails where a wait was given up.
+    /// Fails if a wait was given up.
     pub fn is_kept(&self) -> Result<()> {
         if self.late.load(SeqCst) > 0 {
             bail!("a session waited too long");

@@ -1,8 +1,8 @@
-//! Which bodies keep the typing rules over the headers of their children: `children.txt`, rows of declarations, a body `f` and its
+//! The bodies that keep the typing rules over the headers of their children: `children.txt`, rows of declarations, a body `f` and its
 //! children `f/K`, at most two, ascending.
 //!
-//! Below a row stands the place where a rule fails first, or what the points of the body demand of regions, each with the longer
-//! region and then the shorter by their numbers.
+//! Below a row comes the place where the body first breaks a rule, or what its points demand of regions: pairs of numbers, the longer
+//! region first.
 ghost use Rattle.std.specs.Prelude.{◌≡◌, ⊤, map, MatchOption};
 ghost use Rattle.bc_syntax.specs.Children.{children_of};
 
@@ -25,7 +25,7 @@ struct Child {
     unit: Unit,
 }
 
-/// The number of the child that a header puts, if it puts one.
+/// Returns the number of the child that a header puts, if it puts one.
 fn child_number(header: &str) -> Option<u8> {
     let name = Name::read(header.strip_prefix("put ")?.as_bytes())?;
     match name.segments() {
@@ -34,7 +34,7 @@ fn child_number(header: &str) -> Option<u8> {
     }
 }
 
-/// The children of a row; `InvalidData` where the text of one is not read.
+/// Returns the children of a row. Returns `InvalidData` if the text of one cannot be read.
 fn children_in(alloc: Global, sections: &str) -> io::Result<Vec<Child>> {
     let mut children = Vec::new(alloc);
     for section in sections.split('@').skip(1) {
@@ -49,7 +49,7 @@ fn children_in(alloc: Global, sections: &str) -> io::Result<Vec<Child>> {
     Ok(children)
 }
 
-/// What typing has to know of a child; `None` where it is no closure, or its number too great.
+/// Returns what typing has to know about a child, or `None` if it is no closure or its number is too great.
 fn kid_of(child: &Child) -> Option<KidHeader<'_>>
     ensures { MatchOption result ⊤ (λ kid. kid.number ≡ child.now.number) }
 {
@@ -69,7 +69,7 @@ fn show_typed<W: Write>(alloc: Global, typed: &Typed, out: &mut W) -> io::Result
     show_demands(&facts, out)
 }
 
-/// Shows what a body over its children demands, or where it breaks a rule.
+/// Writes what a body over its children demands, or where it breaks a rule.
 fn show_over<W: Write>(
     alloc: Global,
     types: &Arc<GoodTypes, Global>,
@@ -87,7 +87,7 @@ fn show_over<W: Write>(
     }
 }
 
-/// Shows a body with one child; `InvalidData` where it has others.
+/// Writes a body with one child. Returns `InvalidData` if it has others.
 fn show_with_one<W: Write>(
     alloc: Global,
     types: &Arc<GoodTypes, Global>,
@@ -110,7 +110,7 @@ fn show_with_one<W: Write>(
     }
 }
 
-/// Shows a body with two children; `InvalidData` where it has others.
+/// Writes a body with two children. Returns `InvalidData` if it has others.
 fn show_with_two<W: Write>(
     alloc: Global,
     types: &Arc<GoodTypes, Global>,
@@ -137,7 +137,7 @@ fn show_with_two<W: Write>(
     }
 }
 
-/// Shows a body with these children; `InvalidData` where they are not its own.
+/// Writes a body with these children. Returns `InvalidData` if they are not its own.
 fn show_with<W: Write>(
     alloc: Global,
     types: &Arc<GoodTypes, Global>,
@@ -159,7 +159,7 @@ fn show_with<W: Write>(
     }
 }
 
-/// Shows a body over the children of a row; `InvalidData` where they are not its own.
+/// Writes a body over the children of a row. Returns `InvalidData` if they are not its own.
 fn show_unit<W: Write>(
     alloc: Global,
     types: &Arc<GoodTypes, Global>,
@@ -171,7 +171,7 @@ fn show_unit<W: Write>(
     show_with(alloc, types, unit, &children, out)
 }
 
-/// Shows the body of a row over its children.
+/// Writes the body of a row over its children.
 fn show_body<W: Write>(
     alloc: Global,
     types: &Arc<GoodTypes, Global>,
@@ -182,7 +182,7 @@ fn show_body<W: Write>(
     show_unit(alloc, types, &unit, sections, out)
 }
 
-/// Shows a row: the body over its declarations and its children.
+/// Writes a row: its name, and the body over its declarations and children.
 fn show_row<W: Write>(alloc: Global, row: &str, out: &mut W) -> io::Result<()> {
     let (name, sections) = named(row);
     writeln!(out, "#{name}")?;
@@ -190,8 +190,8 @@ fn show_row<W: Write>(alloc: Global, row: &str, out: &mut W) -> io::Result<()> {
     show_body(alloc, &types, sections, out)
 }
 
-/// Shows of each row of `children.txt` what its body demands over its children, or where it breaks a rule. It fails where the file
-/// cannot be read or `out` cannot be written, where the children are not those of the body, and where memory is refused.
+/// Writes, for each row of `children.txt`, what its body demands over its children, or where it breaks a rule. Fails if the file cannot be
+/// read or `out` cannot be written, if the children are not those of the body, or if memory runs out.
 pub fn show_children<W: Write>(rt: &HostRuntime, out: &mut W) -> io::Result<()> {
     let text = fs::read_to_string(rt, "children.txt")?;
     for row in text.split('#').skip(1) {

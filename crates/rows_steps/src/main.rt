@@ -1,5 +1,5 @@
-//! What each step of the analysis finds in bodies, and which bodies keep the typing rules over their children. It stands below the
-//! database, so that it is proved beside it.
+//! Prints what each step of the analysis finds in bodies, and which bodies keep the typing rules over their children. The crate is below
+//! the database, so the two are proved side by side.
 #![tactic(auto)]
 
 mod children;

@@ -1,9 +1,8 @@
 //! What each step of the analysis finds in bodies: `steps.txt`, rows of declarations and a body.
 //!
-//! Below a row stand the points with their accesses, the edges between points, and then by number: the points before which a local
-//! is live, the demands between regions (the longer, then the shorter), the elements of a region's value, the loans with the point
-//! that makes each and its region, the loans in scope before a point, the regions that a universal one is known to outlive, and
-//! the errors, each with its chain.
+//! Below a row come the points with their accesses, the edges between points, and then, by number: the points before which a local is live,
+//! the demands between regions (the longer one first), the elements of a region's value, the loans with the point that makes each and its
+//! region, the loans in scope before a point, the regions that a universal one is known to outlive, and the errors, each with its chain.
 ghost use Rattle.std.specs.Prelude.{◌≡◌, [], map, IfOk};
 ghost use Rattle.bc_bodies.specs.declared.children.Child.{Child as AChild};
 ghost use Rattle.bc_solve.specs.Values.{AreValues};
@@ -26,7 +25,7 @@ use std::sync::Arc;
 use std::{fs, io};
 use test_fixtures::{good_types, typed_alone};
 
-/// Writes those of the first numbers that something has: `live 2: 0 4`.
+/// Writes the numbers below `count` that something has, such as `live 2: 0 4`.
 fn show_numbers<W: Write, F: Fn(usize) -> bool>(
     out: &mut W,
     what: &str,
@@ -122,7 +121,7 @@ fn show_loan<W: Write>(
     )
 }
 
-/// Shows the loans, and answers how many there are.
+/// Writes the loans, and returns their number.
 fn show_loans<W: Write>(alloc: Global, typed: &Typed, out: &mut W) -> io::Result<usize> {
     let made = loans(alloc, typed)?;
     for (number, (maker, loan)) in made.iter().enumerate() {
@@ -221,7 +220,7 @@ fn no_requirements(alloc: Global, child: &Child) -> (u8, Requirements)
     (child.number, Requirements { pairs })
 }
 
-/// No requirement of any child.
+/// Returns empty requirements for each child.
 fn without_requirements(
     alloc: Global,
     children: &[Child],
@@ -234,7 +233,7 @@ fn without_requirements(
         .collect(alloc)
 }
 
-/// What the values are made from, where no child requires anything.
+/// Returns the facts from which the values are found, if no child requires anything.
 pub(crate) fn facts_of(alloc: Global, typed: &Typed, live: &LiveSets) -> Result<Facts, AllocError> {
     let kids = without_requirements(alloc, typed.children())?;
     constraints(alloc, typed, live, &kids)
@@ -248,7 +247,7 @@ fn show_body<W: Write>(alloc: Global, typed: &Typed, out: &mut W) -> io::Result<
     show_from_facts(alloc, typed, &facts, out)
 }
 
-/// The declarations of a row; `InvalidData` where they are not read or one is bad.
+/// Returns the declarations of a row. Returns `InvalidData` if they cannot be read or one is bad.
 pub(crate) fn declared(alloc: Global, sections: &str) -> io::Result<Arc<GoodTypes, Global>> {
     match good_types(alloc, text_under(sections, "types")) {
         Ok(types) => Ok(types),
@@ -256,7 +255,7 @@ pub(crate) fn declared(alloc: Global, sections: &str) -> io::Result<Arc<GoodType
     }
 }
 
-/// The body of a row; `InvalidData` where it is not read.
+/// Returns the body of a row. Returns `InvalidData` if it cannot be read.
 pub(crate) fn body_of(alloc: Global, sections: &str) -> io::Result<Unit> {
     match read_unit(alloc, text_under(sections, "put f")) {
         Ok(unit) => Ok(unit),
@@ -264,7 +263,7 @@ pub(crate) fn body_of(alloc: Global, sections: &str) -> io::Result<Unit> {
     }
 }
 
-/// A body over declarations; `InvalidData` where it has children or breaks a typing rule.
+/// Returns a body over declarations, typed. Returns `InvalidData` if it has children or breaks a typing rule.
 fn typed_unit(alloc: Global, types: &Arc<GoodTypes, Global>, unit: &Unit) -> io::Result<Typed> {
     match typed_alone(alloc, types, unit) {
         Ok(typed) => Ok(typed),
@@ -272,13 +271,13 @@ fn typed_unit(alloc: Global, types: &Arc<GoodTypes, Global>, unit: &Unit) -> io:
     }
 }
 
-/// The body of a row over declarations; `InvalidData` as `body_of` and `typed_unit`.
+/// Returns the body of a row over declarations, typed. Returns `InvalidData` as `body_of` and `typed_unit` do.
 fn typed_body(alloc: Global, types: &Arc<GoodTypes, Global>, sections: &str) -> io::Result<Typed> {
     let unit = body_of(alloc, sections)?;
     typed_unit(alloc, types, &unit)
 }
 
-/// The body of a row over its declarations; `InvalidData` as `declared` and `typed_body`.
+/// Returns the body of a row over its declarations, typed. Returns `InvalidData` as `declared` and `typed_body` do.
 fn typed(alloc: Global, sections: &str) -> io::Result<Typed> {
     let types = declared(alloc, sections)?;
     typed_body(alloc, &types, sections)
@@ -291,8 +290,8 @@ fn show_row<W: Write>(alloc: Global, row: &str, out: &mut W) -> io::Result<()> {
     show_body(alloc, &typed, out)
 }
 
-/// Shows what each step of the analysis finds in the body of each row of `steps.txt`. It fails where that cannot be read or `out`
-/// cannot be written, where a row's body does not keep the typing rules, and where memory is refused.
+/// Writes what each step of the analysis finds in the body of each row of `steps.txt`. Fails if the file cannot be read or `out` cannot be
+/// written, if a row's body breaks a typing rule, or if memory runs out.
 pub fn show_steps<W: Write>(rt: &HostRuntime, out: &mut W) -> io::Result<()> {
     let text = fs::read_to_string(rt, "steps.txt")?;
     for row in text.split('#').skip(1) {

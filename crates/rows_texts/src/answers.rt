@@ -1,5 +1,5 @@
-//! A row is a line: a word for what is asked, a blank, and a text (behind the word alone, the empty one). `name` asks which name the
-//! text is, `points` where the points begin of the unit that is read of it. Lines that begin with `#`, and empty ones, are no rows.
+//! A row is a line: a question, a space, and a text, which is empty after the question alone. `name` asks which name the text is, and
+//! `points` where the points of the unit that it spells begin. Lines that begin with `#`, and empty ones, are no rows.
 use crate::spelled::text_of;
 use anyhow::bail;
 use bc_names::Name;
@@ -8,7 +8,7 @@ use bc_text::ReadFault;
 use std::alloc::Global;
 use std::io::{self, Write};
 
-/// Writes why a text is not read, in the words of a report.
+/// Writes why a text cannot be read, in the words of a report.
 fn write_fault<W: Write>(fault: &ReadFault, out: &mut W) -> io::Result<()> {
     match fault {
         ReadFault::TooLong => writeln!(out, "too long"),

@@ -1,5 +1,5 @@
-//! Prints each line of the files that are named, and behind each row which name its text is, or where the points of its unit begin:
-//! the expected output has these answers. What units and declarations are answered is shown by `.ci/gate/rows`.
+//! Prints each line of the named files, and after each row which name its text is, or where the points of its unit begin. The expected
+//! output has these answers. `.ci/gate/rows` shows the answers to units and declarations.
 #![tactic(auto)]
 
 mod answers;

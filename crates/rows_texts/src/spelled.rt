@@ -1,5 +1,5 @@
-//! How a row spells its text: as it stands, but that between two `\` stands an escape. `\8 .*\` is `.*` eight times, and there
-//! `#` stands for the number of the turn, from 1; `\c3\` is the byte of that number in base 16.
+//! How a row spells its text: as it is, except that two `\` enclose an escape. `\8 .*\` is `.*` eight times, and there `#` is the number of
+//! the turn, from 1. `\c3\` is the byte of that number in base 16.
 use std::alloc::Global;
 use std::io::{self, Write};
 
@@ -14,7 +14,7 @@ fn push_turn(text: &mut Vec<u8>, turn: u32, piece: &str) -> io::Result<()> {
     Ok(())
 }
 
-/// Appends a piece so many times.
+/// Appends a piece `count` times.
 fn push_turns(text: &mut Vec<u8>, count: u32, piece: &str) -> io::Result<()> {
     for before in 0..count {
         push_turn(text, before.saturating_add(1), piece)?;
@@ -30,7 +30,7 @@ fn push_escape(text: &mut Vec<u8>, escape: &str) -> anyhow::Result<()> {
     Ok(())
 }
 
-/// Returns the text that is spelled so.
+/// Returns the text that is spelled like this.
 pub fn text_of(alloc: Global, spelled: &str) -> anyhow::Result<Vec<u8>> {
     let mut text = Vec::new(alloc);
     for (index, part) in spelled.split('\\').enumerate() {

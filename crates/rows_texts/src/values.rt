@@ -1,4 +1,4 @@
-//! What texts are read as: each form of a unit and of declarations once, and its value told part by part.
+//! What texts are read as: each form of a unit and of declarations once, and its value, checked part by part.
 use bc_fits::unit_of;
 use bc_syntax::{
     Base, Block, Body, ClosureInstance, Condition, Declaration, Header, Instance, Mutability,
@@ -45,12 +45,12 @@ fn is_instance(found: &Instance, name: &[u8], regions: &[Region]) -> bool {
     found.name.bytes.as_slice() == name && found.regions.as_slice() == regions
 }
 
-/// Whether a type is these references to `int`.
+/// Returns whether a type is `int` with these references to it.
 fn is_int(ty: &Ty, references: &[Reference]) -> bool {
     ty.references.as_slice() == references && matches!(ty.base, Base::Int)
 }
 
-/// Whether a type is these references to this struct.
+/// Returns whether a type is this struct with these references to it.
 fn is_struct(ty: &Ty, references: &[Reference], name: &[u8], regions: &[Region]) -> bool {
     match &ty.base {
         Base::Struct(instance) => {
@@ -64,7 +64,7 @@ fn is_closure(found: &ClosureInstance, number: u8, regions: &[Region]) -> bool {
     found.number == number && found.regions.as_slice() == regions
 }
 
-/// Whether a type is this closure.
+/// Returns whether a type is this closure.
 fn is_whole_closure(ty: &Ty, number: u8, regions: &[Region]) -> bool {
     match &ty.base {
         Base::Closure(closure) => {
@@ -90,13 +90,13 @@ fn is_number(operand: &Operand, number: u32) -> bool {
     matches!(operand, Operand::Number(found) if *found == number)
 }
 
-/// Whether these are the names `'a` and `'b`.
+/// Returns whether these are the names `'a` and `'b`.
 fn are_a_and_b(regions: &[RegionName]) -> bool {
     matches!(regions, [first, second]
         if first.bytes.as_slice() == b"a".as_slice() && second.bytes.as_slice() == b"b".as_slice())
 }
 
-/// The value that a statement assigns, where it assigns to this place.
+/// Returns the value that a statement assigns, if it assigns to this place.
 fn assigned<'a>(
     statement: &'a Statement,
     local: u8,
@@ -343,25 +343,25 @@ fn are_the_declarations(declarations: &[Declaration]) -> bool {
     }
 }
 
-/// Whether the text is read as its unit.
+/// Returns whether the text is read as its unit.
 fn reads_unit(alloc: Global) -> Result<bool, ReadFault> {
     let unit = read_unit(alloc, UNIT)?;
     Ok(is_the_body(unit.body()))
 }
 
-/// Whether the text is read as its closure.
+/// Returns whether the text is read as its closure.
 fn reads_closure(alloc: Global) -> Result<bool, ReadFault> {
     let unit = read_unit(alloc, CLOSURE)?;
     Ok(is_body_of_a_closure(unit.body()))
 }
 
-/// Whether the text is read as its declarations.
+/// Returns whether the text is read as its declarations.
 fn reads_types(alloc: Global) -> Result<bool, ReadFault> {
     let types = read_types(alloc, TYPES)?;
     Ok(are_the_declarations(types.declarations()))
 }
 
-/// Reads again where the first reading was refused, as where there was no memory.
+/// Reads again if the first reading was refused, as when it ran out of memory.
 #[test]
 fn a_text_is_read_as_its_unit(rt: HostRuntime) -> Result<(), Fail> {
     let reads = match reads_unit(rt.alloc()) {
@@ -372,7 +372,7 @@ fn a_text_is_read_as_its_unit(rt: HostRuntime) -> Result<(), Fail> {
     Ok(())
 }
 
-/// Reads again where the first reading was refused, as where there was no memory.
+/// Reads again if the first reading was refused, as when it ran out of memory.
 #[test]
 fn a_text_is_read_as_its_closure(rt: HostRuntime) -> Result<(), Fail> {
     let reads = match reads_closure(rt.alloc()) {
@@ -383,7 +383,7 @@ fn a_text_is_read_as_its_closure(rt: HostRuntime) -> Result<(), Fail> {
     Ok(())
 }
 
-/// Reads again where the first reading was refused, as where there was no memory.
+/// Reads again if the first reading was refused, as when it ran out of memory.
 #[test]
 fn a_text_is_read_as_its_declarations(rt: HostRuntime) -> Result<(), Fail> {
     let reads = match reads_types(rt.alloc()) {
@@ -394,7 +394,7 @@ fn a_text_is_read_as_its_declarations(rt: HostRuntime) -> Result<(), Fail> {
     Ok(())
 }
 
-/// A header without `let` locals and blocks.
+/// Returns a body with this header, without `let` locals and blocks.
 fn without_blocks(alloc: Global, header: Header) -> Body {
     Body {
         header,

@@ -1,7 +1,6 @@
-//! Files of `check` whose reads and writes fail in turn, and what is left of them where none does.
+//! A file of `check`, its reports, and command lines for it.
 
-/// A borrow that ends before its local is written again, put under three names of which one is no root, and behind a
-/// declaration.
+/// A file that puts a borrow that ends before its local is written again, under three names, one of which is no root, after a declaration.
 pub const FILE: &[u8] =
     b"@types\nstruct S { int; }\n@put g\nfn () -> int { let _1: int; let _2: &'?0 int; bb0 { _1 = 1; _2 = &'?1 _1; _0 = copy _2.*; _1 = 2; return; } }\n@put f/0\nfn()->int{bb0{return;}}\n@put f\n\nfn()->int{bb0{_0=1;return;}}\n@put g\nfn()->int{bb0{_0=1;return;}}";
 
@@ -12,12 +11,12 @@ pub const JSON_REPORTS: &[u8] =
 
 pub const REFUSED: &[u8] = b"put f/0 wrongkind\n";
 
-/// The words of a check with reports as text, and as JSON.
+/// The words of a check with text output, and with JSON.
 pub const TEXT: &[&str] = &["check", "demo"];
 
 pub const JSON: &[&str] = &["check", "--json", "demo"];
 
-/// The words of a check with reports as text, by one job and by four.
+/// The words of a check with text output, with one job and with four.
 pub const ONE_JOB: &[&str] = &["check", "--jobs", "1", "demo"];
 
 pub const FOUR_JOBS: &[&str] = &["check", "--jobs", "4", "demo"];

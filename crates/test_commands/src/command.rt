@@ -1,4 +1,4 @@
-//! What a command leaves over readers and writers in memory.
+//! Running a command over readers and writers in memory.
 use bc_prov::Providers;
 use cli_check::check_over;
 use cli_line::{Line, read_line};
@@ -10,7 +10,7 @@ use std::sync::Wait;
 use std::thread::Threads;
 use test_devices::{Devices, Input, Left, Output};
 
-/// The line of these words.
+/// Returns the command line of these words.
 fn line_of(alloc: Global, words: &[&str]) -> io::Result<Line> {
     match read_line(alloc, words) {
         Ok(line) => Ok(line),
@@ -18,9 +18,8 @@ fn line_of(alloc: Global, words: &[&str]) -> io::Result<Line> {
     }
 }
 
-/// Runs the command of these words on this file over these devices, with these providers, as the program runs it, and returns what
-/// it leaves: what it prints behind a buffer, of which what is not written is dropped, and with status 3 where standard error
-/// fails.
+/// Runs the command of these words on this file over these devices, with these providers, as the program runs it, and returns what it
+/// leaves. The output is buffered, and what the buffer still holds at the end is dropped. The status is 3 if standard error fails.
 pub fn leave_with<R: AllocGlobal + Threads + Wait + Sync>(
     rt: &R,
     providers: &Providers,

@@ -1,4 +1,4 @@
-//! `check` and `run` over readers and writers of which each call fails in turn.
+//! `check` and `run` over readers and writers, with each call failing in turn.
 use crate::command::leave_with;
 use crate::{checks, runs};
 use bc_analyses::providers;
@@ -11,12 +11,12 @@ use test_devices::{
 };
 use test_fixtures::want_memory;
 
-/// A body that writes what is borrowed.
+/// A body that writes a local while it is borrowed.
 const CONFLICT: &[u8] =
     b"@put f\nfn () -> int { let _1: int; let _2: &'?0 int; bb0 { _1 = 1; _2 = &'?1 _1; _1 = 2; _0 = copy _2.*; return; } }\n";
 
-/// Of `check`: files with an error, with a put that stores nothing, with a fault and with nothing, some with the reports as text and as JSON,
-/// and some of which an Ask is refused: the first, and the second, with four jobs and with one.
+/// Cases of `check`: files with an error, with a put that stores nothing, with a fault, and empty. Some are printed as text and as JSON,
+/// and in some an ask is out of memory: the first one, and the second one, with four jobs and with one.
 const CHECKS: [Case<'static>; 10] = [
     Case {
         words: checks::TEXT,
@@ -110,8 +110,8 @@ const CHECKS: [Case<'static>; 10] = [
     },
 ];
 
-/// Of `run`: files without an error, with one, with a fault and with nothing, and one whose session does not end, some with the history
-/// as text and as JSON.
+/// Cases of `run`: files without an error, with one, with a fault, and empty, and one whose session stops. Some are printed as text and as
+/// JSON.
 const RUNS: [Case<'static>; 7] = [
     Case {
         words: runs::ONE,
@@ -178,7 +178,7 @@ const RUNS: [Case<'static>; 7] = [
     },
 ];
 
-/// What the command leaves of a case over these devices.
+/// Returns what the command of a case leaves over these devices.
 fn leave_case<R: AllocGlobal + Threads + Wait + Sync>(
     rt: &R,
     case: &Case<'_>,
@@ -201,8 +201,8 @@ fn each_read_fails_in_turn(rt: HostRuntime) -> Result<(), Fail> {
     Ok(())
 }
 
-/// Each write and each flush fails in turn: of a device that sees each write at once, of one behind a buffer that is
-/// emptied on the way, and of one behind a buffer that is emptied once.
+/// Lets each write and each flush fail in turn: of a device that sees each write at once, of one whose buffer is emptied in between, and of
+/// one whose buffer is emptied once.
 #[test]
 fn each_write_fails_in_turn(rt: HostRuntime) -> Result<(), Fail> {
     for (number, case) in CHECKS.iter().chain(RUNS.iter()).enumerate() {
@@ -214,9 +214,8 @@ fn each_write_fails_in_turn(rt: HostRuntime) -> Result<(), Fail> {
     Ok(())
 }
 
-/// Each write on standard error fails in turn: of the line of a put, of the line of a fault, and of the line of a session that did not
-/// end. Where the line of a put failed `check` has printed nothing, and where its last line did what it printed till then; `run` has printed
-/// its history.
+/// Lets each write on standard error fail in turn: of the line of a put, of a fault, and of a session that stopped. If the line of a put
+/// fails, `check` has printed nothing; if its last line fails, it has printed all before that. `run` has printed its history.
 #[test]
 fn each_line_fails_in_turn(rt: HostRuntime) -> Result<(), Fail> {
     for (number, case) in CHECKS.iter().enumerate() {

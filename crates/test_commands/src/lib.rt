@@ -1,5 +1,5 @@
-//! Tests of `check` and of `run` over readers and writers in memory, also such as fail at one call, of the line of each stop, and of a report
-//! that no file brings about.
+//! Tests of `check` and `run` over readers and writers in memory, which may fail at one call; of the line of each stop; and of a report
+//! that no file can cause.
 #![tactic(auto)]
 
 #[cfg(test)]

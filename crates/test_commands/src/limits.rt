@@ -1,7 +1,7 @@
-//! The line and the status of each stop, and how many calls a file makes.
+//! The line and status of each stop, and the number of calls that a file may make.
 use cli_file::{FaultKind, FileFault, Stop, find_capacity, stop_with};
 
-/// Whether a stop has this line on standard error, and this status.
+/// Returns whether a stop has this line on standard error, and this status.
 fn is_told(rt: &HostRuntime, stop: &Stop, line: &[u8], status: u8) -> bool {
     let mut err = Vec::new(rt.alloc());
     let found = stop_with("demo", stop, &mut err);

@@ -1,4 +1,5 @@
-//! Two sessions of `run`, and two asks of `check`, that are inside a provider at once, and how many bodies `check` works on before it prints.
+//! Two sessions of `run`, and two asks of `check`, that are in a provider at the same time; and how many bodies `check` works on before it
+//! prints.
 use crate::checks::{FOUR_JOBS, ONE_JOB};
 use crate::command::leave_with;
 use crate::runs::TWO;
@@ -13,17 +14,17 @@ use std::thread;
 use std::time::{Clock, Duration};
 use test_devices::{Devices, SOUND};
 
-/// Each of two sessions puts a body of its own and asks for it.
+/// A file in which each of two sessions puts a body and asks for it.
 const CALLS: &[u8] =
     b"@0 put f\nfn()->int{bb0{_0=1;return;}}\n@0 ask f\n@1 put g\nfn()->int{bb0{_0=1;return;}}\n@1 ask g\n";
 
-/// Two bodies, each of which `check` asks for.
+/// A file with two bodies, for each of which `check` asks.
 const PUTS: &[u8] = b"@put f\nfn()->int{bb0{_0=1;return;}}\n@put g\nfn()->int{bb0{_0=1;return;}}\n";
 
-/// How many turns of a millisecond one waits at most.
+/// The most milliseconds for which one waits.
 const MOST_TURNS: u32 = 10_000;
 
-/// How many have come to the solver, and how many waited there in vain.
+/// The number of calls of the solver, and of those that waited there in vain.
 #[derive(Drop)]
 struct Meeting {
     came: AtomicU32,
@@ -38,7 +39,7 @@ impl Meeting {
         }
     }
 
-    /// Comes to the solver, and waits there until the other one of two has come.
+    /// Waits in the solver until the other one of two has come.
     fn meet<C: Clock>(&self, clock: &C) {
         let before = self.came.fetch_add(1, SeqCst);
         for _turn in 0..MOST_TURNS {
@@ -51,7 +52,7 @@ impl Meeting {
     }
 }
 
-/// Catches sessions of `run` that make their calls one after another, and a `check` with more than one job that works on its asks one after
+/// Catches sessions of `run` that make their calls one after another, and a `check` with several jobs that works on its asks one after
 /// another, or only as it settles them: each waits in its solver until the other is in its own.
 #[test]
 fn two_bodies_are_solved_at_once(rt: HostRuntime) -> Result<(), Fail> {
@@ -72,8 +73,8 @@ fn two_bodies_are_solved_at_once(rt: HostRuntime) -> Result<(), Fail> {
     Ok(())
 }
 
-/// Catches a `check` with one job that works on a body before it printed the report of the one before, and one with more that prints before it
-/// worked on all: the first write fails, and how many bodies were worked on by then is counted.
+/// Catches a `check` with one job that works on a body before it printed the report of the one before, and one with several jobs that
+/// prints before it worked on all. The first write fails, and the bodies that were worked on by then are counted.
 #[test]
 fn one_job_prints_each_report_before_it_works_on(rt: HostRuntime) -> Result<(), Fail> {
     let Ok(worked) = Arc::new(rt.alloc(), AtomicU32::new(0)) else {

@@ -1,4 +1,4 @@
-//! The JSON line of a report of no bodies, which no file brings about.
+//! The JSON line of a report without bodies, which no file can cause.
 use bc_json::json_report;
 use bc_prov::Outcome;
 use bc_syntax::Sequence;

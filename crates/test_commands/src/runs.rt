@@ -1,14 +1,14 @@
-//! A file of `run` whose reads and writes fail in turn, and what is left of it where none does.
+//! A file of `run`, its history, and command lines for it.
 
-/// The words of a run of one session, and of two.
+/// The words of a run with one session, and with two.
 pub const ONE: &[&str] = &["run", "demo"];
 
 pub const TWO: &[&str] = &["run", "demo", "--sessions", "2"];
 
-/// The words of a run of one session that prints the history as JSON.
+/// The words of a run with one session and the history as JSON.
 pub const ONE_JSON: &[&str] = &["run", "--json", "demo"];
 
-/// A body that is put and asked, and a name that is not held and is removed.
+/// A file that puts a body, asks for it, and removes a name that holds nothing.
 pub const FILE: &[u8] =
     b"@0 put f\nfn () -> int { let _1: int; let _2: &'?0 int; bb0 { _1 = 1; _2 = &'?1 _1; _0 = copy _2.*; _1 = 2; return; } }\n@0 ask f\n@0 remove g\n";
 

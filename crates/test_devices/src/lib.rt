@@ -5,7 +5,7 @@ use std::alloc::Global;
 use std::io;
 use std::io::{ErrorKind, Read, Write};
 
-/// A switch that makes a device fail at the call of one number, and at no other.
+/// A counter that makes a device fail at the call of one number, and at no other.
 #[derive(Clone, Copy)]
 pub struct Fuse {
     calls: u32,
@@ -18,7 +18,7 @@ impl Fuse {
         Fuse { calls: 0, fails_at }
     }
 
-    /// Returns how many calls there were.
+    /// Returns the number of calls so far.
     pub fn calls(&self) -> u32 {
         self.calls
     }
@@ -33,7 +33,7 @@ impl Fuse {
     }
 }
 
-/// A reader of so many bytes at a time. Where it fails, it says that the system has no memory, or anything else, in turn.
+/// A reader of a few bytes at a time. Its failure is `OutOfMemory` at a call with an odd number, and `Other` at one with an even number.
 #[derive(Drop)]
 pub struct Input<'a> {
     rest: &'a [u8],
@@ -42,7 +42,7 @@ pub struct Input<'a> {
 }
 
 impl<'a> Input<'a> {
-    /// Returns a reader of these bytes, which behaves as these devices say.
+    /// Returns a reader of these bytes, which behaves as `devices` says.
     pub fn new(bytes: &'a [u8], devices: Devices) -> Self {
         Input {
             rest: bytes,
@@ -51,7 +51,7 @@ impl<'a> Input<'a> {
         }
     }
 
-    /// Returns how many reads there were.
+    /// Returns the number of reads so far.
     pub fn calls(&self) -> u32 {
         self.fuse.calls()
     }
@@ -75,7 +75,7 @@ impl Read for Input<'_> {
     }
 }
 
-/// A writer that takes a few bytes at a time, and knows whether it was flushed since.
+/// A writer that takes a few bytes at a time, and knows whether it was flushed since then.
 #[derive(Drop)]
 pub struct Output {
     taken: Vec<u8>,
@@ -93,12 +93,12 @@ impl Output {
         }
     }
 
-    /// Returns whether the writer was flushed after all that it took.
+    /// Returns whether the writer was flushed after everything that it took.
     pub fn is_flushed(&self) -> bool {
         self.is_flushed
     }
 
-    /// Returns how many writes and flushes there were.
+    /// Returns the number of writes and flushes so far.
     pub fn calls(&self) -> u32 {
         self.fuse.calls()
     }
@@ -125,11 +125,10 @@ impl Write for Output {
     }
 }
 
-/// The number of no call.
+/// The number of a call that never comes.
 const NEVER: u32 = u32::MAX;
 
-/// The behaviour of the devices of a run: how many bytes are read at a time, how many the buffer of the reports holds, and at
-/// which call each device fails.
+/// How the devices of a run behave: the bytes of one read, the size of the output's buffer, and the call at which each device fails.
 #[derive(Clone, Copy)]
 pub struct Devices {
     pub chunk: usize,
@@ -148,8 +147,8 @@ pub const SOUND: Devices = Devices {
     tell: NEVER,
 };
 
-/// A file, what a command of these words has to leave of it where no device fails, and what it has to tell where standard output
-/// fails; with a solver that wants memory, or with that of the program.
+/// A file, what a command of these words has to leave if no device fails, and what it has to report if standard output fails.
+/// `wants_memory` says whether its solver always reports that it is out of memory.
 #[derive(Clone, Copy)]
 pub struct Case<'a> {
     pub words: &'a [&'a str],
@@ -161,7 +160,7 @@ pub struct Case<'a> {
     pub wants_memory: bool,
 }
 
-/// The result of a command: what it left, whether standard output was flushed last, and how many calls of each device it made.
+/// What a command left: its status and output, whether standard output was flushed last, and the number of calls of each device.
 #[derive(Drop)]
 pub struct Left {
     pub status: u8,
@@ -187,7 +186,7 @@ impl Left {
         }
     }
 
-    /// Returns whether the command ended with this status, and left this on its two writers.
+    /// Returns whether the command ended with this status, and left these bytes on its two writers.
     pub fn is(&self, status: u8, out: &[u8], err: &[u8]) -> bool {
         self.status == status && self.out.as_slice() == out && self.err.as_slice() == err
     }
@@ -197,8 +196,8 @@ impl Left {
         self.is(case.status, case.out, case.err) && (self.is_flushed || self.writes == 0)
     }
 
-    /// Returns whether the command could write no more, when it had reported this, and made no further call once this write or flush
-    /// had failed, and what it wrote till then is a beginning of this.
+    /// Returns whether the command reported `told` and stopped at once after this write or flush failed. What it wrote before has to be a
+    /// beginning of `whole`.
     pub fn stopped_at_write(&self, write: u32, whole: &[u8], told: &[u8]) -> bool {
         self.status == 3
             && self.err.as_slice() == told
@@ -206,8 +205,8 @@ impl Left {
             && self.writes == write.saturating_add(1)
     }
 
-    /// Returns whether the command made no further call on standard error once this one had failed, and reported a beginning of this till
-    /// then.
+    /// Returns whether the command stopped at once after this call on standard error failed. What it reported before has to be a beginning
+    /// of `told`.
     pub fn stopped_at_tell(&self, tell: u32, told: &[u8]) -> bool {
         self.status == 3
             && told.starts_with(self.err.as_slice())
@@ -215,8 +214,8 @@ impl Left {
     }
 }
 
-/// Returns whether a command leaves the case, and says that it cannot read once any one read fails. It is run over the devices that it is
-/// handed.
+/// Returns whether a command leaves what the case says, and reports that it cannot read if any one read fails. `run` runs it over the
+/// devices that it gets.
 pub fn stops_at_each_read<F: Fn(Devices) -> io::Result<Left>>(
     case: &Case<'_>,
     run: F,
@@ -232,7 +231,7 @@ pub fn stops_at_each_read<F: Fn(Devices) -> io::Result<Left>>(
     Ok(stops)
 }
 
-/// Returns whether a command leaves the case behind a buffer of this size, and says that it cannot write, and makes no further call, once
+/// Returns whether a command leaves what the case says, with a buffer of this size, and stops at once and reports that it cannot write if
 /// any one write or flush fails.
 pub fn stops_at_each_write<F: Fn(Devices) -> io::Result<Left>>(
     case: &Case<'_>,
@@ -254,8 +253,8 @@ pub fn stops_at_each_write<F: Fn(Devices) -> io::Result<Left>>(
     Ok(stops)
 }
 
-/// Returns whether a command leaves the case, and makes no further call on standard error once any one write there fails, when it has
-/// printed all, or nothing where so many bytes that it reports before it prints were not written.
+/// Returns whether a command leaves what the case says, and stops at once if any one write on standard error fails: with everything
+/// printed, or with nothing if the write is among the first `before` bytes.
 pub fn stops_at_each_tell<F: Fn(Devices) -> io::Result<Left>>(
     case: &Case<'_>,
     before: usize,

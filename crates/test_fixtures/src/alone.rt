@@ -6,7 +6,7 @@ use bc_text::read_types;
 use std::alloc::{AllocError, Global};
 use std::sync::Arc;
 
-/// Returns the declarations that a text spells; fails where it spells none, where one is bad, or where memory is refused.
+/// Returns the declarations that a text spells, checked. Fails if it spells none or one is bad, or if memory runs out.
 pub fn good_types(alloc: Global, text: &[u8]) -> anyhow::Result<Arc<GoodTypes, Global>> {
     let good = read_types(alloc, text)?.check(alloc)?;
     match Arc::new(alloc, good) {
@@ -15,7 +15,7 @@ pub fn good_types(alloc: Global, text: &[u8]) -> anyhow::Result<Arc<GoodTypes, G
     }
 }
 
-/// Returns a unit that names no closure, typed; fails where it names one or is ill, or where memory is refused.
+/// Returns a unit that names no closure, typed. Fails if it names one or breaks a typing rule, or if memory runs out.
 pub fn typed_alone(
     alloc: Global,
     types: &Arc<GoodTypes, Global>,

@@ -1,5 +1,6 @@
-//! What the tests of the database share, and some programs with them: bodies, what texts spell, what is seen of an outcome, providers that
-//! always want memory, calls that are made once more where they are refused, and the first steps of an analysis. It stands below the database, so that it is proved beside it.
+//! What the tests of the database share, and some programs with them: bodies, what texts spell, summaries of outcomes, providers that are
+//! always out of memory, calls that are repeated if they are refused, and the first steps of an analysis. The crate is below the database,
+//! so the two are proved side by side.
 #![tactic(auto)]
 
 ghost use Rattle.std.specs.Prelude.{IfOk};
@@ -28,29 +29,29 @@ pub use refused::again;
 use std::alloc::{AllocError, Global};
 pub use texts::{name, shared_types, shared_unit};
 
-/// Returns `AllocError`, always: a solver that never has memory.
+/// Returns `AllocError`, always: a solver that is out of memory.
 pub fn want_memory(_alloc: Global, _facts: &Facts) -> Result<Values, AllocError>
     ensures { IfOk result (AreValues _facts.now) }
 {
     Err(AllocError)
 }
 
-/// Returns `AllocError`, always: a liveness that never has memory.
+/// Returns `AllocError`, always: a liveness analysis that is out of memory.
 pub fn no_live(_alloc: Global, _typed: &Typed) -> Result<LiveSets, AllocError>
     ensures { IfOk result (AreLive _typed.now) }
 {
     Err(AllocError)
 }
 
-/// Returns `AllocError`, always: an analysis of loans in scope that never has memory.
+/// Returns `AllocError`, always: an analysis of loans in scope that is out of memory.
 pub fn no_scopes(_alloc: Global, _typed: &Typed, _values: &Values) -> Result<Scopes, AllocError>
     ensures { IfOk result (AreScopes _typed.now _values.now) }
 {
     Err(AllocError)
 }
 
-/// Makes the providers of which each always returns `AllocError`, with the allocator that is named. Where memory was refused for them,
-/// the function in which it is written returns `AllocError`. It is a macro, as `providers!` of `bc_analyses` is.
+/// Makes providers that always return `AllocError`, with the given allocator. If there is no room for them, the function that uses it
+/// returns `AllocError`. It is a macro, as `providers!` of `bc_analyses` is.
 #[macro_export]
 macro_rules! refusing {
     ($alloc:expr) => {

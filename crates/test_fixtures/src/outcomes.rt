@@ -1,8 +1,8 @@
-//! What is seen of an outcome.
+//! Summaries of outcomes.
 use bc_names::Name;
 use bc_prov::Outcome;
 
-/// A summary of an outcome of any size: no body, a missing closure, so many bodies with so many errors in all, or something else.
+/// A summary of an outcome of any size: no body, a missing closure, the numbers of bodies and of errors of a report, or something else.
 #[derive(Clone, Copy, PartialEq)]
 pub enum Sight {
     NoBody,

@@ -1,6 +1,6 @@
-//! Calls that are made once more where they are refused.
+//! Calls that are repeated if they are refused.
 
-/// Makes a call, and once more where it is refused; returns what it answers.
+/// Makes a call, and once more if it is refused, and returns its answer.
 pub fn again<T: Drop, F: Fn() -> anyhow::Result<T>>(call: F) -> anyhow::Result<T>
     requires { F.IsAlwaysCallable call }
 {

@@ -6,7 +6,7 @@ use bc_text::{read_types, read_unit};
 use std::alloc::{AllocError, Global};
 use std::sync::Arc;
 
-/// Returns the name that a text spells; fails where it spells none.
+/// Returns the name that a text spells. Fails if it spells none.
 pub fn name(text: &[u8]) -> anyhow::Result<Name> {
     let Some(name) = Name::read(text) else {
         bail!("no name");
@@ -14,7 +14,7 @@ pub fn name(text: &[u8]) -> anyhow::Result<Name> {
     Ok(name)
 }
 
-/// Returns the unit that a text spells, behind an `Arc`, as a put takes it; fails where it spells none, or where memory is refused.
+/// Returns the unit that a text spells, in an `Arc`, as a put takes it. Fails if it spells none, or if memory runs out.
 pub fn shared_unit(alloc: Global, text: &[u8]) -> anyhow::Result<Arc<Unit, Global>> {
     match Arc::new(alloc, read_unit(alloc, text)?) {
         Ok(unit) => Ok(unit),
@@ -22,7 +22,7 @@ pub fn shared_unit(alloc: Global, text: &[u8]) -> anyhow::Result<Arc<Unit, Globa
     }
 }
 
-/// Returns the declarations that a text spells, behind an `Arc`; fails where it spells none, or where memory is refused.
+/// Returns the declarations that a text spells, in an `Arc`. Fails if it spells none, or if memory runs out.
 pub fn shared_types(alloc: Global, text: &[u8]) -> anyhow::Result<Arc<Types, Global>> {
     match Arc::new(alloc, read_types(alloc, text)?) {
         Ok(types) => Ok(types),

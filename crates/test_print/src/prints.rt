@@ -1,4 +1,4 @@
-//! The command `print` over readers and writers in memory, also such as fail at one call.
+//! The command `print` over readers and writers in memory, which may fail at one call.
 use cli_line::{Line, read_line};
 use cli_print::print_over;
 use std::alloc::Global;
@@ -9,8 +9,8 @@ use test_devices::{
     Case, Devices, Input, Left, Output, stops_at_each_read, stops_at_each_tell, stops_at_each_write,
 };
 
-/// Files with a fault behind a section that has none, with declarations and bodies, with a header line that `check` does not take, with texts
-/// without a token, and with nothing; and faults with their positions, of which one tells of no byte.
+/// Files with a fault after a good section, with declarations and bodies, with a header line that `check` does not take, with texts without
+/// a token, and empty; and faults with their positions, one of which has no byte.
 const PRINTS: [Case<'static>; 8] = [
     Case {
         words: &["print", "demo"],
@@ -86,7 +86,7 @@ const PRINTS: [Case<'static>; 8] = [
     },
 ];
 
-/// The line of these words.
+/// Returns the command line of these words.
 fn line_of(alloc: Global, words: &[&str]) -> io::Result<Line> {
     match read_line(alloc, words) {
         Ok(line) => Ok(line),
@@ -94,7 +94,7 @@ fn line_of(alloc: Global, words: &[&str]) -> io::Result<Line> {
     }
 }
 
-/// What the command of these words leaves of a file over these devices, as the program runs it.
+/// Returns what the command of these words leaves of a file over these devices, run as the program runs it.
 fn leave_print(
     rt: &HostRuntime,
     words: &[&str],

@@ -12,7 +12,7 @@ use test_devices::{
 };
 use test_fixtures::want_memory;
 
-/// A body that reads what is borrowed, and one that writes it.
+/// A body without an error, and one that writes a local while it is borrowed.
 const GOOD: &[u8] = b"@put f\nfn()->int{bb0{_0=1;return;}}\n";
 
 const CONFLICT: &[u8] =
@@ -25,10 +25,10 @@ const CONFLICT_REPORT: &str =
 
 const NO_BODY: &str = "0 0 ask h\nno body\n";
 
-/// The files that there are, by their names.
+/// The files that exist, with their names.
 const FILES: [(&str, &[u8]); 2] = [("good", GOOD), ("conflict", CONFLICT)];
 
-/// These files, as devices read them; others cannot be opened.
+/// Opens these files, as devices read them; others cannot be opened.
 #[derive(Drop)]
 struct Named {
     devices: Devices,
@@ -47,7 +47,7 @@ impl Inputs for Named {
     }
 }
 
-/// What devices hold once the program ended with this status.
+/// Returns what devices have after the program ended with this status.
 fn left_of(status: u8, out: BufWriter<Output>, err: Output) -> Left {
     let (out, _unwritten) = out.into_parts();
     Left {
@@ -61,7 +61,7 @@ fn left_of(status: u8, out: BufWriter<Output>, err: Output) -> Left {
     }
 }
 
-/// What the program leaves of these words, with these bytes as standard input.
+/// Returns what the program leaves for these words, with these bytes as standard input.
 fn leave<R: AllocGlobal + Threads + Wait + Sync>(
     rt: &R,
     words: &[&str],
@@ -78,7 +78,7 @@ fn leave<R: AllocGlobal + Threads + Wait + Sync>(
     Ok(left_of(ended.unwrap_or(3), out, err))
 }
 
-/// Words whose answer is printed, standard input, the status, and what is printed.
+/// Words with a printed answer, standard input, the status, and what is printed.
 const PRINTED: [(&[&str], &[u8], u8, &str); 4] = [
     (&["--help"], b"", 0, USAGE),
     (&["--version"], b"", 0, "nlldb 0.1.0\n"),

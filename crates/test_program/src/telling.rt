@@ -1,4 +1,4 @@
-//! What the program tells where standard error is a buffer.
+//! What the program reports if standard error is a buffer.
 use bc_analyses::providers;
 use cli_line::read_line;
 use cli_program::{Engine, Inputs, obey_line, run_on_system, run_program};
@@ -10,7 +10,7 @@ use std::test::Fail;
 use std::thread::Threads;
 use test_devices::{Output, SOUND};
 
-/// No file can be opened.
+/// Opens no file.
 #[derive(Clone, Copy)]
 struct NoFiles;
 
@@ -22,7 +22,7 @@ impl Inputs for NoFiles {
     }
 }
 
-/// Words, and what the program tells of them where standard input has one letter.
+/// Words, and what the program reports for them if standard input has one letter.
 const TOLD: [(&[&str], &[u8]); 5] = [
     (&["good"], b"wrong use\n"),
     (&["check", "none"], b"cannot read none\n"),
@@ -31,18 +31,18 @@ const TOLD: [(&[&str], &[u8]); 5] = [
     (&["--version"], b""),
 ];
 
-/// A buffer over a writer that never fails.
+/// Returns a buffer over a writer that never fails.
 fn buffer(alloc: Global) -> io::Result<BufWriter<Output>> {
     BufWriter::with_capacity(alloc, SOUND.room, Output::new(alloc, SOUND.tell))
 }
 
-/// What the writer behind a buffer has.
+/// Returns what the writer of a buffer has taken.
 fn taken(buffer: BufWriter<Output>) -> Vec<u8> {
     let (out, _unwritten) = buffer.into_parts();
     out.into_taken()
 }
 
-/// What the program hands on of what it tells of these words.
+/// Returns what standard error has after the program ran on these words.
 fn told_of_words<R: AllocGlobal + Threads + Wait + Sync>(
     rt: &R,
     words: &[&str],
@@ -62,7 +62,7 @@ fn what_is_told_of_words_is_handed_on(rt: HostRuntime) -> Result<(), Fail> {
     Ok(())
 }
 
-/// Catches a line that is left in the buffer when what a line says is done.
+/// Catches a line that is left in the buffer when the command of a line has ended.
 #[test]
 fn what_is_told_of_a_line_is_handed_on(rt: HostRuntime) -> Result<(), Fail> {
     let alloc = rt.alloc();
@@ -79,7 +79,7 @@ fn what_is_told_of_a_line_is_handed_on(rt: HostRuntime) -> Result<(), Fail> {
     Ok(())
 }
 
-/// Catches a line that is left in the buffer when the program of the system has ended. The words of a test write no line.
+/// Catches a line that is left in the buffer when the program of the system has ended. The words of a test are no command line.
 #[test]
 fn what_is_told_on_the_system_is_handed_on(rt: HostRuntime) -> Result<(), Fail> {
     let alloc = rt.alloc();

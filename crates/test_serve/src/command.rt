@@ -1,4 +1,4 @@
-//! What the command leaves over readers and writers in memory.
+//! Running `serve` over readers and writers in memory.
 use bc_analyses::providers;
 use cli_serve::{Service, serve_over};
 use std::io;
@@ -7,8 +7,8 @@ use std::sync::Wait;
 use std::thread::Threads;
 use test_devices::{Devices, Input, Left, Output};
 
-/// Runs one session of the command on this input over these devices, with the providers of the program, as that runs it, and returns
-/// what it leaves: what it prints is behind a buffer, of which what is not written is dropped.
+/// Runs the command with one session on this input over these devices, with the program's providers, as the program runs it, and returns
+/// what it leaves. The output is buffered, and what the buffer still holds at the end is dropped.
 pub fn leave<R: AllocGlobal + Threads + Wait + Sync>(
     rt: &R,
     input: &[u8],

@@ -1,10 +1,10 @@
-//! A conversation over readers and writers of which each call fails in turn.
+//! A conversation over readers and writers, with each call failing in turn.
 use crate::command::leave;
 use crate::talks::{ANSWERS, LINES};
 use std::test::Fail;
 use test_devices::{Case, Devices, SOUND, stops_at_each_write};
 
-/// Each read fails in turn: what was read before is answered.
+/// Lets each read fail in turn: what was read before is answered.
 #[test]
 fn each_read_fails_in_turn(rt: HostRuntime) -> Result<(), Fail> {
     let whole = leave(&rt, LINES, SOUND)?;
@@ -19,7 +19,7 @@ fn each_read_fails_in_turn(rt: HostRuntime) -> Result<(), Fail> {
     Ok(())
 }
 
-/// The conversation, of which each answer goes to one writer.
+/// The conversation, with one writer for all answers.
 const CASE: Case<'static> = Case {
     words: &["serve"],
     file: LINES,
@@ -30,8 +30,8 @@ const CASE: Case<'static> = Case {
     wants_memory: false,
 };
 
-/// Each line is answered; then each write and each flush fails in turn, of a device that sees each write at once and of one behind a buffer: nothing
-/// more is written.
+/// Lets each line be answered, then each write and each flush fail in turn, of a device that sees each write at once and of one with a
+/// buffer: nothing more is written.
 #[test]
 fn each_write_fails_in_turn(rt: HostRuntime) -> Result<(), Fail> {
     for room in [0, 8192] {
@@ -41,7 +41,7 @@ fn each_write_fails_in_turn(rt: HostRuntime) -> Result<(), Fail> {
     Ok(())
 }
 
-/// Standard error fails where the input does: the status is 3 all the same.
+/// Lets standard error fail after the input did: the status is still 3.
 #[test]
 fn a_line_that_cannot_be_told_leaves_the_status(rt: HostRuntime) -> Result<(), Fail> {
     let cut = leave(

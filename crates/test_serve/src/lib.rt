@@ -1,4 +1,4 @@
-//! Tests of the command `serve` over readers and writers in memory, also such as fail at one call.
+//! Tests of the command `serve` over readers and writers in memory, which may fail at one call.
 #![tactic(auto)]
 
 #[cfg(test)]

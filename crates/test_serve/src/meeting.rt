@@ -1,4 +1,4 @@
-//! A session that puts, and is answered, while another one is inside a provider.
+//! A session that puts and is answered while another one is in a provider.
 use bc_analyses::{Providers, find_values, providers};
 use bc_cons::Facts;
 use cli_serve::{Service, serve_over};
@@ -13,10 +13,10 @@ use std::time::{Clock, Duration};
 use std::{io, thread};
 use test_devices::{Output, SOUND};
 
-/// How many turns of a millisecond one waits at most.
+/// The most turns of a wait, each of one millisecond.
 const MOST_TURNS: u32 = 10_000;
 
-/// What session 0 asks for, behind its put, and what all lines are answered.
+/// The lines of session 0, a put and then an ask, and the answers to all lines.
 const TALKS: [(&[u8], &[u8]); 2] = [
     (
         b"{\"call\":\"put\",\"name\":\"f\",\"text\":\"fn()->int{bb0{_0=1;return;}}\"}
@@ -38,11 +38,11 @@ const TALKS: [(&[u8], &[u8]); 2] = [
     ),
 ];
 
-/// What session 1 puts once session 0 is in its solver.
+/// The put of session 1, once session 0 is in its solver.
 const PUT: &[u8] =
     b"{\"session\":1,\"call\":\"put\",\"name\":\"f\",\"text\":\"fn()->int{bb0{_0=2;return;}}\"}\n";
 
-/// How often the solver was called, how many answers were handed on, and how many waits were given up.
+/// The number of calls of the solver, of answers that were flushed, and of waits that were given up.
 #[derive(Drop)]
 struct Meeting {
     solving: AtomicU32,
@@ -59,7 +59,7 @@ impl Meeting {
         }
     }
 
-    /// Waits until something was done so often, or gives the wait up.
+    /// Waits until something was done this many times, or gives up.
     fn hold<C: Clock>(&self, clock: &C, done: &AtomicU32, times: u32) {
         for _turn in 0..MOST_TURNS {
             if done.load(SeqCst) >= times {
@@ -70,7 +70,7 @@ impl Meeting {
         self.late.fetch_add(1, SeqCst);
     }
 
-    /// Comes to the solver, and waits there until two lines are answered: the put of session 0, and that of session 1.
+    /// Counts a call of the solver, and waits in it until two lines are answered: the put of session 0, and that of session 1.
     fn solve<C: Clock>(&self, clock: &C) {
         self.solving.fetch_add(1, SeqCst);
         self.hold(clock, &self.answers, 2);
@@ -101,7 +101,7 @@ impl<R: Clock> Read for Parted<'_, R> {
     }
 }
 
-/// An output that counts how often it is flushed, which is once for each answer.
+/// An output that counts its flushes, one for each answer.
 #[derive(Drop)]
 struct Counted<'a> {
     meeting: &'a Meeting,
@@ -120,7 +120,7 @@ impl Write for Counted<'_> {
     }
 }
 
-/// Has two sessions answer these lines and then the put of session 1, which comes once the solver is called, and returns what they answer.
+/// Has two sessions answer these lines, then the put of session 1, which comes once the solver is called. Returns their answers.
 fn converse<R: AllocGlobal + Clock + Threads + Wait + Sync>(
     rt: &R,
     providers: &Providers,
@@ -144,8 +144,8 @@ fn converse<R: AllocGlobal + Clock + Threads + Wait + Sync>(
     Ok(out.taken)
 }
 
-/// Catches sessions of `serve` that ask while they have the lock, for one name or for all: session 0 stays in its solver until the put of session 1 is
-/// answered.
+/// Catches sessions of `serve` that hold the lock while they ask, for one name or for all: session 0 stays in its solver until the put of
+/// session 1 is answered.
 #[test]
 fn a_put_is_answered_while_another_session_asks(rt: HostRuntime) -> Result<(), Fail> {
     let Ok(meeting) = Arc::new(rt.alloc(), Meeting::new()) else {

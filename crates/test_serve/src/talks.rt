@@ -1,6 +1,6 @@
-//! A conversation, and what answers it over devices that never fail.
+//! A conversation, and its answers over devices that never fail.
 
-/// Lines that all name the session 0: each call, and each fault of a line that names a session. The last has no line feed.
+/// Lines for session 0: each call, and each fault of a line that names a session. The last one has no line feed.
 pub const LINES: &[u8] = b"{\"id\":1,\"call\":\"types\",\"text\":\"struct S { int; }\"}
 {\"id\":2,\"session\":0,\"call\":\"put\",\"name\":\"f\",\"text\":\"fn()->int{bb0{_0=1;return;}}\"}
 {\"id\":\"three\",\"call\":\"put\",\"name\":\"f/0\",\"text\":\"fn()->int{bb0{return;}}\",\"other\":{}}
@@ -19,7 +19,7 @@ pub const LINES: &[u8] = b"{\"id\":1,\"call\":\"types\",\"text\":\"struct S { in
 []
 {\"id\":17,\"call\":\"askall\"}";
 
-/// The lines that answer `LINES`.
+/// The answers to `LINES`.
 pub const ANSWERS: &[u8] = b"{\"id\":1,\"number\":0,\"reply\":\"stored\",\"session\":0}
 {\"id\":2,\"number\":1,\"reply\":\"added\",\"session\":0}
 {\"id\":\"three\",\"number\":2,\"reply\":\"wrongkind\",\"session\":0}

@@ -11,7 +11,7 @@ use bc_syntax::Region::{Universal, Variable};
 use std::alloc::{AllocError, Global};
 use std::test::Fail;
 
-/// Constraints, each between two of eight regions.
+/// Returns constraints, each between two of eight regions.
 fn pairs_of(alloc: Global, pairs: &[[usize; 2]]) -> Result<Vec<NumberedConstraint>, AllocError>
     ensures { IfOk result (λ found. ArePairsWithin 8 found.items) }
 {
@@ -25,7 +25,7 @@ fn pairs_of(alloc: Global, pairs: &[[usize; 2]]) -> Result<Vec<NumberedConstrain
     Ok(found)
 }
 
-/// Eight regions with these constraints, of which the first three are universal, and what they start with of four elements.
+/// Returns eight regions with these constraints, the first three universal, and their start elements out of four.
 fn facts_of(alloc: Global, pairs: &[[usize; 2]], starts: &[Entry]) -> Result<Facts, AllocError>
     requires { AreEntriesWithin starts.now 8 4 }
 {
@@ -34,7 +34,7 @@ fn facts_of(alloc: Global, pairs: &[[usize; 2]], starts: &[Entry]) -> Result<Fac
     Ok(Facts::new(3, starts, pairs, 4))
 }
 
-/// A region, an element, and the chain that explains it: no region where there is none.
+/// A region, an element, and the chain that explains it: empty if there is none.
 type Case<'a> = (usize, usize, &'a [Region]);
 
 fn is(found: &Option<Vec<Region>>, chain: &[Region]) -> bool {
@@ -44,7 +44,7 @@ fn is(found: &Option<Vec<Region>>, chain: &[Region]) -> bool {
     }
 }
 
-/// The chain of a region, by `Explainer::chain` where there is one.
+/// Returns the chain of a region, by `Explainer::chain`, if there is one.
 fn chain_of(
     alloc: Global,
     facts: &Facts,
@@ -111,7 +111,7 @@ fn a_ring_is_gone_round_once(rt: HostRuntime) -> Result<(), Fail> {
     Ok(())
 }
 
-/// Each region outlives the next.
+/// Returns constraints by which each region outlives the next.
 fn in_a_row(alloc: Global, regions: usize) -> Result<Vec<NumberedConstraint>, AllocError>
     ensures { IfOk result (λ found. ArePairsWithin regions found.items) }
 {
@@ -125,7 +125,7 @@ fn in_a_row(alloc: Global, regions: usize) -> Result<Vec<NumberedConstraint>, Al
     Ok(found)
 }
 
-/// Whether a chain has the regions of all numbers, in order, where 16 are universal.
+/// Returns whether a chain has all regions in the order of their numbers, with 16 universal ones.
 fn goes_by_number(chain: &[Region]) -> bool {
     let mut number = 0u16;
     for region in chain {

@@ -1,4 +1,4 @@
-//! Tests of tables and what flows along edges, of groups of nodes, of both solvers, and of the chains that explain values.
+//! Tests of tables and of what flows along edges, of groups of nodes, of both solvers, and of the chains that explain values.
 #![tactic(auto)]
 
 #[cfg(test)]

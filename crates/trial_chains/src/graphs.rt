@@ -1,4 +1,4 @@
-//! Constraints between few regions, without a pattern.
+//! Random constraints between a few regions.
 ghost use Rattle.std.specs.Prelude.{IfOk, ◌<◌};
 ghost use Rattle.bc_flow.specs.Flow.{AreEntriesWithin};
 ghost use Rattle.bc_cons.specs.Facts.{ArePairsWithin};
@@ -9,7 +9,7 @@ use rand_core::Rng;
 use rand_pcg::Pcg32;
 use std::alloc::{AllocError, Global};
 
-/// How many of the regions are universal.
+/// The number of universal regions.
 pub const UNIVERSALS: u8 = 3;
 
 const REGIONS: u32 = 7;
@@ -26,7 +26,7 @@ fn pair(random: &mut Pcg32) -> NumberedConstraint
     }
 }
 
-/// Up to eighteen constraints, also of a region with itself, and some twice.
+/// Returns up to eighteen constraints, perhaps of a region with itself, perhaps some twice.
 fn pairs(alloc: Global, random: &mut Pcg32) -> Result<Vec<NumberedConstraint>, AllocError>
     ensures { IfOk result (λ pairs. ArePairsWithin 7 pairs.items) }
 {
@@ -47,7 +47,7 @@ fn entry(random: &mut Pcg32) -> Entry
     }
 }
 
-/// Up to four elements that regions start with.
+/// Returns up to four start elements of regions.
 fn entries(alloc: Global, random: &mut Pcg32) -> Result<Vec<Entry>, AllocError>
     ensures { IfOk result (λ entries. AreEntriesWithin entries.items 7 3) }
 {
@@ -58,7 +58,7 @@ fn entries(alloc: Global, random: &mut Pcg32) -> Result<Vec<Entry>, AllocError>
     Ok(entries)
 }
 
-/// Returns constraints between seven regions, with what these start with of three elements.
+/// Returns constraints between seven regions, and their start elements out of three.
 pub fn facts(alloc: Global, random: &mut Pcg32) -> Result<Facts, AllocError> {
     let pairs = pairs(alloc, random)?;
     let entries = entries(alloc, random)?;

@@ -1,5 +1,5 @@
-//! Explains each element of each region in 2,000 small random graphs, and finds each chain once more by a plain search. It prints
-//! how many questions and chains that were, and how many answers differed, so that the gate compares it.
+//! Explains each element of each region in 2,000 small random graphs, and finds each chain once more by a plain search. It prints the
+//! numbers of questions and chains, and how many answers differ, so that the gate compares them.
 #![tactic(auto)]
 
 mod graphs;
@@ -15,7 +15,7 @@ use std::alloc::{AllocError, Global};
 
 const GRAPHS: u32 = 2000;
 
-/// How many answers there were, how many of them were chains, of how many regions, and how many the plain search did not find.
+/// The numbers of answers, of chains among them, of regions in these, and of answers that the plain search did not find.
 #[derive(Clone, Copy)]
 struct Counts {
     answers: usize,
@@ -24,7 +24,7 @@ struct Counts {
     other: usize,
 }
 
-/// Whether a region is that of a number.
+/// Returns whether a region has this number.
 fn is_numbered(region: Region, number: usize) -> bool {
     match region {
         Region::Universal(universal) => universal < UNIVERSALS && usize::from(universal) == number,
@@ -32,7 +32,7 @@ fn is_numbered(region: Region, number: usize) -> bool {
     }
 }
 
-/// Whether two chains are the same, one of them by numbers and from its end.
+/// Returns whether two chains are the same; the second one has numbers, from its end.
 fn is_same(chain: &[Region], numbers: &[usize]) -> bool {
     let mut same = chain.len() == numbers.len();
     for (region, number) in chain.iter().zip(numbers.iter().rev()) {
@@ -56,7 +56,7 @@ fn count(counts: &mut Counts, found: &Option<Vec<Region>>, numbers: &[usize]) {
     }
 }
 
-/// Asks for all regions and elements, also for a number of none.
+/// Asks for all regions and elements, and for one number past each.
 fn ask(alloc: Global, facts: &Facts, counts: &mut Counts) -> Result<(), AllocError> {
     let mut explainer = Explainer::new(alloc, facts)?;
     for question in 0..32usize {

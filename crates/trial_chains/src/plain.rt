@@ -1,8 +1,8 @@
-//! The first shortest chain by a plain search: all chains by their length, those of one length in order.
+//! The first shortest chain, by a plain search through all chains: shorter ones first, and those of one length in order.
 use bc_cons::Facts;
 use std::alloc::{AllocError, Global};
 
-/// Whether a region has to outlive another.
+/// Returns whether a constraint has a region outlive another.
 fn outlives(facts: &Facts, longer: usize, shorter: usize) -> bool {
     for pair in facts.pairs() {
         if pair.longer == longer && pair.shorter == shorter {
@@ -12,7 +12,7 @@ fn outlives(facts: &Facts, longer: usize, shorter: usize) -> bool {
     false
 }
 
-/// Appends the first chain of so many constraints, its last region first, if there is one. The answer is whether there is.
+/// Appends the first chain with this many constraints, its last region first, if there is one. Returns whether there is.
 fn push_chain(
     facts: &Facts,
     region: usize,
@@ -39,7 +39,7 @@ fn push_chain(
     Ok(false)
 }
 
-/// Returns the first of the shortest chains, its last region first, or nothing where there is none. No shortest chain has a region twice.
+/// Returns the first of the shortest chains, its last region first, or nothing if there is none. No shortest chain has a region twice.
 pub fn first_shortest(
     alloc: Global,
     facts: &Facts,

@@ -1,4 +1,4 @@
-//! What is found of a body, of a snapshot and in a book.
+//! What is found for a body, for a snapshot and in a book.
 ghost use Rattle.std.specs.Prelude.{◌≡◌, [], IfOk};
 
 use crate::held::put;
@@ -38,14 +38,14 @@ const REQUIRES_NOTHING: &[u8] =
 const REQUIRES: &[u8] =
     b"closure <'x,'y,'z> [&'x int, &'z mut &'y int] () -> int { bb0 { _2.* = copy _1; _0 = 0; return; } }";
 
-/// `BODY`, typed.
+/// Returns `BODY`, typed.
 fn typed(alloc: Global) -> Result<Typed> {
     let types = good_types(alloc, DECLARED)?;
     let unit = shared_unit(alloc, BODY)?;
     typed_alone(alloc, &types, &unit)
 }
 
-/// How many accesses the points of a body make.
+/// Returns the number of accesses that the points of a body make.
 fn count_accesses(alloc: Global, typed: &Typed) -> Result<usize, AllocError> {
     let mut made: usize = 0;
     for step in typed.steps() {
@@ -54,7 +54,7 @@ fn count_accesses(alloc: Global, typed: &Typed) -> Result<usize, AllocError> {
     Ok(made)
 }
 
-/// How many demands make the types of a body's locals subtypes of themselves.
+/// Returns the number of demands that make the types of a body's locals subtypes of themselves.
 fn count_demands(alloc: Global, typed: &Typed) -> Result<usize, AllocError> {
     let mut demands = Vec::new(alloc);
     for local in typed.locals() {
@@ -63,7 +63,7 @@ fn count_demands(alloc: Global, typed: &Typed) -> Result<usize, AllocError> {
     Ok(demands.len())
 }
 
-/// Whether the points and the locals of `BODY` are as they have to be.
+/// Returns whether the points and the locals of `BODY` are right.
 fn is_typed(alloc: Global) -> Result<bool> {
     let typed = typed(alloc)?;
     let made = count_accesses(alloc, &typed)?;
@@ -71,7 +71,7 @@ fn is_typed(alloc: Global) -> Result<bool> {
     Ok(made == 33 && demands == 12)
 }
 
-/// A closure that requires nothing, as closure 0 of its creator.
+/// Returns a closure that requires nothing, as closure 0 of its creator.
 fn child(alloc: Global, closure: &Unit) -> Result<(KidHeader<'_>, Requirements)>
     ensures { IfOk result (λ kid. (kid.0.number ≡ 0) × (kid.1.pairs ≡ [])) }
 {
@@ -82,7 +82,7 @@ fn child(alloc: Global, closure: &Unit) -> Result<(KidHeader<'_>, Requirements)>
     }
 }
 
-/// The piece of a snapshot's body, which creates no closure, or closure 0 alone, which requires nothing.
+/// Returns the piece of a snapshot's body, which creates no closure, or closure 0 alone, which requires nothing.
 fn piece_in(alloc: Global, providers: &Providers, snapshot: &Snapshot) -> Result<Piece> {
     let types = snapshot.types();
     let Check::Good(_) = types.get().found() else {
@@ -103,14 +103,14 @@ fn piece_in(alloc: Global, providers: &Providers, snapshot: &Snapshot) -> Result
     }
 }
 
-/// How many errors the piece of a name's body has.
+/// Returns the number of errors in the piece of a name's body.
 fn errors_at(alloc: Global, providers: &Providers, shelf: &Shelf, at: &[u8]) -> Result<usize> {
     let snapshot = shelf.part(alloc, &name(at)?)?.snapshot;
     let piece = piece_in(alloc, providers, &snapshot)?;
     Ok(piece.errors().get().len())
 }
 
-/// Whether the report of a snapshot has two bodies with one error.
+/// Returns whether the report of a snapshot has two bodies and one error.
 fn is_report(
     alloc: Global,
     providers: &Providers,
@@ -120,7 +120,7 @@ fn is_report(
     Ok(Sight::of(&outcome) == Sight::Report(2, 1))
 }
 
-/// A snapshot that carries its outcome.
+/// Returns a snapshot that carries its outcome.
 fn carrying(
     alloc: Global,
     providers: &Providers,
@@ -131,7 +131,7 @@ fn carrying(
     Ok(snapshot.carry(outcome))
 }
 
-/// A snapshot that carries the pieces of its bodies.
+/// Returns a snapshot that carries the pieces of its bodies.
 fn carrying_pieces(
     alloc: Global,
     providers: &Providers,
@@ -141,39 +141,39 @@ fn carrying_pieces(
     Ok(snapshot.carry_pieces(pieces))
 }
 
-/// Whether a report wants memory where its providers always do, and so asks these.
+/// Returns whether a report runs out of memory if its providers always do, and so asks these.
 fn wants_memory(alloc: Global, snapshot: &Snapshot) -> Result<bool, AllocError> {
     let providers = refusing!(alloc);
     Ok(report(alloc, &providers, snapshot).is_err())
 }
 
-/// Whether the report of `f` is as it has to be.
+/// Returns whether the report of `f` is right.
 fn is_reported(alloc: Global, providers: &Providers, shelf: &Shelf) -> Result<bool> {
     let snapshot = shelf.part(alloc, &name(b"f")?)?.snapshot;
     Ok(is_report(alloc, providers, &snapshot)? && wants_memory(alloc, &snapshot)?)
 }
 
-/// Whether it is so where the snapshot carries it.
+/// Returns whether the report of `f` is right if the snapshot carries it.
 fn is_carried(alloc: Global, providers: &Providers, shelf: &Shelf) -> Result<bool> {
     let snapshot = shelf.part(alloc, &name(b"f")?)?.snapshot;
     let snapshot = carrying(alloc, providers, snapshot)?;
     Ok(is_report(alloc, providers, &snapshot)?)
 }
 
-/// Whether the report of a snapshot is as it has to be where no provider is asked: they always want memory.
+/// Returns whether the report of a snapshot is right without any provider: these are always out of memory.
 fn asks_none(alloc: Global, snapshot: &Snapshot) -> Result<bool, AllocError> {
     let providers = refusing!(alloc);
     is_report(alloc, &providers, snapshot)
 }
 
-/// Whether it is so where the snapshot carries the pieces of its bodies, of which no provider is asked.
+/// Returns whether the report of `f` is right if the snapshot carries the pieces of its bodies, for which no provider is asked.
 fn is_of_pieces(alloc: Global, providers: &Providers, shelf: &Shelf) -> Result<bool> {
     let snapshot = shelf.part(alloc, &name(b"f")?)?.snapshot;
     let snapshot = carrying_pieces(alloc, providers, snapshot)?;
     Ok(asks_none(alloc, &snapshot)?)
 }
 
-/// A shelf that holds `CREATES` and its closure.
+/// Returns a shelf with `CREATES` and its closure.
 fn creator_over(alloc: Global, closure: &[u8]) -> Result<Shelf> {
     let mut shelf = Shelf::new(alloc, no_declarations(alloc)?, 1)?;
     put(alloc, &mut shelf, b"f", CREATES, 1)?;
@@ -181,7 +181,7 @@ fn creator_over(alloc: Global, closure: &[u8]) -> Result<Shelf> {
     Ok(shelf)
 }
 
-/// The pieces of `CREATES` and of its closure.
+/// Returns the pieces of `CREATES` and of its closure.
 fn pieces_over(alloc: Global, providers: &Providers, closure: &[u8]) -> Result<Pieces> {
     let shelf = creator_over(alloc, closure)?;
     let snapshot = shelf.part(alloc, &name(b"f")?)?.snapshot;
@@ -189,7 +189,7 @@ fn pieces_over(alloc: Global, providers: &Providers, closure: &[u8]) -> Result<P
     Ok(pieces)
 }
 
-/// A snapshot of `CREATES` over the closure that requires nothing, which carries the pieces over both closures, in this order.
+/// Returns a snapshot of `CREATES` over the closure that requires nothing. It carries the pieces over both closures, in this order.
 fn carrying_both(
     alloc: Global,
     providers: &Providers,
@@ -203,21 +203,21 @@ fn carrying_both(
     Ok(snapshot.carry_pieces(pieces))
 }
 
-/// Whether the report of a snapshot is that of two bodies without an error, and no provider is asked.
+/// Returns whether the report of a snapshot has two bodies without an error, and no provider is asked.
 fn is_clean_by_pieces(alloc: Global, snapshot: &Snapshot) -> Result<bool> {
     let refusing = refusing!(alloc);
     let outcome = report(alloc, &refusing, snapshot)?;
     Ok(Sight::of(&outcome) == Sight::Report(2, 0))
 }
 
-/// Whether that piece is taken which fits of the two that are carried, in whichever order.
+/// Returns whether the piece that fits is taken, of the two that are carried, in either order.
 fn is_of_either(alloc: Global, providers: &Providers) -> Result<bool> {
     let second = carrying_both(alloc, providers, REQUIRES, REQUIRES_NOTHING)?;
     let first = carrying_both(alloc, providers, REQUIRES_NOTHING, REQUIRES)?;
     Ok(is_clean_by_pieces(alloc, &second)? && is_clean_by_pieces(alloc, &first)?)
 }
 
-/// A shelf that holds a function and its closure.
+/// Returns a shelf with a function and its closure.
 fn shelf(alloc: Global) -> Result<Shelf> {
     let mut shelf = Shelf::new(alloc, no_declarations(alloc)?, 1)?;
     put(alloc, &mut shelf, b"f", INVOKES, 1)?;
@@ -225,7 +225,7 @@ fn shelf(alloc: Global) -> Result<Shelf> {
     Ok(shelf)
 }
 
-/// Whether the pieces of a function and of its closure are as they have to be, and the reports of the function.
+/// Returns whether the pieces of a function and of its closure are right, and the reports of the function.
 fn is_over(alloc: Global, providers: &Providers, shelf: &Shelf) -> Result<bool> {
     let outer = errors_at(alloc, providers, shelf, b"f")?;
     let inner = errors_at(alloc, providers, shelf, b"f/0")?;
@@ -235,7 +235,7 @@ fn is_over(alloc: Global, providers: &Providers, shelf: &Shelf) -> Result<bool> 
     Ok(outer == 0 && inner == 1 && is_anew && is_carried && is_of_pieces)
 }
 
-/// A snapshot of a name in a new book that holds the unit of a text there.
+/// Returns a snapshot of a name in a new book, in which the unit of a text is stored there.
 fn begun<R: Wait>(rt: &R, alloc: Global, at: Name, text: &[u8]) -> Result<Begun> {
     let unit = Shared::new(shared_unit(alloc, text)?);
     let mut book = Book::new(alloc, Waiting::new(rt), 9, 1)?;
@@ -243,14 +243,14 @@ fn begun<R: Wait>(rt: &R, alloc: Global, at: Name, text: &[u8]) -> Result<Begun>
     Ok(book.snapshot(alloc, &at)?)
 }
 
-/// Whether what a snapshot of a book finds is as it has to be.
+/// Returns whether what a snapshot of a book finds is right.
 fn is_begun<R: Wait>(rt: &R, alloc: Global, providers: &Providers) -> Result<bool> {
     let begun = begun(rt, alloc, name(b"f")?, WRITES_WHILE_BORROWED)?;
     let found = begun.find(alloc, providers)?;
     Ok(Sight::of(found.outcome.get()) == Sight::Report(1, 1))
 }
 
-/// Whether all that is found is as it has to be. Fails where a call is refused.
+/// Returns whether everything that is found is right. Fails if a call is refused.
 pub(crate) fn is_well<R: AllocGlobal + Wait>(rt: &R, providers: &Providers) -> Result<bool> {
     let alloc = rt.alloc();
     let is_typed = is_typed(alloc)?;

@@ -1,16 +1,16 @@
-//! What is held below a session, and what memos keep of it: behind a refused call a memo has to have what it had.
+//! What is stored below a session, and what memos keep of it. After a refused call a memo must have what it had before.
 ghost use Rattle.std.specs.Prelude.{◌≤◌, OnOk};
 
 use anyhow::{Result, bail};
 use bc_calls::no_declarations;
 use bc_memo::{Change, Memo, PieceMemo, Shelf, suits};
 use bc_names::Name;
-use bc_outcomes::{Found, find_outcome};
+use bc_outcomes::{AskResult, find_outcome};
 use bc_prov::{Outcome, Piece, PieceSet, Providers, Shared, share, share_pieces};
 use std::alloc::{AllocError, Global};
 use test_fixtures::{WRITES_LAST, name, shared_unit};
 
-/// Holds the unit of a text at a name, and gives it this revision.
+/// Stores the unit of a text under a name, with this revision.
 pub(crate) fn put(
     alloc: Global,
     shelf: &mut Shelf,
@@ -28,7 +28,7 @@ pub(crate) fn put(
     Ok(())
 }
 
-/// Whether something that stands is remembered of exactly the first of these names, so many.
+/// Returns whether a valid outcome is remembered for exactly the first `count` of these names.
 fn are_first_remembered(memo: &Memo, shelf: &Shelf, names: &[Name], count: usize) -> bool {
     for (place, at) in names.iter().enumerate() {
         if memo.lookup(shelf, at).is_some() != (place < count) {
@@ -38,7 +38,7 @@ fn are_first_remembered(memo: &Memo, shelf: &Shelf, names: &[Name], count: usize
     true
 }
 
-/// Whether a piece is kept of exactly the first of these names, so many.
+/// Returns whether a piece is kept for exactly the first `count` of these names.
 fn are_first_kept(memo: &PieceMemo, names: &[Name], count: usize) -> bool {
     for (place, at) in names.iter().enumerate() {
         if memo.kept(at).is_some() != (place < count) {
@@ -48,7 +48,7 @@ fn are_first_kept(memo: &PieceMemo, names: &[Name], count: usize) -> bool {
     true
 }
 
-/// Has a memo remember an outcome for a name that is held, as one that rests on these names.
+/// Has a memo remember an outcome for a name with a body, as one that depends on these names.
 fn install(alloc: Global, shelf: &Shelf, memo: &mut Memo, at: Name, names: &[Name]) -> Result<()> {
     if !shelf.is_held(&at) {
         bail!("nothing is held");
@@ -57,7 +57,7 @@ fn install(alloc: Global, shelf: &Shelf, memo: &mut Memo, at: Name, names: &[Nam
     Ok(memo.install(alloc, shelf, at, names, outcome)?)
 }
 
-/// Has a memo remember an outcome for each of these names, once more where one is refused. Whether it has what it has to have behind each.
+/// Has a memo remember an outcome for each of these names, repeated if one is refused. Returns whether it has what it should after each.
 fn remember(alloc: Global, shelf: &Shelf, memo: &mut Memo, names: &[Name]) -> Result<bool> {
     for (count, at) in names.iter().enumerate() {
         if install(alloc, shelf, memo, *at, names).is_err() {
@@ -76,7 +76,7 @@ fn keep_one(memo: &mut PieceMemo, piece: &Shared<Piece>, at: Name) -> Result<(),
     memo.keep(at, piece)
 }
 
-/// Has a memo keep a piece for each of these names, once more where one is refused. Whether it has what it has to have behind each.
+/// Has a memo keep a piece for each of these names, repeated if one is refused. Returns whether it has what it should after each.
 fn keep(memo: &mut PieceMemo, piece: &Shared<Piece>, names: &[Name]) -> Result<bool, AllocError> {
     for (count, at) in names.iter().enumerate() {
         if keep_one(memo, piece, *at).is_err() {
@@ -89,7 +89,7 @@ fn keep(memo: &mut PieceMemo, piece: &Shared<Piece>, names: &[Name]) -> Result<b
     Ok(are_first_kept(memo, names, names.len()))
 }
 
-/// Whether a memo remembers what it has to, before a name that it rests on is put again and behind that.
+/// Returns whether a memo remembers what it should, before a name on which its outcomes depend is put again, and after that.
 fn is_remembered(alloc: Global, shelf: &mut Shelf, names: &[Name]) -> Result<bool> {
     let mut memo = Memo::new(alloc);
     let is_well = remember(alloc, shelf, &mut memo, names)?;
@@ -97,10 +97,10 @@ fn is_remembered(alloc: Global, shelf: &mut Shelf, names: &[Name]) -> Result<boo
     Ok(is_well && are_first_remembered(&memo, shelf, names, 0))
 }
 
-/// The pieces of the bodies at a name and below it.
+/// Returns the pieces of the bodies at a name and below it.
 fn pieces_of(alloc: Global, providers: &Providers, shelf: &Shelf, at: &Name) -> Result<PieceSet> {
     let snapshot = shelf.part(alloc, at)?.snapshot;
-    let Found {
+    let AskResult {
         outcome: _outcome,
         pieces,
     } = find_outcome(alloc, providers, &snapshot)?;
@@ -110,7 +110,7 @@ fn pieces_of(alloc: Global, providers: &Providers, shelf: &Shelf, at: &Name) -> 
     Ok(set)
 }
 
-/// Whether a memo keeps what it has to: a piece for five names, of which three are the first or stand below it.
+/// Returns whether a memo keeps what it should: a piece for five names, three of which are the first or below it.
 fn is_kept(alloc: Global, set: &PieceSet, names: &[Name]) -> Result<bool> {
     let [(at, piece), ..] = set.rows() else {
         bail!("no piece is found");
@@ -121,7 +121,7 @@ fn is_kept(alloc: Global, set: &PieceSet, names: &[Name]) -> Result<bool> {
     Ok(is_well && part.len() == 3)
 }
 
-/// The names of texts.
+/// Returns the names that texts spell.
 fn names_of(alloc: Global, texts: &[&[u8]]) -> Result<Vec<Name>> {
     let mut names = Vec::new(alloc);
     for text in texts {
@@ -130,7 +130,7 @@ fn names_of(alloc: Global, texts: &[&[u8]]) -> Result<Vec<Name>> {
     Ok(names)
 }
 
-/// A shelf that holds a body at each of these names.
+/// Returns a shelf with a body under each of these names.
 fn shelf_of(alloc: Global, texts: &[&[u8]]) -> Result<Shelf> {
     let mut shelf = Shelf::new(alloc, no_declarations(alloc)?, 1)?;
     for at in texts {
@@ -139,7 +139,7 @@ fn shelf_of(alloc: Global, texts: &[&[u8]]) -> Result<Shelf> {
     Ok(shelf)
 }
 
-/// Has a memo make room for so many more pieces, once more where it is refused.
+/// Has a memo make room for `count` more pieces, repeated if it is refused.
 fn make_room(memo: &mut PieceMemo, count: usize) -> Result<(), AllocError>
     ensures { OnOk result (count ≤ memo.new.room) }
 {
@@ -149,7 +149,7 @@ fn make_room(memo: &mut PieceMemo, count: usize) -> Result<(), AllocError>
     }
 }
 
-/// Whether a memo that made room for all pieces of a set keeps one for each of their names.
+/// Returns whether a memo that made room for all pieces of a set keeps one for each of their names.
 fn is_all_kept(alloc: Global, set: &PieceSet) -> Result<bool, AllocError> {
     let pieces = share_pieces(alloc, set.rows())?;
     let mut memo = PieceMemo::new(alloc, 0)?;
@@ -163,14 +163,14 @@ fn is_all_kept(alloc: Global, set: &PieceSet) -> Result<bool, AllocError> {
     Ok(true)
 }
 
-/// Whether what is found of a shelf is kept as it has to be.
+/// Returns whether what is found on a shelf is kept as it should be.
 fn is_found_kept(alloc: Global, providers: &Providers, shelf: &Shelf) -> Result<bool> {
     let set = pieces_of(alloc, providers, shelf, &name(b"f")?)?;
     let names = names_of(alloc, &[b"f", b"h", b"f/0", b"g", b"f/0/1"])?;
     Ok(is_kept(alloc, &set, &names)? && is_all_kept(alloc, &set)?)
 }
 
-/// Whether memos keep what they have to. Fails where another call is refused.
+/// Returns whether memos keep what they should. Fails if another call is refused.
 pub(crate) fn is_well(alloc: Global, providers: &Providers) -> Result<bool> {
     let texts: [&[u8]; 5] = [b"f", b"g", b"h", b"i", b"j"];
     let names = names_of(alloc, &texts)?;

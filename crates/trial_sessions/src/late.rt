@@ -1,4 +1,4 @@
-//! Work that is settled late: what it was done of has changed since.
+//! Work that is settled late, after its inputs have changed.
 use anyhow::{Result, bail};
 use bc_book::Refusal;
 use bc_calls::Work;
@@ -22,7 +22,7 @@ fn put<R: AllocGlobal + Wait, E: Ending>(
     Ok(())
 }
 
-/// Has a session begin a name and work on it.
+/// Has a session begin an ask of a name and work on it.
 fn work<R: AllocGlobal, E: Ending>(
     rt: &R,
     session: &mut Session<E>,
@@ -32,13 +32,13 @@ fn work<R: AllocGlobal, E: Ending>(
     session.begin(at)?.work(rt.alloc(), providers)
 }
 
-/// Whether an outcome is that of the unit that was put last.
+/// Returns whether an outcome is that of the unit that was put last.
 fn is_last(outcome: &Outcome) -> bool {
     Sight::of(outcome) == Sight::Report(1, 1)
 }
 
-/// Has a session settle work, or new work where memory for that is refused. Whether it is answered as it has to be, and nothing is published
-/// behind the refused call.
+/// Has a session settle work, or new work if the first is refused for lack of memory. Returns whether the answer is right, and nothing is
+/// published after the refused call.
 fn settle<R: AllocGlobal + Wait, E: Ending>(
     rt: &R,
     session: &mut Session<E>,
@@ -59,7 +59,7 @@ fn settle<R: AllocGlobal + Wait, E: Ending>(
     Ok(is_last(&outcome))
 }
 
-/// Has a session put, the other one begin and work, the first one put again, and the other one settle.
+/// Has a session put, the other one begin and work, the first one put again, and the other one settle. Returns whether that is right.
 fn make<R: AllocGlobal + Wait, E: Ending>(
     rt: &R,
     sessions: &mut [Session<E>],
@@ -78,8 +78,8 @@ fn make<R: AllocGlobal + Wait, E: Ending>(
     settle(rt, second, done, &at, providers)
 }
 
-/// Whether work that is settled late is answered as it has to be, and the history agrees with the sessions, also behind a call that is
-/// refused. Fails where another call is refused.
+/// Returns whether work that is settled late is answered right, and history and sessions agree, even after a refused call. Fails if another
+/// call is refused.
 pub(crate) fn is_well<R: AllocGlobal + Wait>(rt: &R, providers: &Providers) -> Result<bool> {
     let (db, mut sessions) = Db::open(rt.alloc(), Waiting::new(rt), 0, 3, 2)?;
     let made = make(rt, &mut sessions, providers);

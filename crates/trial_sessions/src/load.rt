@@ -1,4 +1,4 @@
-//! Sixteen sessions that make calls on threads and read beside them, over functions with closures, and what a map says of that.
+//! Sixteen sessions that make calls and readings on threads, over functions with closures, compared with a map.
 use crate::model::{CLOSURES, Deed, Kind, Log, Reading, Seen, agree};
 use anyhow::{Result, bail};
 use bc_book::Refusal;
@@ -16,14 +16,14 @@ use std::thread;
 use std::thread::Threads;
 use test_fixtures::{MARKED_INVARIANT, Sight, name, shared_types, shared_unit};
 
-/// How many sessions there are: as many as may be.
+/// The number of sessions, which is the greatest possible.
 const SESSIONS: u8 = 16;
 
-/// Rounds, of a new database each: what they are called, how many functions there are, how many turns each session has, and how many rounds. A turn
-/// is a call or a reading.
+/// Rounds, each with a new database: their name, the number of functions, of turns of each session, and of rounds. A turn is a call or a
+/// reading.
 pub type Shape = (&'static str, u16, u32, u32);
 
-/// The units that are put, each with what is known of it.
+/// The units that are put, each with what is known about it.
 const UNITS: [(Kind, &[u8]); 10] = [
     (
         Kind::Closure(0),
@@ -67,7 +67,7 @@ const UNITS: [(Kind, &[u8]); 10] = [
     ),
 ];
 
-/// What the sessions put: units with what is known of each, and declarations, the same each time.
+/// What the sessions put: units with what is known about each, and declarations, the same each time.
 #[derive(Drop)]
 pub struct Stock {
     units: Vec<(Kind, Shared<Unit>)>,
@@ -75,7 +75,7 @@ pub struct Stock {
 }
 
 impl Stock {
-    /// The units of the texts above, and declarations.
+    /// Returns the units of the texts above, and declarations.
     pub fn new(alloc: Global) -> Result<Stock> {
         let mut units = Vec::new(alloc);
         for (kind, text) in UNITS {
@@ -86,7 +86,7 @@ impl Stock {
     }
 }
 
-/// The names of so many functions, each with those of its closures behind it; they ascend, and one of each 26 begins the others.
+/// Returns the names of `functions` functions, each followed by those of its closures. They ascend, and one of each 26 begins the others.
 fn names(alloc: Global, functions: u16) -> Result<Vec<Name>> {
     let mut names = Vec::new(alloc);
     for function in 0..functions {
@@ -107,7 +107,7 @@ fn names(alloc: Global, functions: u16) -> Result<Vec<Name>> {
     Ok(names)
 }
 
-/// A session on a thread of its own: what it makes its calls with and draws them by, what it did, and whether it was never refused.
+/// A session on a thread of its own: with what it makes its calls, how it draws them, what it did, and whether it was never refused.
 #[derive(Drop)]
 struct Seat<'a, R, E: Ending> {
     rt: &'a R,
@@ -120,7 +120,7 @@ struct Seat<'a, R, E: Ending> {
 }
 
 impl<'a, R: AllocGlobal + Wait, E: Ending> Seat<'a, R, E> {
-    /// A number below a limit.
+    /// Returns a random number below a limit.
     fn draw(&mut self, limit: usize) -> usize {
         self.dice.next_u32() as usize % limit.max(1)
     }
@@ -131,14 +131,14 @@ impl<'a, R: AllocGlobal + Wait, E: Ending> Seat<'a, R, E> {
         Ok(())
     }
 
-    /// Declares the types.
+    /// Stores the declarations.
     fn declare(&mut self) -> Result<(), Refusal> {
         self.note(Deed::Types)?;
         let types = self.stock.types.clone()?;
         self.session.put_types(self.rt, types.into_arc())
     }
 
-    /// Puts a unit that is drawn under a name.
+    /// Puts a random unit under a name.
     fn put(&mut self, name: &Name, number: usize) -> Result<(), Refusal> {
         let stock = self.stock;
         let drawn = self.draw(stock.units.len());
@@ -159,7 +159,7 @@ impl<'a, R: AllocGlobal + Wait, E: Ending> Seat<'a, R, E> {
         Ok(())
     }
 
-    /// Glances at a name.
+    /// Glances at a name, and notes what it saw.
     fn glance(&mut self, name: &Name, number: usize) -> Result<(), AllocError> {
         let shown = match self.session.glance(name)? {
             Some(outcome) => Some(Sight::of(&outcome)),
@@ -168,7 +168,7 @@ impl<'a, R: AllocGlobal + Wait, E: Ending> Seat<'a, R, E> {
         self.see(number, Seen::Answer(shown))
     }
 
-    /// Works on a name outside the lock, and settles nothing.
+    /// Works on a name without the lock, notes the outcome, and settles nothing.
     fn work(
         &mut self,
         name: &Name,
@@ -180,7 +180,7 @@ impl<'a, R: AllocGlobal + Wait, E: Ending> Seat<'a, R, E> {
         self.see(number, Seen::Found(Sight::of(work.outcome())))
     }
 
-    /// Makes a call or a reading that is drawn.
+    /// Makes a random call or reading.
     fn act(&mut self, providers: &Providers) -> Result<(), Refusal> {
         let names = self.names;
         let number = self.draw(names.len());
@@ -208,7 +208,7 @@ impl<'a, R: AllocGlobal + Wait, E: Ending> Seat<'a, R, E> {
         Ok(())
     }
 
-    /// Makes so many of them, until one is refused.
+    /// Makes `count` of these, until one is refused.
     fn sit(&mut self, count: u32, providers: &Providers) {
         for _turn in 0..count {
             if self.act(providers).is_err() {
@@ -219,7 +219,7 @@ impl<'a, R: AllocGlobal + Wait, E: Ending> Seat<'a, R, E> {
     }
 }
 
-/// What rounds are made with.
+/// What all rounds share.
 #[derive(Clone, Copy)]
 pub struct Table<'a, R> {
     pub rt: &'a R,
@@ -228,7 +228,7 @@ pub struct Table<'a, R> {
 }
 
 impl<'a, R: AllocGlobal + Threads + Wait + Sync> Table<'a, R> {
-    /// The sessions at seats, each with dice of its own.
+    /// Returns the sessions in seats, each with a random generator of its own.
     fn seats<E: Ending>(
         &self,
         seed: u32,
@@ -255,8 +255,8 @@ impl<'a, R: AllocGlobal + Threads + Wait + Sync> Table<'a, R> {
         Ok(seats)
     }
 
-    /// Has these sessions make so many calls and readings each, on a thread of its own. Gives them back, with what each did; fails where one
-    /// was refused.
+    /// Has each of these sessions make `count` calls and readings, on a thread of its own. Returns the sessions, with what each did. Fails
+    /// if one was refused.
     fn sit_all(
         &self,
         seed: u32,
@@ -269,8 +269,8 @@ impl<'a, R: AllocGlobal + Threads + Wait + Sync> Table<'a, R> {
         risen(self.rt.alloc(), seats)
     }
 
-    /// A round of a new database: each session makes calls and readings, the database is closed, and its history is compared with a map, as
-    /// are the readings. Gives how many calls and readings there were; fails where they differ.
+    /// Makes a round: the sessions of a new database make calls and readings, it is closed, and its history and the readings are compared
+    /// with a map. Returns the numbers of calls and of readings. Fails if they differ from the map.
     fn round(&self, names: &[Name], turns: u32, seed: u32) -> Result<(usize, usize)> {
         let alloc = self.rt.alloc();
         let capacity = turns.saturating_mul(u32::from(SESSIONS)).min(MOST_ENTRIES);
@@ -284,7 +284,7 @@ impl<'a, R: AllocGlobal + Threads + Wait + Sync> Table<'a, R> {
         Ok(counts(&logs))
     }
 
-    /// Makes rounds of a shape, and writes how many calls and readings agree with a map; fails where they do not.
+    /// Makes rounds of a shape, and writes how many calls and readings agree with a map. Fails if some do not.
     pub fn show<W: Write>(&self, shape: Shape, out: &mut W) -> Result<()> {
         let (what, functions, turns, rounds) = shape;
         let names = names(self.rt.alloc(), functions)?;
@@ -302,7 +302,7 @@ impl<'a, R: AllocGlobal + Threads + Wait + Sync> Table<'a, R> {
     }
 }
 
-/// Has each session make so many calls and readings, on a thread of its own.
+/// Has each session make `count` calls and readings, on a thread of its own.
 fn sit_beside<R: AllocGlobal + Threads + Wait + Sync, E: Ending + Send>(
     rt: &R,
     providers: &Providers,
@@ -318,7 +318,7 @@ fn sit_beside<R: AllocGlobal + Threads + Wait + Sync, E: Ending + Send>(
     );
 }
 
-/// The sessions from their seats, and what each did. Fails where one was refused.
+/// Returns the sessions from their seats, and what each did. Fails if one was refused.
 fn risen<R, E: Ending>(
     alloc: Global,
     seats: Vec<Seat<'_, R, E>>,
@@ -344,7 +344,7 @@ fn risen<R, E: Ending>(
     Ok((sessions, logs))
 }
 
-/// How many calls and how many readings there were.
+/// Returns the numbers of calls and of readings.
 fn counts(logs: &[Log]) -> (usize, usize) {
     let (mut calls, mut readings) = (0usize, 0usize);
     for log in logs {

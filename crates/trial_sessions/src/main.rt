@@ -1,6 +1,6 @@
-//! Makes calls that take memory (`memory.rt`); then sixteen sessions make calls on threads and read beside them, and what they leave and see is compared
-//! with a map of names. With the word `memory` it makes the first of these calls alone. With a number the sessions make theirs in that many longer
-//! rounds, and in one whose history is nearly full.
+//! Makes calls that take memory (`memory.rt`). Then sixteen sessions make calls and readings on threads, and what they leave and see is
+//! compared with a map of names. With the word `memory` it makes only the former. With a number N the sessions make theirs in N longer
+//! rounds, and in one whose history becomes nearly full.
 #![tactic(auto)]
 
 mod found;
@@ -19,10 +19,11 @@ use std::io::Write;
 use std::sync::Wait;
 use std::thread::Threads;
 
-/// Rounds of which the first puts more names than may be held, and in the others all sessions write the four names of one function.
+/// Rounds: in the first one the sessions put more names than may be stored, and in the others they all write the four names of one
+/// function.
 const SHORT: [Shape; 2] = [("many names", 700, 1000, 1), ("four names", 1, 1000, 50)];
 
-/// What is asked for: all in short, the calls that take memory, or so many rounds of more names than may be held.
+/// What the words ask for: all in short, the calls that take memory, or a number of longer rounds.
 #[derive(Clone, Copy)]
 enum Asked {
     Short,
@@ -30,7 +31,7 @@ enum Asked {
     Rounds(u32),
 }
 
-/// What the words ask for.
+/// Returns what the words ask for.
 fn read_words(rt: &HostRuntime) -> Result<Asked> {
     let Some(word) = env::args(rt)?.skip(1).next() else {
         return Ok(Asked::Short);
@@ -41,7 +42,7 @@ fn read_words(rt: &HostRuntime) -> Result<Asked> {
     Ok(Asked::Rounds(word.parse()?))
 }
 
-/// Has sixteen sessions call and read, in so many longer rounds, or in short where none are asked for.
+/// Has sixteen sessions call and read, in the given number of longer rounds, or in short without one.
 fn show_sessions<R: AllocGlobal + Threads + Wait + Sync, W: Write>(
     rt: &R,
     rounds: Option<u32>,

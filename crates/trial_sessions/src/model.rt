@@ -1,18 +1,19 @@
-//! What a map of names says of the calls and the readings of sessions, and nothing else: it knows of no revision, of no piece and of no
-//! memo. It is compared with the history of a database, entry by entry, and each session's readings with the beginnings of that history.
+//! What a map of names says about the calls and readings of sessions. It knows no revision, no piece and no memo. It is compared with the
+//! history of a database, entry by entry, and each session's readings are compared with the beginnings of that history.
 use bc_calls::{Entry, Event, MOST_BODIES, PutReply, RemoveReply};
 use bc_names::Name;
 use bc_prov::{Outcome, Shared};
 use std::alloc::{AllocError, Global};
 use test_fixtures::Sight;
 
-/// How many closures a function may create: those of the numbers 0, 1 and 2.
+/// The most closures that a function creates: those of the numbers 0, 1 and 2.
 pub(crate) const CLOSURES: usize = 3;
 
-/// How many names there are of each function: its own, and those of its closures behind it.
+/// The number of names of each function: its own, then those of its closures.
 const FAMILY: usize = CLOSURES + 1;
 
-/// What is known of a unit: it is a closure or a function with so many errors, or a function that creates the closures of these numbers.
+/// What is known about a unit: it is a closure or a function with this many errors, or a function that creates the closures of these
+/// numbers.
 #[derive(Clone, Copy)]
 pub(crate) enum Kind {
     Closure(usize),
@@ -20,7 +21,7 @@ pub(crate) enum Kind {
     Creator([bool; CLOSURES]),
 }
 
-/// A call that a session made, by the number of the name where it is of one, with what is known of the unit that it put.
+/// A call that a session made, by the number of its name if it has one, with what is known about the unit that it put.
 #[derive(Clone, Copy)]
 pub(crate) enum Deed {
     Types,
@@ -30,14 +31,14 @@ pub(crate) enum Deed {
     All,
 }
 
-/// What a session saw of a name without a call: the answer that a glance shows, or what its own work finds outside the lock.
+/// What a session saw of a name without a call: the answer of a glance, or the outcome of its own work without the lock.
 #[derive(Clone, Copy)]
 pub(crate) enum Seen {
     Answer(Option<Sight>),
     Found(Sight),
 }
 
-/// A reading of a session: how many calls it had made before, the number of the name, and what was seen.
+/// A reading of a session: the number of its earlier calls, the number of the name, and what was seen.
 #[derive(Clone, Copy)]
 pub(crate) struct Reading {
     pub(crate) behind: usize,
@@ -45,27 +46,27 @@ pub(crate) struct Reading {
     pub(crate) seen: Seen,
 }
 
-/// What a session did: its calls, and its readings, both in their order.
+/// What a session did: its calls and its readings, each in order.
 #[derive(Drop)]
 pub(crate) struct Log {
     pub(crate) calls: Vec<Deed>,
     pub(crate) readings: Vec<Reading>,
 }
 
-/// What is held under a name, and its answer.
+/// The unit stored under a name, and its answer.
 #[derive(Clone, Copy)]
 struct Place {
     held: Option<Kind>,
     answer: Option<Sight>,
 }
 
-/// The place of a name under which nothing is held.
+/// The place of a name that holds nothing.
 const EMPTY: Place = Place {
     held: None,
     answer: None,
 };
 
-/// What is held under each of these names, which ascend, and how many bodies that are.
+/// What these ascending names hold, and the number of bodies.
 #[derive(Drop)]
 struct Map<'a> {
     names: &'a [Name],
@@ -74,7 +75,7 @@ struct Map<'a> {
 }
 
 impl<'a> Map<'a> {
-    /// Nothing is held under these names.
+    /// Returns a map in which these names hold nothing.
     fn new(alloc: Global, names: &'a [Name]) -> Result<Map<'a>, AllocError> {
         let mut places = Vec::with_capacity(alloc, names.len())?;
         for _name in names {
@@ -87,7 +88,7 @@ impl<'a> Map<'a> {
         })
     }
 
-    /// The place of a name.
+    /// Returns the place of a name.
     fn at(&self, name: usize) -> Place {
         match self.places.get(name) {
             Some(place) => *place,
@@ -102,7 +103,7 @@ impl<'a> Map<'a> {
         }
     }
 
-    /// Sets what is held under a name, which makes its answer void, and that of its function.
+    /// Sets what a name holds, and makes its answer void, and that of its function.
     fn write(&mut self, name: usize, held: Option<Kind>) {
         if let Some(place) = self.places.get_mut(name) {
             place.held = held;
@@ -111,7 +112,7 @@ impl<'a> Map<'a> {
         self.set_answer(name - name % FAMILY, None);
     }
 
-    /// Puts a unit under a name, and gives the reply.
+    /// Puts a unit under a name, and returns the reply.
     fn put(&mut self, name: usize, kind: Kind) -> PutReply {
         let is_root = name % FAMILY == 0;
         let is_closure = match kind {
@@ -133,7 +134,7 @@ impl<'a> Map<'a> {
         PutReply::Added
     }
 
-    /// Takes the unit of a name away, and gives the reply.
+    /// Removes the unit of a name, and returns the reply.
     fn remove(&mut self, name: usize) -> RemoveReply {
         if self.at(name).held.is_none() {
             return RemoveReply::Absent;
@@ -143,21 +144,21 @@ impl<'a> Map<'a> {
         RemoveReply::Removed
     }
 
-    /// Answers a name, if it is held.
+    /// Sets the answer of a name if it holds a body.
     fn answer_with(&mut self, name: usize, found: &Sight) {
         if self.at(name).held.is_some() {
             self.set_answer(name, Some(*found));
         }
     }
 
-    /// Asks for a name, and gives what is found.
+    /// Asks for a name, and returns what is found.
     fn ask(&mut self, name: usize) -> Sight {
         let found = self.found(name);
         self.answer_with(name, &found);
         found
     }
 
-    /// Asks for all, and answers whether these rows are what is found: the held functions, ascending, each with what is found of it.
+    /// Asks for all, and returns whether these rows are what is found: the stored functions, ascending, each with what is found for it.
     fn ask_all(&mut self, rows: &[(Name, Shared<Outcome>)]) -> bool {
         let mut rest = rows.iter();
         for (number, name) in self.names.iter().enumerate() {
@@ -174,7 +175,7 @@ impl<'a> Map<'a> {
         rest.next().is_none()
     }
 
-    /// Makes a call, and answers whether the event is that call with that reply.
+    /// Makes a call, and returns whether the event is that call with its reply.
     fn take(&mut self, deed: Deed, event: &Event) -> bool {
         match (deed, event) {
             (Deed::Types, Event::Types(_)) => {
@@ -198,7 +199,7 @@ impl<'a> Map<'a> {
         }
     }
 
-    /// Whether this is what there is to see of a name now.
+    /// Returns whether this is what there is to see of a name now.
     fn fits(&self, name: usize, seen: &Seen) -> bool {
         match seen {
             Seen::Answer(answer) => self.at(name).answer == *answer,
@@ -206,7 +207,7 @@ impl<'a> Map<'a> {
         }
     }
 
-    /// What an Ask of a function finds that creates these closures.
+    /// Returns what an ask finds for a function that creates these closures.
     fn found_below(&self, name: usize, creates: [bool; CLOSURES]) -> Sight {
         let mut bodies: usize = 1;
         let mut errors: usize = 0;
@@ -227,7 +228,7 @@ impl<'a> Map<'a> {
         Sight::Report(bodies, errors)
     }
 
-    /// What an Ask of a name finds.
+    /// Returns what an ask of a name finds.
     fn found(&self, name: usize) -> Sight {
         match self.at(name).held {
             None => Sight::NoBody,
@@ -237,7 +238,7 @@ impl<'a> Map<'a> {
     }
 }
 
-/// What a session did, how many of its calls a beginning of the history has, and how many of its readings are shown by that.
+/// What a session did, the number of its calls in a beginning of the history, and the number of its readings that this beginning shows.
 #[derive(Clone, Copy)]
 struct Reader<'a> {
     log: &'a Log,
@@ -246,7 +247,7 @@ struct Reader<'a> {
 }
 
 impl Reader<'_> {
-    /// Goes on over the readings that saw what there is to see now.
+    /// Moves past the readings that saw what there is to see now.
     fn read_on(&mut self, map: &Map<'_>) {
         let log = self.log;
         for reading in log.readings.get(self.read..).unwrap_or(&[]) {
@@ -257,7 +258,7 @@ impl Reader<'_> {
         }
     }
 
-    /// The next call, if there is one and it has this number.
+    /// Returns the next call, if there is one and it has this number.
     fn next_deed(&mut self, number: u32) -> Option<Deed> {
         if number as usize != self.behind {
             return None;
@@ -267,13 +268,13 @@ impl Reader<'_> {
         Some(*deed)
     }
 
-    /// Whether the history has all its calls and shows all its readings.
+    /// Returns whether the history has all its calls and shows all its readings.
     fn is_done(&self) -> bool {
         self.read == self.log.readings.len() && self.behind == self.log.calls.len()
     }
 }
 
-/// A reader for each session.
+/// Returns a reader for each session.
 fn readers(alloc: Global, logs: &[Log]) -> Result<Vec<Reader<'_>>, AllocError> {
     let mut readers = Vec::with_capacity(alloc, logs.len())?;
     for log in logs {
@@ -286,9 +287,10 @@ fn readers(alloc: Global, logs: &[Log]) -> Result<Vec<Reader<'_>>, AllocError> {
     Ok(readers)
 }
 
-/// Whether the history is what a map of these names says of the calls of the sessions, of which it has each once, those of a session in
-/// their order, and shows all that they saw: each reading of a session saw what a beginning of the history leaves, which is no shorter than
-/// that of the reading before, has the calls that the session had made and none that it made later. The names ascend.
+/// Returns whether the history is what a map of these ascending names says about the sessions' calls. It must have each call once, those of
+/// a session in their order, and must show all readings. A reading of a session saw what a beginning of the history leaves. This beginning
+/// is no shorter than that of the reading before, and has the calls that the session had made before the reading, and none of its later
+/// ones.
 pub(crate) fn agree(
     alloc: Global,
     names: &[Name],

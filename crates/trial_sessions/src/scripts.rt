@@ -11,10 +11,10 @@ use std::sync::Wait;
 use std::thread::Threads;
 use test_fixtures::{WRITES_WHILE_BORROWED, name, shared_unit};
 
-/// How many calls a session makes.
+/// The number of calls of a session.
 const ALL: usize = 3;
 
-/// A gate that nobody is held up at.
+/// A `Gate` that holds up nobody.
 #[derive(Clone, Copy)]
 struct Open;
 
@@ -22,7 +22,7 @@ impl Gate for Open {
     fn pause(&self, _session: u8, _stage: Stage) {}
 }
 
-/// The call of this number of a session: a put under its name, an Ask of it, then a removal.
+/// Returns the call of this number of a session: a put under its name, an ask of it, then a removal.
 fn call_of(alloc: Global, at: Name, number: usize) -> Result<Call> {
     match number {
         0 => Ok(Call::Put(at, Shared::new(shared_unit(alloc, WRITES_WHILE_BORROWED)?))),
@@ -31,7 +31,7 @@ fn call_of(alloc: Global, at: Name, number: usize) -> Result<Call> {
     }
 }
 
-/// The script of a session that has made so many of its calls.
+/// Returns the script of a session that has made the first `made` of its calls.
 fn script(alloc: Global, at: Name, made: usize) -> Result<Script> {
     let mut calls = Vec::new(alloc);
     for number in made..ALL {
@@ -40,7 +40,7 @@ fn script(alloc: Global, at: Name, made: usize) -> Result<Script> {
     Ok(Script::new(calls))
 }
 
-/// The scripts of two sessions that have made so many of their calls.
+/// Returns the scripts of two sessions that have made these numbers of their calls.
 fn scripts(alloc: Global, made: &[usize; 2]) -> Result<Vec<Script>> {
     let mut scripts = Vec::new(alloc);
     scripts.push(script(alloc, name(b"f")?, made[0])?)?;
@@ -48,7 +48,7 @@ fn scripts(alloc: Global, made: &[usize; 2]) -> Result<Vec<Script>> {
     Ok(scripts)
 }
 
-/// The sessions, from the places where they ran, with how many calls each has made noted.
+/// Returns the sessions that ran, and notes how many calls each has made.
 fn risen<E: Ending>(
     alloc: Global,
     ran: Vec<(Session<E>, End)>,
@@ -65,7 +65,7 @@ fn risen<E: Ending>(
     Ok(sessions)
 }
 
-/// Has two sessions make what they have not made yet, on threads. They make nothing where room for the result is refused.
+/// Has two sessions make the calls that they have not made yet, on threads. They make none if there is no room for the result.
 fn run<R: AllocGlobal + Threads + Wait + Sync, E: Ending + Send>(
     rt: &R,
     db: &Db<E>,
@@ -83,7 +83,7 @@ fn run<R: AllocGlobal + Threads + Wait + Sync, E: Ending + Send>(
     }
 }
 
-/// Whether two sessions make all their calls in two runs, and the history agrees with them. Fails where another call is refused.
+/// Returns whether two sessions make all their calls in two runs, and history and sessions agree. Fails if another call is refused.
 pub(crate) fn is_well<R: AllocGlobal + Threads + Wait + Sync>(
     rt: &R,
     providers: &Providers,

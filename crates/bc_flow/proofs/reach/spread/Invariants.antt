@@ -9,11 +9,11 @@ use Rattle.bc_flow.proofs.reach.spread.Given as goal
 abbrev pub invariant-loop-at : goal.invariant-loop-at
 invariant-loop-at l = record {
   count : length l.rows ≡ length l.initial.rows;
-  sizes : HaveSize (length (row l.initial.rows l.node)) l.rows;
+  sizes : HaveSize (length (row l.initial.rows l.from.node)) l.rows;
   pending : All (λ n. n < length l.initial.rows) l.pending.items;
   within : l.at ≤ length l.edges;
-  leaves : l.at < length l.edges → Leaves l.edges l.node l.at;
-  spreads : Spreads (take l.at l.edges) l.node l.fact (has l.allowed) l.initial.rows l.rows l.initial.pending.items l.pending.items;
+  leaves : l.at < length l.edges → Leaves l.edges l.from.node l.at;
+  spreads : Spreads (take l.at l.edges) l.from.node l.from.fact (has l.allowed) l.initial.rows l.rows l.initial.pending.items l.pending.items;
 }
 
 abbrev pub decreases-loop-at : goal.decreases-loop-at

@@ -4,7 +4,7 @@ use Rattle.bc_flow.specs.Flow.{row, HaveSize}
 use Rattle.bc_flow.proofs.Ways.{turned_within}
 use Rattle.bc_live.proofs.liveness.flow_back.Goals as goal
 
--- the first row of such a table has the size of all
+-- the first row of the table has the size of all rows
 first_size : (facts : ℕ) (rows : List (List Bool)) → HaveSize facts rows → 1 ≤ length rows → length (row rows 0) ≡ facts
 first_size facts rows sized some = sized 0 [] (omega (arith, some))
 

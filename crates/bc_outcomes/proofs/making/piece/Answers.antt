@@ -21,7 +21,7 @@ same_length : (kids : List (Child × Requirements)) → length (map kid_header k
 same_length [] = refl
 same_length (kid ∷ kids) = ap suc (same_length kids)
 
--- what is numbered for the children is what was handed in for them
+-- what is numbered for the children is what was passed for them
 all_numbered : (taken : List (ℕ × Requirements)) (kids : List (Child × Requirements)) → map (λ (k : ℕ × Requirements). k.0) taken ≡ map number_of_child (map kid_header kids)
     → map (λ (k : ℕ × Requirements). k.1) taken ≡ map (λ (kid : Child × Requirements). kid.1) kids → taken ≡ map kid_requirements kids
 all_numbered [] [] e f = refl

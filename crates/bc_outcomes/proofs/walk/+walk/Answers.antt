@@ -13,11 +13,11 @@ use Rattle.bc_outcomes.proofs.walk.+walk.Goals as goal
 
 pub returns-in-Faulty-clause-fault : goal.returns-in-Faulty-clause-fault
 returns-in-Faulty-clause-fault t c =
-    sym (looked_faulty (state_in c.args.held.now) c.args.name c.args.unit.now _ c.in-Faulty.fault c.in-Faulty.is c.in_ok-fault.ensures c.requires.short c.requires.held)
+    sym (looked_faulty (state_in c.args.checked.now) c.args.name c.args.unit.now _ c.in-Faulty.fault c.in-Faulty.is c.in_ok-fault.ensures c.requires.short c.requires.held)
 
 pub returns-after-loop-kid-clause-fault : goal.returns-after-loop-kid-clause-fault
 returns-after-loop-kid-clause-fault t c =
-    let state = (state_in c.args.held.now) in
+    let state = (state_in c.args.checked.now) in
     let looked = looked_fitting state c.args.name c.args.unit.now _ c.in-Fitting.visit c.in-Fitting.kids c.in-Fitting.is c.in_ok-fault.ensures in
     let kids = subst (AllZip (IsKid state c.args.name) (children_of c.args.unit.now)) (sym c.deref-kid-items.ensures.value) looked.2 in
     sym (fault_below state c.args.name c.args.unit.now c.deref-kid-items.result.now c.requires.short c.requires.held looked.0 kids
@@ -25,7 +25,7 @@ returns-after-loop-kid-clause-fault t c =
 
 pub returns-after-loop-kid-clause-visits : goal.returns-after-loop-kid-clause-visits
 returns-after-loop-kid-clause-visits t c = λ _.
-    let state = (state_in c.args.held.now) in
+    let state = (state_in c.args.checked.now) in
     let looked = looked_fitting state c.args.name c.args.unit.now _ c.in-Fitting.visit c.in-Fitting.kids c.in-Fitting.is c.in_ok-fault.ensures in
     let kids = subst (AllZip (IsKid state c.args.name) (children_of c.args.unit.now)) (sym c.deref-kid-items.ensures.value) looked.2 in
     visits_past state c.args.name c.args.unit.now c.in-Fitting.visit c.deref-kid-items.result.now c.loop-kid.kid-index c.args.visits.now.items _ _ c.loop-kid-test.false c.loop-kid.invariant
@@ -33,7 +33,7 @@ returns-after-loop-kid-clause-visits t c = λ _.
 
 pub returns-then-is_some-clause-fault : goal.returns-then-is_some-clause-fault
 returns-then-is_some-clause-fault t c =
-    let state = (state_in c.args.held.now) in
+    let state = (state_in c.args.checked.now) in
     let looked = looked_fitting state c.args.name c.args.unit.now _ c.in-Fitting.visit c.in-Fitting.kids c.in-Fitting.is c.in_ok-fault.ensures in
     let kids = subst (AllZip (IsKid state c.args.name) (children_of c.args.unit.now)) (sym c.deref-kid-items.ensures.value) looked.2 in
     let named = child_is (nat_le c.kid-item.result.number 63 && nat_lt (length c.args.name.segments) 7) c.unwrap-child.result (child c.args.name c.kid-item.result.number) (sym c.unwrap-child.ensures ∙ c.child.ensures) in
@@ -43,7 +43,7 @@ returns-then-is_some-clause-fault t c =
 
 pub walk-requires : goal.walk-requires
 walk-requires t c =
-    let state = (state_in c.args.held.now) in
+    let state = (state_in c.args.checked.now) in
     let looked = looked_fitting state c.args.name c.args.unit.now _ c.in-Fitting.visit c.in-Fitting.kids c.in-Fitting.is c.in_ok-fault.ensures in
     let kids = subst (AllZip (IsKid state c.args.name) (children_of c.args.unit.now)) (sym c.deref-kid-items.ensures.value) looked.2 in
     let named = child_is (nat_le c.kid-item.result.number 63 && nat_lt (length c.args.name.segments) 7) c.unwrap-child.result (child c.args.name c.kid-item.result.number) (sym c.unwrap-child.ensures ∙ c.child.ensures) in
@@ -58,7 +58,7 @@ walk-requires t c =
 
 pub unwrap-child-requires : goal.unwrap-child-requires
 unwrap-child-requires t c =
-    let state = state_in c.args.held.now in
+    let state = state_in c.args.checked.now in
     let looked = looked_fitting state c.args.name c.args.unit.now _ c.in-Fitting.visit c.in-Fitting.kids c.in-Fitting.is c.in_ok-fault.ensures in
     let kids = subst (AllZip (IsKid state c.args.name) (children_of c.args.unit.now)) (sym c.deref-kid-items.ensures.value) looked.2 in
     let kid = subst (IsHeld state c.args.name) (sym c.kid-item.is) (kid_at state c.args.name (children_of c.args.unit.now) c.deref-kid-items.result.now c.loop-kid.kid-index c.kid-item.result kids c.loop-kid-test.true) in
@@ -66,7 +66,7 @@ unwrap-child-requires t c =
 
 pub loop-kid-preserved : goal.loop-kid-preserved
 loop-kid-preserved t c =
-    let state = state_in c.args.held.now in
+    let state = state_in c.args.checked.now in
     let named = child_is (nat_le c.kid-item.result.number 63 && nat_lt (length c.args.name.segments) 7) c.unwrap-child.result (child c.args.name c.kid-item.result.number) (sym c.unwrap-child.ensures ∙ c.child.ensures) in
     let none = sym c.is_some.ensures ∙ c.if-is_some.false in
     walks_more state c.args.name c.deref-kid-items.result.now c.loop-kid.kid-index c.kid-item.result _ _ _ c.in_ok-below-in-Fitting.below c.loop-kid-test.true c.kid-item.is

@@ -7,4 +7,4 @@ abbrev pub decreases-walk : goal.decreases-walk
 decreases-walk l = 7 - length l.name.segments
 
 abbrev pub invariant-loop-kid : goal.invariant-loop-kid
-invariant-loop-kid l = Walks (state_in l.held) l.fn.name l.kid-items l.kid-index l.initial.visits.items l.visits.items
+invariant-loop-kid l = Walks (state_in l.checked) l.fn.name l.kid-items l.kid-index l.initial.visits.items l.visits.items

@@ -6,7 +6,7 @@ use Rattle.bc_outcomes.proofs.walk.find_kids.Goals as goal
 
 pub loop-number-preserved : goal.loop-number-preserved
 loop-number-preserved c =
-    let state = state_in c.args.held.now in
+    let state = state_in c.args.checked.now in
     rw c.in_ok-push-in-Some.ensures.items
     (gathers_more state c.args.name c.args.numbers.now c.loop-number.number-index c.loop-number.kids.items _ c.loop-number-test.true
     (kid_found state c.args.name _ c.unwrap-child.result _ c.requires.suited (sym c.unwrap-child.ensures ∙ c.child.ensures) refl (sym c.unit.ensures.unit ∙ ap option_copied c.in-Some.is)) c.loop-number.invariant)

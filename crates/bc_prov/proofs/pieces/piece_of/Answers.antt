@@ -10,7 +10,7 @@ use Rattle.bc_prov.specs.Verdicts.{IsVerdictOf}
 use Rattle.bc_prov.specs.Pieces.{IsFitted, IsPiece}
 use Rattle.bc_prov.proofs.pieces.piece_of.Goals as goal
 
--- a verdict is still right when its errors are shared
+-- a verdict stays right when its errors are shared
 with_shared : (types : List Declaration) (unit : Body) (mir : Mir) (kids : List (ℕ × Requirements)) (verdict : Verdict) (errors : List BorrowError) → errors ≡ verdict.errors →
     IsFitted types unit mir → IsVerdictOf mir kids verdict → MayGoUp mir.externals verdict.requirements →
     IsPiece (record { types = types; unit = unit; mir = mir; kids = kids; verdict = record { errors = errors; requirements = verdict.requirements } })

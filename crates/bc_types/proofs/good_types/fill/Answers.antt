@@ -10,7 +10,7 @@ module _ (ds table : List Declaration) (i : ℕ) (d : Declaration) (below : i < 
   here : {X : Type 0} (f : List Declaration → X) → f (drop i ds) ≡ f (d ∷ drop (i + 1) ds)
   here f = at_drop_more f ds i d below ∙ ap (λ x. f (x ∷ drop (i + 1) ds)) (sym is)
 
-  -- the first bad one is found behind a good one
+  -- the first bad declaration comes after a good one
   first-turn : (more : List Declaration) (whole : Option ℕ) → more ≡ table ++ d ∷ [] → true ≡ is_good (reverse table) d → first_bad_behind (reverse table) i (drop i ds) ≡ whole
       → first_bad_behind (reverse more) (i + 1) (drop (i + 1) ds) ≡ whole
   first-turn more whole grown good before =

@@ -13,7 +13,7 @@ rest : (c d : Bool) → c || d ≡ false → d ≡ false
 rest true d none = absurd cc
 rest false d none = none
 
--- bytes without a control character stay as they are
+-- bytes without a control character are printed as they are
 stay : (bytes : List ℕ) → list_any is_ascii_control bytes ≡ false → map in_one_line bytes ≡ bytes
 stay [] none = refl
 stay (b ∷ bytes) none =

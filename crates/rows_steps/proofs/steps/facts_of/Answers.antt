@@ -11,7 +11,7 @@ none_required : (children : List Child) → AreOfChildren children (map none_of 
 none_required [] = tt
 none_required (child ∷ children) = (record { number = refl; may_go_up = refl }, none_required children)
 
--- where nothing is required, nothing is of a local region
+-- if nothing is required, nothing is required of a local region
 pub constraints-requires : goal.constraints-requires
 constraints-requires c = record {
   children = subst (AreOfChildren c.args.typed.now.children) (sym (c.deref.ensures.value ∙ c.in_ok-kids.ensures)) (rw c.children.ensures (none_required c.args.typed.now.children));

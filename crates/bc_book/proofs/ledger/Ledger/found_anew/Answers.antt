@@ -4,7 +4,7 @@ use Rattle.bc_prov.specs.Outcome.{IsOutcomeIn}
 use Rattle.bc_prov.specs.Pieces.{ArePieces, rows_of}
 use Rattle.bc_prov.specs.Snapshots.{SnapshotView, IsPartOf}
 use Rattle.bc_prov.specs.State.{state_of}
-use Rattle.bc_outcomes.specs.declared.reporting.Found.{Found}
+use Rattle.bc_outcomes.specs.declared.reporting.AskResult.{AskResult}
 use Rattle.bc_memo.specs.Places.{AreFitting, units_in}
 use Rattle.bc_calls.specs.Calls.{after}
 use Rattle.bc_calls.proofs.Parts.{ok_map, part_fitting, part_outcome}
@@ -17,14 +17,14 @@ returns-clause-outcome g c =
     let n = c.args.name.now in
     let s = after c.args.self.now.entries in
     let part : IsPartOf v n s = subst (λ (w : SnapshotView). IsPartOf w n s) (sym c.offer-with_pieces.ensures) c.in_ok-begun.ensures.part in
-    ok_map c.find.result (λ (f : Found). IsOutcomeIn (state_of v.types v.units) v.root f.outcome) (λ (f : Found). IsOutcomeIn s n f.outcome) (λ f is. part_outcome v n s f.outcome part is) c.find.ensures.outcome
+    ok_map c.find.result (λ (f : AskResult). IsOutcomeIn (state_of v.types v.units) v.root f.outcome) (λ (f : AskResult). IsOutcomeIn s n f.outcome) (λ f is. part_outcome v n s f.outcome part is) c.find.ensures.outcome
 
 pub returns-clause-over : goal.returns-clause-over
 returns-clause-over g c =
     let v = c.offer-with_pieces.result in
     let held = c.args.self.now.shelf.types in
     let types : v.types ≡ held = ap (λ (w : SnapshotView). w.types) c.offer-with_pieces.ensures ∙ c.in_ok-begun.ensures.held.0 in
-    ok_map c.find.result (λ (f : Found). IfSome f.pieces (λ set. set.types ≡ v.types)) (λ (f : Found). IfSome f.pieces (λ set. set.types ≡ held))
+    ok_map c.find.result (λ (f : AskResult). IfSome f.pieces (λ set. set.types ≡ v.types)) (λ (f : AskResult). IfSome f.pieces (λ set. set.types ≡ held))
     (λ f is. some_map f.pieces (λ set. set.types ≡ v.types) (λ set. set.types ≡ held) (λ set same. same ∙ types) is) c.find.ensures.over
 
 pub returns-clause-fit : goal.returns-clause-fit
@@ -34,5 +34,5 @@ returns-clause-fit g c =
     let held = c.args.self.now.shelf in
     let types : v.types ≡ held.types = ap (λ (w : SnapshotView). w.types) c.offer-with_pieces.ensures ∙ c.in_ok-begun.ensures.held.0 in
     let units : v.units ≡ units_in n held.places = ap (λ (w : SnapshotView). w.units) c.offer-with_pieces.ensures ∙ c.in_ok-begun.ensures.held.1 in
-    ok_map c.find.result (λ (f : Found). ArePieces v.types v.units (rows_of f.pieces)) (λ (f : Found). AreFitting held (rows_of f.pieces))
+    ok_map c.find.result (λ (f : AskResult). ArePieces v.types v.units (rows_of f.pieces)) (λ (f : AskResult). AreFitting held (rows_of f.pieces))
     (λ f are. part_fitting held n v.types v.units (rows_of f.pieces) types units are) c.find.ensures.fit

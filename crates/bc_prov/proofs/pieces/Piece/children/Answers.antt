@@ -12,7 +12,7 @@ use Rattle.std.proofs.lemmas.List.{at_drop_more}
 use Rattle.bc_types.proofs.Appending.{appended-turn}
 use Rattle.bc_prov.proofs.pieces.Piece.children.Goals as goal
 
--- all numbers are there
+-- after the last child all numbers are there
 done : (numbers : List ℕ) (children : List Child) (i : ℕ) → length children ≤ i → numbers ++ map number_of_child (drop i children) ≡ map number_of_child children → numbers ≡ map number_of_child children
 done numbers children i past are = sym (append-nil numbers) ∙ ap (λ (cs : List Child). numbers ++ map number_of_child cs) (sym (drop_all i children past)) ∙ are
 

@@ -4,7 +4,7 @@ use Rattle.std.proofs.lemmas.Bool.{ltb-false, ne_eqb}
 use Rattle.bc_syntax.specs.Symbol.{sign_of, text}
 use Rattle.bc_syntax.proofs.symbol.Symbol.of_sign.Goals as goal
 
--- no sign is above `?` but for the four brackets
+-- only four signs are above `?`: the brackets and the braces
 others_low : (byte : ℕ) → byte ≢ 91 → byte ≢ 93 → byte ≢ 123 → byte ≢ 125 → (low : Bool) → ltb byte 63 ≡ low → cond low (sign_of byte) None ≡ sign_of byte
 unfolding sign_of text
 others_low byte a b c d true is = refl

@@ -4,7 +4,7 @@ use Rattle.std.specs.Prelude.{Some}
 use Rattle.bc_prov.specs.State.{at_name, number_of_child}
 use Rattle.bc_outcomes.specs.Visits.{state_in}
 use Rattle.bc_outcomes.proofs.Folding.{Folds, turn, turn-children, turn-enough, folded, folds_all, folds_none, some_more}
-use Rattle.bc_outcomes.proofs.held.Held.judge_visits.Goals as goal
+use Rattle.bc_outcomes.proofs.checked.CheckedSnapshot.judge_visits.Goals as goal
 
 pub loop-visit-init : goal.loop-visit-init
 loop-visit-init g c =
