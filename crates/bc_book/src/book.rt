@@ -1,5 +1,5 @@
 //! The book: all that is under the lock, which is the ledger and the writer that publishes it.
-ghost use Rattle.std.specs.Prelude.{◌≡◌, ◌<◌, ◌^◌, None, IsSome, [], List, length, IfOk, IfSome, IfErr, MatchResult, OnErr, OnOk};
+ghost use Rattle.std.specs.Prelude.{◌≡◌, ◌<◌, ◌^◌, None, [], List, length, IfOk, IfSome, IfErr, MatchResult, OnErr, OnOk};
 ghost use Rattle.bc_prov.specs.Outcome.{IsOutcomeIn};
 ghost use Rattle.bc_prov.specs.Pieces.{rows_of};
 ghost use Rattle.bc_prov.specs.Snapshots.{IsPartOf};
@@ -12,7 +12,7 @@ ghost use Rattle.bc_names.specs.Names.{NameParts};
 ghost use Rattle.bc_prov.specs.State.{at_name};
 ghost use Rattle.bc_calls.specs.declared.call.Event.TheVariants as events;
 ghost use Rattle.bc_book.specs.Ledgers.{Appends, AreRows, HasPlace, IsFull, Keeps, KeepsOthers, KeepsUnasked, Remembers, RemembersEach, empty_book, kept_rows, remembering};
-ghost use Rattle.bc_book.specs.Operations.{IsCallOf, NeedsWork};
+ghost use Rattle.bc_book.specs.Operations.{IsCallOf};
 
 use crate::ledger::{Ledger, MOST_SESSIONS, Refusal};
 use crate::operation::Operation;
@@ -142,18 +142,16 @@ impl<E: Ending> Book<E> {
     }
 
     /// Enters what a session does as a call, and returns two owners of the call with its reply: one for the session's own list and one for
-    /// its caller. It asks for providers if an outcome is asked for. Published and refused as the method of that call says.
+    /// its caller. Published and refused as the method of that call says.
     pub fn enter<R: Wait>(
         &mut self,
         rt: &R,
         alloc: Global,
         session: u8,
-        operation: Operation,
-        providers: Option<&Providers>,
+        operation: Operation<&Providers>,
     ) -> Result<EventOwners, Refusal>
         requires session { session < MOST_SESSIONS }
-        requires providers { NeedsWork operation → IsSome providers }
-        ensures step { IfOk result (λ told. IsCallOf operation told × Appends session told self.old self.new) }
+        ensures step { IfOk result (λ told. IsCallOf operation.entry told × Appends session told self.old self.new) }
         ensures refused { OnErr result (self.new ≡ self.old) }
         ensures full { IfErr result (IsFull self.old) }
         ensures below { OnOk result (length self.old.entries < self.old.capacity) }
@@ -162,9 +160,9 @@ impl<E: Ending> Book<E> {
             Operation::Types(types) => self.put_types(rt, alloc, session, types),
             Operation::Put(name, unit) => self.put(rt, alloc, session, name, unit),
             Operation::Remove(name) => self.remove(rt, alloc, session, name),
-            Operation::Settle(work) => self.settle(rt, alloc, session, work, providers.unwrap()),
-            Operation::All(works) => {
-                self.settle_all(rt, alloc, session, works, providers.unwrap())
+            Operation::Settle(work, providers) => self.settle(rt, alloc, session, work, providers),
+            Operation::All(works, providers) => {
+                self.settle_all(rt, alloc, session, works, providers)
             }
         }
     }

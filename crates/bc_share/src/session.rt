@@ -1,5 +1,5 @@
 //! What one session does, and its own list of that.
-ghost use Rattle.std.specs.Prelude.{◌≡◌, ◌↔◌, ◌<◌, [], IfOk, IsSome, IsTrue, OnOk, OnErr, length};
+ghost use Rattle.std.specs.Prelude.{◌≡◌, ◌↔◌, ◌<◌, [], IfOk, IsTrue, OnOk, OnErr, length};
 ghost use Rattle.std.specs.Arc.{arc_value};
 ghost use Rattle.std.specs.Option.{option_map};
 ghost use Rattle.bc_prov.specs.Snapshots.{IsPartOf};
@@ -8,7 +8,7 @@ ghost use Rattle.bc_calls.specs.Answers.{IsAnswer};
 ghost use Rattle.bc_calls.specs.Beginnings.{AreAllBegun};
 ghost use Rattle.bc_calls.specs.Calls.{after, calls};
 ghost use Rattle.bc_book.specs.declared.ledger.TheConstants.{MOST_SESSIONS};
-ghost use Rattle.bc_book.specs.Operations.{IsCallOf, NeedsWork};
+ghost use Rattle.bc_book.specs.Operations.{IsCallOf};
 ghost use Rattle.bc_share.specs.Sessions.{IsAnswered, Stays, new_session};
 
 use crate::desk::Desk;
@@ -83,7 +83,7 @@ impl<E: Ending> Session<E> {
     {
         self.notes.reserve()?;
         let types = checked(self.alloc, Shared::new(types))?;
-        self.make(rt, Operation::Types(types), None)?;
+        self.make(rt, Operation::Types(types))?;
         Ok(())
     }
 
@@ -100,7 +100,7 @@ impl<E: Ending> Session<E> {
         ensures told { IfOk result (λ reply. IsAnswered (events.Put name (arc_value unit) reply) self.old self.new) }
         ensures refused { OnErr result (Stays self.old self.new) }
     {
-        let (_, event) = self.make(rt, Operation::Put(name, Shared::new(unit)), None)?;
+        let (_, event) = self.make(rt, Operation::Put(name, Shared::new(unit)))?;
         match event {
             Event::Put(_, _, reply) => Ok(reply),
             Event::Types(_) | Event::Remove(_, _) | Event::Ask(_, _) | Event::All(_) =>
@@ -114,7 +114,7 @@ impl<E: Ending> Session<E> {
         ensures told { IfOk result (λ reply. IsAnswered (events.Remove name reply) self.old self.new) }
         ensures refused { OnErr result (Stays self.old self.new) }
     {
-        let (_, event) = self.make(rt, Operation::Remove(name), None)?;
+        let (_, event) = self.make(rt, Operation::Remove(name))?;
         match event {
             Event::Remove(_, reply) => Ok(reply),
             Event::Types(_) | Event::Put(_, _, _) | Event::Ask(_, _) | Event::All(_) =>
@@ -172,7 +172,7 @@ impl<E: Ending> Session<E> {
         ensures told { IfOk result (λ outcome. IsAnswered (events.Ask work.snapshot.root (arc_value outcome)) self.old self.new) }
         ensures refused { OnErr result (Stays self.old self.new) }
     {
-        let (_, event) = self.make(rt, Operation::Settle(work), Some(providers))?;
+        let (_, event) = self.make(rt, Operation::Settle(work, providers))?;
         match event {
             Event::Ask(_, outcome) => Ok(outcome.into_arc()),
             Event::Types(_) | Event::Put(_, _, _) | Event::Remove(_, _) | Event::All(_) =>
@@ -215,7 +215,7 @@ impl<E: Ending> Session<E> {
         ensures told { IfOk result (λ listing. IsAnswered (events.All (arc_value listing)) self.old self.new) }
         ensures refused { OnErr result (Stays self.old self.new) }
     {
-        let (_, event) = self.make(rt, Operation::All(works), Some(providers))?;
+        let (_, event) = self.make(rt, Operation::All(works, providers))?;
         match event {
             Event::All(listing) => Ok(listing.into_arc()),
             Event::Types(_) | Event::Put(_, _, _) | Event::Remove(_, _) | Event::Ask(_, _) =>
@@ -242,8 +242,7 @@ impl<E: Ending> Session<E> {
     }
 
     /// Makes a call: returns how many calls the session had made before, which is the number of its entry, and the call with its reply. The
-    /// other calls are this one with one kind of operation each. Work for an Ask is done before, with no lock held (`begin`, `begin_all`); an
-    /// Ask asks for providers too.
+    /// other calls are this one with one kind of operation each. Work for an Ask is done before, with no lock held (`begin`, `begin_all`).
     ///
     /// Room in the session's own list is made first. Returns `HistoryFull` only if the history is full or the database is closed, and
     /// `NoMemory` only if out of memory, as a provider may report too. The session's own list and the history are then as they were, and
@@ -251,20 +250,16 @@ impl<E: Ending> Session<E> {
     pub fn make<R: Wait>(
         &mut self,
         rt: &R,
-        operation: Operation,
-        providers: Option<&Providers>,
+        operation: Operation<&Providers>,
     ) -> Result<(usize, Event), Refusal>
-        requires providers { NeedsWork operation → IsSome providers }
-        ensures made { IfOk result (λ made. IsCallOf operation made.1 × IsAnswered made.1 self.old self.new) }
+        ensures made { IfOk result (λ made. IsCallOf operation.entry made.1 × IsAnswered made.1 self.old self.new) }
         ensures number { IfOk result (λ made. made.0 ≡ length self.old.own) }
         ensures refused { OnErr result (Stays self.old self.new) }
     {
         // Before the lock is taken: a call without room returns `NoMemory` even if the history is full.
         self.notes.reserve()?;
         let number = self.notes.count();
-        let event = self
-            .desk
-            .enter(rt, self.alloc, &mut self.notes, operation, providers)?;
+        let event = self.desk.enter(rt, self.alloc, &mut self.notes, operation)?;
         Ok((number, event))
     }
 
