@@ -16,11 +16,10 @@ ghost use Rattle.bc_book.specs.Operations.{IsCallOf};
 
 use crate::ledger::{Ledger, MOST_SESSIONS, Refusal};
 use crate::operation::Operation;
-use crate::roots::{ListingResult, count_pieces, push_row};
+use crate::roots::{ListingResult, NameResult, count_pieces, push_row};
 use bc_calls::{Begun, Entry, Event, EventOwners, PutReply, RemoveReply, Work, no_declarations};
 use bc_memo::Remembered;
 use bc_names::Name;
-use bc_outcomes::AskResult;
 use bc_prov::{Declared, Outcome, PieceSet, Providers, Shared, share};
 use bc_syntax::{Sequence, Unit};
 use bc_versions::{Ending, Fronts, Press};
@@ -282,10 +281,11 @@ impl<E: Ending> Book<E> {
     {
         self.ledger.has_room()?;
         let name = *work.name();
-        let AskResult { outcome, pieces } = self
-            .ledger
-            .outcome(alloc, &name, Some(work), providers)?;
-        let row = self.ledger.row(alloc, &name, &outcome)?;
+        let NameResult {
+            outcome,
+            pieces,
+            row,
+        } = self.ledger.outcome(alloc, &name, Some(work), providers)?;
         let mut rows = Vec::new(alloc);
         push_row(&mut rows, row)?;
         let effects = SideEffects { rows, pieces };

@@ -17,11 +17,11 @@ use Rattle.bc_book.proofs.book.Book.settle.Goals as goal
 
 pub append-requires-clause-rows : goal.append-requires-clause-rows
 append-requires-clause-rows g c =
-    let row = c.in_ok-row.row in
+    let row = c.in_ok-outcome.field-0.row in
     let rows : c.push_row.new.rows.items ≡ row_list row = c.in_ok-push_row.ensures ∙ ap (λ (l : List (NameParts × Remembered)). l ++ row_list row) c.new-rows.ensures.items in
     subst (λ (v : BookView). AreRows v.shelf v.entries c.push_row.new.rows.items) c.self.view_is
     (subst (λ (l : List (NameParts × Remembered)). AreRows c.self.inside.ledger.shelf c.self.inside.ledger.entries l) (sym rows)
-    (rows_of_row c.self.inside.ledger.shelf c.self.inside.ledger.entries c.name.result.now row c.in_ok-row.ensures.row))
+    (rows_of_row c.self.inside.ledger.shelf c.self.inside.ledger.entries c.name.result.now row c.in_ok-outcome.ensures.row))
 
 pub append-requires-clause-fit : goal.append-requires-clause-fit
 append-requires-clause-fit g c = subst (λ (v : BookView). AreFitting v.shelf (rows_of c.in_ok-outcome.field-0.pieces)) c.self.view_is c.in_ok-outcome.ensures.fit
@@ -40,7 +40,7 @@ returns-clause-step g c =
     let l = c.self.inside.ledger in
     let old : BookView = record { capacity = l.capacity; entries = l.entries; shelf = l.shelf; answers = l.answers; pieces = l.pieces } in
     let new : BookView = c.append.new.self in
-    let row = c.in_ok-row.row in
+    let row = c.in_ok-outcome.field-0.row in
     let k : NameParts = c.name.result.now in
     let n : NameParts = c.args.work.snapshot.root in
     let x : Outcome = c.in_ok-outcome.field-0.outcome in
@@ -49,14 +49,14 @@ returns-clause-step g c =
     let answers : OnOk c.append.result (new.answers ≡ kept_rows (change_of (events.Ask k x)) (remembering (row_list row) old.answers)) =
     subst (λ (y : List (NameParts × Remembered) × BookView). OnOk c.append.result (new.answers ≡ kept_rows (change_of (events.Ask k x)) (remembering y.0 y.1.answers))) (λ i. (rows i, sym c.self.view_is i)) c.append.ensures.answers in
     subst (λ (v : BookView). IfOk c.append.result (λ told. (outcome : Outcome) × (told ≡ events.Ask n outcome) × Appends c.args.session told v new × Remembers n outcome new)) c.self.view_is
-    (settled_step c.append.result c.args.session k n x old new row c.append.ensures.told step answers c.name.ensures c.in_ok-row.ensures.recalls c.in_ok-row.ensures.row)
+    (settled_step c.append.result c.args.session k n x old new row c.append.ensures.told step answers c.name.ensures c.in_ok-outcome.ensures.recalls c.in_ok-outcome.ensures.row)
 
 pub returns-clause-others : goal.returns-clause-others
 returns-clause-others g c =
     let l = c.self.inside.ledger in
     let old : BookView = record { capacity = l.capacity; entries = l.entries; shelf = l.shelf; answers = l.answers; pieces = l.pieces } in
     let new : BookView = c.append.new.self in
-    let row = c.in_ok-row.row in
+    let row = c.in_ok-outcome.field-0.row in
     let k : NameParts = c.name.result.now in
     let n : NameParts = c.args.work.snapshot.root in
     let x : Outcome = c.in_ok-outcome.field-0.outcome in
@@ -64,14 +64,14 @@ returns-clause-others g c =
     let answers : OnOk c.append.result (new.answers ≡ kept_rows (change_of (events.Ask k x)) (remembering (row_list row) old.answers)) =
     subst (λ (y : List (NameParts × Remembered) × BookView). OnOk c.append.result (new.answers ≡ kept_rows (change_of (events.Ask k x)) (remembering y.0 y.1.answers))) (λ i. (rows i, sym c.self.view_is i)) c.append.ensures.answers in
     subst (λ (v : BookView). OnOk c.append.result (KeepsOthers n v new)) c.self.view_is
-    (settled_others c.append.result k n x old new row answers c.name.ensures c.in_ok-row.ensures.row)
+    (settled_others c.append.result k n x old new row answers c.name.ensures c.in_ok-outcome.ensures.row)
 
 pub returns-clause-absent : goal.returns-clause-absent
 returns-clause-absent g c =
     let l = c.self.inside.ledger in
     let old : BookView = record { capacity = l.capacity; entries = l.entries; shelf = l.shelf; answers = l.answers; pieces = l.pieces } in
     let new : BookView = c.append.new.self in
-    let row = c.in_ok-row.row in
+    let row = c.in_ok-outcome.field-0.row in
     let k : NameParts = c.name.result.now in
     let n : NameParts = c.args.work.snapshot.root in
     let x : Outcome = c.in_ok-outcome.field-0.outcome in
@@ -79,10 +79,7 @@ returns-clause-absent g c =
     let answers : OnOk c.append.result (new.answers ≡ kept_rows (change_of (events.Ask k x)) (remembering (row_list row) old.answers)) =
     subst (λ (y : List (NameParts × Remembered) × BookView). OnOk c.append.result (new.answers ≡ kept_rows (change_of (events.Ask k x)) (remembering y.0 y.1.answers))) (λ i. (rows i, sym c.self.view_is i)) c.append.ensures.answers in
     subst (λ (v : BookView). OnOk c.append.result (at_name v.shelf.places n ≡ None → new.answers ≡ v.answers)) c.self.view_is
-    (settled_absent c.append.result k n x old new row answers c.name.ensures c.in_ok-row.ensures.row)
-
-pub row-requires : goal.row-requires
-row-requires g c = c.in_ok-outcome.ensures.outcome
+    (settled_absent c.append.result k n x old new row answers c.name.ensures c.in_ok-outcome.ensures.row)
 
 pub append-requires-clause-reply : goal.append-requires-clause-reply
 append-requires-clause-reply g c = subst (λ (v : BookView). IsOutcomeIn (after v.entries) c.name.result.now c.in_ok-outcome.field-0.outcome) c.self.view_is c.in_ok-outcome.ensures.outcome
