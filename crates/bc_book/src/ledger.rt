@@ -130,22 +130,6 @@ impl Ledger {
         Ok(())
     }
 
-    /// Makes room for one entry, one body, and at least this many answers and pieces. Returns `HistoryFull` exactly if the history is full,
-    /// which is tested first, and otherwise `NoMemory` if out of memory. The ledger keeps what it has in each case.
-    pub(crate) fn reserve(&mut self, answers: usize, pieces: usize) -> Result<(), Refusal>
-        ensures same { SameLedger self.old self.new }
-        ensures room { OnOk result ((0 < self.new.room) × (0 < self.new.places) × (answers ≤ self.new.rows) × (pieces ≤ self.new.piece_room)) }
-        ensures below { OnOk result (length self.old.entries < self.old.capacity) }
-        ensures full { IfErr result (λ r. r ≡ Refusal.HistoryFull ↔ length self.old.entries ≡ self.old.capacity) }
-    {
-        self.has_room()?;
-        self.history.reserve(1)?;
-        self.shelf.reserve()?;
-        self.memo.reserve(answers)?;
-        self.pieces.reserve(pieces)?;
-        Ok(())
-    }
-
     /// Returns the reply to a put.
     pub(crate) fn put_reply(
         &self,
@@ -458,17 +442,6 @@ impl Ledger {
         }
     }
 
-    /// Makes the owners that a change brings for many names. The ledger keeps what it has in each case. Returns `AllocError` also if an
-    /// outcome has too many owners.
-    pub(crate) fn prepare(&mut self, change: &Change) -> Result<(), AllocError>
-        ensures same { SameLedger self.old self.new }
-        ensures room { (self.new.room ≡ self.old.room) × (self.new.places ≡ self.old.places) ×
-            (self.new.rows ≡ self.old.rows) × (self.new.piece_room ≡ self.old.piece_room) }
-        ensures ready { OnOk result (IsReady change.now self.new.ready) }
-    {
-        self.shelf.prepare(change)
-    }
-
     /// Makes room for an event's entry, for one body, and for at least this many answers and pieces, and makes the owners that its change
     /// brings. Returns the change. Returns `HistoryFull` exactly if the history is full, which is tested first, and otherwise `NoMemory` if
     /// out of memory. The ledger keeps what it has in each case.
@@ -485,9 +458,13 @@ impl Ledger {
         ensures below { OnOk result (length self.old.entries < self.old.capacity) }
         ensures full { IfErr result (λ r. r ≡ Refusal.HistoryFull ↔ length self.old.entries ≡ self.old.capacity) }
     {
-        self.reserve(answers, pieces)?;
+        self.has_room()?;
+        self.history.reserve(1)?;
+        self.shelf.reserve()?;
+        self.memo.reserve(answers)?;
+        self.pieces.reserve(pieces)?;
         let change = event.change()?;
-        self.prepare(&change)?;
+        self.shelf.prepare(&change)?;
         Ok(change)
     }
 
