@@ -22,7 +22,7 @@ use bc_memo::Remembered;
 use bc_names::Name;
 use bc_prov::{Declared, Outcome, PieceSet, Providers, Shared, share};
 use bc_syntax::{Sequence, Unit};
-use bc_versions::{Ending, Fronts, Press};
+use bc_versions::{Ending, Fronts, Press, Update};
 use std::alloc::{AllocError, Global};
 use std::marker::Model;
 use std::sync::Wait;
@@ -76,7 +76,7 @@ fn publish<E: Ending, R: Wait>(
 {
     let owned = copy_of(alloc, pieces)?;
     let copy = entry.copy()?;
-    press.add(rt, copy, revision, owned)
+    press.add(rt, Update::new(copy, revision, owned))
 }
 
 /// The state under the lock: the append-only history of all calls, what is stored after it, the remembered outcomes, and the writer of the

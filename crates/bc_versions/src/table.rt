@@ -40,7 +40,7 @@ impl Model for Update {
 impl Update {
     /// Makes an update of an entry, with its revision, and with the pieces that come with an ask, if any. Requires that a unit that the
     /// entry puts suits its name.
-    pub(crate) fn new(entry: Entry, revision: u32, pieces: Option<PieceSet>) -> Update
+    pub fn new(entry: Entry, revision: u32, pieces: Option<PieceSet>) -> Update
         requires { MayChange (change_of entry.event) }
         ensures { result ≡ record { entry = entry; revision = revision; pieces = rows_of pieces } }
     {
