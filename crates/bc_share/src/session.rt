@@ -101,11 +101,10 @@ impl<E: Ending> Session<E> {
         ensures refused { OnErr result (Stays self.old self.new) }
     {
         let (_, event) = self.make(rt, Operation::Put(name, Shared::new(unit)))?;
-        match event {
-            Event::Put(_, _, reply) => Ok(reply),
-            Event::Types(_) | Event::Remove(_, _) | Event::Ask(_, _) | Event::All(_) =>
-                unreachable!(),
-        }
+        let Event::Put(_, _, reply) = event else {
+            unreachable!();
+        };
+        Ok(reply)
     }
 
     /// Removes the unit of a name, and replies `Removed`, or `Absent` if the name holds none. Room in the session's own list is made first.
@@ -115,11 +114,10 @@ impl<E: Ending> Session<E> {
         ensures refused { OnErr result (Stays self.old self.new) }
     {
         let (_, event) = self.make(rt, Operation::Remove(name))?;
-        match event {
-            Event::Remove(_, reply) => Ok(reply),
-            Event::Types(_) | Event::Put(_, _, _) | Event::Ask(_, _) | Event::All(_) =>
-                unreachable!(),
-        }
+        let Event::Remove(_, reply) = event else {
+            unreachable!();
+        };
+        Ok(reply)
     }
 
     /// Returns a consistent snapshot of one name and its closures, taken without the lock. Pass it to `work`, then to `settle`. It carries
@@ -173,11 +171,10 @@ impl<E: Ending> Session<E> {
         ensures refused { OnErr result (Stays self.old self.new) }
     {
         let (_, event) = self.make(rt, Operation::Settle(work, providers))?;
-        match event {
-            Event::Ask(_, outcome) => Ok(outcome.into_arc()),
-            Event::Types(_) | Event::Put(_, _, _) | Event::Remove(_, _) | Event::All(_) =>
-                unreachable!(),
-        }
+        let Event::Ask(_, outcome) = event else {
+            unreachable!();
+        };
+        Ok(outcome.into_arc())
     }
 
     /// Asks whether the body under a name is borrow-correct now, and returns the outcome of what the name holds, over the stored
@@ -216,11 +213,10 @@ impl<E: Ending> Session<E> {
         ensures refused { OnErr result (Stays self.old self.new) }
     {
         let (_, event) = self.make(rt, Operation::All(works, providers))?;
-        match event {
-            Event::All(listing) => Ok(listing.into_arc()),
-            Event::Types(_) | Event::Put(_, _, _) | Event::Remove(_, _) | Event::Ask(_, _) =>
-                unreachable!(),
-        }
+        let Event::All(listing) = event else {
+            unreachable!();
+        };
+        Ok(listing.into_arc())
     }
 
     /// Asks which bodies are borrow-correct now, and returns the outcome of each root that holds a body, in the order of the names, each as
