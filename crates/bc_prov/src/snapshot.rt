@@ -5,7 +5,7 @@ ghost use Rattle.std.specs.List.Sorted.{IsPermutation};
 ghost use Rattle.std.specs.Option.{option_copied};
 ghost use Rattle.bc_prov.specs.Outcome.{IsOutcomeIn};
 ghost use Rattle.bc_syntax.specs.Children.{children_of};
-ghost use Rattle.bc_prov.specs.Pieces.{AreAscending, ArePieces, IsPieceFor, pieces_at};
+ghost use Rattle.bc_prov.specs.Pieces.{AreAscending, AreOver, ArePieces, IsPieceFor, pieces_at};
 ghost use Rattle.bc_prov.specs.Snapshots.{IsAmongPieces, IsSnapshot, names_used};
 ghost use Rattle.bc_prov.specs.State.{AreSuited, at_name, child, state_of};
 
@@ -139,8 +139,8 @@ impl Snapshot {
     pub fn carry_pieces(self, pieces: Pieces) -> Snapshot
         ensures { result ≡ self }
     {
-        let pieces = self.fitting(pieces);
-        self.with_offered(pieces)
+        let over = self.over_types(pieces);
+        self.with_offered(over)
     }
 
     /// Adds the pieces of a set, in place of those that were carried before. A report reuses them as it reuses kept ones, if all that they
@@ -152,16 +152,17 @@ impl Snapshot {
         if !set.is_over(&self.types) {
             return self;
         }
-        let pieces = self.of_units(set);
-        self.with_offered(pieces)
+        self.with_offered(set.into_rows())
     }
 
-    /// Returns the snapshot with these pieces of its bodies, sorted by name, in place of those that it carried.
+    /// Returns the snapshot with those of these pieces that were found from the unit at their name, sorted by name, in place of those that
+    /// it carried. Requires that all were found from its declarations.
     fn with_offered(self, pieces: Pieces) -> Snapshot
-        requires { ArePieces self.types self.units pieces.items }
+        requires { AreOver self.types pieces.items }
         ensures { result ≡ self }
     {
-        let pieces = self.in_order(pieces);
+        let fitting = self.of_units(pieces);
+        let pieces = self.in_order(fitting);
         let Snapshot {
             types,
             root,
@@ -192,31 +193,28 @@ impl Snapshot {
         pieces
     }
 
-    /// Returns the pieces that were found from its declarations and from the unit at their name.
-    fn fitting(&self, pieces: Pieces) -> Pieces
-        ensures { ArePieces self.now.types self.now.units result.items }
+    /// Returns the pieces that were found from its declarations.
+    fn over_types(&self, pieces: Pieces) -> Pieces
+        ensures { AreOver self.now.types result.items }
     {
         let mut pieces = pieces;
-        pieces.retain(|entry| self.fits(entry));
+        pieces.retain(|entry| self.has_types(entry));
         pieces
     }
 
-    /// Returns whether a piece was found from its declarations and from the unit at its name.
-    fn fits(&self, entry: &(Name, Shared<Piece>)) -> bool
-        ensures { IsTrue result → IsPieceFor self.now.types (at_name self.now.units entry.now.0) entry.now.1 }
+    /// Returns whether a piece was found from its declarations, compared as values.
+    fn has_types(&self, entry: &(Name, Shared<Piece>)) -> bool
+        ensures { IsTrue result → entry.now.1.types ≡ self.now.types }
     {
-        match self.unit(&entry.0) {
-            Some(unit) => entry.1.get().is_over(&self.types, unit),
-            None => false,
-        }
+        entry.1.get().types() == &self.types
     }
 
-    /// Returns the pieces of a set over its declarations that were found from the unit at their name.
-    fn of_units(&self, set: PieceSet) -> Pieces
-        requires { set.types ≡ self.now.types }
+    /// Returns those of the pieces that were found from the unit at their name. Requires that all were found from its declarations.
+    fn of_units(&self, pieces: Pieces) -> Pieces
+        requires { AreOver self.now.types pieces.items }
         ensures { ArePieces self.now.types self.now.units result.items }
     {
-        let mut pieces = set.into_rows();
+        let mut pieces = pieces;
         pieces.retain(|entry| self.has_unit(entry));
         pieces
     }
