@@ -247,6 +247,8 @@ impl<E: Ending> Book<E> {
     /// Returns the part of what is stored that the outcome of a name depends on: the declarations, and the units at the name and at names
     /// that begin with it and `/`, with their revisions. It carries the outcome that is remembered for the name, if that is still valid.
     /// Nothing is entered.
+    ///
+    /// Only tests and benchmarks of this repository call it: a session begins at the published table, without the lock.
     pub fn snapshot(&self, alloc: Global, name: &Name) -> Result<Begun, AllocError>
         ensures part { IfOk result (λ begun. IsPartOf begun name.now (after self.now.entries)) }
         ensures remembered { IfOk result (λ begun. IsRemembered self.now.shelf self.now.answers name.now begun.carried) }

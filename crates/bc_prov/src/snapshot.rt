@@ -136,6 +136,8 @@ impl Snapshot {
     /// Adds pieces, in place of those that were carried before. A report reuses them as it reuses kept ones, if all that they were found
     /// from is there. Pieces that were found from other declarations, or from another unit than the one at their name, are left out. The
     /// pieces may come in any order, and a name may have several.
+    ///
+    /// Only tests of this repository call it: the database offers a set, whose declarations are compared once.
     pub fn carry_pieces(self, pieces: Pieces) -> Snapshot
         ensures { result ≡ self }
     {

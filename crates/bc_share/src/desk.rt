@@ -59,7 +59,8 @@ impl<E: Ending> Desk<E> {
     }
 }
 
-/// Enters an operation of a session as one entry of the book, notes it once it is read, and returns the call with its reply.
+/// Enters an operation of a session as one entry of the book, notes it once it is read, and returns the call with its reply. Its contract
+/// says what becomes of the book, which callers of the desk cannot see.
 fn enter<R: Wait, E: Ending>(
     rt: &R,
     alloc: Global,

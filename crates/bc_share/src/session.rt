@@ -81,6 +81,7 @@ impl<E: Ending> Session<E> {
         ensures told { OnOk result (IsAnswered (events.Types (arc_value types)) self.old self.new) }
         ensures refused { OnErr result (Stays self.old self.new) }
     {
+        // As `make` does again: without room for the call the declarations are not checked in vain.
         self.notes.reserve()?;
         let types = checked(self.alloc, Shared::new(types))?;
         self.make(rt, Operation::Types(types))?;

@@ -1,4 +1,5 @@
-//! The readers of the published table, each with the entries that it has seen. A reading waits for nobody.
+//! The readers of the published table, each with the entries that it has seen. A reading waits for nobody. The functions `read_*` are one
+//! reading each: they enter the table, take owners or copies of what is asked for, and leave, since the writer waits for whoever is in it.
 ghost use Rattle.std.specs.Prelude.{◌≡◌, [], Some, IfOk, IfSome, IsTrue};
 ghost use Rattle.left_right.specs.Sides.{view};
 ghost use Rattle.bc_prov.specs.Snapshots.{IsPartOf};

@@ -1,4 +1,5 @@
-//! The published table: the last entry, what is stored after it, and the kept pieces of that.
+//! The published table: the last entry, what is stored after it, and the kept pieces of that. `left_right` has two, and applies each update
+//! to both, so an update that fails has to leave its table as it was.
 ghost use Rattle.std.specs.Prelude.{◌≡◌, ◌<◌, ◌≤◌, ◌+◌, ◌++◌, [], IfOk, IsOk, OnErr, OnOk, Some, length, vec_capacity};
 ghost use Rattle.bc_memo.specs.Places.{IsReady, MayChange, answer_of, changed, empty_shelf, most_places, most_ready, most_rows, pieces_after, pieces_with};
 ghost use Rattle.bc_prov.specs.Pieces.{rows_of};
