@@ -383,8 +383,7 @@ impl Ledger {
         ensures row { IfOk result (IsRow self.now.shelf self.now.entries name.now) }
         ensures outcome { IfOk result (λ row. row.outcome ≡ outcome.now) }
     {
-        let part = self.part(alloc, name)?;
-        let names = part.snapshot.used(alloc)?;
+        let names = self.shelf.used(alloc, &self.pieces, name)?;
         let outcome = outcome.clone()?;
         let row = Remembered::of(alloc, &self.shelf, &names, outcome)?;
         Ok(row)

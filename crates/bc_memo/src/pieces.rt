@@ -95,8 +95,6 @@ impl PieceMemo {
     }
 
     /// Returns the kept piece of a name, if there is one.
-    ///
-    /// Only tests of this repository call it: an ask takes the kept pieces of a whole part.
     pub fn kept(&self, name: &Name) -> Option<&Shared<Piece>>
         ensures { option_copied result ≡ at_name self.now.rows name.now }
     {

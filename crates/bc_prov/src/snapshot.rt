@@ -1,14 +1,15 @@
 //! Snapshots: the part of what is stored that the outcome of one name depends on.
-ghost use Rattle.std.specs.Prelude.{◌≡◌, ◌≢◌, ◌<◌, ◌++◌, [], true, length, map, nat_le, Some, None, IfOk, IfSome, IsTrue, OnOk};
+ghost use Rattle.std.specs.Prelude.{◌≡◌, true, nat_le, Some, None, IfOk, IfSome, IsTrue};
 ghost use Rattle.std.specs.List.{AllByRecursion, list_all};
 ghost use Rattle.std.specs.List.Sorted.{IsPermutation};
 ghost use Rattle.std.specs.Option.{option_copied};
 ghost use Rattle.bc_prov.specs.Outcome.{IsOutcomeIn};
 ghost use Rattle.bc_syntax.specs.Children.{children_of};
 ghost use Rattle.bc_prov.specs.Pieces.{AreAscending, AreOver, ArePieces, IsPieceFor, pieces_at};
-ghost use Rattle.bc_prov.specs.Snapshots.{IsAmongPieces, IsSnapshot, names_used};
-ghost use Rattle.bc_prov.specs.State.{AreSuited, at_name, child, state_of};
+ghost use Rattle.bc_prov.specs.Snapshots.{IsAmongPieces, IsSnapshot};
+ghost use Rattle.bc_prov.specs.State.{AreSuited, at_name, state_of};
 
+use crate::closures::children_of;
 use crate::declared::Declared;
 use crate::outcome::Outcome;
 use crate::pieces::{Piece, PieceSet, Pieces};
@@ -51,19 +52,6 @@ impl Model for Snapshot {
     ghost view = { λ s. record { types = s.types; root = s.root; units = s.units.items; carried = s.carried } };
 
     ghost invariant = { λ s. IsKept s.types s.root s.units.items s.carried s.kept s.offered };
-}
-
-/// Appends the names of the closures of `name` that have these numbers. On an error the list has some of them.
-fn push_children(names: &mut Vec<Name>, name: Name, numbers: &[u8]) -> Result<(), AllocError>
-    requires few { numbers.now ≢ [] → length name.segments < 7 }
-    requires low { list_all (λ number. nat_le number 63) numbers.now ≡ true }
-    ensures { OnOk result (names.new.items ≡ names.old.items ++ map (child name) numbers.now) }
-{
-    for number in numbers {
-        let child = name.child(*number).unwrap();
-        names.push(child)?;
-    }
-    Ok(())
 }
 
 /// Returns the piece of a name, if a binary search finds one.
@@ -337,23 +325,6 @@ impl Snapshot {
         ensures value { IfOk result (λ numbers. numbers.items ≡ children_of unit.now) }
         ensures low { IfOk result (λ numbers. list_all (λ number. nat_le number 63) numbers.items ≡ true) }
     {
-        match self.any_piece(name) {
-            Some(piece) => piece.get().children(alloc),
-            None => unit.get().body().children(alloc),
-        }
-    }
-
-    /// Returns the names that the snapshot's outcome depends on: its own, then each closure that a unit names, stored or not, in the order
-    /// of the units.
-    pub fn used(&self, alloc: Global) -> Result<Vec<Name>, AllocError>
-        ensures { IfOk result (λ names. names.items ≡ names_used self.now.root self.now.units) }
-    {
-        let mut names = Vec::new(alloc);
-        names.push(self.root)?;
-        for unit in &self.units {
-            let numbers = self.children_of(alloc, &unit.0, &unit.1)?;
-            push_children(&mut names, unit.0, &numbers)?;
-        }
-        Ok(names)
+        children_of(alloc, unit, self.any_piece(name))
     }
 }
