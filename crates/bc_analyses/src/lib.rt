@@ -1,4 +1,5 @@
-//! The program's providers: the three analyses of a body.
+//! The program's providers: the three analyses of a body. Each `find_*` calls one analysis, and its one clause is what `Providers::new`
+//! requires of a closure. So `providers!` has nothing to prove wherever it is used.
 #![tactic(auto)]
 
 ghost use Rattle.std.specs.Prelude.{IfOk};

@@ -16,16 +16,6 @@ use Rattle.bc_book.specs.Ledgers.{Appends, BookView, LedgerView, SameButAnswers,
 abbrev pub book_of : LedgerView → BookView
 book_of l = record { capacity = l.capacity; entries = l.entries; shelf = l.shelf; answers = l.answers; pieces = l.pieces }
 
--- sameness of ledgers is transitive
-pub same_twice : (one mid other : LedgerView) → SameLedger one mid → SameLedger mid other → SameLedger one other
-same_twice one mid other first second = record {
-  capacity = second.capacity ∙ first.capacity;
-  entries = second.entries ∙ first.entries;
-  shelf = second.shelf ∙ first.shelf;
-  answers = second.answers ∙ first.answers;
-  pieces = second.pieces ∙ first.pieces;
-}
-
 -- the same ledger gives the same book
 pub same_book : (one other : LedgerView) → SameLedger one other → book_of other ≡ book_of one
 same_book one other same = λ i. record { capacity = same.capacity i; entries = same.entries i; shelf = same.shelf i; answers = same.answers i; pieces = same.pieces i }

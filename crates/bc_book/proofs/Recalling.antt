@@ -1,8 +1,7 @@
 -- What is remembered already.
-use denote.Ref.{Bor}
 use Rattle.std.proofs.Common.{◌≡◌, ℕ, Bool, List, [], ◌∷◌, cond, refl, ap, sym, subst, ◌∙◌, Option, Some, None}
-use Rattle.std.specs.Prelude.{IfSome, IfNone, IsSome}
-use Rattle.std.specs.Option.{ForSome, option_copied, option_map, option_or}
+use Rattle.std.specs.Prelude.{IsSome}
+use Rattle.std.specs.Option.{ForSome, option_map, option_or}
 use Rattle.std.specs.List.{AllByRecursion}
 use Rattle.bc_names.specs.Names.{NameParts}
 use Rattle.bc_prov.specs.declared.outcome.Outcome.{Outcome}
@@ -22,13 +21,6 @@ use Rattle.bc_calls.specs.declared.call.Event.TheVariants.{Ask}
 use Rattle.bc_calls.specs.Calls.{after}
 use Rattle.bc_calls.specs.Changes.{change_of, writes_after, writes_of}
 use Rattle.bc_book.specs.Ledgers.{Appends, BookView, IsRow, KeepsOthers, LedgerView, Recalls, Remembers, SameButAnswers, kept_rows, remembering, row_list}
-
--- a lookup finds what is remembered
-pub looked_up : (s : ShelfView) (rows : List (NameParts × Remembered)) (n : NameParts) (r : Option (Bor Outcome))
-    → IfSome r (λ o. (row : Remembered) × (at_name rows n ≡ Some row) × Stands s row × (o.now ≡ row.outcome))
-    → IfNone r ((row : Remembered) → at_name rows n ≡ Some row → Stands s row → ⊥) → IsRemembered s rows n (option_copied r)
-looked_up s rows n None some none = none
-looked_up s rows n (Some o) some none = some
 
 -- a part that carried nothing carries what is passed in
 pub carried_as : (a before made : Option Outcome) → before ≡ None → made ≡ option_or a before → made ≡ a

@@ -10,17 +10,9 @@ use Rattle.bc_book.specs.declared.operation.Operation.{Operation}
 use Rattle.bc_book.specs.declared.operation.Operation.TheVariants.{Types, Put, Remove, Settle, All as EveryRoot}
 
 -- the event is the call that an operation becomes, with some reply
-abbrev pub IsCallOf : Operation → Event → Type 0
+abbrev pub IsCallOf : {P : Type 0} → Operation P → Event → Type 0
 IsCallOf (Types types) event = event ≡ events.Types types
 IsCallOf (Put name unit) event = (reply : PutReply) × (event ≡ events.Put name unit reply)
 IsCallOf (Remove name) event = (reply : RemoveReply) × (event ≡ events.Remove name reply)
-IsCallOf (Settle work) event = (outcome : Outcome) × (event ≡ events.Ask work.snapshot.root outcome)
-IsCallOf (EveryRoot works) event = (listing : List (NameParts × Outcome)) × (event ≡ events.All listing)
-
--- it takes providers to reply to an operation
-abbrev pub NeedsWork : Operation → Type 0
-NeedsWork (Types types) = ⊥
-NeedsWork (Put name unit) = ⊥
-NeedsWork (Remove name) = ⊥
-NeedsWork (Settle work) = Unit {0}
-NeedsWork (EveryRoot works) = Unit {0}
+IsCallOf (Settle work providers) event = (outcome : Outcome) × (event ≡ events.Ask work.snapshot.root outcome)
+IsCallOf (EveryRoot works providers) event = (listing : List (NameParts × Outcome)) × (event ≡ events.All listing)

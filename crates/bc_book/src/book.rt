@@ -1,5 +1,5 @@
 //! The book: all that is under the lock, which is the ledger and the writer that publishes it.
-ghost use Rattle.std.specs.Prelude.{◌≡◌, ◌<◌, ◌^◌, None, IsSome, [], List, length, IfOk, IfSome, IfErr, MatchResult, OnErr, OnOk};
+ghost use Rattle.std.specs.Prelude.{◌≡◌, ◌<◌, ◌^◌, None, [], List, length, IfOk, IfSome, IfErr, MatchResult, OnErr, OnOk};
 ghost use Rattle.bc_prov.specs.Outcome.{IsOutcomeIn};
 ghost use Rattle.bc_prov.specs.Pieces.{rows_of};
 ghost use Rattle.bc_prov.specs.Snapshots.{IsPartOf};
@@ -12,60 +12,38 @@ ghost use Rattle.bc_names.specs.Names.{NameParts};
 ghost use Rattle.bc_prov.specs.State.{at_name};
 ghost use Rattle.bc_calls.specs.declared.call.Event.TheVariants as events;
 ghost use Rattle.bc_book.specs.Ledgers.{Appends, AreRows, HasPlace, IsFull, Keeps, KeepsOthers, KeepsUnasked, Remembers, RemembersEach, empty_book, kept_rows, remembering};
-ghost use Rattle.bc_book.specs.Operations.{IsCallOf, NeedsWork};
+ghost use Rattle.bc_book.specs.Operations.{IsCallOf};
 
 use crate::ledger::{Ledger, MOST_SESSIONS, Refusal};
 use crate::operation::Operation;
-use crate::roots::{ListingResult, count_pieces, push_row};
+use crate::roots::{ListingResult, NameResult, count_pieces, push_row};
 use bc_calls::{Begun, Entry, Event, EventOwners, PutReply, RemoveReply, Work, no_declarations};
 use bc_memo::Remembered;
 use bc_names::Name;
-use bc_outcomes::AskResult;
 use bc_prov::{Declared, Outcome, PieceSet, Providers, Shared, share};
 use bc_syntax::{Sequence, Unit};
-use bc_versions::{Ending, Fronts, Press};
+use bc_versions::{Ending, Fronts, Press, Update};
 use std::alloc::{AllocError, Global};
 use std::marker::Model;
 use std::sync::Wait;
 
-/// What an ask leaves besides its entry: outcomes to remember, pieces to keep, and pieces to publish.
+/// What an ask leaves besides its entry: outcomes to remember, and pieces to keep and to publish.
 #[derive(Drop)]
 struct SideEffects {
     rows: Vec<(Name, Remembered)>,
-    kept: Option<PieceSet>,
-    published: Option<PieceSet>,
+    pieces: Option<PieceSet>,
 }
 
 impl SideEffects {
     /// Returns no side effects.
     fn none(alloc: Global) -> SideEffects
         ensures rows { result.rows.items ≡ [] }
-        ensures kept { result.kept ≡ None }
-        ensures published { result.published ≡ None }
+        ensures pieces { result.pieces ≡ None }
     {
         SideEffects {
             rows: Vec::new(alloc),
-            kept: None,
-            published: None,
+            pieces: None,
         }
-    }
-
-    /// Returns the side effects with these outcomes to remember, and with these pieces, if any, to keep and to publish.
-    fn of(
-        alloc: Global,
-        rows: Vec<(Name, Remembered)>,
-        pieces: Option<PieceSet>,
-    ) -> Result<SideEffects, AllocError>
-        ensures rows { IfOk result (λ findings. findings.rows.items ≡ rows.items) }
-        ensures kept { IfOk result (λ findings. findings.kept ≡ pieces) }
-        ensures published { IfOk result (λ findings. findings.published ≡ pieces) }
-    {
-        let published = copy_of(alloc, &pieces)?;
-        Ok(SideEffects {
-            rows,
-            kept: pieces,
-            published,
-        })
     }
 }
 
@@ -82,20 +60,23 @@ fn copy_of(alloc: Global, pieces: &Option<PieceSet>) -> Result<Option<PieceSet>,
     }
 }
 
-/// Publishes one more owner of the entry that comes next, as `Press::add` does. If it returns `AllocError`, nothing is published.
+/// Publishes one more owner of the entry that comes next, and of the pieces that come with it, as `Press::add` does. If it returns
+/// `AllocError`, nothing is published.
 fn publish<E: Ending, R: Wait>(
     rt: &R,
+    alloc: Global,
     press: &mut Press<E>,
     entry: &Entry,
     revision: u32,
-    pieces: Option<PieceSet>,
+    pieces: &Option<PieceSet>,
 ) -> Result<(), AllocError>
     requires next { MayComeNext press.old.entries entry.now }
-    requires pieces { AreFitting (changed press.old.shelf (change_of entry.now.event) revision) (rows_of pieces) }
+    requires pieces { AreFitting (changed press.old.shelf (change_of entry.now.event) revision) (rows_of pieces.now) }
     ensures { MatchResult result (λ _. press.new ≡ pressed press.old (record { entry = entry.now; revision = revision })) (λ _. press.new ≡ press.old) }
 {
+    let owned = copy_of(alloc, pieces)?;
     let copy = entry.copy()?;
-    press.add(rt, copy, revision, pieces)
+    press.add(rt, Update::new(copy, revision, owned))
 }
 
 /// The state under the lock: the append-only history of all calls, what is stored after it, the remembered outcomes, and the writer of the
@@ -160,18 +141,16 @@ impl<E: Ending> Book<E> {
     }
 
     /// Enters what a session does as a call, and returns two owners of the call with its reply: one for the session's own list and one for
-    /// its caller. It asks for providers if an outcome is asked for. Published and refused as the method of that call says.
+    /// its caller. Published and refused as the method of that call says.
     pub fn enter<R: Wait>(
         &mut self,
         rt: &R,
         alloc: Global,
         session: u8,
-        operation: Operation,
-        providers: Option<&Providers>,
+        operation: Operation<&Providers>,
     ) -> Result<EventOwners, Refusal>
         requires session { session < MOST_SESSIONS }
-        requires providers { NeedsWork operation → IsSome providers }
-        ensures step { IfOk result (λ told. IsCallOf operation told × Appends session told self.old self.new) }
+        ensures step { IfOk result (λ told. IsCallOf operation.entry told × Appends session told self.old self.new) }
         ensures refused { OnErr result (self.new ≡ self.old) }
         ensures full { IfErr result (IsFull self.old) }
         ensures below { OnOk result (length self.old.entries < self.old.capacity) }
@@ -180,9 +159,9 @@ impl<E: Ending> Book<E> {
             Operation::Types(types) => self.put_types(rt, alloc, session, types),
             Operation::Put(name, unit) => self.put(rt, alloc, session, name, unit),
             Operation::Remove(name) => self.remove(rt, alloc, session, name),
-            Operation::Settle(work) => self.settle(rt, alloc, session, work, providers.unwrap()),
-            Operation::All(works) => {
-                self.settle_all(rt, alloc, session, works, providers.unwrap())
+            Operation::Settle(work, providers) => self.settle(rt, alloc, session, work, providers),
+            Operation::All(works, providers) => {
+                self.settle_all(rt, alloc, session, works, providers)
             }
         }
     }
@@ -206,7 +185,8 @@ impl<E: Ending> Book<E> {
         ensures full { IfErr result (IsFull self.old) }
         ensures below { OnOk result (length self.old.entries < self.old.capacity) }
     {
-        self.append(rt, session, Event::Types(types), SideEffects::none(alloc))
+        let effects = SideEffects::none(alloc);
+        self.append(rt, alloc, session, Event::Types(types), effects)
     }
 
     /// Stores a unit under a name, as a call of a session, if the reply says so: `WrongKind` if the unit does not suit the name (a function
@@ -231,6 +211,7 @@ impl<E: Ending> Book<E> {
         let reply = self.ledger.put_reply(alloc, &name, unit.get())?;
         self.append(
             rt,
+            alloc,
             session,
             Event::Put(name, unit, reply),
             SideEffects::none(alloc),
@@ -256,6 +237,7 @@ impl<E: Ending> Book<E> {
         let reply = self.ledger.remove_reply(&name);
         self.append(
             rt,
+            alloc,
             session,
             Event::Remove(name, reply),
             SideEffects::none(alloc),
@@ -265,6 +247,8 @@ impl<E: Ending> Book<E> {
     /// Returns the part of what is stored that the outcome of a name depends on: the declarations, and the units at the name and at names
     /// that begin with it and `/`, with their revisions. It carries the outcome that is remembered for the name, if that is still valid.
     /// Nothing is entered.
+    ///
+    /// Only tests and benchmarks of this repository call it: a session begins at the published table, without the lock.
     pub fn snapshot(&self, alloc: Global, name: &Name) -> Result<Begun, AllocError>
         ensures part { IfOk result (λ begun. IsPartOf begun name.now (after self.now.entries)) }
         ensures remembered { IfOk result (λ begun. IsRemembered self.now.shelf self.now.answers name.now begun.carried) }
@@ -299,14 +283,15 @@ impl<E: Ending> Book<E> {
     {
         self.ledger.has_room()?;
         let name = *work.name();
-        let AskResult { outcome, pieces } = self
-            .ledger
-            .outcome(alloc, &name, Some(work), providers)?;
-        let row = self.ledger.row(alloc, &name, &outcome)?;
+        let NameResult {
+            outcome,
+            pieces,
+            row,
+        } = self.ledger.outcome(alloc, &name, Some(work), providers)?;
         let mut rows = Vec::new(alloc);
         push_row(&mut rows, row)?;
-        let findings = SideEffects::of(alloc, rows, pieces)?;
-        self.append(rt, session, Event::Ask(name, outcome), findings)
+        let effects = SideEffects { rows, pieces };
+        self.append(rt, alloc, session, Event::Ask(name, outcome), effects)
     }
 
     /// Enters an ask for all, as a call of a session, and replies with the outcome of each root that holds a body, in the order of their
@@ -336,43 +321,42 @@ impl<E: Ending> Book<E> {
             pieces,
         } = self.ledger.outcomes(alloc, works, providers)?;
         let listing = share(alloc, Sequence::from(listing))?;
-        let findings = SideEffects::of(alloc, rows, Some(pieces))?;
-        self.append(rt, session, Event::All(listing), findings)
+        let effects = SideEffects {
+            rows,
+            pieces: Some(pieces),
+        };
+        self.append(rt, alloc, session, Event::All(listing), effects)
     }
 
     /// Adds a session's event, publishes it, remembers outcomes and keeps pieces, if there are any. Requires that the event has the right
-    /// reply for what is stored, that the pieces to keep fit what is stored, and that the pieces to publish fit what the event leaves of
-    /// it. The capacity is tested first, and all that can fail comes next, the writer's own room last. So if it fails, nothing has changed.
-    /// Returns two more owners of the event.
+    /// reply for what is stored, and that the pieces fit what is stored and what the event leaves of it. The capacity is tested first, and
+    /// all that can fail comes next, the writer's own room last. So if it fails, nothing has changed. Returns two more owners of the event.
     fn append<R: Wait>(
         &mut self,
         rt: &R,
+        alloc: Global,
         session: u8,
         event: Event,
-        findings: SideEffects,
+        effects: SideEffects,
     ) -> Result<EventOwners, Refusal>
         requires session { session < MOST_SESSIONS }
         requires reply { IsReply (after self.old.entries) event }
         requires place { HasPlace (length self.old.shelf.places) event }
-        requires rows { AreRows self.old.shelf self.old.entries findings.rows.items }
-        requires fit { AreFitting self.old.shelf (rows_of findings.kept) }
+        requires rows { AreRows self.old.shelf self.old.entries effects.rows.items }
+        requires fit { AreFitting self.old.shelf (rows_of effects.pieces) }
         requires published { AreFitting (changed self.old.shelf (change_of event) (writes_after (writes_of self.old.entries) event))
-            (rows_of findings.published) }
+            (rows_of effects.pieces) }
         ensures told { IfOk result (λ told. told ≡ event) }
         ensures step { OnOk result (Appends session event self.old self.new) }
-        ensures answers { OnOk result (self.new.answers ≡ kept_rows (change_of event) (remembering findings.rows.items self.old.answers)) }
-        ensures pieces { OnOk result (self.new.pieces ≡ pieces_after (change_of event) (pieces_with (rows_of findings.kept) self.old.pieces)) }
+        ensures answers { OnOk result (self.new.answers ≡ kept_rows (change_of event) (remembering effects.rows.items self.old.answers)) }
+        ensures pieces { OnOk result (self.new.pieces ≡ pieces_after (change_of event) (pieces_with (rows_of effects.pieces) self.old.pieces)) }
         ensures refused { OnErr result (self.new ≡ self.old) }
         ensures full { IfErr result (IsFull self.old) }
         ensures below { OnOk result (length self.old.entries < self.old.capacity) }
     {
-        let SideEffects {
-            rows,
-            kept,
-            published,
-        } = findings;
-        let pieces = count_pieces(&kept);
-        let change = self.ledger.make_ready(&event, rows.len(), pieces)?;
+        let SideEffects { rows, pieces } = effects;
+        let count = count_pieces(&pieces);
+        let change = self.ledger.make_ready(&event, rows.len(), count)?;
         let told = EventOwners::of(&event)?;
         let number = self.ledger.number(session);
         let revision = self.ledger.revision(&event);
@@ -382,8 +366,8 @@ impl<E: Ending> Book<E> {
             event,
         };
         // Published before it is stored, since publishing can fail. Nobody sees the order: both happen under the lock.
-        publish(rt, &mut self.press, &entry, revision, published)?;
-        self.ledger.keep(kept);
+        publish(rt, alloc, &mut self.press, &entry, revision, &pieces)?;
+        self.ledger.keep(pieces);
         self.ledger.remember(rows);
         self.ledger.record(entry, change, revision);
         Ok(told)

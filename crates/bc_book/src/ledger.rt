@@ -1,9 +1,9 @@
 //! The ledger: all that is under the lock, except the writer that publishes it. It waits for nobody.
 ghost use Rattle.std.specs.Prelude.{◌≡◌, ◌↔◌, ◌+◌, ◌^◌, ◌<◌, ◌≤◌, [], ◌∷◌, ◌++◌, length, IfOk, IfSome, IsSome, IsTrue, None, OnOk, IfErr};
-ghost use Rattle.std.specs.Option.{ForSome, option_copied};
+ghost use Rattle.std.specs.Option.{ForSome};
 ghost use Rattle.std.specs.BTreeMap.{insert_entry};
 ghost use Rattle.std.specs.Map.{keys_of};
-ghost use Rattle.bc_names.specs.Names.{name_order};
+ghost use Rattle.bc_names.specs.Names.{NameParts, name_order};
 ghost use Rattle.bc_prov.specs.Outcome.{IsOutcomeIn};
 ghost use Rattle.bc_prov.specs.Pieces.{rows_of};
 ghost use Rattle.bc_prov.specs.Snapshots.{IsPartOf};
@@ -15,7 +15,7 @@ ghost use Rattle.bc_calls.specs.Changes.{change_of, writes_after, writes_of};
 ghost use Rattle.bc_book.specs.Ledgers.{AreRows, HasPlace, IsFoundAll, IsRow, Recalls, SameButAnswers, SameButPieces, SameLedger, kept_rows, remembering};
 
 use crate::reply::{put_reply, remove_reply};
-use crate::roots::{ListingResult, brings_pieces, in_reverse, push_pieces, push_row, take_work};
+use crate::roots::{ListingResult, NameResult, in_reverse, push_pieces, push_row, take_work};
 use bc_calls::{Begun, Entry, Event, MOST_BODIES, PutReply, RemoveReply, Work, no_declarations};
 use bc_memo::{Change, Memo, Part, PieceMemo, Remembered, Shelf};
 use bc_names::Name;
@@ -130,22 +130,6 @@ impl Ledger {
         Ok(())
     }
 
-    /// Makes room for one entry, one body, and at least this many answers and pieces. Returns `HistoryFull` exactly if the history is full,
-    /// which is tested first, and otherwise `NoMemory` if out of memory. The ledger keeps what it has in each case.
-    pub(crate) fn reserve(&mut self, answers: usize, pieces: usize) -> Result<(), Refusal>
-        ensures same { SameLedger self.old self.new }
-        ensures room { OnOk result ((0 < self.new.room) × (0 < self.new.places) × (answers ≤ self.new.rows) × (pieces ≤ self.new.piece_room)) }
-        ensures below { OnOk result (length self.old.entries < self.old.capacity) }
-        ensures full { IfErr result (λ r. r ≡ Refusal.HistoryFull ↔ length self.old.entries ≡ self.old.capacity) }
-    {
-        self.has_room()?;
-        self.history.reserve(1)?;
-        self.shelf.reserve()?;
-        self.memo.reserve(answers)?;
-        self.pieces.reserve(pieces)?;
-        Ok(())
-    }
-
     /// Returns the reply to a put.
     pub(crate) fn put_reply(
         &self,
@@ -166,20 +150,12 @@ impl Ledger {
         remove_reply(&self.shelf, name)
     }
 
-    /// Returns the outcome of a name that is remembered, if all that it was found from still has its revision.
-    pub(crate) fn answer(&self, name: &Name) -> Option<&Shared<Outcome>>
-        ensures right { IfSome result (λ outcome. IsOutcomeIn (after self.now.entries) name.now outcome.now) }
-        ensures remembered { IsRemembered self.now.shelf self.now.answers name.now (option_copied result) }
-    {
-        self.memo.lookup(&self.shelf, name)
-    }
-
-    /// Returns one more owner of the remembered outcome of a name, if it is still valid.
-    fn shared_answer(&self, name: &Name) -> Result<Option<Shared<Outcome>>, AllocError>
+    /// Returns one more owner of the outcome of a name that is remembered, if all that it was found from still has its revision.
+    fn answer(&self, name: &Name) -> Result<Option<Shared<Outcome>>, AllocError>
         ensures right { IfOk result (λ answer. IfSome answer (IsOutcomeIn (after self.now.entries) name.now)) }
         ensures remembered { IfOk result (IsRemembered self.now.shelf self.now.answers name.now) }
     {
-        match self.answer(name) {
+        match self.memo.lookup(&self.shelf, name) {
             Some(outcome) => {
                 let outcome = outcome.clone()?;
                 Ok(Some(outcome))
@@ -215,19 +191,76 @@ impl Ledger {
         ensures remembered { IfOk result (λ begun. IsRemembered self.now.shelf self.now.answers name.now begun.carried) }
         ensures right { IfOk result (λ begun. IfSome begun.carried (IsOutcomeIn (after self.now.entries) name.now)) }
         ensures legal { OnOk result (IsLegal self.now.entries) }
-        ensures held { IfOk result (λ begun. (begun.types ≡ self.now.shelf.types) × (begun.units ≡ units_in name.now self.now.shelf.places)) }
     {
-        let answer = self.shared_answer(name)?;
+        let answer = self.answer(name)?;
         let part = self.part(alloc, name)?;
         Ok(Begun::carrying(part, answer))
     }
 
     /// Returns the outcome of a name, on which a session may have worked, with the pieces that are not kept yet, each found from what is
-    /// stored. This is the work's own outcome if its inputs are still stored, otherwise the remembered one if that is still valid.
-    /// Otherwise the pieces of the work and the kept ones are reused as far as they are valid, and the other bodies are worked on. If the
-    /// work has no pieces, the remembered outcome comes first: it is the same, and nothing is compared for it. Returns `AllocError` also if
-    /// a provider does.
+    /// stored, and with the row to remember, if the name holds a body and no valid outcome of it is remembered. This is the work's own
+    /// outcome if its inputs are still stored, otherwise the remembered one if that is still valid. Otherwise the pieces of the work and
+    /// the kept ones are reused as far as they are valid, and the other bodies are worked on. If the work has no pieces, the remembered
+    /// outcome comes first: it is the same, and nothing is compared for it. Returns `AllocError` also if a provider does.
     pub(crate) fn outcome(
+        &self,
+        alloc: Global,
+        name: &Name,
+        work: Option<Work>,
+        providers: &Providers,
+    ) -> Result<NameResult, AllocError>
+        requires { IfSome work (λ w. w.snapshot.root ≡ name.now) }
+        ensures outcome { IfOk result (λ found. IsOutcomeIn (after self.now.entries) name.now found.outcome) }
+        ensures over { IfOk result (λ found. IfSome found.pieces (λ set. set.types ≡ self.now.shelf.types)) }
+        ensures fit { IfOk result (λ found. AreFitting self.now.shelf (rows_of found.pieces)) }
+        ensures row { IfOk result (λ found. ForSome found.row (λ r. (r.0 ≡ name.now) × IsRow self.now.shelf self.now.entries r.0 r.1)) }
+        ensures recalls { IfOk result (λ found. Recalls self.now.shelf self.now.answers name.now found.outcome found.row) }
+    {
+        match self.answer(name)? {
+            Some(answer) => {
+                let AskResult { outcome, pieces } = self.recall(answer, work);
+                Ok(NameResult {
+                    outcome,
+                    pieces,
+                    row: None,
+                })
+            }
+            None => {
+                let AskResult { outcome, pieces } = self.found(alloc, name, work, providers)?;
+                let row = self.row(alloc, name, &outcome)?;
+                Ok(NameResult {
+                    outcome,
+                    pieces,
+                    row,
+                })
+            }
+        }
+    }
+
+    /// Returns a remembered outcome, or the same one with the pieces of a work, if the work has any and its inputs are still stored.
+    fn recall(&self, answer: Shared<Outcome>, work: Option<Work>) -> AskResult
+        ensures outcome { (name : NameParts) → IfSome work (λ w. w.snapshot.root ≡ name) → IsOutcomeIn (after self.now.entries) name answer →
+            IsOutcomeIn (after self.now.entries) name result.outcome }
+        ensures over { IfSome result.pieces (λ set. set.types ≡ self.now.shelf.types) }
+        ensures fit { AreFitting self.now.shelf (rows_of result.pieces) }
+    {
+        match work {
+            Some(work) => {
+                if !work.has_pieces() {
+                    return AskResult::without_pieces(answer);
+                }
+                match work.standing(&self.shelf) {
+                    Ok(found) => found,
+                    Err(_) => AskResult::without_pieces(answer),
+                }
+            }
+            None => AskResult::without_pieces(answer),
+        }
+    }
+
+    /// Returns the outcome of a name, for which no valid one is remembered: the work's own if its inputs are still stored, otherwise a new
+    /// one, with the pieces that are not kept yet.
+    fn found(
         &self,
         alloc: Global,
         name: &Name,
@@ -239,11 +272,6 @@ impl Ledger {
         ensures over { IfOk result (λ found. IfSome found.pieces (λ set. set.types ≡ self.now.shelf.types)) }
         ensures fit { IfOk result (λ found. AreFitting self.now.shelf (rows_of found.pieces)) }
     {
-        if !brings_pieces(&work) {
-            if let Some(outcome) = self.shared_answer(name)? {
-                return Ok(AskResult::without_pieces(outcome));
-            }
-        }
         match work {
             Some(work) => match work.standing(&self.shelf) {
                 Ok(found) => Ok(found),
@@ -253,8 +281,7 @@ impl Ledger {
         }
     }
 
-    /// Returns the outcome of a name: the remembered one if it is still valid, otherwise a new one. Pieces that are passed in or kept are
-    /// reused as far as they are valid.
+    /// Returns a new outcome of a name. Pieces that are passed in or kept are reused as far as they are valid.
     fn found_anew(
         &self,
         alloc: Global,
@@ -266,7 +293,8 @@ impl Ledger {
         ensures over { IfOk result (λ found. IfSome found.pieces (λ set. set.types ≡ self.now.shelf.types)) }
         ensures fit { IfOk result (λ found. AreFitting self.now.shelf (rows_of found.pieces)) }
     {
-        let begun = self.begin(alloc, name)?;
+        let part = self.part(alloc, name)?;
+        let begun = Begun::carrying(part, None);
         let with_pieces = begun.offer(pieces);
         with_pieces.find(alloc, providers)
     }
@@ -314,16 +342,19 @@ impl Ledger {
         ensures fit { OnOk result (AreFitting self.now.shelf found.new.pieces.rows) }
         ensures found { OnOk result (IsFoundAll self.now.shelf self.now.entries self.now.answers found.new.listing.items found.new.rows.items) }
     {
-        let AskResult { outcome, pieces } = self.outcome(alloc, name, work, providers)?;
-        let row = self.row(alloc, name, &outcome)?;
+        let NameResult {
+            outcome,
+            pieces,
+            row,
+        } = self.outcome(alloc, name, work, providers)?;
         push_row(&mut found.rows, row)?;
         push_pieces(&mut found.pieces, pieces)?;
         found.listing.push((*name, outcome))?;
         Ok(())
     }
 
-    /// Returns the row to remember for an outcome of a name, if the name holds a body and no valid outcome of it is remembered.
-    pub(crate) fn row(
+    /// Returns the row to remember for an outcome of a name, if the name holds a body.
+    fn row(
         &self,
         alloc: Global,
         name: &Name,
@@ -336,13 +367,8 @@ impl Ledger {
         if !self.shelf.is_held(name) {
             return Ok(None);
         }
-        match self.answer(name) {
-            Some(_) => Ok(None),
-            None => {
-                let row = self.remembered(alloc, name, outcome)?;
-                Ok(Some((*name, row)))
-            }
-        }
+        let row = self.remembered(alloc, name, outcome)?;
+        Ok(Some((*name, row)))
     }
 
     /// Returns the row of an outcome, with the revisions of all that it depends on. Requires that the name holds a body.
@@ -357,8 +383,7 @@ impl Ledger {
         ensures row { IfOk result (IsRow self.now.shelf self.now.entries name.now) }
         ensures outcome { IfOk result (λ row. row.outcome ≡ outcome.now) }
     {
-        let part = self.part(alloc, name)?;
-        let names = part.snapshot.used(alloc)?;
+        let names = self.shelf.used(alloc, &self.pieces, name)?;
         let outcome = outcome.clone()?;
         let row = Remembered::of(alloc, &self.shelf, &names, outcome)?;
         Ok(row)
@@ -416,17 +441,6 @@ impl Ledger {
         }
     }
 
-    /// Makes the owners that a change brings for many names. The ledger keeps what it has in each case. Returns `AllocError` also if an
-    /// outcome has too many owners.
-    pub(crate) fn prepare(&mut self, change: &Change) -> Result<(), AllocError>
-        ensures same { SameLedger self.old self.new }
-        ensures room { (self.new.room ≡ self.old.room) × (self.new.places ≡ self.old.places) ×
-            (self.new.rows ≡ self.old.rows) × (self.new.piece_room ≡ self.old.piece_room) }
-        ensures ready { OnOk result (IsReady change.now self.new.ready) }
-    {
-        self.shelf.prepare(change)
-    }
-
     /// Makes room for an event's entry, for one body, and for at least this many answers and pieces, and makes the owners that its change
     /// brings. Returns the change. Returns `HistoryFull` exactly if the history is full, which is tested first, and otherwise `NoMemory` if
     /// out of memory. The ledger keeps what it has in each case.
@@ -443,9 +457,13 @@ impl Ledger {
         ensures below { OnOk result (length self.old.entries < self.old.capacity) }
         ensures full { IfErr result (λ r. r ≡ Refusal.HistoryFull ↔ length self.old.entries ≡ self.old.capacity) }
     {
-        self.reserve(answers, pieces)?;
+        self.has_room()?;
+        self.history.reserve(1)?;
+        self.shelf.reserve()?;
+        self.memo.reserve(answers)?;
+        self.pieces.reserve(pieces)?;
         let change = event.change()?;
-        self.prepare(&change)?;
+        self.shelf.prepare(&change)?;
         Ok(change)
     }
 

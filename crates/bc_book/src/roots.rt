@@ -1,4 +1,4 @@
-//! What is found for all roots that hold a body.
+//! What is found for a name, and for all roots that hold a body.
 ghost use Rattle.std.specs.Prelude.{◌≡◌, ◌++◌, [], length, IfSome, OnOk};
 ghost use Rattle.bc_prov.specs.Pieces.{rows_of};
 ghost use Rattle.bc_book.specs.Ledgers.{row_list};
@@ -9,6 +9,14 @@ use bc_names::Name;
 use bc_prov::{Declared, Outcome, PieceSet, Shared};
 use std::alloc::{AllocError, Global};
 use std::cmp::Ordering;
+
+/// The outcome of a name, with the pieces that are not kept yet, and with the row to remember, if there is one.
+#[derive(Drop)]
+pub(crate) struct NameResult {
+    pub(crate) outcome: Shared<Outcome>,
+    pub(crate) pieces: Option<PieceSet>,
+    pub(crate) row: Option<(Name, Remembered)>,
+}
 
 /// The outcomes of roots that hold a body, in the order of their names, with the rows to remember, and the pieces that are not kept yet.
 #[derive(Drop)]
@@ -58,14 +66,6 @@ pub(crate) fn push_pieces(pieces: &mut PieceSet, more: Option<PieceSet>) -> Resu
     match more {
         Some(set) => pieces.append(set),
         None => Ok(()),
-    }
-}
-
-/// Returns whether there is a work that has pieces.
-pub(crate) fn brings_pieces(work: &Option<Work>) -> bool {
-    match work {
-        Some(work) => work.has_pieces(),
-        None => false,
     }
 }
 

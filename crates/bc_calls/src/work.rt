@@ -121,6 +121,8 @@ impl Begun {
     /// Returns the outcome of the snapshot's name in the snapshot. If the snapshot carries one, this is it, and no provider is called.
     /// Otherwise the providers and the pieces of its bodies give it, and with it come the pieces that the snapshot does not keep, each
     /// found from the declarations and from the unit at its name. Returns `AllocError` also if a provider does.
+    ///
+    /// This is `work` for the book, which needs no `Work`: it has just begun the snapshot, under the lock.
     pub fn find(&self, alloc: Global, providers: &Providers) -> Result<AskResult, AllocError>
         ensures outcome { IfOk result (λ found. IsOutcomeIn (state_of self.now.types self.now.units) self.now.root found.outcome) }
         ensures pieces { IfOk result (λ found. AreAmongPiecesOf

@@ -7,7 +7,6 @@ mod conflicts;
 mod error;
 mod explained;
 mod failures;
-mod judging;
 mod known;
 mod lifetimes;
 mod print;
@@ -15,7 +14,6 @@ mod relevance;
 mod verdict;
 
 pub use error::BorrowError;
-pub use judging::judge;
 pub use known::{KnownRelations, known_relations};
 pub use print::{PrintedChain, PrintedRegion};
-pub use verdict::Verdict;
+pub use verdict::{Verdict, judge};

@@ -16,7 +16,7 @@ use crate::failures::failures;
 use crate::known::known_relations;
 use crate::lifetimes::requirements;
 use bc_cons::{Facts, Requirements};
-use bc_flow::BitTable;
+use bc_loans::Scopes;
 use bc_mir::Typed;
 use bc_solve::Values;
 use bc_syntax::Sequence;
@@ -30,27 +30,33 @@ pub struct Verdict {
     pub requirements: Requirements,
 }
 
-/// Returns the verdict on a body. `values` has for each region the elements of its value, the points before the ends, and must be the
-/// values of the facts. `scopes` has for each point the loans in scope on entry to it, by number, and must be the scopes of the values.
-pub(crate) fn verdict_over(
+/// Returns the verdict on a body: all its errors, and all that it requires of its creator, each once and in order. The errors are the
+/// conflicts by point, access and loan, and then the lifetime errors by longer and shorter region, each with the chain that explains it.
+/// The requirements are ordered by longer and shorter region. In a function, each failure is a lifetime error. In a closure, a failure
+/// between external regions and `'static` alone is a requirement, and any other is an error. The values must be those of the facts, and the
+/// scopes those of the values. (RFC 2094, "Borrow checker phase 2" and "Named lifetimes"; rustc-dev-guide, "Propagating closure
+/// constraints".)
+pub fn judge(
     alloc: Global,
     typed: &Typed,
     facts: &Facts,
     values: &Values,
-    scopes: &BitTable,
+    scopes: &Scopes,
 ) -> Result<Verdict, AllocError>
     requires values { AreValues facts.now values.now }
     requires scopes { AreScopes typed.now values.now scopes.now }
     ensures errors { IfOk result (λ verdict. AreErrors typed.now (Explains facts.now) (holds scopes.now) (holds values.now) verdict.errors) }
+    // The list has an error exactly if it is a conflict, or a failure that is no requirement.
     ensures error { IfOk result (λ verdict. (e : AnError) → Contains verdict.errors e ↔
         IsError typed.now (Explains facts.now) (holds scopes.now) (holds values.now) e) }
     ensures requirements { IfOk result (λ verdict. AreRequirements typed.now (holds values.now) verdict.requirements) }
+    // A pair is required exactly if it is a failure of a closure between its external regions and `'static` alone.
     ensures requirement { IfOk result (λ verdict. (r : Outlives) → Contains verdict.requirements.pairs r ↔ IsRequirement typed.now (holds values.now) r) }
     ensures external { IfOk result (λ verdict. MayGoUp typed.now.externals verdict.requirements) }
 {
     let known = known_relations(alloc, typed)?;
     let failures = failures(alloc, typed, values, &known)?;
-    let errors = errors_over(alloc, typed, facts, scopes, &failures)?;
+    let errors = errors_over(alloc, typed, facts, scopes.rows(), &failures)?;
     let requirements = requirements(alloc, typed, &failures)?;
     Ok(Verdict {
         errors: Sequence::from(errors),

@@ -28,6 +28,8 @@ impl Model for LiveSets {
 
 impl LiveSets {
     /// Returns whether a local is live on entry to a point, both by number. Returns false if the unit has no such local or point.
+    ///
+    /// Only tests of this repository call it: `bc_cons` takes whole rows.
     pub fn live(&self, local: usize, point: usize) -> bool
         ensures { result ≡ holds self.now local point }
     {

@@ -30,6 +30,8 @@ impl Model for Scopes {
 impl Scopes {
     /// Returns whether a loan is in scope on entry to a point, both by number. The number of a loan is its index in the list of loans.
     /// Returns false if the unit has no such point or loan.
+    ///
+    /// Only tests of this repository call it: `bc_judge` takes whole rows.
     pub fn on_entry(&self, point: usize, loan: usize) -> bool
         ensures { result ≡ holds self.now point loan }
     {

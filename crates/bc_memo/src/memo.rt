@@ -133,6 +133,8 @@ impl Memo {
 
     /// Remembers an outcome for a name that holds a body, with the revisions that the shelf has of its declarations, of the name and of
     /// these names. If it returns `AllocError`, the memo remembers what it did before.
+    ///
+    /// Only tests of this repository call it: a book makes its rows and room for them first, and then calls `put`, which cannot fail.
     pub fn install(
         &mut self,
         alloc: Global,

@@ -2,16 +2,18 @@
 ghost use Rattle.std.specs.Prelude.{◌≡◌, ◌↔◌, ◌++◌, ◌<◌, ◌≤◌, [], IfOk, IsOk, IsTrue, None, OnOk, is_some, length, map, vec_capacity};
 ghost use Rattle.std.specs.Option.{option_copied};
 ghost use Rattle.bc_names.specs.Names.{NameParts};
+ghost use Rattle.bc_prov.specs.Snapshots.{names_used};
 ghost use Rattle.bc_prov.specs.State.{at_name};
 ghost use Rattle.bc_memo.specs.declared.change.Change.TheVariants.{Answers};
 ghost use Rattle.bc_memo.specs.declared.place.Place.{Place};
-ghost use Rattle.bc_memo.specs.Places.{AreOrdered, IsHeld, IsReady, MayChange, answer_of, with_answer_at, changed, cleared, empty_shelf, marked, most_places, most_ready, revision_at, revisions_in, roots_in, unanswered, units_in};
+ghost use Rattle.bc_memo.specs.Places.{AreKeptPieces, AreOrdered, IsHeld, IsReady, MayChange, answer_of, with_answer_at, changed, cleared, empty_shelf, marked, most_places, most_ready, revision_at, revisions_in, roots_in, unanswered, units_in};
 
 use crate::change::Change;
+use crate::pieces::PieceMemo;
 use crate::place::Place;
 use crate::rows::{find, put, take, within};
 use bc_names::Name;
-use bc_prov::{Declared, Outcome, Shared, Snapshot};
+use bc_prov::{Declared, Outcome, Shared, Snapshot, push_closures};
 use bc_syntax::Unit;
 use std::alloc::{AllocError, Global};
 use std::marker::Model;
@@ -240,6 +242,27 @@ impl Shelf {
             places: copies(alloc, &self.places)?,
             ready: Vec::new(alloc),
         })
+    }
+
+    /// Returns the names that the outcome of a root depends on: its own, then each closure that a unit of its part names, stored or not, in
+    /// the order of the units. The numbers of closures come from the kept piece of a unit if there is one. No part is made. Requires that
+    /// the pieces are of what is stored.
+    pub fn used(
+        &self,
+        alloc: Global,
+        pieces: &PieceMemo,
+        root: &Name,
+    ) -> Result<Vec<Name>, AllocError>
+        requires { AreKeptPieces self.now.held pieces.now.rows }
+        ensures { IfOk result (λ names. names.items ≡ names_used root.now (units_in root.now self.now.held.places)) }
+    {
+        let mut names = Vec::new(alloc);
+        names.push(*root)?;
+        for row in within(&self.places, root) {
+            let piece = pieces.kept(&row.0);
+            push_closures(alloc, &mut names, row.0, &row.1.unit, piece)?;
+        }
+        Ok(names)
     }
 
     /// Returns the roots that hold a body, in order.

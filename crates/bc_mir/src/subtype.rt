@@ -10,6 +10,8 @@ use std::alloc::AllocError;
 
 impl Typed {
     /// Appends the constraints that make the first type a subtype of the second, if both have the same shape. (RFC 2094, "Subtyping".)
+    ///
+    /// Only tests of this repository call it: the analysis takes types apart that are lent (`push_sub`).
     pub fn push_subtype(
         &self,
         constraints: &mut Vec<Constraint>,

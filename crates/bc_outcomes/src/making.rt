@@ -122,6 +122,8 @@ fn piece_over(
 /// rule fails, otherwise with the first point at which a rule fails. Returns `NoMemory` also if a provider returns `AllocError`. (The
 /// errors are those of RFC 2094, "Borrow checker phase 2" and "Named lifetimes", the requirements those of the rustc-dev-guide,
 /// "Propagating closure constraints".)
+///
+/// Only tests of this repository call it: an ask makes the pieces of a whole snapshot.
 pub fn piece(
     alloc: Global,
     providers: &Providers,

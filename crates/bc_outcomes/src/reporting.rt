@@ -85,6 +85,9 @@ fn worked_out(
 /// bodies, one for each, in the order of the visit, and any other outcome with none. A piece of the snapshot is reused if all that it was
 /// found from is there; otherwise a new one is made, with the providers. Returns `AllocError` also if a provider does. (rustc-dev-guide,
 /// "Queries" and "Incremental compilation".)
+///
+/// Besides `report` only tests of this repository call it: an ask calls `find_outcome`, which shares the outcome and leaves out pieces that
+/// are kept.
 pub fn report_pieces(
     alloc: Global,
     providers: &Providers,
@@ -111,6 +114,8 @@ pub fn report_pieces(
 /// called. Without a fault the outcome is `Report`, with the errors of every visited body. If the snapshot has a piece of a body, and all
 /// that it was found from is there, these are the piece's errors, and no provider is called for the body. Returns `AllocError` also if a
 /// provider does. (The errors are RFC 2094's, "Borrow checker phase 1", "Borrow checker phase 2" and "Named lifetimes".)
+///
+/// Only tests of this repository call it: an ask calls `find_outcome`.
 pub fn report(
     alloc: Global,
     providers: &Providers,

@@ -3,6 +3,7 @@
 #![tactic(auto)]
 
 mod body;
+mod closures;
 mod declared;
 mod outcome;
 mod pieces;
@@ -10,6 +11,7 @@ mod providers;
 mod shared;
 mod snapshot;
 
+pub use closures::push_closures;
 pub use declared::{Check, Declared};
 pub use outcome::{BodyErrors, Listing, Outcome};
 pub use pieces::{Piece, PieceSet, Pieces, piece_of, share_pieces};

@@ -197,13 +197,6 @@ impl Piece {
         &self.typed
     }
 
-    /// Returns whether the piece was found from these declarations and this unit, compared as values.
-    pub fn is_over(&self, types: &Shared<Declared>, unit: &Shared<Unit>) -> bool
-        ensures { IsTrue result ↔ ((self.now.types ≡ types.now) × (self.now.unit ≡ unit.now)) }
-    {
-        self.types == *types && self.unit == *unit
-    }
-
     /// Returns the numbers of the unit's children, ascending.
     pub fn children(&self, alloc: Global) -> Result<Vec<u8>, AllocError>
         ensures value { IfOk result (λ numbers. numbers.items ≡ children_of self.now.unit) }

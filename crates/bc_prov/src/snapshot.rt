@@ -1,14 +1,15 @@
 //! Snapshots: the part of what is stored that the outcome of one name depends on.
-ghost use Rattle.std.specs.Prelude.{◌≡◌, ◌≢◌, ◌<◌, ◌++◌, [], true, length, map, nat_le, Some, None, IfOk, IfSome, IsTrue, OnOk};
+ghost use Rattle.std.specs.Prelude.{◌≡◌, true, nat_le, Some, None, IfOk, IfSome, IsTrue};
 ghost use Rattle.std.specs.List.{AllByRecursion, list_all};
 ghost use Rattle.std.specs.List.Sorted.{IsPermutation};
 ghost use Rattle.std.specs.Option.{option_copied};
 ghost use Rattle.bc_prov.specs.Outcome.{IsOutcomeIn};
 ghost use Rattle.bc_syntax.specs.Children.{children_of};
-ghost use Rattle.bc_prov.specs.Pieces.{AreAscending, ArePieces, IsPieceFor, pieces_at};
-ghost use Rattle.bc_prov.specs.Snapshots.{IsAmongPieces, IsSnapshot, names_used};
-ghost use Rattle.bc_prov.specs.State.{AreSuited, at_name, child, state_of};
+ghost use Rattle.bc_prov.specs.Pieces.{AreAscending, AreOver, ArePieces, IsPieceFor, pieces_at};
+ghost use Rattle.bc_prov.specs.Snapshots.{IsAmongPieces, IsSnapshot};
+ghost use Rattle.bc_prov.specs.State.{AreSuited, at_name, state_of};
 
+use crate::closures::children_of;
 use crate::declared::Declared;
 use crate::outcome::Outcome;
 use crate::pieces::{Piece, PieceSet, Pieces};
@@ -51,19 +52,6 @@ impl Model for Snapshot {
     ghost view = { λ s. record { types = s.types; root = s.root; units = s.units.items; carried = s.carried } };
 
     ghost invariant = { λ s. IsKept s.types s.root s.units.items s.carried s.kept s.offered };
-}
-
-/// Appends the names of the closures of `name` that have these numbers. On an error the list has some of them.
-fn push_children(names: &mut Vec<Name>, name: Name, numbers: &[u8]) -> Result<(), AllocError>
-    requires few { numbers.now ≢ [] → length name.segments < 7 }
-    requires low { list_all (λ number. nat_le number 63) numbers.now ≡ true }
-    ensures { OnOk result (names.new.items ≡ names.old.items ++ map (child name) numbers.now) }
-{
-    for number in numbers {
-        let child = name.child(*number).unwrap();
-        names.push(child)?;
-    }
-    Ok(())
 }
 
 /// Returns the piece of a name, if a binary search finds one.
@@ -136,11 +124,13 @@ impl Snapshot {
     /// Adds pieces, in place of those that were carried before. A report reuses them as it reuses kept ones, if all that they were found
     /// from is there. Pieces that were found from other declarations, or from another unit than the one at their name, are left out. The
     /// pieces may come in any order, and a name may have several.
+    ///
+    /// Only tests of this repository call it: the database offers a set, whose declarations are compared once.
     pub fn carry_pieces(self, pieces: Pieces) -> Snapshot
         ensures { result ≡ self }
     {
-        let pieces = self.fitting(pieces);
-        self.with_offered(pieces)
+        let over = self.over_types(pieces);
+        self.with_offered(over)
     }
 
     /// Adds the pieces of a set, in place of those that were carried before. A report reuses them as it reuses kept ones, if all that they
@@ -152,16 +142,17 @@ impl Snapshot {
         if !set.is_over(&self.types) {
             return self;
         }
-        let pieces = self.of_units(set);
-        self.with_offered(pieces)
+        self.with_offered(set.into_rows())
     }
 
-    /// Returns the snapshot with these pieces of its bodies, sorted by name, in place of those that it carried.
+    /// Returns the snapshot with those of these pieces that were found from the unit at their name, sorted by name, in place of those that
+    /// it carried. Requires that all were found from its declarations.
     fn with_offered(self, pieces: Pieces) -> Snapshot
-        requires { ArePieces self.types self.units pieces.items }
+        requires { AreOver self.types pieces.items }
         ensures { result ≡ self }
     {
-        let pieces = self.in_order(pieces);
+        let fitting = self.of_units(pieces);
+        let pieces = self.in_order(fitting);
         let Snapshot {
             types,
             root,
@@ -192,31 +183,28 @@ impl Snapshot {
         pieces
     }
 
-    /// Returns the pieces that were found from its declarations and from the unit at their name.
-    fn fitting(&self, pieces: Pieces) -> Pieces
-        ensures { ArePieces self.now.types self.now.units result.items }
+    /// Returns the pieces that were found from its declarations.
+    fn over_types(&self, pieces: Pieces) -> Pieces
+        ensures { AreOver self.now.types result.items }
     {
         let mut pieces = pieces;
-        pieces.retain(|entry| self.fits(entry));
+        pieces.retain(|entry| self.has_types(entry));
         pieces
     }
 
-    /// Returns whether a piece was found from its declarations and from the unit at its name.
-    fn fits(&self, entry: &(Name, Shared<Piece>)) -> bool
-        ensures { IsTrue result → IsPieceFor self.now.types (at_name self.now.units entry.now.0) entry.now.1 }
+    /// Returns whether a piece was found from its declarations, compared as values.
+    fn has_types(&self, entry: &(Name, Shared<Piece>)) -> bool
+        ensures { IsTrue result → entry.now.1.types ≡ self.now.types }
     {
-        match self.unit(&entry.0) {
-            Some(unit) => entry.1.get().is_over(&self.types, unit),
-            None => false,
-        }
+        entry.1.get().types() == &self.types
     }
 
-    /// Returns the pieces of a set over its declarations that were found from the unit at their name.
-    fn of_units(&self, set: PieceSet) -> Pieces
-        requires { set.types ≡ self.now.types }
+    /// Returns those of the pieces that were found from the unit at their name. Requires that all were found from its declarations.
+    fn of_units(&self, pieces: Pieces) -> Pieces
+        requires { AreOver self.now.types pieces.items }
         ensures { ArePieces self.now.types self.now.units result.items }
     {
-        let mut pieces = set.into_rows();
+        let mut pieces = pieces;
         pieces.retain(|entry| self.has_unit(entry));
         pieces
     }
@@ -337,23 +325,6 @@ impl Snapshot {
         ensures value { IfOk result (λ numbers. numbers.items ≡ children_of unit.now) }
         ensures low { IfOk result (λ numbers. list_all (λ number. nat_le number 63) numbers.items ≡ true) }
     {
-        match self.any_piece(name) {
-            Some(piece) => piece.get().children(alloc),
-            None => unit.get().body().children(alloc),
-        }
-    }
-
-    /// Returns the names that the snapshot's outcome depends on: its own, then each closure that a unit names, stored or not, in the order
-    /// of the units.
-    pub fn used(&self, alloc: Global) -> Result<Vec<Name>, AllocError>
-        ensures { IfOk result (λ names. names.items ≡ names_used self.now.root self.now.units) }
-    {
-        let mut names = Vec::new(alloc);
-        names.push(self.root)?;
-        for unit in &self.units {
-            let numbers = self.children_of(alloc, &unit.0, &unit.1)?;
-            push_children(&mut names, unit.0, &numbers)?;
-        }
-        Ok(names)
+        children_of(alloc, unit, self.any_piece(name))
     }
 }

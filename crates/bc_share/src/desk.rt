@@ -1,7 +1,7 @@
 //! What the sessions of a database share: its book, under a lock.
-ghost use Rattle.std.specs.Prelude.{◌≡◌, ◌<◌, IfErr, IfOk, IsSome, OnErr};
+ghost use Rattle.std.specs.Prelude.{◌≡◌, ◌<◌, IfErr, IfOk, OnErr};
 ghost use Rattle.bc_book.specs.Ledgers.{Appends, IsFull};
-ghost use Rattle.bc_book.specs.Operations.{IsCallOf, NeedsWork};
+ghost use Rattle.bc_book.specs.Operations.{IsCallOf};
 ghost use Rattle.bc_calls.specs.Calls.{IsLegal};
 ghost use Rattle.bc_share.specs.Sessions.{IsAnswered};
 
@@ -35,16 +35,14 @@ impl<E: Ending> Desk<E> {
         rt: &R,
         alloc: Global,
         notes: &mut Notes,
-        operation: Operation,
-        providers: Option<&Providers>,
+        operation: Operation<&Providers>,
     ) -> Result<Event, Refusal>
         requires room { 0 < notes.old.room }
-        requires providers { NeedsWork operation → IsSome providers }
-        ensures told { IfOk result (λ event. IsCallOf operation event × IsAnswered event notes.old.session notes.new.session) }
+        ensures told { IfOk result (λ event. IsCallOf operation.entry event × IsAnswered event notes.old.session notes.new.session) }
         ensures refused { OnErr result (notes.new ≡ notes.old) }
     {
         match &mut *self.book.lock(rt) {
-            Some(book) => enter(rt, alloc, book, notes, operation, providers),
+            Some(book) => enter(rt, alloc, book, notes, operation),
             None => Err(Refusal::HistoryFull),
         }
     }
@@ -61,24 +59,23 @@ impl<E: Ending> Desk<E> {
     }
 }
 
-/// Enters an operation of a session as one entry of the book, notes it once it is read, and returns the call with its reply.
+/// Enters an operation of a session as one entry of the book, notes it once it is read, and returns the call with its reply. Its contract
+/// says what becomes of the book, which callers of the desk cannot see.
 fn enter<R: Wait, E: Ending>(
     rt: &R,
     alloc: Global,
     book: &mut Book<E>,
     notes: &mut Notes,
-    operation: Operation,
-    providers: Option<&Providers>,
+    operation: Operation<&Providers>,
 ) -> Result<Event, Refusal>
     requires room { 0 < notes.old.room }
-    requires providers { NeedsWork operation → IsSome providers }
-    ensures told { IfOk result (λ event. IsCallOf operation event × IsAnswered event notes.old.session notes.new.session) }
+    ensures told { IfOk result (λ event. IsCallOf operation.entry event × IsAnswered event notes.old.session notes.new.session) }
     ensures entered { IfOk result (λ event. Appends notes.old.session.number event book.old book.new) }
     ensures kept { OnErr result (book.new ≡ book.old) }
     ensures refused { OnErr result (notes.new ≡ notes.old) }
     ensures full { IfErr result (IsFull book.old) }
 {
-    let owners = book.enter(rt, alloc, notes.number(), operation, providers)?;
+    let owners = book.enter(rt, alloc, notes.number(), operation)?;
     let (listed, answered) = owners.into_owners();
     notes.note(rt, listed);
     Ok(answered)

@@ -1,4 +1,5 @@
-//! What a session notes: its own list of calls, and what it has seen of what is published.
+//! What a session notes: its own list of calls, and what it has seen of what is published. The two belong together, so only this file
+//! changes them, and the desk is passed them alone: under the lock nothing else of a session is at hand.
 ghost use Rattle.std.specs.Prelude.{◌≡◌, ◌↔◌, ◌<◌, IfOk, IsTrue, OnOk, [], length};
 ghost use Rattle.bc_book.specs.declared.ledger.TheConstants.{MOST_SESSIONS};
 ghost use Rattle.bc_prov.specs.Snapshots.{IsPartOf};

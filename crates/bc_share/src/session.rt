@@ -1,5 +1,5 @@
 //! What one session does, and its own list of that.
-ghost use Rattle.std.specs.Prelude.{◌≡◌, ◌↔◌, ◌<◌, [], IfOk, IsSome, IsTrue, OnOk, OnErr, length};
+ghost use Rattle.std.specs.Prelude.{◌≡◌, ◌↔◌, ◌<◌, [], IfOk, IsTrue, OnOk, OnErr, length};
 ghost use Rattle.std.specs.Arc.{arc_value};
 ghost use Rattle.std.specs.Option.{option_map};
 ghost use Rattle.bc_prov.specs.Snapshots.{IsPartOf};
@@ -8,7 +8,7 @@ ghost use Rattle.bc_calls.specs.Answers.{IsAnswer};
 ghost use Rattle.bc_calls.specs.Beginnings.{AreAllBegun};
 ghost use Rattle.bc_calls.specs.Calls.{after, calls};
 ghost use Rattle.bc_book.specs.declared.ledger.TheConstants.{MOST_SESSIONS};
-ghost use Rattle.bc_book.specs.Operations.{IsCallOf, NeedsWork};
+ghost use Rattle.bc_book.specs.Operations.{IsCallOf};
 ghost use Rattle.bc_share.specs.Sessions.{IsAnswered, Stays, new_session};
 
 use crate::desk::Desk;
@@ -81,9 +81,10 @@ impl<E: Ending> Session<E> {
         ensures told { OnOk result (IsAnswered (events.Types (arc_value types)) self.old self.new) }
         ensures refused { OnErr result (Stays self.old self.new) }
     {
+        // As `make` does again: without room for the call the declarations are not checked in vain.
         self.notes.reserve()?;
         let types = checked(self.alloc, Shared::new(types))?;
-        self.make(rt, Operation::Types(types), None)?;
+        self.make(rt, Operation::Types(types))?;
         Ok(())
     }
 
@@ -100,12 +101,11 @@ impl<E: Ending> Session<E> {
         ensures told { IfOk result (λ reply. IsAnswered (events.Put name (arc_value unit) reply) self.old self.new) }
         ensures refused { OnErr result (Stays self.old self.new) }
     {
-        let (_, event) = self.make(rt, Operation::Put(name, Shared::new(unit)), None)?;
-        match event {
-            Event::Put(_, _, reply) => Ok(reply),
-            Event::Types(_) | Event::Remove(_, _) | Event::Ask(_, _) | Event::All(_) =>
-                unreachable!(),
-        }
+        let (_, event) = self.make(rt, Operation::Put(name, Shared::new(unit)))?;
+        let Event::Put(_, _, reply) = event else {
+            unreachable!();
+        };
+        Ok(reply)
     }
 
     /// Removes the unit of a name, and replies `Removed`, or `Absent` if the name holds none. Room in the session's own list is made first.
@@ -114,12 +114,11 @@ impl<E: Ending> Session<E> {
         ensures told { IfOk result (λ reply. IsAnswered (events.Remove name reply) self.old self.new) }
         ensures refused { OnErr result (Stays self.old self.new) }
     {
-        let (_, event) = self.make(rt, Operation::Remove(name), None)?;
-        match event {
-            Event::Remove(_, reply) => Ok(reply),
-            Event::Types(_) | Event::Put(_, _, _) | Event::Ask(_, _) | Event::All(_) =>
-                unreachable!(),
-        }
+        let (_, event) = self.make(rt, Operation::Remove(name))?;
+        let Event::Remove(_, reply) = event else {
+            unreachable!();
+        };
+        Ok(reply)
     }
 
     /// Returns a consistent snapshot of one name and its closures, taken without the lock. Pass it to `work`, then to `settle`. It carries
@@ -172,12 +171,11 @@ impl<E: Ending> Session<E> {
         ensures told { IfOk result (λ outcome. IsAnswered (events.Ask work.snapshot.root (arc_value outcome)) self.old self.new) }
         ensures refused { OnErr result (Stays self.old self.new) }
     {
-        let (_, event) = self.make(rt, Operation::Settle(work), Some(providers))?;
-        match event {
-            Event::Ask(_, outcome) => Ok(outcome.into_arc()),
-            Event::Types(_) | Event::Put(_, _, _) | Event::Remove(_, _) | Event::All(_) =>
-                unreachable!(),
-        }
+        let (_, event) = self.make(rt, Operation::Settle(work, providers))?;
+        let Event::Ask(_, outcome) = event else {
+            unreachable!();
+        };
+        Ok(outcome.into_arc())
     }
 
     /// Asks whether the body under a name is borrow-correct now, and returns the outcome of what the name holds, over the stored
@@ -215,12 +213,11 @@ impl<E: Ending> Session<E> {
         ensures told { IfOk result (λ listing. IsAnswered (events.All (arc_value listing)) self.old self.new) }
         ensures refused { OnErr result (Stays self.old self.new) }
     {
-        let (_, event) = self.make(rt, Operation::All(works), Some(providers))?;
-        match event {
-            Event::All(listing) => Ok(listing.into_arc()),
-            Event::Types(_) | Event::Put(_, _, _) | Event::Remove(_, _) | Event::Ask(_, _) =>
-                unreachable!(),
-        }
+        let (_, event) = self.make(rt, Operation::All(works, providers))?;
+        let Event::All(listing) = event else {
+            unreachable!();
+        };
+        Ok(listing.into_arc())
     }
 
     /// Asks which bodies are borrow-correct now, and returns the outcome of each root that holds a body, in the order of the names, each as
@@ -242,8 +239,7 @@ impl<E: Ending> Session<E> {
     }
 
     /// Makes a call: returns how many calls the session had made before, which is the number of its entry, and the call with its reply. The
-    /// other calls are this one with one kind of operation each. Work for an Ask is done before, with no lock held (`begin`, `begin_all`); an
-    /// Ask asks for providers too.
+    /// other calls are this one with one kind of operation each. Work for an Ask is done before, with no lock held (`begin`, `begin_all`).
     ///
     /// Room in the session's own list is made first. Returns `HistoryFull` only if the history is full or the database is closed, and
     /// `NoMemory` only if out of memory, as a provider may report too. The session's own list and the history are then as they were, and
@@ -251,20 +247,16 @@ impl<E: Ending> Session<E> {
     pub fn make<R: Wait>(
         &mut self,
         rt: &R,
-        operation: Operation,
-        providers: Option<&Providers>,
+        operation: Operation<&Providers>,
     ) -> Result<(usize, Event), Refusal>
-        requires providers { NeedsWork operation → IsSome providers }
-        ensures made { IfOk result (λ made. IsCallOf operation made.1 × IsAnswered made.1 self.old self.new) }
+        ensures made { IfOk result (λ made. IsCallOf operation.entry made.1 × IsAnswered made.1 self.old self.new) }
         ensures number { IfOk result (λ made. made.0 ≡ length self.old.own) }
         ensures refused { OnErr result (Stays self.old self.new) }
     {
         // Before the lock is taken: a call without room returns `NoMemory` even if the history is full.
         self.notes.reserve()?;
         let number = self.notes.count();
-        let event = self
-            .desk
-            .enter(rt, self.alloc, &mut self.notes, operation, providers)?;
+        let event = self.desk.enter(rt, self.alloc, &mut self.notes, operation)?;
         Ok((number, event))
     }
 

@@ -157,6 +157,8 @@ fn chain_of(
 }
 
 /// Returns the chain from a region to an element, both by number: the first of the shortest. Returns `None` exactly if there is no chain.
+///
+/// Only tests and benchmarks of this repository call it: `judge` asks one `Explainer` for all its chains.
 pub fn explain(
     alloc: Global,
     facts: &Facts,

@@ -1,4 +1,5 @@
-//! The readers of the published table, each with the entries that it has seen. A reading waits for nobody.
+//! The readers of the published table, each with the entries that it has seen. A reading waits for nobody. The functions `read_*` are one
+//! reading each: they enter the table, take owners or copies of what is asked for, and leave, since the writer waits for whoever is in it.
 ghost use Rattle.std.specs.Prelude.{◌≡◌, [], Some, IfOk, IfSome, IsTrue};
 ghost use Rattle.left_right.specs.Sides.{view};
 ghost use Rattle.bc_prov.specs.Snapshots.{IsPartOf};
@@ -7,9 +8,9 @@ ghost use Rattle.bc_calls.specs.Calls.{IsLegal, StartsWith, after, last_of};
 ghost use Rattle.bc_calls.specs.Answers.{IsAnswer, IsShelfOf};
 ghost use Rattle.bc_calls.specs.Beginnings.{AreAllBegun};
 
-use crate::roots::begin_roots;
+use crate::roots::{begin_root, begin_roots};
 use crate::rule::{Look, Published, Seen, TableReader};
-use crate::table::Table;
+use crate::table::{Table, answer_in};
 use bc_calls::{Begun, Event};
 use bc_memo::{PieceMemo, Shelf};
 use bc_names::Name;
@@ -137,7 +138,7 @@ fn read_answer(reader: TableReader, name: Name) -> (TableReader, Option<Option<S
 {
     match reader.enter_as::<Look>() {
         Ok(reading) => {
-            let answer = reading.get().answer(&name).ok();
+            let answer = answer_in(reading.get().shelf(), &name).ok();
             (reading.leave(), answer)
         }
         Err(reader) => (reader, None),
@@ -155,21 +156,10 @@ fn read_part(reader: TableReader, of: (Global, Name)) -> (TableReader, Option<Be
     match reader.enter_as::<Look>() {
         Ok(reading) => {
             let table = reading.get();
-            let answer = table.answer(&name);
-            let part = table.part(alloc, &name);
-            let pieces = table.pieces_of(alloc, &name);
+            let begun = begin_root(alloc, table.shelf(), table.pieces(), &name);
             let reader = reading.leave();
-            let Ok(answer) = answer else {
-                return (reader, None);
-            };
-            let Ok(pieces) = pieces else {
-                return (reader, None);
-            };
-            match part {
-                Ok(part) => (
-                    reader,
-                    Some(Begun::carrying(part, answer).keep_pieces(pieces)),
-                ),
+            match begun {
+                Ok(begun) => (reader, Some(begun)),
                 Err(_) => (reader, None),
             }
         }
@@ -187,8 +177,8 @@ fn read_held(reader: TableReader, alloc: Global) -> (TableReader, Option<(Shelf,
     match reader.enter_as::<Look>() {
         Ok(reading) => {
             let table = reading.get();
-            let held = table.copy_held(alloc);
-            let pieces = table.copy_pieces(alloc);
+            let held = table.shelf().copy(alloc);
+            let pieces = table.pieces().copy(alloc);
             let reader = reading.leave();
             let Ok(held) = held else {
                 return (reader, None);

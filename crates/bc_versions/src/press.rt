@@ -1,7 +1,6 @@
 //! The writer of the published table.
 ghost use Rattle.std.specs.Prelude.{◌≡◌, ◌<◌, ◌^◌, [], ◌++◌, drop, fold, IfOk, MatchResult};
 ghost use Rattle.left_right.specs.Sides.{view};
-ghost use Rattle.bc_prov.specs.Pieces.{rows_of};
 ghost use Rattle.bc_memo.specs.Places.{AreFitting, changed, empty_shelf};
 ghost use Rattle.bc_calls.specs.Calls.{MayComeNext, last_of};
 ghost use Rattle.bc_calls.specs.Changes.{change_of};
@@ -12,9 +11,9 @@ use crate::ending::Ending;
 use crate::front::Fronts;
 use crate::rule::{Add, TableWriter};
 use crate::table::{Table, Update};
-use bc_calls::{Entry, MOST_BODIES};
+use bc_calls::MOST_BODIES;
 use bc_memo::{PieceMemo, Shelf};
-use bc_prov::{Declared, PieceSet, Shared};
+use bc_prov::{Declared, Shared};
 use core::mem::replace_with;
 use std::alloc::{AllocError, Global};
 use std::marker::Model;
@@ -75,26 +74,10 @@ impl<E: Ending> Press<E> {
         Ok(Fronts::new(self.writer.factory().another()?))
     }
 
-    /// Publishes the entry that comes next, with the revision that it gives to what it writes, and with the pieces that come with an ask,
-    /// if any. It waits for those who still read what was published before. Requires that each piece was found from the declarations and
-    /// from the unit at its name that are stored after the entry. If it returns `AllocError`, nothing is published. After the append, a
-    /// publication that fails is tried again until it succeeds.
-    pub fn add<R: Wait>(
-        &mut self,
-        rt: &R,
-        entry: Entry,
-        revision: u32,
-        pieces: Option<PieceSet>,
-    ) -> Result<(), AllocError>
-        requires next { MayComeNext self.old.entries entry }
-        requires pieces { AreFitting (changed self.old.shelf (change_of entry.event) revision) (rows_of pieces) }
-        ensures { MatchResult result (λ _. self.new ≡ pressed self.old (record { entry = entry; revision = revision })) (λ _. self.new ≡ self.old) }
-    {
-        self.add_update(rt, Update::new(entry, revision, pieces))
-    }
-
-    /// Publishes an update whose entry comes next, and whose pieces are of what is stored then.
-    fn add_update<R: Wait>(&mut self, rt: &R, update: Update) -> Result<(), AllocError>
+    /// Publishes an update whose entry comes next. It waits for those who still read what was published before. Requires that each of its
+    /// pieces was found from the declarations and from the unit at its name that are stored after the entry. If it returns `AllocError`,
+    /// nothing is published. After the append, a publication that fails is tried again until it succeeds.
+    pub fn add<R: Wait>(&mut self, rt: &R, update: Update) -> Result<(), AllocError>
         requires next { MayComeNext self.old.entries update.entry }
         requires pieces { AreFitting (changed self.old.shelf (change_of update.entry.event) update.revision) update.pieces }
         ensures { MatchResult result (λ _. self.new ≡ pressed self.old (record { entry = update.entry; revision = update.revision }))

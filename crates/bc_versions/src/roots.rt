@@ -30,8 +30,8 @@ pub(crate) fn begin_roots(
     Ok(begun)
 }
 
-/// Returns a name's part, with its answer and its kept pieces.
-fn begin_root(
+/// Returns a name's part, with its answer and its kept pieces. Requires that the pieces are of what is stored.
+pub(crate) fn begin_root(
     alloc: Global,
     held: &Shelf,
     pieces: &PieceMemo,

@@ -1,6 +1,7 @@
-//! The published table: the last entry, what is stored after it, and the kept pieces of that.
-ghost use Rattle.std.specs.Prelude.{◌≡◌, ◌<◌, ◌≤◌, ◌+◌, ◌++◌, [], IfOk, IsOk, None, OnErr, OnOk, Some, length, vec_capacity};
-ghost use Rattle.bc_memo.specs.Places.{IsReady, MayChange, answer_of, changed, empty_shelf, most_places, most_ready, most_rows, part_in, pieces_after, pieces_with, revisions_in, units_in};
+//! The published table: the last entry, what is stored after it, and the kept pieces of that. `left_right` has two, and applies each update
+//! to both, so an update that fails has to leave its table as it was.
+ghost use Rattle.std.specs.Prelude.{◌≡◌, ◌<◌, ◌≤◌, ◌+◌, ◌++◌, [], IfOk, IsOk, OnErr, OnOk, Some, length, vec_capacity};
+ghost use Rattle.bc_memo.specs.Places.{IsReady, MayChange, answer_of, changed, empty_shelf, most_places, most_ready, most_rows, pieces_after, pieces_with};
 ghost use Rattle.bc_prov.specs.Pieces.{rows_of};
 ghost use Rattle.bc_prov.specs.State.{at_name};
 ghost use Rattle.bc_calls.specs.Calls.{most_bodies};
@@ -8,7 +9,7 @@ ghost use Rattle.bc_calls.specs.Changes.{change_of};
 ghost use Rattle.bc_versions.specs.Tables.{empty_table, updated};
 
 use bc_calls::Entry;
-use bc_memo::{Change, Part, PieceMemo, Shelf};
+use bc_memo::{Change, PieceMemo, Shelf};
 use bc_names::Name;
 use bc_prov::{Outcome, Piece, PieceSet, Pieces, Shared};
 use left_right::Absorb;
@@ -40,7 +41,7 @@ impl Model for Update {
 impl Update {
     /// Makes an update of an entry, with its revision, and with the pieces that come with an ask, if any. Requires that a unit that the
     /// entry puts suits its name.
-    pub(crate) fn new(entry: Entry, revision: u32, pieces: Option<PieceSet>) -> Update
+    pub fn new(entry: Entry, revision: u32, pieces: Option<PieceSet>) -> Update
         requires { MayChange (change_of entry.event) }
         ensures { result ≡ record { entry = entry; revision = revision; pieces = rows_of pieces } }
     {
@@ -115,42 +116,18 @@ impl Table {
         &self.last
     }
 
-    /// Returns one more owner of a name's answer, if it has one. Returns `AllocError` if the answer has too many owners.
-    pub(crate) fn answer(&self, name: &Name) -> Result<Option<Shared<Outcome>>, AllocError>
-        ensures { IfOk result (λ answer. answer ≡ answer_of (at_name self.now.shelf.places name.now)) }
+    /// Returns what is stored.
+    pub(crate) fn shelf(&self) -> &Shelf
+        ensures { result.now.held ≡ self.now.shelf }
     {
-        answer_in(&self.shelf, name)
+        &self.shelf
     }
 
-    /// Returns a name's part, without pieces.
-    pub(crate) fn part(&self, alloc: Global, root: &Name) -> Result<Part, AllocError>
-        ensures snapshot { IfOk result (λ part. (part.snapshot.types ≡ self.now.shelf.types) × (part.snapshot.root ≡ root.now) ×
-            (part.snapshot.units ≡ units_in root.now self.now.shelf.places) × (part.snapshot.carried ≡ None)) }
-        ensures revisions { IfOk result (λ part. (part.types_revision ≡ self.now.shelf.types_revision) ×
-            (part.revisions.items ≡ revisions_in root.now self.now.shelf.places)) }
+    /// Returns the kept pieces.
+    pub(crate) fn pieces(&self) -> &PieceMemo
+        ensures { result.now.rows ≡ self.now.pieces }
     {
-        self.shelf.part(alloc, root)
-    }
-
-    /// Returns one more owner of each kept piece of a name's part.
-    pub(crate) fn pieces_of(&self, alloc: Global, root: &Name) -> Result<Pieces, AllocError>
-        ensures { IfOk result (λ pieces. pieces.items ≡ part_in root.now self.now.pieces) }
-    {
-        self.pieces.part(alloc, root)
-    }
-
-    /// Copies what is stored.
-    pub(crate) fn copy_held(&self, alloc: Global) -> Result<Shelf, AllocError>
-        ensures { IfOk result (λ copy. copy.held ≡ self.now.shelf) }
-    {
-        self.shelf.copy(alloc)
-    }
-
-    /// Copies the kept pieces.
-    pub(crate) fn copy_pieces(&self, alloc: Global) -> Result<PieceMemo, AllocError>
-        ensures { IfOk result (λ copy. copy.rows ≡ self.now.pieces) }
-    {
-        self.pieces.copy(alloc)
+        &self.pieces
     }
 
     /// Adds an entry with its pieces. If it returns `AllocError`, nothing has changed: all that can fail is done first. It allocates only

@@ -36,12 +36,12 @@ impl Drop for Answered {
 
 /// Prepares a call for a session: checks declarations, and works on what is asked for, with no lock held. It is no call yet: the session's
 /// own list stays as it is. Returns `AllocError` only if memory or the reading was refused, as a provider may report too.
-fn prepare<E: Ending>(
+fn prepare<'a, E: Ending>(
     alloc: Global,
     session: &mut Session<E>,
     call: Call,
-    providers: &Providers,
-) -> Result<Operation, AllocError>
+    providers: &'a Providers,
+) -> Result<Operation<&'a Providers>, AllocError>
     ensures prepared { IfOk result (λ operation. (event : Event) → IsCallOf operation event → call_of event ≡ call) }
     ensures kept { IsSame session.old session.new }
 {
@@ -51,11 +51,13 @@ fn prepare<E: Ending>(
         Call::Remove(name) => Ok(Operation::Remove(name)),
         Call::Ask(name) => {
             let begun = session.begin(&name)?;
-            Ok(Operation::Settle(begun.work(alloc, providers)?))
+            let work = begun.work(alloc, providers)?;
+            Ok(Operation::Settle(work, providers))
         }
         Call::All => {
             let begun = session.begin_all()?;
-            Ok(Operation::All(work_all(alloc, begun, providers)?))
+            let works = work_all(alloc, begun, providers)?;
+            Ok(Operation::All(works, providers))
         }
     }
 }
@@ -73,7 +75,7 @@ fn make<R: AllocGlobal + Wait, E: Ending>(
     ensures refused { OnErr result (IsSame session.old session.new) }
 {
     let operation = prepare(rt.alloc(), session, call, providers)?;
-    session.make(rt, operation, Some(providers))
+    session.make(rt, operation)
 }
 
 /// Does what is asked of a session, and returns the answer.

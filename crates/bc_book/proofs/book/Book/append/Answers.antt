@@ -13,18 +13,18 @@ use Rattle.bc_book.proofs.book.Book.append.Goals as goal
 
 pub keep-requires-clause-fit : goal.keep-requires-clause-fit
 keep-requires-clause-fit g c =
-    subst (λ (s : ShelfView). AreFitting s (rows_of c.args.findings.kept)) (sym c.make_ready.ensures.same.shelf)
-    (subst (λ (v : BookView). AreFitting v.shelf (rows_of c.args.findings.kept)) (sym c.self.view_is) c.requires.fit)
+    subst (λ (s : ShelfView). AreFitting s (rows_of c.args.effects.pieces)) (sym c.make_ready.ensures.same.shelf)
+    (subst (λ (v : BookView). AreFitting v.shelf (rows_of c.args.effects.pieces)) (sym c.self.view_is) c.requires.fit)
 
 pub keep-requires-clause-room : goal.keep-requires-clause-room
-keep-requires-clause-room g c = omega (arith, c.count_pieces-pieces.ensures, c.in_ok-change.ensures.room.3)
+keep-requires-clause-room g c = omega (arith, c.count_pieces-count.ensures, c.in_ok-change.ensures.room.3)
 
 pub remember-requires-clause-rows : goal.remember-requires-clause-rows
 remember-requires-clause-rows g c =
     let same = c.make_ready.ensures.same in
     let kept = c.keep.ensures.same in
-    subst (λ (x : ShelfView × List Entry). AreRows x.0 x.1 c.args.findings.rows.items) (λ k. (sym (kept.shelf ∙ same.shelf) k, sym (kept.entries ∙ same.entries) k))
-    (subst (λ (v : BookView). AreRows v.shelf v.entries c.args.findings.rows.items) (sym c.self.view_is) c.requires.rows)
+    subst (λ (x : ShelfView × List Entry). AreRows x.0 x.1 c.args.effects.rows.items) (λ k. (sym (kept.shelf ∙ same.shelf) k, sym (kept.entries ∙ same.entries) k))
+    (subst (λ (v : BookView). AreRows v.shelf v.entries c.args.effects.rows.items) (sym c.self.view_is) c.requires.rows)
 
 pub publish-requires-clause-next : goal.publish-requires-clause-next
 publish-requires-clause-next g c =
@@ -37,7 +37,7 @@ pub publish-requires-clause-pieces : goal.publish-requires-clause-pieces
 publish-requires-clause-pieces g c =
     let h = c.self.inside.ledger.entries in
     let e = c.args.event in
-    let rows : PieceRows = rows_of c.args.findings.published in
+    let rows : PieceRows = rows_of c.args.effects.pieces in
     let fit : AreFitting (changed c.self.inside.ledger.shelf (change_of e) (writes_after (writes_of h) e)) rows =
     subst (λ (v : BookView). AreFitting (changed v.shelf (change_of e) (writes_after (writes_of v.entries) e)) rows) (sym c.self.view_is) c.requires.published in
     let revision : c.revision-revision.result ≡ writes_after (writes_of h) e = c.revision-revision.ensures ∙ ap (λ (x : List Entry). writes_after (writes_of x) e) c.make_ready.ensures.same.entries in
@@ -86,14 +86,14 @@ returns-clause-step g c =
 
 pub returns-clause-answers : goal.returns-clause-answers
 returns-clause-answers g c =
-    let rows = c.args.findings.rows.items in
+    let rows = c.args.effects.rows.items in
     kept_book c.self.inside.ledger c.make_ready.new.self c.keep.new.self c.remember.new.self c.record.new.self c.args.session c.number-number.result c.revision-revision.result c.args.event c.in_ok-change.change
     c.make_ready.ensures.same c.keep.ensures.same c.remember.ensures.same c.in_ok-change.ensures.change c.record.ensures.entries c.record.ensures.shelf rows c.record.ensures.answers c.remember.ensures.answers
     ∙ ap (λ (v : BookView). kept_rows (change_of c.args.event) (remembering rows v.answers)) c.self.view_is
 
 pub returns-clause-pieces : goal.returns-clause-pieces
 returns-clause-pieces g c =
-    let rows = rows_of c.args.findings.kept in
+    let rows = rows_of c.args.effects.pieces in
     pieces_book c.self.inside.ledger c.make_ready.new.self c.keep.new.self c.remember.new.self c.record.new.self c.args.session c.number-number.result c.revision-revision.result c.args.event c.in_ok-change.change
     c.make_ready.ensures.same c.keep.ensures.same c.remember.ensures.same c.in_ok-change.ensures.change c.record.ensures.entries c.record.ensures.shelf rows c.record.ensures.pieces c.keep.ensures.pieces
     ∙ ap (λ (v : BookView). pieces_after (change_of c.args.event) (pieces_with rows v.pieces)) c.self.view_is
@@ -108,7 +108,7 @@ pub returns-in_err-publish-clause-refused : goal.returns-in_err-publish-clause-r
 returns-in_err-publish-clause-refused g c = on_err _ _ (same_book c.self.inside.ledger c.make_ready.new.self c.make_ready.ensures.same ∙ c.self.view_is)
 
 pub remember-requires-clause-room : goal.remember-requires-clause-room
-remember-requires-clause-room g c = omega (arith, c.len.ensures, c.args.findings.rows.ok.0, c.keep.ensures.same.rows, c.in_ok-change.ensures.room.2)
+remember-requires-clause-room g c = omega (arith, c.len.ensures, c.args.effects.rows.ok.0, c.keep.ensures.same.rows, c.in_ok-change.ensures.room.2)
 
 pub revision-revision-requires : goal.revision-revision-requires
 revision-revision-requires g c =

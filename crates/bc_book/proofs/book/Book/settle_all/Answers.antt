@@ -1,8 +1,7 @@
 use Rattle.bc_calls.specs.Calls.{IsListing, after}
-use Rattle.std.proofs.Common.{◌≡◌, List, Option, rules, sym, subst}
+use Rattle.std.proofs.Common.{◌≡◌, List, rules, sym, subst}
 use Rattle.std.specs.Prelude.{IfOk, OnOk}
 use Rattle.bc_names.specs.Names.{NameParts}
-use Rattle.bc_prov.specs.Pieces.{PieceSetView, rows_of}
 use Rattle.bc_prov.specs.declared.outcome.Outcome.{Outcome}
 use Rattle.bc_memo.specs.declared.memo.Remembered.{Remembered}
 use Rattle.bc_memo.specs.Places.{AreFitting, changed}
@@ -14,19 +13,15 @@ use Rattle.bc_book.proofs.Settling.{settled_all, settled_unasked}
 use Rattle.bc_book.proofs.book.Book.settle_all.Goals as goal
 
 pub append-requires-clause-fit : goal.append-requires-clause-fit
-append-requires-clause-fit g c =
-    let kept = c.in_ok-findings.findings.kept in
-    let fit : AreFitting c.self.inside.ledger.shelf (rows_of kept) = subst (λ (p : Option PieceSetView). AreFitting c.self.inside.ledger.shelf (rows_of p)) (sym c.in_ok-findings.ensures.kept) c.in_ok-listing.ensures.fit in
-    subst (λ (v : BookView). AreFitting v.shelf (rows_of kept)) c.self.view_is fit
+append-requires-clause-fit g c = subst (λ (v : BookView). AreFitting v.shelf c.in_ok-listing.field-0.pieces.rows) c.self.view_is c.in_ok-listing.ensures.fit
 
 pub append-requires-clause-published : goal.append-requires-clause-published
 append-requires-clause-published g c =
     let l = c.self.inside.ledger in
     let listing : List (NameParts × Outcome) = c.in_ok-listing-2.listing in
-    let published = c.in_ok-findings.findings.published in
-    let fit : AreFitting l.shelf (rows_of published) = subst (λ (p : Option PieceSetView). AreFitting l.shelf (rows_of p)) (sym c.in_ok-findings.ensures.published) c.in_ok-listing.ensures.fit in
-    subst (λ (v : BookView). AreFitting (changed v.shelf (change_of (events.All listing)) (writes_after (writes_of v.entries) (events.All listing))) (rows_of published)) c.self.view_is
-    (fitting_answers l.shelf listing (writes_after (writes_of l.entries) (events.All listing)) (rows_of published) fit)
+    let pieces = c.in_ok-listing.field-0.pieces.rows in
+    subst (λ (v : BookView). AreFitting (changed v.shelf (change_of (events.All listing)) (writes_after (writes_of v.entries) (events.All listing))) pieces) c.self.view_is
+    (fitting_answers l.shelf listing (writes_after (writes_of l.entries) (events.All listing)) pieces c.in_ok-listing.ensures.fit)
 
 pub returns-clause-step : goal.returns-clause-step
 returns-clause-step g c =
@@ -34,11 +29,10 @@ returns-clause-step g c =
     let old : BookView = record { capacity = l.capacity; entries = l.entries; shelf = l.shelf; answers = l.answers; pieces = l.pieces } in
     let new : BookView = c.append.new.self in
     let listing : List (NameParts × Outcome) = c.in_ok-listing-2.listing in
-    let rows : List (NameParts × Remembered) = c.in_ok-findings.findings.rows.items in
+    let rows : List (NameParts × Remembered) = c.in_ok-listing.field-0.rows.items in
     let same : listing ≡ c.in_ok-listing.field-0.listing.items = search rules in
-    let added : rows ≡ c.in_ok-listing.field-0.rows.items = search rules in
     let found : IsFoundAll old.shelf old.entries old.answers listing rows =
-    subst (λ (x : List (NameParts × Outcome) × List (NameParts × Remembered)). IsFoundAll old.shelf old.entries old.answers x.0 x.1) (λ i. (sym same i, sym added i)) c.in_ok-listing.ensures.found in
+    subst (λ (x : List (NameParts × Outcome)). IsFoundAll old.shelf old.entries old.answers x rows) (sym same) c.in_ok-listing.ensures.found in
     let answers : OnOk c.append.result (new.answers ≡ kept_rows (change_of (events.All listing)) (remembering rows old.answers)) =
     subst (λ (v : BookView). OnOk c.append.result (new.answers ≡ kept_rows (change_of (events.All listing)) (remembering rows v.answers))) (sym c.self.view_is) c.append.ensures.answers in
     let step : OnOk c.append.result (Appends c.args.session (events.All listing) old new) = subst (λ (v : BookView). OnOk c.append.result (Appends c.args.session (events.All listing) v new)) (sym c.self.view_is) c.append.ensures.step in
@@ -51,11 +45,10 @@ returns-clause-others g c =
     let old : BookView = record { capacity = l.capacity; entries = l.entries; shelf = l.shelf; answers = l.answers; pieces = l.pieces } in
     let new : BookView = c.append.new.self in
     let listing : List (NameParts × Outcome) = c.in_ok-listing-2.listing in
-    let rows : List (NameParts × Remembered) = c.in_ok-findings.findings.rows.items in
+    let rows : List (NameParts × Remembered) = c.in_ok-listing.field-0.rows.items in
     let same : listing ≡ c.in_ok-listing.field-0.listing.items = search rules in
-    let added : rows ≡ c.in_ok-listing.field-0.rows.items = search rules in
     let found : IsFoundAll old.shelf old.entries old.answers listing rows =
-    subst (λ (x : List (NameParts × Outcome) × List (NameParts × Remembered)). IsFoundAll old.shelf old.entries old.answers x.0 x.1) (λ i. (sym same i, sym added i)) c.in_ok-listing.ensures.found in
+    subst (λ (x : List (NameParts × Outcome)). IsFoundAll old.shelf old.entries old.answers x rows) (sym same) c.in_ok-listing.ensures.found in
     let answers : OnOk c.append.result (new.answers ≡ kept_rows (change_of (events.All listing)) (remembering rows old.answers)) =
     subst (λ (v : BookView). OnOk c.append.result (new.answers ≡ kept_rows (change_of (events.All listing)) (remembering rows v.answers))) (sym c.self.view_is) c.append.ensures.answers in
     subst (λ (v : BookView). IfOk c.append.result (λ told. KeepsUnasked told v new)) c.self.view_is
@@ -69,9 +62,7 @@ append-requires-clause-reply g c =
 
 pub append-requires-clause-rows : goal.append-requires-clause-rows
 append-requires-clause-rows g c =
-    let l = c.self.inside.ledger in
-    let rows : List (NameParts × Remembered) = c.in_ok-findings.findings.rows.items in
-    subst (λ (v : BookView). AreRows v.shelf v.entries rows) c.self.view_is (subst (AreRows l.shelf l.entries) (sym c.in_ok-findings.ensures.rows) c.in_ok-listing.ensures.found.rows)
+    subst (λ (v : BookView). AreRows v.shelf v.entries c.in_ok-listing.field-0.rows.items) c.self.view_is c.in_ok-listing.ensures.found.rows
 
 pub returns-clause-refused : goal.returns-clause-refused
 returns-clause-refused g c = c.append.ensures.refused

@@ -1,4 +1,4 @@
-use Rattle.std.proofs.Common.{Option, sym, subst, ◌∙◌}
+use Rattle.std.proofs.Common.{Option, sym, subst}
 use Rattle.bc_prov.specs.Outcome.{IsOutcomeIn}
 use Rattle.bc_prov.specs.State.{state_of}
 use Rattle.bc_calls.specs.Calls.{after}
@@ -26,9 +26,3 @@ returns-clause-remembered c =
     let a = c.in_ok-answer.answer in
     let same = carried_as a c.in_ok-part.part.snapshot.carried c.carrying.result.carried c.in_ok-part.ensures.bare c.carrying.ensures.carried in
     subst (λ (o : Option Outcome). IsRemembered c.args.self.now.shelf c.args.self.now.answers c.args.name.now o) (sym same) c.in_ok-answer.ensures.remembered
-
-pub returns-clause-held : goal.returns-clause-held
-returns-clause-held c =
-    let same = c.carrying.ensures.part in
-    let held = c.in_ok-part.ensures.held in
-    (same.0 ∙ held.0, same.2 ∙ held.2)

@@ -1,14 +1,26 @@
-use Rattle.std.proofs.Common.{◌<◌, ◌≤◌, ℕ, sym, subst}
-use Rattle.bc_book.proofs.Entering.{same_twice}
+use Rattle.std.proofs.Common.{length, ap, arith}
 use Rattle.bc_book.proofs.ledger.Ledger.make_ready.Goals as goal
 
-pub returns-in_err-prepare-clause-same : goal.returns-in_err-prepare-clause-same
-returns-in_err-prepare-clause-same c = same_twice _ _ _ c.reserve.ensures.same c.prepare.ensures.same
+pub invariant_of-self : goal.invariant_of-self
+invariant_of-self c = rw c.reserve.ensures.items c.self.invariant
 
-pub returns-clause-same : goal.returns-clause-same
-returns-clause-same c = same_twice _ _ _ c.reserve.ensures.same c.prepare.ensures.same
+pub invariant_of-self-in_err-reserve-2 : goal.invariant_of-self-in_err-reserve-2
+invariant_of-self-in_err-reserve-2 c = rw (c.reserve-2.ensures.same, c.reserve.ensures.items) c.self.invariant
 
-pub returns-clause-room : goal.returns-clause-room
-returns-clause-room c =
-    let room = c.prepare.ensures.room in
-    subst (λ (n : ℕ × ℕ × ℕ × ℕ). (0 < n.0) × (0 < n.1) × (c.args.answers ≤ n.2) × (c.args.pieces ≤ n.3)) (λ i. (sym room.0 i, sym room.1 i, sym room.2 i, sym room.3 i)) c.in_ok-reserve.ensures.room
+pub invariant_of-self-in_err-reserve-3 : goal.invariant_of-self-in_err-reserve-3
+invariant_of-self-in_err-reserve-3 c = rw (c.reserve-3.ensures.same, c.reserve-2.ensures.same, c.reserve.ensures.items) c.self.invariant
+
+pub invariant_of-self-in_err-reserve-4 : goal.invariant_of-self-in_err-reserve-4
+invariant_of-self-in_err-reserve-4 c =
+    let more = c.reserve-4.ensures.memory in
+    let long = ap length c.reserve-4.ensures.rows in
+    let room = c.self.invariant.2 in
+    rw (c.reserve-4.ensures.rows, c.reserve-3.ensures.same, c.reserve-2.ensures.same, c.reserve.ensures.items) (c.self.invariant.0, c.self.invariant.1, omega (arith, more, long, room))
+
+pub invariant_of-self-2 : goal.invariant_of-self-2
+invariant_of-self-2 c =
+    let more = c.reserve-4.ensures.memory in
+    let long = ap length c.reserve-4.ensures.rows in
+    let room = c.self.invariant.2 in
+    rw (c.prepare.ensures.same, c.reserve-4.ensures.rows, c.reserve-3.ensures.same, c.reserve-2.ensures.same, c.reserve.ensures.items)
+    (c.self.invariant.0, c.self.invariant.1, omega (arith, more, long, room))

@@ -1,23 +1,23 @@
-use Rattle.std.proofs.Common.{◌≡◌, Option, subst}
+use Rattle.std.proofs.Common.{◌≡◌, Option, Some, subst}
 use Rattle.std.specs.Prelude.{IfSome}
-use Rattle.bc_names.specs.Names.{NameParts}
+use Rattle.bc_prov.specs.declared.outcome.Outcome.{Outcome}
 use Rattle.bc_prov.specs.Outcome.{IsOutcomeIn}
-use Rattle.bc_prov.specs.Pieces.{rows_of}
-use Rattle.bc_memo.specs.Places.{AreFitting}
+use Rattle.bc_memo.specs.Memos.{IsRemembered}
 use Rattle.bc_calls.specs.Calls.{after}
-use Rattle.bc_calls.specs.Works.{WorkView}
-use Rattle.bc_book.specs.Ledgers.{LedgerView}
-use Rattle.bc_calls.proofs.Parts.{stood_outcome}
+use Rattle.bc_book.proofs.Recalling.{recalls_none}
 use Rattle.bc_book.proofs.ledger.Ledger.outcome.Goals as goal
 
-pub returns-in-Ok-clause-outcome : goal.returns-in-Ok-clause-outcome
-returns-in-Ok-clause-outcome g c =
-    let i = c.self.inside in
-    let w = c.in-Some-work.work in
-    let o = c.in-Ok.found.outcome in
-    let root : w.snapshot.root ≡ c.args.name.now = subst (λ (work : Option WorkView). IfSome work (λ x. x.snapshot.root ≡ c.args.name.now)) c.in-Some-work.is c.requires in
-    subst (λ (p : LedgerView × NameParts). IsOutcomeIn (after p.0.entries) p.1 o) (λ k. (c.self.view_is k, root k))
-    (stood_outcome i.shelf.held i.history.items w o c.self.invariant.0.shelf_of c.in-Ok.ensures.own)
+pub returns-in-Some-clause-outcome : goal.returns-in-Some-clause-outcome
+returns-in-Some-clause-outcome g c =
+    let l = c.args.self.now in
+    let n = c.args.name.now in
+    let right : IsOutcomeIn (after l.entries) n c.in-Some.answer = subst (λ (o : Option Outcome). IfSome o (IsOutcomeIn (after l.entries) n)) c.in-Some.is c.in_ok-answer.ensures.right in
+    c.recall-outcome.ensures.outcome n c.requires right
 
-pub returns-in-Ok-clause-fit : goal.returns-in-Ok-clause-fit
-returns-in-Ok-clause-fit g c = subst (λ (v : LedgerView). AreFitting v.shelf (rows_of c.in-Ok.found.pieces)) c.self.view_is c.in-Ok.ensures.fit
+pub returns-in-Some-clause-recalls : goal.returns-in-Some-clause-recalls
+returns-in-Some-clause-recalls g c =
+    let l = c.args.self.now in
+    let n = c.args.name.now in
+    let right : IsOutcomeIn (after l.entries) n c.in-Some.answer = subst (λ (o : Option Outcome). IfSome o (IsOutcomeIn (after l.entries) n)) c.in-Some.is c.in_ok-answer.ensures.right in
+    let remembered : IsRemembered l.shelf l.answers n (Some c.in-Some.answer) = subst (λ (o : Option Outcome). IsRemembered l.shelf l.answers n o) c.in-Some.is c.in_ok-answer.ensures.remembered in
+    recalls_none l.shelf l.entries l.answers n c.recall-outcome.result.outcome c.in-Some.answer remembered right (c.recall-outcome.ensures.outcome n c.requires right)

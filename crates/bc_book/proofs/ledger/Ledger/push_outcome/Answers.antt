@@ -22,7 +22,7 @@ returns-clause-found g c =
     let right : IsOutcomeIn (after l.entries) n o = search rules in
     let longer : c.push.new.self.items ≡ listing ++ (n, o) ∷ [] = search rules in
     subst (λ (x : List (NameParts × Outcome) × List (NameParts × Remembered)). IsFoundAll l.shelf l.entries l.answers x.0 x.1) (λ i. (sym longer i, sym c.in_ok-push_row.ensures i))
-    (found_more l.shelf l.entries l.answers listing rows n o c.in_ok-row.row c.requires.held right c.in_ok-row.ensures.recalls c.in_ok-row.ensures.row c.requires.found)
+    (found_more l.shelf l.entries l.answers listing rows n o c.in_ok-outcome.field-0.row c.requires.held right c.in_ok-outcome.ensures.recalls c.in_ok-outcome.ensures.row c.requires.found)
 
 pub returns-clause-fit : goal.returns-clause-fit
 returns-clause-fit g c =

@@ -3,7 +3,7 @@ use Rattle.std.proofs.lemmas.List.{at_drop_more}
 use Rattle.bc_types.proofs.Appending.{appended-turn, appended-all}
 use Rattle.bc_prov.specs.State.{child}
 use Rattle.bc_prov.proofs.Numbers.{child_made}
-use Rattle.bc_prov.proofs.snapshot.push_children.Goals as goal
+use Rattle.bc_prov.proofs.closures.push_children.Goals as goal
 
 pub unwrap-child-requires : goal.unwrap-child-requires
 unwrap-child-requires c =

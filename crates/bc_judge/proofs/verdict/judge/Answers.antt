@@ -4,11 +4,11 @@ use Rattle.bc_solve.specs.Chains.{Explains}
 use Rattle.bc_solve.proofs.First.{teller}
 use Rattle.bc_judge.proofs.Inside.{conflicts_inside, explained_one, explains_values, failures_have_ends, scopes_within}
 use Rattle.bc_judge.proofs.Law.{listed_is_error, listed_is_required, required_may_go_up}
-use Rattle.bc_judge.proofs.verdict.verdict_over.Goals as goal
+use Rattle.bc_judge.proofs.verdict.judge.Goals as goal
 
 pub errors_over-requires : goal.errors_over-requires
 errors_over-requires c = record {
-  conflicts = conflicts_inside c.args.typed.now c.args.facts.now c.args.values.now c.args.scopes.now c.requires.values c.requires.scopes;
+  conflicts = rw c.rows.ensures (conflicts_inside c.args.typed.now c.args.facts.now c.args.values.now c.args.scopes.now c.requires.values c.requires.scopes);
   failures = rw (c.deref.ensures.value, c.in_ok-failures.ensures)
       (failures_have_ends c.args.typed.now c.args.facts.now c.args.values.now (holds c.in_ok-known.known) c.requires.values c.in_ok-known.ensures.tells);
 }
@@ -22,7 +22,7 @@ returns-clause-errors c =
       chain = told.0;
       explains = explains_values c.args.facts.now c.args.values.now told.0 c.requires.values told.1;
       listed = c.from.ensures ∙ c.in_ok-errors.ensures told.0 told.1
-          ∙ rw (c.deref.ensures.value, c.in_ok-failures.ensures) refl;
+          ∙ rw (c.rows.ensures, c.deref.ensures.value, c.in_ok-failures.ensures) refl;
     }
 
 pub returns-clause-error : goal.returns-clause-error
