@@ -31,8 +31,3 @@ IsReading sessions (Err cause) request = IsUnread cause request
 -- this is the request of a line, for this number of sessions
 abbrev pub IsRequest : ℕ → List ℕ → Request → Type 0
 IsRequest sessions line request = IsReading sessions (value_of line) request
-
--- the session that a request names, if it names one
-abbrev pub session_of : Request → Option ℕ
-session_of (Good id session wanted) = Some session
-session_of (Bad id session fault) = session

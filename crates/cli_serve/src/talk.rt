@@ -12,7 +12,7 @@ use bc_prov::Providers;
 use bc_share::Session;
 use bc_versions::Ending;
 use cli_output::{Authors, Output, Pen, Sheet};
-use cli_talk::{Message, Post, Talk, no_counts, route_line};
+use cli_talk::{Message, Post, RoutedLine, Talk, no_counts, route_line};
 use crossbeam_channel::{Receiver, SendError, Sender, unbounded};
 use std::alloc::{AllocError, Global};
 use std::io::{BufRead, Write};
@@ -73,10 +73,10 @@ fn send<L: Talk + Drop, R: Wait>(
     queues: &[Sender<Message<L>>],
     message: Message<L>,
 ) -> Result<(), ServeStop> {
-    let Some(queue) = queues.get(usize::from(message.session)) else {
+    let Some(queue) = queues.get(usize::from(message.line.session())) else {
         return Err(ServeStop::LostLine);
     };
-    if !backlog.add(rt, message.line.len()) {
+    if !backlog.add(rt, message.line.bytes()) {
         return Err(ServeStop::LostLine);
     }
     match queue.send(rt, message) {
@@ -107,9 +107,9 @@ fn route_all<L: Talk + Drop, J: Sheet, I: BufRead, R: AllocGlobal + Wait, O: Wri
     };
     'lines: for _ in 0..u64::MAX {
         match route_line::<L, I, _>(alloc, input, talk.sessions, printer, &mut counts) {
-            Ok(None) => return Ok(counts),
-            Ok(Some(None)) => {}
-            Ok(Some(Some(message))) => {
+            Ok(RoutedLine::End) => return Ok(counts),
+            Ok(RoutedLine::Told) => {}
+            Ok(RoutedLine::Sent(message)) => {
                 if let Err(stop) = send(talk.rt, talk.backlog, queues, message) {
                     return Err(stop);
                 }
@@ -200,8 +200,7 @@ where
     N: Ending + Send + 's,
     R: AllocGlobal + Wait + Sync,
     O: Write + Drop + Send + 's,
-    requires sessions { talk.now.sessions ≡ L.sessions }
-    requires is_new { session ≡ new_session 0 session.number }
+    requires { session ≡ new_session 0 session.number }
 {
     let number = session.number();
     let (to, from) = match open_queue(talk.rt.alloc()) {
@@ -213,11 +212,7 @@ where
     };
     let inbox = Inbox::new(talk.rt, from, talk.backlog);
     let printer = Printer::new(talk.rt, talk.out, pen);
-    let post = Post {
-        providers,
-        sessions: talk.sessions,
-        number,
-    };
+    let post = Post { providers, number };
     let Some(worker) = start::<V, L, J, N, _, _, R>(scope, talk.rt, post, inbox, session, printer)
     else {
         return Err(ServeStop::NoThread);
@@ -242,8 +237,7 @@ where
     N: Ending + Send + 's,
     R: AllocGlobal + Threads + Wait + Sync,
     O: Write + Drop + Send + 's,
-    requires sessions { talk.now.sessions ≡ L.sessions }
-    requires are_new { AreNew L.sessions sessions.items }
+    requires { AreNew L.sessions sessions.items }
 {
     let alloc = talk.rt.alloc();
     let mut staff = Staff {

@@ -31,7 +31,6 @@ fn run_worker<
     P: Prints<J> + Drop,
     R: AllocGlobal + Wait,
 >(rt: &R, post: &Post<'_>, mut inbox: M, session: Session<N>, mut printer: P) -> Ran<J, N>
-    requires sessions { post.now.sessions ≡ L.sessions }
     requires is_new { session ≡ new_session 0 post.now.number }
     requires nothing { P.given printer ≡ Some [] }
     ensures { HasTalked L.sessions post.now.number L.lines result.session result.pen.texts result.ended }
@@ -84,16 +83,11 @@ where
     M: Messages<L> + Drop + Send + 's,
     P: Prints<J> + Drop + Send + 's,
     R: AllocGlobal + Wait + Sync,
-    requires sessions { post.sessions ≡ L.sessions }
     requires is_new { session ≡ new_session 0 post.number }
     requires nothing { P.given printer ≡ Some [] }
 {
     // (taken apart, so that what goes to the thread is shown to be fit for it part by part)
-    let Post {
-        providers,
-        sessions,
-        number,
-    } = post;
+    let Post { providers, number } = post;
     let promise = Answering {
         number,
         of: PhantomData,
@@ -101,14 +95,10 @@ where
     let started = scope.spawn_with(
         promise,
         move || -> Ran<J, N>
-            requires { (sessions ≡ L.sessions) × (session ≡ new_session 0 number) × (P.given printer ≡ Some []) }
+            requires { (session ≡ new_session 0 number) × (P.given printer ≡ Some []) }
             ensures { HasTalked L.sessions number L.lines result.session result.pen.texts result.ended }
         {
-            let post = Post {
-                providers,
-                sessions,
-                number,
-            };
+            let post = Post { providers, number };
             run_worker::<L, J, N, M, P, R>(rt, &post, inbox, session, printer)
         },
     );

@@ -120,6 +120,5 @@ none_lost sessions session n lossy known old new given given' is h = subst (λ (
 pub some_lost : (sessions session n : ℕ) (lossy : Bool) (known : Option (List (List ℕ))) (old new : SessionView) (given given' : Option (List (List ℕ))) → lossy ≡ true → HasAnswered sessions session n lossy known old new given given' → HasAnswered sessions session n true known old new given given'
 some_lost sessions session n lossy known old new given given' is h = subst (λ (b : Bool). HasAnswered sessions session n b known old new given given') is h
 
-pub same_place : (a s j k m n : ℕ) (line : List ℕ) (known : Option (List (List ℕ))) → s ≡ a → j ≡ k → m ≡ n → IsLineOf a j m line known → IsLineOf s k n line known
-same_place a s j k m n line known es ek en h =
-    subst (λ (x : ℕ). IsLineOf x k n line known) (sym es) (subst (λ (x : ℕ). IsLineOf a x n line known) ek (subst (λ (x : ℕ). IsLineOf a j x line known) en h))
+pub same_place : (sessions j k m n : ℕ) (line : List ℕ) (known : Option (List (List ℕ))) → j ≡ k → m ≡ n → IsLineOf sessions j m line known → IsLineOf sessions k n line known
+same_place sessions j k m n line known ek en h = subst (λ (x : ℕ). IsLineOf sessions x n line known) ek (subst (λ (x : ℕ). IsLineOf sessions j x line known) en h)

@@ -78,9 +78,13 @@ Turns sessions number lossy [] old new texts = (new ≡ old) × (texts ≡ [])
 Turns sessions number lossy (line ∷ lines) old new texts =
     (between : SessionView) × (text : List ℕ) × (rest : List (List ℕ)) × IsTurn sessions number lossy line old between text × Turns sessions number lossy lines between new rest × (texts ≡ text ∷ rest)
 
+-- the answer to a line of this id that names no session
+abbrev pub wrong_answer : Id → RequestFault → Answered
+wrong_answer id fault = record { id = id; session = None; answer = Wrong fault }
+
 -- a line names no session, and this text has its id and what is wrong with it
 pub record IsTold (sessions : ℕ) (line text : List ℕ) : Type 0 where
   pub id : Id
   pub fault : RequestFault
   pub is : IsRequest sessions line (Bad id None fault)
-  pub written : IsWholeLine (record { id = id; session = None; answer = Wrong fault }) text
+  pub written : IsWholeLine (wrong_answer id fault) text
