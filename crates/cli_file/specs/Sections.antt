@@ -79,6 +79,10 @@ Answers Good Bad (Err HistoryFull) = ⊥
 Answers Good Bad (Err Foreign) = ⊥
 Answers Good Bad (Err Audit) = ⊥
 
+-- the result is what the text of a section was read as, or the fault of the text, at the section's line, unless memory ran out
+abbrev pub GivesRead : {T : Type 0} → Result T ReadFault → Part → Result T Stop → Type 0
+GivesRead read section result = Answers (λ value. read ≡ Ok value) (λ fault. (fault.line ≡ section.line) × IsUnread read fault.kind) result
+
 -- why a command stops at the section of this line, if its text cannot be read
 abbrev pub stop_of : ℕ → ReadFault → Stop
 stop_of line read_faults.TooLong = File (record { line = line; kind = TooLong; position = None })
