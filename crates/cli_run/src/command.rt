@@ -39,15 +39,16 @@ fn show<O: Write + Drop>(
     ensures handed_on { (result ≡ Err Stop.CannotWrite) ⊎ (writer_buffer out.new ≡ []) }
     ensures stop { IfErr result (λ stop. (stop ≡ Stop.CannotWrite) ⊎ (stop ≡ Stop.NoMemory)) }
 {
-    let Ok(made) = write_history(alloc, json, history.entries(), out) else {
+    let made = write_history(alloc, json, history.entries(), out);
+    if let Err(Stop::CannotWrite) = made {
         return Err(Stop::CannotWrite);
-    };
+    }
     if out.flush().is_err() {
         return Err(Stop::CannotWrite);
     }
     match made {
         Ok(()) => Ok(()),
-        Err(_) => Err(Stop::NoMemory),
+        Err(stop) => Err(stop),
     }
 }
 
