@@ -2,13 +2,14 @@
 ghost use Rattle.std.specs.Prelude.{◌≡◌, IfOk};
 ghost use Rattle.serde_json.specs.View.{view as data_of};
 ghost use Rattle.cli_requests.specs.Ids.{told};
-ghost use Rattle.cli_answers.specs.Words.{refusal_word};
+ghost use Rattle.cli_entries.specs.Words.{refusal_words};
 ghost use Rattle.cli_answers.specs.Answers.{fault_data, text_data, wrong_data};
 
 use crate::members::new_members;
-use crate::words::{kind_name, refusal_name};
+use crate::words::kind_name;
 use bc_book::Refusal;
 use bc_json::{put_number, put_string};
+use cli_entries::refusal_words;
 use cli_requests::{Id, RequestFault, TextFault};
 use serde_json::Value;
 use std::alloc::{AllocError, Global};
@@ -51,9 +52,9 @@ pub(crate) fn refusal_value(
     session: Option<u8>,
     refusal: Refusal,
 ) -> Result<Value, AllocError>
-    ensures { IfOk result (λ value. data_of value ≡ fault_data (told id.now) session (refusal_word refusal)) }
+    ensures { IfOk result (λ value. data_of value ≡ fault_data (told id.now) session (refusal_words refusal)) }
 {
-    fault_value(alloc, id, session, refusal_name(refusal))
+    fault_value(alloc, id, session, refusal_words(refusal))
 }
 
 /// Returns the object that says what is wrong with a request.

@@ -4,15 +4,14 @@ ghost use Rattle.std.specs.List.{flat_map};
 ghost use Rattle.std.specs.Io.KnownBytes.{Appends, Keeps};
 ghost use Rattle.bc_report.specs.Text.{line};
 ghost use Rattle.cli_run.specs.Runs.{end_status, greatest_end};
-ghost use Rattle.cli_run.specs.Print.{event_text, entry_line, root_lines, outcome_lines, refusal_text, entry_lines, stopped_line, stopped_lines, PrintsPart};
+ghost use Rattle.cli_run.specs.Print.{event_text, entry_line, root_lines, outcome_lines, entry_lines, stopped_line, stopped_lines, PrintsPart};
 
-use bc_book::Refusal;
 use bc_calls::{Entry, Event};
 use bc_names::Name;
 use bc_prov::{Outcome, Shared};
 use bc_report::write_report;
 use bc_scripts::End;
-use cli_entries::{entry_line, put_word, remove_word};
+use cli_entries::{entry_line, put_word, refusal_words, remove_word};
 use cli_file::Stop;
 use std::alloc::Global;
 use std::io;
@@ -141,16 +140,6 @@ pub fn write_history<O: Write>(
     Ok(())
 }
 
-/// Returns the words for why a call was refused.
-fn refusal_word(refusal: Refusal) -> &'static str
-    ensures { result.now ≡ refusal_text refusal }
-{
-    match refusal {
-        Refusal::NoMemory => "no memory",
-        Refusal::HistoryFull => "history full",
-    }
-}
-
 /// Writes the line of a session that stopped early, if it did. It fails only if there is such a line.
 fn write_stopped<E: Write>(session: u8, end: &End, err: &mut E) -> io::Result<()>
     ensures written { OnOk result (Appends (E.contents err.old) (E.contents err.new) (stopped_line session end.now)) }
@@ -159,7 +148,7 @@ fn write_stopped<E: Write>(session: u8, end: &End, err: &mut E) -> io::Result<()
     match end {
         End::Done => Ok(()),
         End::Stopped { number: _, refusal } => {
-            let why = refusal_word(*refusal);
+            let why = refusal_words(*refusal);
             writeln!(err, "session {session} stopped: {why}")
         }
     }
