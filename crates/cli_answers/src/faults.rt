@@ -1,7 +1,7 @@
 //! The JSON values of refusals and of faults.
 ghost use Rattle.std.specs.Prelude.{◌≡◌, IfOk};
 ghost use Rattle.serde_json.specs.View.{view as data_of};
-ghost use Rattle.cli_requests.specs.Ids.{told};
+ghost use Rattle.cli_requests.specs.Ids.{id_data};
 ghost use Rattle.cli_entries.specs.Words.{refusal_words};
 ghost use Rattle.cli_answers.specs.Answers.{fault_data, text_data, wrong_data};
 
@@ -21,7 +21,7 @@ fn fault_value(
     session: Option<u8>,
     words: &str,
 ) -> Result<Value, AllocError>
-    ensures { IfOk result (λ value. data_of value ≡ fault_data (told id.now) session words.now) }
+    ensures { IfOk result (λ value. data_of value ≡ fault_data (id_data id.now) session words.now) }
 {
     let mut members = new_members(alloc, id, session)?;
     put_string(&mut members, alloc, "fault", words)?;
@@ -35,7 +35,7 @@ fn text_value(
     session: Option<u8>,
     fault: &TextFault,
 ) -> Result<Value, AllocError>
-    ensures { IfOk result (λ value. data_of value ≡ text_data (told id.now) session fault.now) }
+    ensures { IfOk result (λ value. data_of value ≡ text_data (id_data id.now) session fault.now) }
 {
     let mut members = new_members(alloc, id, session)?;
     put_number(&mut members, alloc, "at", fault.at)?;
@@ -52,7 +52,7 @@ pub(crate) fn refusal_value(
     session: Option<u8>,
     refusal: Refusal,
 ) -> Result<Value, AllocError>
-    ensures { IfOk result (λ value. data_of value ≡ fault_data (told id.now) session (refusal_words refusal)) }
+    ensures { IfOk result (λ value. data_of value ≡ fault_data (id_data id.now) session (refusal_words refusal)) }
 {
     fault_value(alloc, id, session, refusal_words(refusal))
 }
@@ -64,7 +64,7 @@ pub(crate) fn wrong_value(
     session: Option<u8>,
     fault: &RequestFault,
 ) -> Result<Value, AllocError>
-    ensures { IfOk result (λ value. data_of value ≡ wrong_data (told id.now) session fault.now) }
+    ensures { IfOk result (λ value. data_of value ≡ wrong_data (id_data id.now) session fault.now) }
 {
     match fault {
         RequestFault::NotJson => fault_value(alloc, id, session, "not json"),

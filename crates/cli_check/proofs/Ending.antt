@@ -24,27 +24,27 @@ use Rattle.cli_file.specs.Stops.{is_refused}
 use Rattle.cli_file.specs.Statuses.{greatest}
 use Rattle.cli_file.proofs.Printing.{nothing_added}
 use Rattle.cli_check.specs.declared.form.Form.{Form}
-use Rattle.cli_check.specs.Run.{calls_of, told, shown, AreLegal, AreReplied}
+use Rattle.cli_check.specs.Run.{calls_of, error_lines, shown, AreLegal, AreReplied}
 use Rattle.cli_check.specs.Served.{Adds, OwesLast, Served, ServedPart, ServedAll, ServedFirst, ServedThen, Runs, Begins, Prints, HasSeenItsOwn, IsAtMostOneMore}
 use Rattle.cli_check.proofs.Members.{Contains-one}
 use Rattle.cli_check.proofs.Shorter.{the_last, legal_shorter}
 use Rattle.cli_check.proofs.Serving.{adds_one, adds_then}
 
 -- an ask prints nothing on standard error
-told_ask : (e : Event) (name : NameParts) → call_of e ≡ calls_made.Ask name → told e ≡ []
+told_ask : (e : Event) (name : NameParts) → call_of e ≡ calls_made.Ask name → error_lines e ≡ []
 told_ask (Types types) name is = refl
 told_ask (Put other body reply) name is = absurd cc
 told_ask (Remove other reply) name is = refl
 told_ask (Ask other outcome) name is = refl
 told_ask (EveryRoot rows) name is = refl
 
-told_asks : (names : List NameParts) (events : List Event) (ahead : List Call) → map call_of events ++ ahead ≡ map calls_made.Ask names → flat_map told events ≡ []
+told_asks : (names : List NameParts) (events : List Event) (ahead : List Call) → map call_of events ++ ahead ≡ map calls_made.Ask names → flat_map error_lines events ≡ []
 told_asks names [] ahead h = refl
 told_asks [] (e ∷ events) ahead h = absurd cc
 told_asks (name ∷ names) (e ∷ events) ahead h =
     let one : call_of e ≡ calls_made.Ask name = cc in
     let rest : map call_of events ++ ahead ≡ map calls_made.Ask names = cc in
-    ap (λ (text : List ℕ). text ++ flat_map told events) (told_ask e name one) ∙ told_asks names events ahead rest
+    ap (λ (text : List ℕ). text ++ flat_map error_lines events) (told_ask e name one) ∙ told_asks names events ahead rest
 
 -- a change prints nothing on standard output
 shown_change : (form : Form) (e : Event) (change : Change) → call_of e ≡ seen change → shown form e ≡ []
@@ -105,10 +105,10 @@ replied_of events s t is adds =
     }
 
 -- all changes and all asks
-pub served_all : (form : Form) (list : List Change) (names : List NameParts) (m n : ℕ) (s0 s1 s2 : SessionView) (o0 o1 e0 e1 : Option (List ℕ)) → Served (map seen list) told m s0 s1 e0 e1 → Served (map calls_made.Ask names) (shown form) n s1 s2 o0 o1 → ServedAll form (map seen list) names (max m n) s0 s2 o0 o1 e0 e1
+pub served_all : (form : Form) (list : List Change) (names : List NameParts) (m n : ℕ) (s0 s1 s2 : SessionView) (o0 o1 e0 e1 : Option (List ℕ)) → Served (map seen list) error_lines m s0 s1 e0 e1 → Served (map calls_made.Ask names) (shown form) n s1 s2 o0 o1 → ServedAll form (map seen list) names (max m n) s0 s2 o0 o1 e0 e1
 served_all form list names m n s0 s1 s2 o0 o1 e0 e1 p a =
-    let silent : flat_map told p.events ≡ flat_map told (p.events ++ a.events) =
-    sym (flat_map-append told p.events a.events ∙ ap (λ (t : List ℕ). flat_map told p.events ++ t) (told_asks names a.events [] (append-nil _ ∙ a.made)) ∙ append-nil _) in
+    let silent : flat_map error_lines p.events ≡ flat_map error_lines (p.events ++ a.events) =
+    sym (flat_map-append error_lines p.events a.events ∙ ap (λ (t : List ℕ). flat_map error_lines p.events ++ t) (told_asks names a.events [] (append-nil _ ∙ a.made)) ∙ append-nil _) in
     let hidden : flat_map (shown form) a.events ≡ flat_map (shown form) (p.events ++ a.events) =
     sym (flat_map-append (shown form) p.events a.events ∙ ap (λ (t : List ℕ). t ++ flat_map (shown form) a.events) (shown_changes form list p.events [] (append-nil _ ∙ p.made))) in
     record {
@@ -121,7 +121,7 @@ served_all form list names m n s0 s1 s2 o0 o1 e0 e1 p a =
     }
 
 -- some of the changes
-pub first_changes : (form : Form) (list : List Change) (names : List NameParts) (s0 s1 : SessionView) (o e0 e1 : Option (List ℕ)) → ServedPart (map seen list) told s0 s1 e0 e1 → ServedFirst form (map seen list) names s0 s1 o o e0 e1
+pub first_changes : (form : Form) (list : List Change) (names : List NameParts) (s0 s1 : SessionView) (o e0 e1 : Option (List ℕ)) → ServedPart (map seen list) error_lines s0 s1 e0 e1 → ServedFirst form (map seen list) names s0 s1 o o e0 e1
 first_changes form list names s0 s1 o e0 e1 h =
     let cut : map call_of h.served.events ++ h.ahead ≡ map seen list = ap (λ (cs : List Call). cs ++ h.ahead) h.served.made ∙ h.cut in
     record {
@@ -136,12 +136,12 @@ first_changes form list names s0 s1 o e0 e1 h =
     }
 
 -- all changes and some of the asks
-pub first_asks : (form : Form) (list : List Change) (names : List NameParts) (m : ℕ) (s0 s1 s2 : SessionView) (o0 o1 e0 e1 : Option (List ℕ)) → Served (map seen list) told m s0 s1 e0 e1 → ServedPart (map calls_made.Ask names) (shown form) s1 s2 o0 o1 → ServedFirst form (map seen list) names s0 s2 o0 o1 e0 e1
+pub first_asks : (form : Form) (list : List Change) (names : List NameParts) (m : ℕ) (s0 s1 s2 : SessionView) (o0 o1 e0 e1 : Option (List ℕ)) → Served (map seen list) error_lines m s0 s1 e0 e1 → ServedPart (map calls_made.Ask names) (shown form) s1 s2 o0 o1 → ServedFirst form (map seen list) names s0 s2 o0 o1 e0 e1
 first_asks form list names m s0 s1 s2 o0 o1 e0 e1 p h =
     let asks : List Event = h.served.events in
     let cut : map call_of asks ++ h.ahead ≡ map calls_made.Ask names = ap (λ (cs : List Call). cs ++ h.ahead) h.served.made ∙ h.cut in
-    let silent : flat_map told p.events ≡ flat_map told (p.events ++ asks) =
-    sym (flat_map-append told p.events asks ∙ ap (λ (t : List ℕ). flat_map told p.events ++ t) (told_asks names asks h.ahead cut) ∙ append-nil _) in
+    let silent : flat_map error_lines p.events ≡ flat_map error_lines (p.events ++ asks) =
+    sym (flat_map-append error_lines p.events asks ∙ ap (λ (t : List ℕ). flat_map error_lines p.events ++ t) (told_asks names asks h.ahead cut) ∙ append-nil _) in
     let hidden : flat_map (shown form) asks ≡ flat_map (shown form) (p.events ++ asks) =
     sym (flat_map-append (shown form) p.events asks ∙ ap (λ (t : List ℕ). t ++ flat_map (shown form) asks) (shown_changes form list p.events [] (append-nil _ ∙ p.made))) in
     record {

@@ -13,7 +13,7 @@ ghost use Rattle.cli_file.specs.Stops.{is_of_calls, is_refused};
 ghost use Rattle.cli_file.specs.Ends.{OfFile};
 ghost use Rattle.cli_file.specs.Still.{IsStill};
 ghost use Rattle.cli_check.specs.Ends.{Checked, IsEnd, IsEndOf, Leaves};
-ghost use Rattle.cli_check.specs.Run.{refused_line, answer_lines, told, AreLegal, AreReplied};
+ghost use Rattle.cli_check.specs.Run.{refused_line, answer_lines, error_lines, AreLegal, AreReplied};
 ghost use Rattle.cli_check.specs.Served.{Serves, Served, ServedPart, ServedAll, ServedFirst, ServedThen, Adds, Owes, OwesLast, Runs, Begins, Prints};
 ghost use Rattle.cli_check.specs.Asks.{AsksAll, AsksOne, AsksSome, RefusesOne};
 ghost use Rattle.cli_line.specs.Lines.{is_check};
@@ -150,7 +150,7 @@ fn make_change<R: Wait, N: Ending, E: Write>(
     ensures still { IsStill session.old session.new }
     ensures refused { RefusesOne result session.old session.new (E.contents err.old) (E.contents err.new) }
     ensures untold { IsErrOf result Stop.CannotTell → Owes (seen change) session.old session.new }
-    ensures served { IfOk result (λ status. Serves (seen change) told status session.old session.new (E.contents err.old) (E.contents err.new)) }
+    ensures served { IfOk result (λ status. Serves (seen change) error_lines status session.old session.new (E.contents err.old) (E.contents err.new)) }
     ensures range { IfOk result (λ status. status ≤ 2) }
     ensures stop { IfErr result (λ stop. (stop ≡ Stop.CannotTell) ⊎ (stop ≡ Stop.NoMemory) ⊎ (stop ≡ Stop.HistoryFull)) }
 {
@@ -207,10 +207,10 @@ fn make_changes<R: Wait, N: Ending, E: Write>(
     err: &mut E,
 ) -> Result<u8, Stop>
     ensures served { IfOk result (λ status.
-        Served (map seen changes.items) told status session.old session.new (E.contents err.old) (E.contents err.new)) }
+        Served (map seen changes.items) error_lines status session.old session.new (E.contents err.old) (E.contents err.new)) }
     ensures still { IsStill session.old session.new }
     ensures refused { IfErr result (λ stop. is_refused stop ≡ true →
-        ServedPart (map seen changes.items) told session.old session.new (E.contents err.old) (E.contents err.new)) }
+        ServedPart (map seen changes.items) error_lines session.old session.new (E.contents err.old) (E.contents err.new)) }
     ensures untold { IsErrOf result Stop.CannotTell → OwesLast (λ events. Adds events session.old session.new) (map seen changes.items) }
     ensures range { IfOk result (λ status. status ≤ 2) }
     ensures stop { IfErr result (λ stop. (stop ≡ Stop.CannotTell) ⊎ (stop ≡ Stop.NoMemory) ⊎ (stop ≡ Stop.HistoryFull)) }
@@ -338,7 +338,7 @@ fn make_all<R: AllocGlobal + Threads + Wait + Sync, N: Ending, O: Write + Drop, 
         (writer_contents O.contents out.old) (writer_contents O.contents out.new) (E.contents err.old) (E.contents err.new)) }
     ensures untold { IsErrOf result Stop.CannotTell → OwesLast (λ events. Adds events session.old session.new) (map seen changes.items) }
     ensures silent { IsErrOf result Stop.CannotTell → Keeps (writer_contents O.contents out.old) (writer_contents O.contents out.new) }
-    ensures unwritten { IsErrOf result Stop.CannotWrite → ServedThen (map seen changes.items) told session.old (E.contents err.old) (E.contents err.new) }
+    ensures unwritten { IsErrOf result Stop.CannotWrite → ServedThen (map seen changes.items) error_lines session.old (E.contents err.old) (E.contents err.new) }
     ensures range { IfOk result (λ status. status ≤ 2) }
     ensures stop { IfErr result (λ stop. (stop ≡ Stop.CannotTell) ⊎ (stop ≡ Stop.CannotWrite) ⊎ (stop ≡ Stop.NoMemory) ⊎ (stop ≡ Stop.HistoryFull)) }
     ensures handed_on { writer_buffer out.old ≡ [] → (result ≡ Err Stop.CannotWrite) ⊎ (writer_buffer out.new ≡ []) }
@@ -371,7 +371,7 @@ fn call_and_close<R: AllocGlobal + Threads + Wait + Sync, O: Write + Drop, E: Wr
         (writer_contents O.contents out.old) (writer_contents O.contents out.new) (E.contents err.old) (E.contents err.new)) }
     ensures untold { IsErrOf result Stop.CannotTell → OwesLast AreLegal (map seen changes.items) }
     ensures silent { IsErrOf result Stop.CannotTell → Keeps (writer_contents O.contents out.old) (writer_contents O.contents out.new) }
-    ensures unwritten { IsErrOf result Stop.CannotWrite → Prints (map seen changes.items) told (E.contents err.old) (E.contents err.new) }
+    ensures unwritten { IsErrOf result Stop.CannotWrite → Prints (map seen changes.items) error_lines (E.contents err.old) (E.contents err.new) }
     ensures audited { IsErrOf result Stop.Audit →
         Begins AreReplied asking.now.form.now (map seen changes.items) asking.now.names.now.keys
         (writer_contents O.contents out.old) (writer_contents O.contents out.new) (E.contents err.old) (E.contents err.new) ⊎

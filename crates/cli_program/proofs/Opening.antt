@@ -23,7 +23,7 @@ pub print_opened : {E : Type 0} (line : PrintParts) (known given o o' e e' : Opt
 print_opened line (Some bytes) given o o' e e' r same ended = subst (λ (known : Option (List ℕ)). IfOk r (λ status. IsEnd line known status o o' e e')) same ended
 print_opened line None given o o' e e' (Ok status) same (inl done) = inl (done.0, tt, done.2)
 print_opened line None given o o' e e' (Ok status) same (inr stopped) =
-    inr (record { stop = stopped.stop; told = stopped.told; left = (unknown line stopped.stop given o o' stopped.left.0, stopped.left.1); said = stopped.said; status = stopped.status })
+    inr (record { stop = stopped.stop; before = stopped.before; left = (unknown line stopped.stop given o o' stopped.left.0, stopped.left.1); said = stopped.said; status = stopped.status })
 print_opened line None given o o' e e' (Err fault) same ended = tt
 
 -- if the bytes of an input are known, it has them

@@ -19,7 +19,7 @@ use Rattle.cli_program.specs.Ends.{IsEndOfLine, IsEndOfWords}
 
 -- the line of a stop
 stop_kept : (Left : Stop → Option (List ℕ) → Type 0) (name : List ℕ) (exit : ℕ) (e e' : Option (List ℕ)) → StopsWith Left name exit e → Keeps e e' → StopsWith Left name exit e'
-stop_kept Left name exit e e' s k = record { stop = s.stop; told = s.told; left = s.left; said = Appends-kept _ _ _ _ s.said k; status = s.status }
+stop_kept Left name exit e e' s k = record { stop = s.stop; before = s.before; left = s.left; said = Appends-kept _ _ _ _ s.said k; status = s.status }
 
 checked_kept : (line : CheckParts) (file : List ℕ) (exit : ℕ) (o o' b e e' : Option (List ℕ)) → Checked line file exit o o' b e → Keeps e e' → Checked line file exit o o' b e'
 checked_kept line file exit o o' b e e' c k =

@@ -15,21 +15,21 @@ use Rattle.cli_requests.specs.declared.request.Wanted.{Wanted}
 use Rattle.cli_requests.specs.Asking.{AsksFor}
 use Rattle.cli_requests.specs.Destinations.{IsDestination, IsFromLine, IsParsed, parsed_data}
 use Rattle.cli_requests.specs.Faults.{IsWrong}
-use Rattle.cli_requests.specs.Ids.{told, id_of}
+use Rattle.cli_requests.specs.Ids.{id_data, id_of}
 use Rattle.cli_requests.specs.Lines.{value_of}
 use Rattle.cli_requests.specs.Requests.{IsReading, IsRequest}
 use Rattle.cli_requests.specs.Sessions.{session_at, session_read}
 use Rattle.cli_requests.proofs.Values.{too_long}
 
 -- a line that is read as no value goes nowhere
-pub unread_nowhere : (sessions : ℕ) (line : List ℕ) (id : Id) (fault : RequestFault) → value_of line ≡ Err fault → told id ≡ null → IsDestination sessions line (Nowhere id fault)
+pub unread_nowhere : (sessions : ℕ) (line : List ℕ) (id : Id) (fault : RequestFault) → value_of line ≡ Err fault → id_data id ≡ null → IsDestination sessions line (Nowhere id fault)
 unread_nowhere sessions line id fault is none = (
   ap (session_read sessions) is,
   subst (λ (read : Result Data RequestFault). IsReading sessions read (Bad id None fault)) (sym is) (none, refl),
 )
 
 -- a line that names no session goes nowhere
-pub bad_nowhere : (sessions : ℕ) (line : List ℕ) (id : Id) (value : Data) → value_of line ≡ Ok value → None ≡ session_at sessions value → told id ≡ id_of value → IsDestination sessions line (Nowhere id BadSession)
+pub bad_nowhere : (sessions : ℕ) (line : List ℕ) (id : Id) (value : Data) → value_of line ≡ Ok value → None ≡ session_at sessions value → id_data id ≡ id_of value → IsDestination sessions line (Nowhere id BadSession)
 bad_nowhere sessions line id value is named same = (
   ap (session_read sessions) is ∙ sym named,
   subst (λ (read : Result Data RequestFault). IsReading sessions read (Bad id None BadSession)) (sym is) (same, (sym named, refl)),
@@ -44,7 +44,7 @@ pub goes_from : (sessions : ℕ) (line : List ℕ) (parsed : ParsedLine) → par
 goes_from sessions line parsed low is named sized = (low, (line, goes_to sessions line parsed is named sized))
 
 -- a line that is too long goes nowhere
-pub long_nowhere : (sessions : ℕ) (id : Id) (bytes : List ℕ) (line : InputLine) → told id ≡ null → line ≡ lines.TooLong → IsLine MOST_REQUEST_BYTES bytes line → IsDestination sessions bytes (Nowhere id TooLong)
+pub long_nowhere : (sessions : ℕ) (id : Id) (bytes : List ℕ) (line : InputLine) → id_data id ≡ null → line ≡ lines.TooLong → IsLine MOST_REQUEST_BYTES bytes line → IsDestination sessions bytes (Nowhere id TooLong)
 long_nowhere sessions id bytes line none is long = unread_nowhere sessions bytes id TooLong (too_long bytes (subst (IsLine MOST_REQUEST_BYTES bytes) is long)) none
 
 -- a line names the session of its value
@@ -52,9 +52,9 @@ named_of : (sessions : ℕ) (bytes : List ℕ) (parsed : ParsedLine) → IsParse
 named_of sessions bytes parsed is = sym (ap (session_read sessions) is.read) ∙ is.named
 
 -- a line is a request for what its value asks for
-pub good_request : (sessions : ℕ) (bytes : List ℕ) (parsed : ParsedLine) (id : Id) (wanted : Wanted) → IsParsed sessions bytes parsed → told id ≡ id_of (parsed_data parsed) → AsksFor (parsed_data parsed) wanted → IsRequest sessions bytes (Good id parsed.session wanted)
+pub good_request : (sessions : ℕ) (bytes : List ℕ) (parsed : ParsedLine) (id : Id) (wanted : Wanted) → IsParsed sessions bytes parsed → id_data id ≡ id_of (parsed_data parsed) → AsksFor (parsed_data parsed) wanted → IsRequest sessions bytes (Good id parsed.session wanted)
 good_request sessions bytes parsed id wanted is same asks = subst (λ (read : Result Data RequestFault). IsReading sessions read (Good id parsed.session wanted)) (sym is.read) (same, (named_of sessions bytes parsed is, asks))
 
 -- a line is a request with what is wrong with its value
-pub wrong_request : (sessions : ℕ) (bytes : List ℕ) (parsed : ParsedLine) (id : Id) (fault : RequestFault) → IsParsed sessions bytes parsed → told id ≡ id_of (parsed_data parsed) → IsWrong (parsed_data parsed) fault → IsRequest sessions bytes (Bad id (Some parsed.session) fault)
+pub wrong_request : (sessions : ℕ) (bytes : List ℕ) (parsed : ParsedLine) (id : Id) (fault : RequestFault) → IsParsed sessions bytes parsed → id_data id ≡ id_of (parsed_data parsed) → IsWrong (parsed_data parsed) fault → IsRequest sessions bytes (Bad id (Some parsed.session) fault)
 wrong_request sessions bytes parsed id fault is same wrong = subst (λ (read : Result Data RequestFault). IsReading sessions read (Bad id (Some parsed.session) fault)) (sym is.read) (same, (named_of sessions bytes parsed is, wrong))

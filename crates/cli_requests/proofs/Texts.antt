@@ -28,6 +28,6 @@ wrong_as value fault bad (inr (it, is)) = subst (IsWrong value) (sym is) (subst 
 
 -- a request for a put is wrong if it is right up to its text, which cannot be read
 pub bad_body : (value : Data) (name : NameParts) (text : List ℕ) (stop : Stop) → Calls value Put → HasName value name → HasText value text → Stops (IsTextFault Put text) stop → Stops (IsWrong value) stop
-bad_body value name text (Fault fault) calls named has told =
-    wrong_as value fault (record { verb = Put; right = (calls, (name, named)); text = text; has = has; told = told }) (told_as text told.0 fault told.2)
-bad_body value name text NoMemory calls named has told = tt
+bad_body value name text (Fault fault) calls named has unread =
+    wrong_as value fault (record { verb = Put; right = (calls, (name, named)); text = text; has = has; unread = unread }) (told_as text unread.0 fault unread.2)
+bad_body value name text NoMemory calls named has unread = tt

@@ -66,7 +66,7 @@ pub record HasBadText (value : Data) (fault : RequestFault) : Type 0 where
   pub right : IsRightUpToText value verb
   pub text : List ℕ
   pub has : HasText value text
-  pub told : IsTextFault verb text fault
+  pub unread : IsTextFault verb text fault
 
 -- this is the first thing that is wrong with a request whose session is right
 abbrev pub IsWrong : Data → RequestFault → Type 0

@@ -5,7 +5,7 @@ use Rattle.cli_requests.specs.declared.fault.RequestFault.{RequestFault}
 use Rattle.cli_requests.specs.declared.fault.RequestFault.TheVariants.{BadSession}
 use Rattle.cli_requests.specs.declared.request.Request.{Request}
 use Rattle.cli_requests.specs.declared.request.Request.TheVariants.{Good, Bad}
-use Rattle.cli_requests.specs.Ids.{told, id_of}
+use Rattle.cli_requests.specs.Ids.{id_data, id_of}
 use Rattle.cli_requests.specs.Lines.{value_of}
 use Rattle.cli_requests.specs.Sessions.{session_at}
 use Rattle.cli_requests.specs.Asking.{AsksFor}
@@ -13,15 +13,15 @@ use Rattle.cli_requests.specs.Faults.{IsWrong}
 
 -- this is the request of a value
 abbrev pub IsRequestOf : ℕ → Data → Request → Type 0
-IsRequestOf sessions value (Good id session wanted) = (told id ≡ id_of value) × (session_at sessions value ≡ Some session) × AsksFor value wanted
-IsRequestOf sessions value (Bad id (Some session) fault) = (told id ≡ id_of value) × (session_at sessions value ≡ Some session) × IsWrong value fault
-IsRequestOf sessions value (Bad id None fault) = (told id ≡ id_of value) × (session_at sessions value ≡ None) × (fault ≡ BadSession)
+IsRequestOf sessions value (Good id session wanted) = (id_data id ≡ id_of value) × (session_at sessions value ≡ Some session) × AsksFor value wanted
+IsRequestOf sessions value (Bad id (Some session) fault) = (id_data id ≡ id_of value) × (session_at sessions value ≡ Some session) × IsWrong value fault
+IsRequestOf sessions value (Bad id None fault) = (id_data id ≡ id_of value) × (session_at sessions value ≡ None) × (fault ≡ BadSession)
 
 -- the request of a line without a value, for this cause
 abbrev pub IsUnread : RequestFault → Request → Type 0
 IsUnread cause (Good id session wanted) = ⊥
 IsUnread cause (Bad id (Some session) fault) = ⊥
-IsUnread cause (Bad id None fault) = (told id ≡ null) × (fault ≡ cause)
+IsUnread cause (Bad id None fault) = (id_data id ≡ null) × (fault ≡ cause)
 
 -- this is the request of what was read
 abbrev pub IsReading : ℕ → Result Data RequestFault → Request → Type 0

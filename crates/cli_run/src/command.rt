@@ -55,7 +55,7 @@ fn show<O: Write + Drop>(
 /// Writes a line for each session that stopped early.
 fn tell<E: Write>(ends: &[End], err: &mut E) -> Result<(), Stop>
     requires { length ends.now ≤ 16 }
-    ensures told { OnOk result (Appends (E.contents err.old) (E.contents err.new) (stopped_lines 0 ends.now)) }
+    ensures written { OnOk result (Appends (E.contents err.old) (E.contents err.new) (stopped_lines 0 ends.now)) }
     ensures owed { OnErr result (greatest_end ends.now ≡ 3) }
     ensures stop { IfErr result (λ stop. stop ≡ Stop.CannotTell) }
 {

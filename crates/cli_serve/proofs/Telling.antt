@@ -20,7 +20,7 @@ told_more : (sessions : ℕ) (lines : List (List ℕ)) (x y : List ℕ) (sent : 
 told_more sessions lines x y sent texts texts' h r = record {
   front = h.front ++ r.line ∷ [];
   cut = h.cut ∙ ap (λ (ls : List (List ℕ)). h.front ++ ls) r.cut ∙ sym (append_assoc h.front (r.line ∷ []) (lines_of y));
-  told = subst (AreTold sessions (h.front ++ r.line ∷ [])) (sym r.told) (told_one sessions h.front texts r.line (option_map (λ (parsed : ParsedLine). parsed.session) sent) r.texts h.told r.goes);
+  told = subst (AreTold sessions (h.front ++ r.line ∷ [])) (sym r.taken) (told_one sessions h.front texts r.line (option_map (λ (parsed : ParsedLine). parsed.session) sent) r.texts h.told r.goes);
 }
 
 -- the result has a line that was routed

@@ -143,8 +143,8 @@ fn join_all<L: Talk + Drop, J: Sheet, N: Ending, R: Threads>(
         let Some(joined) = join(rt, count, worker, done.len(), routed) else {
             return Err(ServeStop::LostLine);
         };
-        let (session, pen, told) = joined;
-        ended = both(ended, told);
+        let (session, pen, answered) = joined;
+        ended = both(ended, answered);
         if done.push(session).is_err() || pens.push(pen).is_err() {
             return Err(ServeStop::NoMemory);
         }

@@ -166,8 +166,8 @@ pub(crate) fn join<L: Talk + Drop, J: Sheet, N: Ending, R: Threads>(
     if own >= sessions || usize::from(own) != number || pen.number() != own {
         return None;
     }
-    let told = find_whole::<L, J, N>(sessions, own, &session, &pen, ended, routed);
-    Some((session, pen, told))
+    let answered = find_whole::<L, J, N>(sessions, own, &session, &pen, ended, routed);
+    Some((session, pen, answered))
 }
 
 /// Waits for a worker, whatever it did.

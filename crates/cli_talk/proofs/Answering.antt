@@ -69,11 +69,11 @@ first_none sessions session None = tt
 first_none sessions session (Some lines) = (lines_for sessions session lines, refl)
 
 pub begins : (sessions session : ℕ) (known : Option (List (List ℕ))) (own : SessionView) (given : Option (List (List ℕ))) → HasAnswered sessions session 0 false known own own given given
-begins sessions session known own given = record { lines = []; sized = refl; first = first_none sessions session known; texts = []; turns = (refl, refl); told = takes_none given }
+begins sessions session known own given = record { lines = []; sized = refl; first = first_none sessions session known; texts = []; turns = (refl, refl); taken = takes_none given }
 
 pub goes_on : (sessions session n : ℕ) (lossy now both : Bool) (known : Option (List (List ℕ))) (old mid new : SessionView) (given given' given'' : Option (List (List ℕ))) (line : List ℕ) → HasAnswered sessions session n lossy known old mid given given' → IsLineOf sessions session n line known
     → (text : List ℕ) × IsTurn sessions session now line mid new text × Takes given' given'' text → both ≡ (lossy || now) → HasAnswered sessions session (n + 1) both known old new given given''
-goes_on sessions session n lossy now both known old mid new given given' given'' line h is (text, turn, told) sum =
+goes_on sessions session n lossy now both known old mid new given given' given'' line h is (text, turn, taken) sum =
     let before : lossy ≡ true → both ≡ true = λ true_before. sum ∙ or_before lossy now true_before in
     let here : now ≡ true → both ≡ true = λ true_now. sum ∙ or_now lossy now true_now in
     record {
@@ -82,7 +82,7 @@ goes_on sessions session n lossy now both known old mid new given given' given''
       first = first_more sessions session n known h.lines line h.first h.sized is;
       texts = h.texts ++ text ∷ [];
       turns = turns_more sessions session both h.lines line old mid new h.texts text (turns_may sessions session lossy both h.lines old mid h.texts before h.turns) (turn_may sessions session now both line mid new text here turn);
-      told = takes_more given given' given'' h.texts (text ∷ []) h.told (takes_one given' given'' text told);
+      taken = takes_more given given' given'' h.texts (text ∷ []) h.taken (takes_one given' given'' text taken);
     }
 
 -- no more lines were answered

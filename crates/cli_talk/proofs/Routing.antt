@@ -26,15 +26,15 @@ routes_end line_of sessions (Some x) (Some y) given read = (read.0, read.1, take
 pub routes_told : {M : Type 0} (line_of : M → ParsedLine) (sessions : ℕ) (known left : Option (List ℕ)) (line : InputLine) (id : Id) (fault : RequestFault) (given given' : Option (List (List ℕ))) → ReadsNext MOST_REQUEST_BYTES known left (Some line)
     → ((bytes : List ℕ) → IsLine MOST_REQUEST_BYTES bytes line → (session_in sessions bytes ≡ None) × IsRequest sessions bytes (Bad id None fault)) → (text : List ℕ) × IsWholeLine (wrong_answer id fault) text × Takes given given' text
     → RoutesNext line_of sessions known left Told given given'
-routes_told line_of sessions None left line id fault given given' read is told = tt
-routes_told line_of sessions (Some x) None line id fault given given' read is told = absurd read
-routes_told line_of sessions (Some x) (Some y) line id fault given given' read is (text, written, told) = record {
+routes_told line_of sessions None left line id fault given given' read is taken = tt
+routes_told line_of sessions (Some x) None line id fault given given' read is taken = absurd read
+routes_told line_of sessions (Some x) (Some y) line id fault given given' read is (text, written, taken) = record {
   line = read.0;
   cut = read.1;
   texts = text ∷ [];
   goes = ((is read.0 read.2).0, (text, refl, record { id = id; fault = fault; is = (is read.0 read.2).1; written = written }));
   parsed = tt;
-  told = takes_one given given' text told;
+  taken = takes_one given given' text taken;
 }
 
 -- the line is sent to its session
@@ -42,4 +42,4 @@ pub routes_sent : {M : Type 0} (line_of : M → ParsedLine) (sessions : ℕ) (kn
     → ((bytes : List ℕ) → IsLine MOST_REQUEST_BYTES bytes line → IsParsed sessions bytes (line_of message)) → RoutesNext line_of sessions known left (Sent message) given given
 routes_sent line_of sessions None left line message given read is = tt
 routes_sent line_of sessions (Some x) None line message given read is = absurd read
-routes_sent line_of sessions (Some x) (Some y) line message given read is = record { line = read.0; cut = read.1; texts = []; goes = ((is read.0 read.2).named, refl); parsed = is read.0 read.2; told = takes_none given }
+routes_sent line_of sessions (Some x) (Some y) line message given read is = record { line = read.0; cut = read.1; texts = []; goes = ((is read.0 read.2).named, refl); parsed = is read.0 read.2; taken = takes_none given }

@@ -22,7 +22,7 @@ pub record RoutesFirst (sessions : ℕ) (lines left : List (List ℕ)) (sent : O
   pub texts : List (List ℕ)
   pub goes : GoesTo sessions line (option_map (λ (parsed : ParsedLine). parsed.session) sent) texts
   pub parsed : IfSome sent (IsParsed sessions line)
-  pub told : TakesAll given given' texts
+  pub taken : TakesAll given given' texts
 
 -- some lines are at their end, and no text was given
 abbrev pub RoutesNone : List (List ℕ) → List (List ℕ) → Option (List (List ℕ)) → Option (List (List ℕ)) → Type 0

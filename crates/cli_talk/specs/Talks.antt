@@ -30,7 +30,7 @@ pub record HasAnswered (sessions session number : ℕ) (lossy : Bool) (known : O
   pub first : AreFirst sessions session known lines
   pub texts : List (List ℕ)
   pub turns : Turns sessions session lossy lines old new texts
-  pub told : TakesAll given given' texts
+  pub taken : TakesAll given given' texts
 
 -- the first lines of a session were answered in order, though some answers may be lost, and perhaps one more line, for which no text was
 -- given

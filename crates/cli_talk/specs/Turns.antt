@@ -12,7 +12,7 @@ use Rattle.cli_requests.specs.declared.request.Request.{Request}
 use Rattle.cli_requests.specs.declared.request.Request.TheVariants.{Good, Bad}
 use Rattle.cli_requests.specs.declared.request.Wanted.{Wanted}
 use Rattle.cli_requests.specs.declared.request.Wanted.TheVariants.{Call, Glance}
-use Rattle.cli_requests.specs.Ids.{told}
+use Rattle.cli_requests.specs.Ids.{id_data}
 use Rattle.cli_requests.specs.Requests.{IsRequest}
 use Rattle.cli_answers.specs.declared.answer.Answer.{Answer}
 use Rattle.cli_answers.specs.declared.answer.Answer.TheVariants.{Entered, Glanced, Refused, Wrong}
@@ -38,12 +38,12 @@ IsAnswerTo (Glance name) (Wrong fault) old new = ⊥
 -- a request was answered: its id and its session are repeated, and what it asks for was done, or what is wrong with it is reported and
 -- nothing else happened
 abbrev pub IsReplyTo : Request → Answered → SessionView → SessionView → Type 0
-IsReplyTo (Good id session wanted) answered old new = (told answered.id ≡ told id) × (answered.session ≡ Some session) × IsAnswerTo wanted answered.answer old new
-IsReplyTo (Bad id session fault) answered old new = (told answered.id ≡ told id) × (answered.session ≡ session) × (answered.answer ≡ Wrong fault) × (new ≡ old)
+IsReplyTo (Good id session wanted) answered old new = (id_data answered.id ≡ id_data id) × (answered.session ≡ Some session) × IsAnswerTo wanted answered.answer old new
+IsReplyTo (Bad id session fault) answered old new = (id_data answered.id ≡ id_data id) × (answered.session ≡ session) × (answered.answer ≡ Wrong fault) × (new ≡ old)
 
 -- the line of an answer, with its line feed
 abbrev pub IsWholeLine : Answered → List ℕ → Type 0
-IsWholeLine answered text = (line : List ℕ) × IsAnswerLine (told answered.id) answered.session answered.answer line × (text ≡ line ++ 10 ∷ [])
+IsWholeLine answered text = (line : List ℕ) × IsAnswerLine (id_data answered.id) answered.session answered.answer line × (text ≡ line ++ 10 ∷ [])
 
 -- a line was read as a request, which was answered like this
 pub record IsLineAnswered (sessions : ℕ) (line : List ℕ) (answered : Answered) (old new : SessionView) : Type 0 where

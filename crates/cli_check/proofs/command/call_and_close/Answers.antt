@@ -9,7 +9,7 @@ use Rattle.bc_calls.specs.declared.call.Event.{Event}
 use Rattle.cli_file.specs.Changes.{seen}
 use Rattle.cli_file.proofs.Stopping.{is_stop}
 use Rattle.cli_file.proofs.Closing.{only_audited}
-use Rattle.cli_check.specs.Run.{told, AreLegal}
+use Rattle.cli_check.specs.Run.{error_lines, AreLegal}
 use Rattle.cli_check.specs.Served.{Adds}
 use Rattle.cli_check.proofs.Serving.{always_refused, refused_map}
 use Rattle.cli_check.proofs.Shorter.{the_last}
@@ -41,7 +41,7 @@ returns-in_err-closed-clause-audited g c e =
 pub returns-then-is_unwritten-clause-unwritten : goal.returns-then-is_unwritten-clause-unwritten
 returns-then-is_unwritten-clause-unwritten g c e =
     let new = (the_last _ _ _ (sym c.in_ok-db.ensures.opened.1 ∙ c.in-Some.ensures.items)).1 in
-    prints_of (map seen c.args.changes.items) told c.in-Some.session _ _ new (c.make_all-made.ensures.unwritten e)
+    prints_of (map seen c.args.changes.items) error_lines c.in-Some.session _ _ new (c.make_all-made.ensures.unwritten e)
 
 pub returns-clause-done : goal.returns-clause-done
 returns-clause-done g c =
