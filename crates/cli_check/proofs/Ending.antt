@@ -17,8 +17,8 @@ use Rattle.bc_share.specs.Closings.{IsOneHistory}
 use Rattle.bc_share.specs.declared.db.TheConstants.{MOST_ENTRIES}
 use Rattle.cli_file.specs.declared.stop.Stop.{Stop}
 use Rattle.cli_file.specs.declared.stop.Stop.TheVariants.{CannotWrite, CannotTell, NoMemory, HistoryFull}
-use Rattle.cli_file.specs.declared.file.Change.{Change}
-use Rattle.cli_file.specs.declared.file.Change.TheVariants as changes
+use Rattle.cli_file.specs.declared.file.FileChange.{FileChange}
+use Rattle.cli_file.specs.declared.file.FileChange.TheVariants as changes
 use Rattle.cli_file.specs.Changes.{seen}
 use Rattle.cli_file.specs.Stops.{is_refused}
 use Rattle.cli_file.specs.Statuses.{greatest}
@@ -47,7 +47,7 @@ told_asks (name ∷ names) (e ∷ events) ahead h =
     ap (λ (text : List ℕ). text ++ flat_map error_lines events) (told_ask e name one) ∙ told_asks names events ahead rest
 
 -- a change prints nothing on standard output
-shown_change : (form : Form) (e : Event) (change : Change) → call_of e ≡ seen change → shown form e ≡ []
+shown_change : (form : Form) (e : Event) (change : FileChange) → call_of e ≡ seen change → shown form e ≡ []
 shown_change form (Types types) change is = refl
 shown_change form (Put name body reply) change is = refl
 shown_change form (Remove name reply) change is = refl
@@ -55,7 +55,7 @@ shown_change form (Ask name outcome) (changes.Types types) is = absurd cc
 shown_change form (Ask name outcome) (changes.Put other unit) is = absurd cc
 shown_change form (EveryRoot rows) change is = refl
 
-shown_changes : (form : Form) (list : List Change) (events : List Event) (ahead : List Call) → map call_of events ++ ahead ≡ map seen list → flat_map (shown form) events ≡ []
+shown_changes : (form : Form) (list : List FileChange) (events : List Event) (ahead : List Call) → map call_of events ++ ahead ≡ map seen list → flat_map (shown form) events ≡ []
 shown_changes form list [] ahead h = refl
 shown_changes form [] (e ∷ events) ahead h = absurd cc
 shown_changes form (change ∷ list) (e ∷ events) ahead h =
@@ -105,7 +105,7 @@ replied_of events s t is adds =
     }
 
 -- all changes and all asks
-pub served_all : (form : Form) (list : List Change) (names : List NameParts) (m n : ℕ) (s0 s1 s2 : SessionView) (o0 o1 e0 e1 : Option (List ℕ)) → Served (map seen list) error_lines m s0 s1 e0 e1 → Served (map calls_made.Ask names) (shown form) n s1 s2 o0 o1 → ServedAll form (map seen list) names (max m n) s0 s2 o0 o1 e0 e1
+pub served_all : (form : Form) (list : List FileChange) (names : List NameParts) (m n : ℕ) (s0 s1 s2 : SessionView) (o0 o1 e0 e1 : Option (List ℕ)) → Served (map seen list) error_lines m s0 s1 e0 e1 → Served (map calls_made.Ask names) (shown form) n s1 s2 o0 o1 → ServedAll form (map seen list) names (max m n) s0 s2 o0 o1 e0 e1
 served_all form list names m n s0 s1 s2 o0 o1 e0 e1 p a =
     let silent : flat_map error_lines p.events ≡ flat_map error_lines (p.events ++ a.events) =
     sym (flat_map-append error_lines p.events a.events ∙ ap (λ (t : List ℕ). flat_map error_lines p.events ++ t) (told_asks names a.events [] (append-nil _ ∙ a.made)) ∙ append-nil _) in
@@ -121,7 +121,7 @@ served_all form list names m n s0 s1 s2 o0 o1 e0 e1 p a =
     }
 
 -- some of the changes
-pub first_changes : (form : Form) (list : List Change) (names : List NameParts) (s0 s1 : SessionView) (o e0 e1 : Option (List ℕ)) → ServedPart (map seen list) error_lines s0 s1 e0 e1 → ServedFirst form (map seen list) names s0 s1 o o e0 e1
+pub first_changes : (form : Form) (list : List FileChange) (names : List NameParts) (s0 s1 : SessionView) (o e0 e1 : Option (List ℕ)) → ServedPart (map seen list) error_lines s0 s1 e0 e1 → ServedFirst form (map seen list) names s0 s1 o o e0 e1
 first_changes form list names s0 s1 o e0 e1 h =
     let cut : map call_of h.served.events ++ h.ahead ≡ map seen list = ap (λ (cs : List Call). cs ++ h.ahead) h.served.made ∙ h.cut in
     record {
@@ -136,7 +136,7 @@ first_changes form list names s0 s1 o e0 e1 h =
     }
 
 -- all changes and some of the asks
-pub first_asks : (form : Form) (list : List Change) (names : List NameParts) (m : ℕ) (s0 s1 s2 : SessionView) (o0 o1 e0 e1 : Option (List ℕ)) → Served (map seen list) error_lines m s0 s1 e0 e1 → ServedPart (map calls_made.Ask names) (shown form) s1 s2 o0 o1 → ServedFirst form (map seen list) names s0 s2 o0 o1 e0 e1
+pub first_asks : (form : Form) (list : List FileChange) (names : List NameParts) (m : ℕ) (s0 s1 s2 : SessionView) (o0 o1 e0 e1 : Option (List ℕ)) → Served (map seen list) error_lines m s0 s1 e0 e1 → ServedPart (map calls_made.Ask names) (shown form) s1 s2 o0 o1 → ServedFirst form (map seen list) names s0 s2 o0 o1 e0 e1
 first_asks form list names m s0 s1 s2 o0 o1 e0 e1 p h =
     let asks : List Event = h.served.events in
     let cut : map call_of asks ++ h.ahead ≡ map calls_made.Ask names = ap (λ (cs : List Call). cs ++ h.ahead) h.served.made ∙ h.cut in

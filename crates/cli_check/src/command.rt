@@ -30,7 +30,7 @@ use bc_share::{Db, Session};
 use bc_source::{SourcedBody, Sources, find_bodies, write_sourced_report};
 use bc_versions::{Ending, Waiting};
 use cli_file::{
-    Change, Stop, find_capacity, outcome_status, put_status, read_changes_by, read_whole, stop_with,
+    FileChange, Stop, find_capacity, outcome_status, put_status, read_changes_by, read_whole, stop_with,
 };
 use cli_line::{CheckLine, Line};
 use std::alloc::Global;
@@ -144,7 +144,7 @@ pub(crate) fn write_answer<O: Write>(
 fn make_change<R: Wait, N: Ending, E: Write>(
     rt: &R,
     session: &mut Session<N>,
-    change: Change,
+    change: FileChange,
     err: &mut E,
 ) -> Result<u8, Stop>
     ensures still { IsStill session.old session.new }
@@ -155,11 +155,11 @@ fn make_change<R: Wait, N: Ending, E: Write>(
     ensures stop { IfErr result (λ stop. (stop ≡ Stop.CannotTell) ⊎ (stop ≡ Stop.NoMemory) ⊎ (stop ≡ Stop.HistoryFull)) }
 {
     match change {
-        Change::Types(types) => {
+        FileChange::Types(types) => {
             session.put_types(rt, types.into_arc())?;
             Ok(0)
         }
-        Change::Put(name, unit) => {
+        FileChange::Put(name, unit) => {
             let reply = session.put(rt, name, unit.into_arc())?;
             if write_refusal(&name, reply, err).is_err() {
                 return Err(Stop::CannotTell);
@@ -203,7 +203,7 @@ fn make_ask<R: AllocGlobal + Wait, N: Ending, O: Write>(
 fn make_changes<R: Wait, N: Ending, E: Write>(
     rt: &R,
     session: &mut Session<N>,
-    changes: Vec<Change>,
+    changes: Vec<FileChange>,
     err: &mut E,
 ) -> Result<u8, Stop>
     ensures served { IfOk result (λ status.
@@ -325,7 +325,7 @@ fn answer_all<R: AllocGlobal + Threads + Wait + Sync, N: Ending, O: Write + Drop
 fn make_all<R: AllocGlobal + Threads + Wait + Sync, N: Ending, O: Write + Drop, E: Write>(
     rt: &R,
     session: &mut Session<N>,
-    changes: Vec<Change>,
+    changes: Vec<FileChange>,
     asking: &Asking<'_, '_>,
     out: &mut BufWriter<O>,
     err: &mut E,
@@ -355,7 +355,7 @@ fn make_all<R: AllocGlobal + Threads + Wait + Sync, N: Ending, O: Write + Drop, 
 /// A failure of `out` is reported first, then a fault of the close, then a refused call or a line that was not written.
 fn call_and_close<R: AllocGlobal + Threads + Wait + Sync, O: Write + Drop, E: Write>(
     rt: &R,
-    changes: Vec<Change>,
+    changes: Vec<FileChange>,
     asking: &Asking<'_, '_>,
     out: &mut BufWriter<O>,
     err: &mut E,

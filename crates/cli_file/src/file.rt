@@ -21,7 +21,7 @@ use std::alloc::Global;
 
 /// A change that a section makes: it stores declarations, or a body under a name.
 #[derive(Drop)]
-pub enum Change {
+pub enum FileChange {
     Types(Shared<Types>),
     Put(Name, Shared<Unit>),
 }
@@ -91,13 +91,13 @@ fn read_header(header: &[u8]) -> Option<Heading>
 }
 
 /// Returns the change of a section with this heading.
-fn read_asked(alloc: Global, section: &Section<'_>, heading: Heading) -> Result<Change, Stop>
+fn read_asked(alloc: Global, section: &Section<'_>, heading: Heading) -> Result<FileChange, Stop>
     requires { IsHeader None heading section.now.header.now }
     ensures { GivesChange (part_of section.now) result }
 {
     match heading {
-        Heading::Types => Ok(Change::Types(read_declarations(alloc, section)?)),
-        Heading::Put(name) => Ok(Change::Put(name, read_body(alloc, section)?)),
+        Heading::Types => Ok(FileChange::Types(read_declarations(alloc, section)?)),
+        Heading::Put(name) => Ok(FileChange::Put(name, read_body(alloc, section)?)),
         Heading::Remove(_) => Err(stop_at(section, FaultKind::BadHeader)),
         Heading::Ask(_) => Err(stop_at(section, FaultKind::BadHeader)),
         Heading::All => Err(stop_at(section, FaultKind::BadHeader)),
@@ -105,7 +105,7 @@ fn read_asked(alloc: Global, section: &Section<'_>, heading: Heading) -> Result<
 }
 
 /// Returns the change that a section makes.
-pub(crate) fn read_change(alloc: Global, section: &Section<'_>) -> Result<Change, Stop>
+pub(crate) fn read_change(alloc: Global, section: &Section<'_>) -> Result<FileChange, Stop>
     ensures { GivesChange (part_of section.now) result }
 {
     match read_header(section.header) {
@@ -116,7 +116,7 @@ pub(crate) fn read_change(alloc: Global, section: &Section<'_>) -> Result<Change
 
 /// Returns the changes that a file makes, in the order of its sections. Returns `File` with the first fault of the file if it has one, or
 /// `NoMemory`.
-pub fn read_changes(alloc: Global, file: &[u8]) -> Result<Vec<Change>, Stop>
+pub fn read_changes(alloc: Global, file: &[u8]) -> Result<Vec<FileChange>, Stop>
     ensures { GivesChanges (sections_of file.now) result }
 {
     let mut changes = Vec::new(alloc);
@@ -128,7 +128,7 @@ pub fn read_changes(alloc: Global, file: &[u8]) -> Result<Vec<Change>, Stop>
 
 /// Returns the changes that a file makes, in the order of its sections. Returns `File` with the first fault of the file if it has one, and
 /// with its position there if `positions` says so, or `NoMemory`.
-pub fn read_told_changes(alloc: Global, positions: bool, file: &[u8]) -> Result<Vec<Change>, Stop>
+pub fn read_told_changes(alloc: Global, positions: bool, file: &[u8]) -> Result<Vec<FileChange>, Stop>
     ensures { GivesTold positions file.now result }
 {
     match read_changes(alloc, file) {
