@@ -4,7 +4,7 @@ ghost use Rattle.cli_input.specs.Lines.{IsLine};
 ghost use Rattle.cli_requests.specs.declared.request.TheConstants.{MOST_REQUEST_BYTES};
 ghost use Rattle.cli_requests.specs.Destinations.{IsDestination, IsFromLine};
 
-use crate::fault::{RequestFault, Stop};
+use crate::fault::{RequestFault, RequestStop};
 use crate::id::Id;
 use crate::line::read_line;
 use crate::session::session_of;
@@ -63,8 +63,8 @@ fn read_destination(alloc: Global, line: &[u8], sessions: u8) -> Result<Destinat
 {
     let value = match read_line(alloc, line) {
         Ok(value) => value,
-        Err(Stop::Fault(fault)) => return Ok(Destination::Nowhere(Id::none(), fault)),
-        Err(Stop::NoMemory) => return Err(AllocError),
+        Err(RequestStop::Fault(fault)) => return Ok(Destination::Nowhere(Id::none(), fault)),
+        Err(RequestStop::NoMemory) => return Err(AllocError),
     };
     let Some(session) = session_of(&value, sessions) else {
         let id = Id::of(&value)?;

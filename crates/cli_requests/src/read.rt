@@ -8,7 +8,7 @@ ghost use Rattle.cli_requests.specs.Requests.{IsRequest};
 ghost use Rattle.cli_requests.specs.Destinations.{IsParsed};
 
 use crate::destination::ParsedLine;
-use crate::fault::{RequestFault, Stop};
+use crate::fault::{RequestFault, RequestStop};
 use crate::id::Id;
 use crate::member::{find_name, find_word};
 use crate::request::{Request, Wanted};
@@ -20,7 +20,7 @@ use serde_json::Value;
 use std::alloc::{AllocError, Global};
 
 /// Returns the name in a request for this call, which needs one.
-fn read_name(value: &Value, verb: Verb) -> Result<Name, Stop>
+fn read_name(value: &Value, verb: Verb) -> Result<Name, RequestStop>
     requires calls { Calls (data_of value.now) verb }
     requires named { takes_name verb ≡ true }
     ensures read { IfOk result (HasName (data_of value.now)) }
@@ -28,24 +28,24 @@ fn read_name(value: &Value, verb: Verb) -> Result<Name, Stop>
 {
     match find_name(value) {
         Some(name) => Ok(name),
-        None => Err(Stop::Fault(RequestFault::BadName)),
+        None => Err(RequestStop::Fault(RequestFault::BadName)),
     }
 }
 
 /// Returns the text in a request for this call, which needs one.
-fn read_text<'a>(value: &'a Value, verb: Verb) -> Result<&'a [u8], Stop>
+fn read_text<'a>(value: &'a Value, verb: Verb) -> Result<&'a [u8], RequestStop>
     requires { IsRightUpToText (data_of value.now) verb }
     ensures read { IfOk result (λ text. HasText (data_of value.now) text.now) }
     ensures unread { IfErr result (Stops (IsWrong (data_of value.now))) }
 {
     match find_word(value, "text") {
         Some(text) => Ok(text.as_bytes()),
-        None => Err(Stop::Fault(RequestFault::BadText)),
+        None => Err(RequestStop::Fault(RequestFault::BadText)),
     }
 }
 
 /// Returns what a request with the call `types` asks for.
-fn read_types_call(alloc: Global, value: &Value) -> Result<Wanted, Stop>
+fn read_types_call(alloc: Global, value: &Value) -> Result<Wanted, RequestStop>
     requires { Calls (data_of value.now) Verb.Types }
     ensures read { IfOk result (AsksFor (data_of value.now)) }
     ensures unread { IfErr result (Stops (IsWrong (data_of value.now))) }
@@ -62,7 +62,7 @@ fn read_types_call(alloc: Global, value: &Value) -> Result<Wanted, Stop>
 
 /// Returns what a request with the call `put` asks for.
 #[tactic(auto, using(crate::proofs::Texts::bad_body))]
-fn read_put(alloc: Global, value: &Value) -> Result<Wanted, Stop>
+fn read_put(alloc: Global, value: &Value) -> Result<Wanted, RequestStop>
     requires { Calls (data_of value.now) Verb.Put }
     ensures read { IfOk result (AsksFor (data_of value.now)) }
     ensures unread { IfErr result (Stops (IsWrong (data_of value.now))) }
@@ -82,7 +82,7 @@ fn read_put(alloc: Global, value: &Value) -> Result<Wanted, Stop>
 }
 
 /// Returns what a value asks for.
-fn read_wanted(alloc: Global, value: &Value) -> Result<Wanted, Stop>
+fn read_wanted(alloc: Global, value: &Value) -> Result<Wanted, RequestStop>
     ensures read { IfOk result (AsksFor (data_of value.now)) }
     ensures unread { IfErr result (Stops (IsWrong (data_of value.now))) }
 {
@@ -102,7 +102,7 @@ fn read_wanted(alloc: Global, value: &Value) -> Result<Wanted, Stop>
             Ok(name) => Ok(Wanted::Glance(name)),
             Err(stop) => Err(stop),
         },
-        None => Err(Stop::Fault(RequestFault::BadCall)),
+        None => Err(RequestStop::Fault(RequestFault::BadCall)),
     }
 }
 
@@ -115,7 +115,7 @@ pub fn read_request(alloc: Global, line: &ParsedLine) -> Result<Request, AllocEr
     let id = Id::of(&line.value)?;
     match read_wanted(alloc, &line.value) {
         Ok(wanted) => Ok(Request::Good(id, line.session, wanted)),
-        Err(Stop::Fault(fault)) => Ok(Request::Bad(id, Some(line.session), fault)),
-        Err(Stop::NoMemory) => Err(AllocError),
+        Err(RequestStop::Fault(fault)) => Ok(Request::Bad(id, Some(line.session), fault)),
+        Err(RequestStop::NoMemory) => Err(AllocError),
     }
 }
