@@ -338,7 +338,8 @@ fn make_all<R: AllocGlobal + Threads + Wait + Sync, N: Ending, O: Write + Drop, 
         (writer_contents O.contents out.old) (writer_contents O.contents out.new) (E.contents err.old) (E.contents err.new)) }
     ensures untold { IsErrOf result Stop.CannotTell → OwesLast (λ events. Adds events session.old session.new) (map seen changes.items) }
     ensures silent { IsErrOf result Stop.CannotTell → Keeps (writer_contents O.contents out.old) (writer_contents O.contents out.new) }
-    ensures unwritten { IsErrOf result Stop.CannotWrite → ServedThen (map seen changes.items) error_lines session.old (E.contents err.old) (E.contents err.new) }
+    ensures unwritten { IsErrOf result Stop.CannotWrite →
+        ServedThen (map seen changes.items) error_lines session.old (E.contents err.old) (E.contents err.new) }
     ensures range { IfOk result (λ status. status ≤ 2) }
     ensures stop { IfErr result (λ stop. (stop ≡ Stop.CannotTell) ⊎ (stop ≡ Stop.CannotWrite) ⊎ (stop ≡ Stop.NoMemory) ⊎ (stop ≡ Stop.HistoryFull)) }
     ensures handed_on { writer_buffer out.old ≡ [] → (result ≡ Err Stop.CannotWrite) ⊎ (writer_buffer out.new ≡ []) }

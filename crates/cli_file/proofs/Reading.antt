@@ -10,7 +10,7 @@ use Rattle.cli_file.specs.declared.heading.Heading.{Heading}
 use Rattle.cli_file.specs.declared.stop.Stop.{Stop}
 use Rattle.cli_file.specs.declared.stop.Stop.TheVariants.{WrongUse, CannotRead, CannotWrite, CannotTell, NoMemory, File, TooManyCalls, HistoryFull, Foreign, Audit}
 use Rattle.cli_file.specs.Parts.{Part}
-use Rattle.cli_file.specs.Sections.{Answers, GivesRead, IsUnread, IsTextFault, IsFault, IsFirstFault, stop_of}
+use Rattle.cli_file.specs.Sections.{IsResult, GivesRead, IsUnread, IsTextFault, IsFault, IsFirstFault, stop_of}
 
 -- of all sections, those that are not left give these
 pub record HasRead {Given : Type 0} (Gives : Part → Given → Type 0) (all left : List Part) (given : List Given) : Type 0 where
@@ -66,7 +66,7 @@ unread found section read_faults.NoMemory is = tt
 
 -- if the text of a section cannot be read, something is wrong with the text
 pub wrong_text : {T U : Type 0} (Good : U → Type 0) (heading : Heading) (section : Part) (found : Result T ReadFault) (stop : Stop) → ((kind : FaultKind) → IsUnread found kind → IsTextFault heading section.text kind)
-    → GivesRead found section (Err stop) → Answers Good (λ fault. (fault.line ≡ section.line) × IsTextFault heading section.text fault.kind) (Err stop)
+    → GivesRead found section (Err stop) → IsResult Good (λ fault. (fault.line ≡ section.line) × IsTextFault heading section.text fault.kind) (Err stop)
 wrong_text Good heading section found WrongUse wrong h = absurd h
 wrong_text Good heading section found CannotRead wrong h = absurd h
 wrong_text Good heading section found CannotWrite wrong h = absurd h
@@ -80,7 +80,7 @@ wrong_text Good heading section found Audit wrong h = absurd h
 
 -- if something is wrong with the text after a header line that the command takes, something is wrong with the section
 pub wrong_section : {U : Type 0} (Good : U → Type 0) (Takes : Heading → List ℕ → Type 0) (heading : Heading) (section : Part) (stop : Stop) → Takes heading section.header
-    → Answers Good (λ fault. (fault.line ≡ section.line) × IsTextFault heading section.text fault.kind) (Err stop) → Answers Good (Tells Takes section) (Err stop)
+    → IsResult Good (λ fault. (fault.line ≡ section.line) × IsTextFault heading section.text fault.kind) (Err stop) → IsResult Good (Tells Takes section) (Err stop)
 wrong_section Good Takes heading section WrongUse taken h = absurd h
 wrong_section Good Takes heading section CannotRead taken h = absurd h
 wrong_section Good Takes heading section CannotWrite taken h = absurd h

@@ -47,11 +47,11 @@ seen (changes.Put name unit) = calls.Put name unit
 -- the result is the call that the section makes, or what is wrong with the section, unless memory ran out
 abbrev pub GivesChange : Part → Result FileChange Stop → Type 0
 GivesChange section result =
-    sections.Answers (λ change. Makes section (seen change)) (λ fault. (fault.line ≡ section.line) × sections.IsFault Takes section fault.kind) result
+    sections.IsResult (λ change. Makes section (seen change)) (λ fault. (fault.line ≡ section.line) × sections.IsFault Takes section fault.kind) result
 
 -- the result is the calls that the sections make, or the first fault among them, unless memory ran out
 abbrev pub GivesChanges : List Part → Result (Vec FileChange Global) Stop → Type 0
-GivesChanges parts result = sections.Answers (λ list. MakeAll parts (map seen list.items)) (IsFirstFault parts) result
+GivesChanges parts result = sections.IsResult (λ list. MakeAll parts (map seen list.items)) (IsFirstFault parts) result
 
 -- this is the first fault of a file, with its position if asked for
 abbrev pub IsToldFault : Bool → List ℕ → FileFault → Type 0
@@ -59,4 +59,4 @@ IsToldFault positions file fault = IsFirstFault (sections_of file) fault × IsLo
 
 -- the result is the calls that a file makes, or its first fault, with its position if asked for, unless memory ran out
 abbrev pub GivesTold : Bool → List ℕ → Result (Vec FileChange Global) Stop → Type 0
-GivesTold positions file result = sections.Answers (λ list. MakeAll (sections_of file) (map seen list.items)) (IsToldFault positions file) result
+GivesTold positions file result = sections.IsResult (λ list. MakeAll (sections_of file) (map seen list.items)) (IsToldFault positions file) result

@@ -1,7 +1,7 @@
 //! The program over any inputs and outputs.
 ghost use Rattle.std.specs.Prelude.{◌≡◌, ◌≤◌, ◌<◌, [], IfOk, OnErr, map};
 ghost use Rattle.std.specs.Io.Buffered.{writer_buffer, writer_contents};
-ghost use Rattle.cli_file.specs.Words.{Answers};
+ghost use Rattle.cli_file.specs.Words.{AnswersWords};
 ghost use Rattle.cli_program.specs.Ends.{IsEndOfLine, IsEndOfWords};
 
 use crate::Inputs;
@@ -144,7 +144,7 @@ fn answer<O: Write + Drop, E: Write>(
     err: &mut E,
 ) -> io::Result<u8>
     ensures range { IfOk result (λ status. status ≤ 3) }
-    ensures answered { IfOk result (λ status. Answers fault status
+    ensures answered { IfOk result (λ status. AnswersWords fault status
         (writer_contents O.contents out.old) (writer_contents O.contents out.new) (E.contents err.old) (E.contents err.new)) }
     ensures handed_on { IfOk result (λ status. status < 3 → writer_buffer out.new ≡ []) }
 {

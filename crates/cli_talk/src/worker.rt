@@ -4,7 +4,7 @@ ghost use Rattle.cli_requests.specs.Destinations.{IsParsed};
 ghost use Rattle.cli_talk.specs.Wires.{Takes};
 ghost use Rattle.cli_talk.specs.Turns.{IsGiven, IsStill, StopsIn};
 ghost use Rattle.cli_talk.specs.Talks.{HasAnswered, HasStopped};
-ghost use Rattle.cli_talk.specs.Posts.{Answers, LosesSome};
+ghost use Rattle.cli_talk.specs.Posts.{AnswersLine, LosesSome};
 
 use crate::answer::{Answered, answer_request, whole_line};
 use crate::fault::TalkFault;
@@ -56,7 +56,7 @@ fn serve_line<R: AllocGlobal + Wait, E: Ending, P: Replies>(
     replies: &mut P,
 ) -> Result<bool, Closed>
     ensures answered { (sessions : ℕ) (bytes : List ℕ) → IsParsed sessions bytes line.now →
-        IfOk result (λ lossy. Answers sessions post.now.number lossy bytes session.old session.new (P.given replies.old) (P.given replies.new)) }
+        IfOk result (λ lossy. AnswersLine sessions post.now.number lossy bytes session.old session.new (P.given replies.old) (P.given replies.new)) }
     ensures stopped { (sessions : ℕ) (bytes : List ℕ) → IsParsed sessions bytes line.now →
         OnErr result (StopsIn sessions bytes session.old session.new) }
 {
