@@ -7,7 +7,7 @@ use cli_line::{LineFault, Topic, write_usage, write_version};
 use std::io;
 use std::io::Write;
 
-/// Prints the help on a topic, or says that standard output failed.
+/// Prints the help on a topic, or says that standard output failed. Returns the exit status.
 fn help<O: Write, E: Write>(topic: Topic, out: &mut O, err: &mut E) -> io::Result<u8>
     ensures range { IfOk result (λ status. status ≤ 3) }
     ensures answered { IfOk result (λ status. AnswersWords (LineFault.Help topic) status
@@ -19,7 +19,7 @@ fn help<O: Write, E: Write>(topic: Topic, out: &mut O, err: &mut E) -> io::Resul
     }
 }
 
-/// Prints the line of the version, or says that standard output failed.
+/// Prints the line of the version, or says that standard output failed. Returns the exit status.
 fn version<O: Write, E: Write>(out: &mut O, err: &mut E) -> io::Result<u8>
     ensures range { IfOk result (λ status. status ≤ 3) }
     ensures answered { IfOk result (λ status. AnswersWords LineFault.Version status

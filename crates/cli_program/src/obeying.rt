@@ -101,7 +101,7 @@ fn obey_serve<R: AllocGlobal + Threads + Wait + Sync, I: BufRead, O: Write + Dro
     }
 }
 
-/// Runs the command of a line, as `obey_line` does, without flushing standard error.
+/// Runs the command of a line, and returns its exit status, as `obey_line` does, without flushing standard error.
 pub(crate) fn obey_command<
     R: AllocGlobal + Threads + Wait + Sync,
     S: Inputs,

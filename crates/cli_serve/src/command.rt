@@ -1,4 +1,5 @@
-//! The command `serve`.
+//! The command `serve`. Its steps are functions of their own, since a contract can speak of the output only from a certain step on: `serve_by`
+//! owns the writer, `serve_on` has named what the writer holds before, and `talk_and_close` prints on the output through its lock.
 ghost use Rattle.std.specs.Prelude.{◌≡◌, ◌≢◌, ◌⊎◌, [], IfOk, OnOk};
 ghost use Rattle.std.specs.Io.Buffered.{writer_buffer, writer_contents};
 ghost use Rattle.cli_serve.specs.Printed.{HasPrinted, HasServed};
@@ -27,7 +28,8 @@ struct Served<J: Sheet> {
     router: Pen<J>,
 }
 
-/// Opens a database for the sessions of a service, has them answer the lines of an input on an output, and closes the database.
+/// Opens a database for the sessions of a service, has them answer the lines of an input on an output, and closes the database. Returns the
+/// history and the pens.
 fn talk_and_close<J, R, I, O>(
     rt: &R,
     service: &Service<'_>,

@@ -1,4 +1,5 @@
-//! A conversation: the router on this thread, and a worker for each session on a thread of its own.
+//! A conversation: the router on this thread, and a worker for each session on a thread of its own. `converse` names the lines of the input
+//! for all contracts below it, `converse_about` opens the scope of the threads, and `converse_in` runs in it.
 ghost use Rattle.std.specs.Prelude.{◌≡◌, [], IfErr, IfOk, OnOk, length};
 ghost use Rattle.bc_share.specs.Sessions.{new_session};
 ghost use Rattle.cli_talk.specs.Counted.{CountsAll};
@@ -223,7 +224,7 @@ where
     Ok(())
 }
 
-/// Starts a worker for each session. If one cannot be started, it dismisses those before it.
+/// Starts a worker for each session, and returns the workers with their queues. If one cannot be started, it dismisses those before it.
 fn start_all<'s, V, L, J, N, R, O>(
     scope: &Scope<'s, V>,
     talk: &Conversation<'s, J, R, O>,
@@ -255,7 +256,7 @@ where
     Ok(staff)
 }
 
-/// Holds the conversation of new sessions about the lines of an input, in a scope of threads.
+/// Holds the conversation of new sessions about the lines of an input, in a scope of threads. Returns what `converse` does.
 fn converse_in<'s, V, L, J, N, R, I, O>(
     scope: &Scope<'s, V>,
     talk: &Conversation<'s, J, R, O>,
@@ -304,7 +305,7 @@ where
     )
 }
 
-/// Holds the conversation of new sessions about the lines of an input.
+/// Holds the conversation of new sessions about the lines of an input. Returns what `converse` does.
 fn converse_about<L, J, N, R, I, O>(
     rt: &R,
     providers: &Providers,

@@ -22,7 +22,7 @@ pub(crate) struct Ran<J: Sheet, N: Ending> {
     pen: Pen<J>,
 }
 
-/// Answers the lines of a post's new session.
+/// Answers the lines of a post's new session. Returns the session, the number of its lines or why it stopped, and its pen.
 fn run_worker<
     L: Talk + Drop,
     J: Sheet,

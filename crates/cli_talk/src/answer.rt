@@ -97,7 +97,7 @@ fn answer_wanted<R: AllocGlobal + Wait, E: Ending>(
     }
 }
 
-/// Answers a request: does what is asked of the session, or says what is wrong with the request.
+/// Returns the answer to a request: does what is asked of the session, or says what is wrong with the request.
 pub(crate) fn answer_request<R: AllocGlobal + Wait, E: Ending>(
     rt: &R,
     session: &mut Session<E>,
