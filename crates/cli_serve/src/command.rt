@@ -9,7 +9,7 @@ ghost use Rattle.cli_serve.specs.Talked.{lines_left};
 use crate::close::close;
 use crate::service::Service;
 use crate::stop::{ServeStop, write_stop};
-use crate::talk::{Talked, converse};
+use crate::talk::{TalkResult, converse};
 use bc_share::{CloseFault, Db, History};
 use bc_versions::Waiting;
 use cli_output::{Authors, Opening, Output, Pen, Sheet};
@@ -22,7 +22,7 @@ use std::thread::Threads;
 
 /// A conversation whose database is closed: the history, the pens with which the sessions' answers were printed, and the router's pen.
 #[derive(Drop)]
-struct Served<J: Sheet> {
+struct ServeResult<J: Sheet> {
     history: History,
     pens: Vec<Pen<J>>,
     router: Pen<J>,
@@ -36,7 +36,7 @@ fn talk_and_close<J, R, I, O>(
     input: &mut I,
     out: &Mutex<Output<J, O>>,
     authors: &mut Authors<J>,
-) -> Result<Served<J>, ServeStop>
+) -> Result<ServeResult<J>, ServeStop>
 where
     J: Sheet + Send + Sync,
     R: AllocGlobal + Threads + Wait + Sync,
@@ -53,7 +53,7 @@ where
         Ok(talked) => talked,
         Err(stop) => return Err(stop),
     };
-    let Talked {
+    let TalkResult {
         sessions,
         pens,
         router,
@@ -61,7 +61,7 @@ where
     } = talked;
     match db.close(rt, sessions) {
         Ok(history) => match ended {
-            Ok(()) => Ok(Served {
+            Ok(()) => Ok(ServeResult {
                 history,
                 pens,
                 router,
@@ -95,7 +95,7 @@ where
     let shared = Mutex::new(output);
     let served = talk_and_close(rt, service, input, &shared, &mut authors);
     let output = shared.into_inner();
-    let Served {
+    let ServeResult {
         history,
         pens,
         router,

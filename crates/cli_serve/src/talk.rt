@@ -25,7 +25,7 @@ use std::thread::{Scope, Threads};
 /// The sessions of a conversation, in order, with the pens with which their answers were printed, the router's pen, and how the
 /// conversation ended.
 #[derive(Drop)]
-pub(crate) struct Talked<J: Sheet, N: Ending> {
+pub(crate) struct TalkResult<J: Sheet, N: Ending> {
     pub sessions: Vec<Session<N>>,
     pub pens: Vec<Pen<J>>,
     pub router: Pen<J>,
@@ -131,7 +131,7 @@ fn join_all<L: Talk + Drop, J: Sheet, N: Ending, R: Threads>(
     room: Room<J, N>,
     router: Pen<J>,
     routed: &Result<Vec<u64>, ServeStop>,
-) -> Result<Talked<J, N>, ServeStop>
+) -> Result<TalkResult<J, N>, ServeStop>
     requires sessions { count ≡ L.sessions }
     requires counts { IfOk routed.now (λ counts. CountsAll count counts.items L.lines) }
     requires told { OnOk routed.now (AreAllTold count L.lines router.texts) }
@@ -157,7 +157,7 @@ fn join_all<L: Talk + Drop, J: Sheet, N: Ending, R: Threads>(
         Ok(_) => ended,
         Err(stop) => both(ended, Err(*stop)),
     };
-    Ok(Talked {
+    Ok(TalkResult {
         sessions: done,
         pens,
         router,
@@ -201,7 +201,7 @@ where
     N: Ending + Send + 's,
     R: AllocGlobal + Wait + Sync,
     O: Write + Drop + Send + 's,
-    requires { session ≡ new_session 0 session.number }
+    requires is_new { session ≡ new_session 0 session.number }
 {
     let number = session.number();
     let (to, from) = match open_queue(talk.rt.alloc()) {
@@ -238,7 +238,7 @@ where
     N: Ending + Send + 's,
     R: AllocGlobal + Threads + Wait + Sync,
     O: Write + Drop + Send + 's,
-    requires { AreNew L.sessions sessions.items }
+    requires are_new { AreNew L.sessions sessions.items }
 {
     let alloc = talk.rt.alloc();
     let mut staff = Staff {
@@ -264,7 +264,7 @@ fn converse_in<'s, V, L, J, N, R, I, O>(
     input: &mut I,
     sessions: Vec<Session<N>>,
     authors: &mut Authors<J>,
-) -> Result<Talked<J, N>, ServeStop>
+) -> Result<TalkResult<J, N>, ServeStop>
 where
     L: Talk + Drop + Send + 's,
     J: Sheet + Send + 's,
@@ -313,7 +313,7 @@ fn converse_about<L, J, N, R, I, O>(
     sessions: Vec<Session<N>>,
     out: &Mutex<Output<J, O>>,
     authors: &mut Authors<J>,
-) -> Result<Talked<J, N>, ServeStop>
+) -> Result<TalkResult<J, N>, ServeStop>
 where
     L: Talk + Drop + Send + 'static,
     J: Sheet + Send,
@@ -336,7 +336,7 @@ where
     thread::scope(
         thread::scope_env(),
         rt,
-        |scope| -> Result<Talked<J, N>, ServeStop>
+        |scope| -> Result<TalkResult<J, N>, ServeStop>
             requires { (shared.now.sessions ≡ L.sessions) × AreNew L.sessions sessions.items × (L.lines ≡ lines_left (I.remaining input.now)) }
             ensures { IfOk result (λ talked. IsTalk L.sessions L.lines talked.sessions.items talked.pens.items talked.router talked.ended) }
         { converse_in::<_, L, J, N, R, I, O>(scope, shared, providers, input, sessions, authors) },
@@ -355,7 +355,7 @@ pub(crate) fn converse<J, N, R, I, O>(
     sessions: Vec<Session<N>>,
     out: &Mutex<Output<J, O>>,
     authors: &mut Authors<J>,
-) -> Result<Talked<J, N>, ServeStop>
+) -> Result<TalkResult<J, N>, ServeStop>
 where
     J: Sheet + Send,
     N: Ending + Send,

@@ -5,13 +5,13 @@ use Rattle.std.specs.List.{slice_get}
 use Rattle.bc_share.specs.Sessions.{SessionView}
 use Rattle.cli_requests.specs.Sessions.{lines_for}
 use Rattle.cli_talk.specs.Wires.{Takes}
-use Rattle.cli_talk.specs.declared.answer.Answered.{Answered}
+use Rattle.cli_talk.specs.declared.answer.Response.{Response}
 use Rattle.cli_talk.specs.Turns.{IsGiven, IsTurn, StopsIn, Turns}
 use Rattle.cli_talk.specs.Talks.{AreFirst, IsLineOf, HasAnswered, HasStopped}
 use Rattle.cli_talk.proofs.Flows.{takes_none, takes_one, takes_more}
 
 -- more answers may be lost
-given_may : (number : ℕ) (a b : Bool) (answered : Answered) (text : List ℕ) → (a ≡ true → b ≡ true) → IsGiven number a answered text → IsGiven number b answered text
+given_may : (number : ℕ) (a b : Bool) (answered : Response) (text : List ℕ) → (a ≡ true → b ≡ true) → IsGiven number a answered text → IsGiven number b answered text
 given_may number a b answered text may (inl whole) = inl whole
 given_may number a b answered text may (inr lost) = inr (may lost.0, lost.1)
 

@@ -5,7 +5,7 @@ use Rattle.bc_share.specs.Sessions.{SessionView}
 use Rattle.cli_requests.specs.declared.destination.ParsedLine.{ParsedLine}
 use Rattle.cli_requests.specs.Destinations.{IsParsed}
 use Rattle.cli_requests.specs.Sessions.{lines_for}
-use Rattle.cli_talk.specs.declared.answer.Answered.{Answered}
+use Rattle.cli_talk.specs.declared.answer.Response.{Response}
 use Rattle.cli_talk.specs.Wires.{TakesAll}
 use Rattle.cli_talk.specs.Turns.{IsLineAnswered, Turns}
 
@@ -41,4 +41,4 @@ pub record HasStopped (sessions session : ℕ) (known : Option (List (List ℕ))
   pub texts : List (List ℕ)
   pub between : SessionView
   pub turns : Turns sessions session true lines old between texts
-  pub left : ((last ≡ []) × (new ≡ between)) ⊎ ((line : List ℕ) × (answered : Answered) × (last ≡ line ∷ []) × IsLineAnswered sessions line answered between new)
+  pub left : ((last ≡ []) × (new ≡ between)) ⊎ ((line : List ℕ) × (answered : Response) × (last ≡ line ∷ []) × IsLineAnswered sessions line answered between new)

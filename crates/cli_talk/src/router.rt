@@ -8,7 +8,7 @@ ghost use Rattle.cli_talk.specs.Talks.{IsParsedOf};
 ghost use Rattle.cli_talk.specs.Counted.{CountsSoFar, CountsWith};
 ghost use Rattle.cli_talk.specs.Routed.{Routes};
 
-use crate::answer::{Answered, whole_line};
+use crate::answer::{Response, whole_line};
 use crate::fault::TalkFault;
 use crate::message::{Message, Talk};
 use crate::replies::Replies;
@@ -34,7 +34,7 @@ pub enum RoutedLine<M> {
 
 /// Returns the message with a line.
 fn make_message<L: Talk>(number: u64, line: ParsedLine) -> Message<L>
-    requires { IsParsedOf L.sessions number line L.lines }
+    requires is_of { IsParsedOf L.sessions number line L.lines }
     ensures { result.line ≡ line }
 {
     Message {
@@ -58,7 +58,7 @@ fn next_line<I: BufRead>(alloc: Global, input: &mut I) -> Result<Option<InputLin
 }
 
 /// Writes the line of an answer.
-fn give<P: Replies>(alloc: Global, answered: &Answered, replies: &mut P) -> Result<(), TalkFault>
+fn give<P: Replies>(alloc: Global, answered: &Response, replies: &mut P) -> Result<(), TalkFault>
     ensures { OnOk result ((text : List ℕ) × IsWholeLine answered.now text × Takes (P.given replies.old) (P.given replies.new) text) }
 {
     let Ok(text) = whole_line(alloc, answered) else {
@@ -79,7 +79,7 @@ fn tell<P: Replies>(
 ) -> Result<(), TalkFault>
     ensures { OnOk result ((text : List ℕ) × IsWholeLine (wrong_answer id fault) text × Takes (P.given replies.old) (P.given replies.new) text) }
 {
-    let answered = Answered {
+    let answered = Response {
         id,
         session: None,
         answer: Answer::Wrong(fault),

@@ -6,7 +6,7 @@ ghost use Rattle.cli_talk.specs.Turns.{IsGiven, IsStill, StopsIn};
 ghost use Rattle.cli_talk.specs.Talks.{HasAnswered, HasStopped};
 ghost use Rattle.cli_talk.specs.Posts.{AnswersLine, LosesSome};
 
-use crate::answer::{Answered, answer_request, whole_line};
+use crate::answer::{Response, answer_request, whole_line};
 use crate::fault::TalkFault;
 use crate::lost::{tell_unread, tell_untold};
 use crate::message::{Messages, Talk};
@@ -23,7 +23,7 @@ use std::sync::Wait;
 fn give_or_tell<P: Replies>(
     alloc: Global,
     number: u8,
-    answered: &Answered,
+    answered: &Response,
     replies: &mut P,
 ) -> Result<bool, Closed>
     ensures { IfOk result (λ lossy. (text : List ℕ) × IsGiven number lossy answered.now text × Takes (P.given replies.old) (P.given replies.new) text) }

@@ -19,8 +19,8 @@ returns-in-Ok-tell-clause-routed g c =
     let nowhere = rw c.in-Nowhere.is at c.in-Ok.ensures.goes in
     routes_told _ c.args.sessions (g.I.Read.remaining c.args.input.now) (g.I.Read.remaining c.next_line.new.input) c.in-Ok-Some.line c.in-Nowhere.id c.in-Nowhere.fault (g.P.Replies.given c.args.replies.now) (g.P.Replies.given c.tell.new.replies) read nowhere c.in-Ok-tell.ensures
 
-pub make_message-message-requires : goal.make_message-message-requires
-make_message-message-requires g c =
+pub make_message-message-requires-clause-is_of : goal.make_message-message-requires-clause-is_of
+make_message-message-requires-clause-is_of g c =
     let read = rw c.in-Ok-Some.field-0-is at c.in-Ok-Some.ensures in
     let parsed = c.in-Session.parsed in
     let from = rw c.in-Session.is at c.in-Ok.ensures.parsed in
