@@ -19,7 +19,7 @@ use Rattle.bc_calls.specs.declared.call.Event.{Event}
 use Rattle.cli_file.specs.Ends.{IsSilent, OfFile}
 use Rattle.cli_file.proofs.Stopping.{stops, IfOk-map}
 use Rattle.cli_check.specs.Run.{error_lines, AreLegal, AreReplied}
-use Rattle.cli_check.specs.Served.{Begins, OwesLast, Prints}
+use Rattle.cli_check.specs.Performed.{Begins, OwesLast, Prints}
 use Rattle.cli_check.specs.Ends.{HasBegun, HasTold, HasTooManyCalls, HasUntold, IsEnd, Leaves}
 use Rattle.cli_check.proofs.Ending.{known_is}
 

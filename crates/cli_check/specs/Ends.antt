@@ -16,7 +16,7 @@ use Rattle.cli_file.specs.Ends.{OfFile, IsSilent, StopsWith}
 use Rattle.cli_check.specs.Asked.{AreAsked}
 use Rattle.cli_check.specs.Forms.{form_of}
 use Rattle.cli_check.specs.Run.{error_lines, AreLegal, AreReplied}
-use Rattle.cli_check.specs.Served.{Runs, Begins, OwesLast, Prints}
+use Rattle.cli_check.specs.Performed.{Runs, Begins, OwesLast, Prints}
 
 -- each section made its call, each root under which one put a body was asked for, and what belongs to these calls was printed
 pub record Checked (line : CheckParts) (file : List ℕ) (exit : ℕ) (out out' err err' : Option (List ℕ)) : Type 0 where

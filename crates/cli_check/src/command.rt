@@ -14,7 +14,8 @@ ghost use Rattle.cli_file.specs.Ends.{OfFile};
 ghost use Rattle.cli_file.specs.Still.{IsStill};
 ghost use Rattle.cli_check.specs.Ends.{Checked, IsEnd, IsEndOf, Leaves};
 ghost use Rattle.cli_check.specs.Run.{refused_line, answer_lines, error_lines, AreLegal, AreReplied};
-ghost use Rattle.cli_check.specs.Served.{Serves, Served, ServedPart, ServedAll, ServedFirst, ServedThen, Adds, Owes, OwesLast, Runs, Begins, Prints};
+ghost use Rattle.cli_check.specs.Performed.{Performs, Performed, PerformedPart, PerformedAll, PerformedFirst, PerformedThen};
+ghost use Rattle.cli_check.specs.Performed.{Adds, Owes, OwesLast, Runs, Begins, Prints};
 ghost use Rattle.cli_check.specs.Asks.{AsksAll, AsksOne, AsksSome, RefusesOne};
 ghost use Rattle.cli_line.specs.Lines.{is_check};
 
@@ -150,7 +151,7 @@ fn make_change<R: Wait, N: Ending, E: Write>(
     ensures still { IsStill session.old session.new }
     ensures refused { RefusesOne result session.old session.new (E.contents err.old) (E.contents err.new) }
     ensures untold { IsErrOf result Stop.CannotTell → Owes (seen change) session.old session.new }
-    ensures served { IfOk result (λ status. Serves (seen change) error_lines status session.old session.new (E.contents err.old) (E.contents err.new)) }
+    ensures performed { IfOk result (λ status. Performs (seen change) error_lines status session.old session.new (E.contents err.old) (E.contents err.new)) }
     ensures range { IfOk result (λ status. status ≤ 2) }
     ensures stop { IfErr result (λ stop. (stop ≡ Stop.CannotTell) ⊎ (stop ≡ Stop.NoMemory) ⊎ (stop ≡ Stop.HistoryFull)) }
 {
@@ -190,7 +191,7 @@ fn make_ask<R: AllocGlobal + Wait, N: Ending, O: Write>(
     ensures still { IsStill session.old session.new }
     ensures refused { RefusesOne result session.old session.new (O.contents out.old) (O.contents out.new) }
     ensures unwritten { IsErrOf result Stop.CannotWrite → Makes session.old session.new (calls.Ask name.now) }
-    ensures served { AsksOne asking.now.form.now name.now result session.old session.new (O.contents out.old) (O.contents out.new) }
+    ensures performed { AsksOne asking.now.form.now name.now result session.old session.new (O.contents out.old) (O.contents out.new) }
     ensures range { IfOk result (λ status. status ≤ 2) }
     ensures stop { IfErr result (λ stop. (stop ≡ Stop.CannotWrite) ⊎ (stop ≡ Stop.NoMemory) ⊎ (stop ≡ Stop.HistoryFull)) }
 {
@@ -206,11 +207,11 @@ fn make_changes<R: Wait, N: Ending, E: Write>(
     changes: Vec<FileChange>,
     err: &mut E,
 ) -> Result<u8, Stop>
-    ensures served { IfOk result (λ status.
-        Served (map seen changes.items) error_lines status session.old session.new (E.contents err.old) (E.contents err.new)) }
+    ensures performed { IfOk result (λ status.
+        Performed (map seen changes.items) error_lines status session.old session.new (E.contents err.old) (E.contents err.new)) }
     ensures still { IsStill session.old session.new }
     ensures refused { IfErr result (λ stop. is_refused stop ≡ true →
-        ServedPart (map seen changes.items) error_lines session.old session.new (E.contents err.old) (E.contents err.new)) }
+        PerformedPart (map seen changes.items) error_lines session.old session.new (E.contents err.old) (E.contents err.new)) }
     ensures untold { IsErrOf result Stop.CannotTell → OwesLast (λ events. Adds events session.old session.new) (map seen changes.items) }
     ensures range { IfOk result (λ status. status ≤ 2) }
     ensures stop { IfErr result (λ stop. (stop ≡ Stop.CannotTell) ⊎ (stop ≡ Stop.NoMemory) ⊎ (stop ≡ Stop.HistoryFull)) }
@@ -229,7 +230,7 @@ fn make_asks<R: AllocGlobal + Wait, N: Ending, O: Write>(
     asking: &Asking<'_, '_>,
     out: &mut O,
 ) -> Result<u8, Stop>
-    ensures served { AsksAll asking.now.form.now asking.now.names.now.keys result session.old session.new (O.contents out.old) (O.contents out.new) }
+    ensures performed { AsksAll asking.now.form.now asking.now.names.now.keys result session.old session.new (O.contents out.old) (O.contents out.new) }
     ensures still { IsStill session.old session.new }
     ensures refused { AsksSome asking.now.form.now asking.now.names.now.keys result session.old session.new (O.contents out.old) (O.contents out.new) }
     ensures range { IfOk result (λ status. status ≤ 2) }
@@ -251,7 +252,7 @@ fn ask_names<R: AllocGlobal + Threads + Wait + Sync, N: Ending, O: Write>(
     asking: &Asking<'_, '_>,
     out: &mut O,
 ) -> Result<u8, Stop>
-    ensures served { AsksAll asking.now.form.now asking.now.names.now.keys result session.old session.new (O.contents out.old) (O.contents out.new) }
+    ensures performed { AsksAll asking.now.form.now asking.now.names.now.keys result session.old session.new (O.contents out.old) (O.contents out.new) }
     ensures still { IsStill session.old session.new }
     ensures refused { AsksSome asking.now.form.now asking.now.names.now.keys result session.old session.new (O.contents out.old) (O.contents out.new) }
     ensures range { IfOk result (λ status. status ≤ 2) }
@@ -308,7 +309,7 @@ fn answer_all<R: AllocGlobal + Threads + Wait + Sync, N: Ending, O: Write + Drop
     asking: &Asking<'_, '_>,
     out: &mut BufWriter<O>,
 ) -> Result<u8, Stop>
-    ensures served { AsksAll asking.now.form.now asking.now.names.now.keys result session.old session.new
+    ensures performed { AsksAll asking.now.form.now asking.now.names.now.keys result session.old session.new
         (writer_contents O.contents out.old) (writer_contents O.contents out.new) }
     ensures still { IsStill session.old session.new }
     ensures refused { AsksSome asking.now.form.now asking.now.names.now.keys result session.old session.new
@@ -330,16 +331,16 @@ fn make_all<R: AllocGlobal + Threads + Wait + Sync, N: Ending, O: Write + Drop, 
     out: &mut BufWriter<O>,
     err: &mut E,
 ) -> Result<u8, Stop>
-    ensures served { IfOk result (λ status. ServedAll asking.now.form.now (map seen changes.items) asking.now.names.now.keys status session.old session.new
-        (writer_contents O.contents out.old) (writer_contents O.contents out.new) (E.contents err.old) (E.contents err.new)) }
+    ensures performed { IfOk result (λ status. PerformedAll asking.now.form.now (map seen changes.items) asking.now.names.now.keys status
+        session.old session.new (writer_contents O.contents out.old) (writer_contents O.contents out.new) (E.contents err.old) (E.contents err.new)) }
     ensures still { IsStill session.old session.new }
     ensures refused { IfErr result (λ stop. is_refused stop ≡ true →
-        ServedFirst asking.now.form.now (map seen changes.items) asking.now.names.now.keys session.old session.new
+        PerformedFirst asking.now.form.now (map seen changes.items) asking.now.names.now.keys session.old session.new
         (writer_contents O.contents out.old) (writer_contents O.contents out.new) (E.contents err.old) (E.contents err.new)) }
     ensures untold { IsErrOf result Stop.CannotTell → OwesLast (λ events. Adds events session.old session.new) (map seen changes.items) }
     ensures silent { IsErrOf result Stop.CannotTell → Keeps (writer_contents O.contents out.old) (writer_contents O.contents out.new) }
     ensures unwritten { IsErrOf result Stop.CannotWrite →
-        ServedThen (map seen changes.items) error_lines session.old (E.contents err.old) (E.contents err.new) }
+        PerformedThen (map seen changes.items) error_lines session.old (E.contents err.old) (E.contents err.new) }
     ensures range { IfOk result (λ status. status ≤ 2) }
     ensures stop { IfErr result (λ stop. (stop ≡ Stop.CannotTell) ⊎ (stop ≡ Stop.CannotWrite) ⊎ (stop ≡ Stop.NoMemory) ⊎ (stop ≡ Stop.HistoryFull)) }
     ensures handed_on { writer_buffer out.old ≡ [] → (result ≡ Err Stop.CannotWrite) ⊎ (writer_buffer out.new ≡ []) }

@@ -1,12 +1,12 @@
 use Rattle.std.proofs.Common.{arith, rules, ◌≡◌, ◌∙◌}
 use Rattle.cli_file.specs.Changes.{seen}
 use Rattle.cli_check.specs.Run.{error_lines}
-use Rattle.cli_check.proofs.Serving.{making_none, making_more, making_part, owes_last, same_refused, same_stop}
+use Rattle.cli_check.proofs.Performing.{making_none, making_more, making_part, owes_last, same_refused, same_stop}
 use Rattle.cli_check.proofs.command.make_changes.Goals as goal
 
 pub loop-change-preserved : goal.loop-change-preserved
 loop-change-preserved g c = record {
-  made = rw c.max-status.ensures (making_more _ _ _ _ _ _ _ _ _ _ _ _ _ _ c.loop-change.invariant.made c.in-Some.ensures.steps.0 c.in_ok-make_change.ensures.served);
+  made = rw c.max-status.ensures (making_more _ _ _ _ _ _ _ _ _ _ _ _ _ _ c.loop-change.invariant.made c.in-Some.ensures.steps.0 c.in_ok-make_change.ensures.performed);
   range = omega (arith, c.max-status.ensures, c.in_ok-make_change.ensures.range, c.loop-change.invariant.range);
 }
 
@@ -26,4 +26,4 @@ returns-in_err-make_change-clause-untold g c e =
     owes_last seen _ _ _ _ error_lines _ _ _ _ _ _ c.loop-change.invariant.made c.in-Some.ensures.steps.0 (c.in_err-make_change.ensures.untold (same_stop _ _ _ c.from_residual.ensures.1 e))
 
 pub returns-in_err-make_change-clause-still : goal.returns-in_err-make_change-clause-still
-returns-in_err-make_change-clause-still g c = (c.in_err-make_change.ensures.still.0 ∙ c.loop-change.invariant.made.served.adds.tag, c.in_err-make_change.ensures.still.1 ∙ c.loop-change.invariant.made.served.adds.number)
+returns-in_err-make_change-clause-still g c = (c.in_err-make_change.ensures.still.0 ∙ c.loop-change.invariant.made.performed.adds.tag, c.in_err-make_change.ensures.still.1 ∙ c.loop-change.invariant.made.performed.adds.number)

@@ -1,7 +1,7 @@
 use Rattle.std.proofs.Common.{◌≤◌}
 use Rattle.cli_file.specs.Changes.{seen}
 use Rattle.cli_check.specs.Run.{error_lines}
-use Rattle.cli_check.proofs.Serving.{Making}
+use Rattle.cli_check.proofs.Performing.{Making}
 use Rattle.cli_check.proofs.command.make_changes.Given as goal
 
 abbrev pub invariant-loop-change : goal.invariant-loop-change

@@ -13,7 +13,7 @@ use Rattle.cli_check.specs.declared.form.Form.{Form}
 use Rattle.cli_check.specs.Run.{calls_of, shown, error_lines, AreLegal, AreReplied}
 
 -- one call was answered and printed, and this is its status
-pub record Serves (call : Call) (text : Event → List ℕ) (exit : ℕ) (old new : SessionView) (before after : Option (List ℕ)) : Type 0 where
+pub record Performs (call : Call) (text : Event → List ℕ) (exit : ℕ) (old new : SessionView) (before after : Option (List ℕ)) : Type 0 where
   pub event : Event
   pub made : call_of event ≡ call
   pub answered : IsAnswered event old new
@@ -43,7 +43,7 @@ abbrev pub IsAtMostOneMore : SessionView → SessionView → Type 0
 IsAtMostOneMore old new = IsSame old new ⊎ ((event : Event) × IsAnswered event old new)
 
 -- some calls were answered and printed in this order, and this is the greatest of their statuses
-pub record Served (list : List Call) (text : Event → List ℕ) (exit : ℕ) (old new : SessionView) (before after : Option (List ℕ)) : Type 0 where
+pub record Performed (list : List Call) (text : Event → List ℕ) (exit : ℕ) (old new : SessionView) (before after : Option (List ℕ)) : Type 0 where
   pub events : List Event
   pub made : map call_of events ≡ list
   pub adds : Adds events old new
@@ -51,13 +51,13 @@ pub record Served (list : List Call) (text : Event → List ℕ) (exit : ℕ) (o
   pub status : exit ≡ greatest events
 
 -- a beginning of some calls was answered and printed, and at most one more call was answered
-pub record ServedPart (list : List Call) (text : Event → List ℕ) (old new : SessionView) (before after : Option (List ℕ)) : Type 0 where
+pub record PerformedPart (list : List Call) (text : Event → List ℕ) (old new : SessionView) (before after : Option (List ℕ)) : Type 0 where
   pub front : List Call
   pub ahead : List Call
   pub cut : front ++ ahead ≡ list
   pub exit : ℕ
   pub between : SessionView
-  pub served : Served front text exit old between before after
+  pub performed : Performed front text exit old between before after
   pub last : IsAtMostOneMore between new
 
 -- some calls were answered as a legal history has them, and what belongs to each was printed
@@ -77,14 +77,14 @@ pub record OwesLast (Holds : List Event → Type 0) (list : List Call) : Type 0 
   pub owed : error_lines last ≢ []
 
 -- some calls were answered and printed, whatever the session did then
-pub record ServedThen (list : List Call) (text : Event → List ℕ) (old : SessionView) (before after : Option (List ℕ)) : Type 0 where
+pub record PerformedThen (list : List Call) (text : Event → List ℕ) (old : SessionView) (before after : Option (List ℕ)) : Type 0 where
   pub exit : ℕ
   pub between : SessionView
-  pub served : Served list text exit old between before after
+  pub performed : Performed list text exit old between before after
 
 -- the calls of the sections were answered and the names were asked for, what belongs to each call was printed, and the status is the
 -- greatest of theirs
-pub record ServedAll (form : Form) (first : List Call) (names : List NameParts) (exit : ℕ) (old new : SessionView) (out out' err err' : Option (List ℕ)) : Type 0 where
+pub record PerformedAll (form : Form) (first : List Call) (names : List NameParts) (exit : ℕ) (old new : SessionView) (out out' err err' : Option (List ℕ)) : Type 0 where
   pub events : List Event
   pub made : map call_of events ≡ calls_of first names
   pub adds : Adds events old new
@@ -93,7 +93,7 @@ pub record ServedAll (form : Form) (first : List Call) (names : List NameParts) 
   pub status : exit ≡ greatest events
 
 -- a beginning of these calls was answered and printed, and at most one more call was answered
-pub record ServedFirst (form : Form) (first : List Call) (names : List NameParts) (old new : SessionView) (out out' err err' : Option (List ℕ)) : Type 0 where
+pub record PerformedFirst (form : Form) (first : List Call) (names : List NameParts) (old new : SessionView) (out out' err err' : Option (List ℕ)) : Type 0 where
   pub events : List Event
   pub ahead : List Call
   pub made : map call_of events ++ ahead ≡ calls_of first names
