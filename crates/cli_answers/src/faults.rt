@@ -1,21 +1,18 @@
-//! The JSON values of refusals and of faults.
+//! The JSON values of faults.
 ghost use Rattle.std.specs.Prelude.{◌≡◌, IfOk};
 ghost use Rattle.serde_json.specs.View.{view as data_of};
 ghost use Rattle.cli_requests.specs.Ids.{id_data};
-ghost use Rattle.cli_entries.specs.Words.{refusal_words};
 ghost use Rattle.cli_answers.specs.Answers.{fault_data, text_data, wrong_data};
 
 use crate::members::new_members;
 use crate::words::kind_name;
-use bc_book::Refusal;
 use bc_json::{put_number, put_string};
-use cli_entries::refusal_words;
 use cli_requests::{Id, RequestFault, TextFault};
 use serde_json::Value;
 use std::alloc::{AllocError, Global};
 
 /// Returns the object of a fault in these words.
-fn fault_value(
+pub(crate) fn fault_value(
     alloc: Global,
     id: &Id,
     session: Option<u8>,
@@ -43,18 +40,6 @@ fn text_value(
     put_string(&mut members, alloc, "fault", kind_name(fault.kind))?;
     put_number(&mut members, alloc, "line", fault.position.line)?;
     Ok(Value::Object(members))
-}
-
-/// Returns the object of a refusal.
-pub(crate) fn refusal_value(
-    alloc: Global,
-    id: &Id,
-    session: Option<u8>,
-    refusal: Refusal,
-) -> Result<Value, AllocError>
-    ensures { IfOk result (λ value. data_of value ≡ fault_data (id_data id.now) session (refusal_words refusal)) }
-{
-    fault_value(alloc, id, session, refusal_words(refusal))
 }
 
 /// Returns the object that says what is wrong with a request.

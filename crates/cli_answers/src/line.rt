@@ -6,8 +6,9 @@ ghost use Rattle.cli_answers.specs.Answers.{IsAnswerLine, IsAnswerOf, IsLineOf};
 
 use crate::answer::Answer;
 use crate::entries::entry_value;
-use crate::faults::{refusal_value, wrong_value};
+use crate::faults::{fault_value, wrong_value};
 use crate::glances::glance_value;
+use cli_entries::refusal_words;
 use cli_requests::Id;
 use serde_json::Value;
 use std::alloc::{AllocError, Global};
@@ -24,7 +25,7 @@ fn answer_value(
     match answer {
         Answer::Entered { number, event } => entry_value(alloc, id, session, *number, event),
         Answer::Glanced(published) => glance_value(alloc, id, session, published),
-        Answer::Refused(refusal) => refusal_value(alloc, id, session, *refusal),
+        Answer::Refused(refusal) => fault_value(alloc, id, session, refusal_words(*refusal)),
         Answer::Wrong(fault) => wrong_value(alloc, id, session, fault),
     }
 }
