@@ -46,7 +46,10 @@ pub struct PendingAsk {
 
 impl Drop for PendingAsk {
     fn drop(self) {
-        let Self { name: _, progress: _ } = self;
+        let Self {
+            name: _,
+            progress: _,
+        } = self;
     }
 }
 
@@ -72,7 +75,10 @@ impl PendingAsk {
             Ok(begun) => AskProgress::Begun(begun),
             Err(_) => AskProgress::Refused,
         };
-        PendingAsk { name: *name, progress }
+        PendingAsk {
+            name: *name,
+            progress,
+        }
     }
 
     /// Returns the name that is asked.

@@ -31,7 +31,8 @@ use bc_share::{Db, Session};
 use bc_source::{SourcedBody, Sources, find_bodies, write_sourced_report};
 use bc_versions::{Ending, Waiting};
 use cli_file::{
-    FileChange, Stop, find_capacity, outcome_status, put_status, read_changes_by, read_whole, stop_with,
+    FileChange, Stop, find_capacity, outcome_status, put_status, read_changes_by, read_whole,
+    stop_with,
 };
 use cli_line::{CheckLine, Line};
 use std::alloc::Global;

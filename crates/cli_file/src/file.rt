@@ -128,7 +128,11 @@ pub fn read_changes(alloc: Global, file: &[u8]) -> Result<Vec<FileChange>, Stop>
 
 /// Returns the changes that a file makes, in the order of its sections. Returns `File` with the first fault of the file if it has one, and
 /// with its position there if `positions` says so, or `NoMemory`.
-pub fn read_told_changes(alloc: Global, positions: bool, file: &[u8]) -> Result<Vec<FileChange>, Stop>
+pub fn read_told_changes(
+    alloc: Global,
+    positions: bool,
+    file: &[u8],
+) -> Result<Vec<FileChange>, Stop>
     ensures { GivesTold positions file.now result }
 {
     match read_changes(alloc, file) {

@@ -103,12 +103,7 @@ fn write_json<O: Write>(alloc: Global, entry: &Entry, out: &mut O) -> Result<(),
 }
 
 /// Writes an entry as text or as JSON. Returns `NoMemory`, with nothing written, if there is no room for its JSON.
-fn write_entry<O: Write>(
-    alloc: Global,
-    json: bool,
-    entry: &Entry,
-    out: &mut O,
-) -> Result<(), Stop>
+fn write_entry<O: Write>(alloc: Global, json: bool, entry: &Entry, out: &mut O) -> Result<(), Stop>
     ensures written { OnOk result (Appends (O.contents out.old) (O.contents out.new) (entry_lines json entry.now)) }
     ensures no_memory { IsErrOf result Stop.NoMemory → (json ≡ true) × Keeps (O.contents out.old) (O.contents out.new) }
     ensures stop { IfErr result (λ stop. (stop ≡ Stop.CannotWrite) ⊎ (stop ≡ Stop.NoMemory)) }

@@ -48,9 +48,12 @@ placed sessions number counts (Some lines) (Some x) (Some y) line parsed (low, w
     let all : lines ≡ h.front ++ bytes ∷ lines_of y = h.cut ∙ ap (λ (ls : List (List ℕ)). h.front ++ ls) r.1 in
     let mine : lines_for sessions session lines ≡ lines_for sessions session h.front ++ bytes ∷ lines_for sessions session (lines_of y) =
     ap (lines_for sessions session) all ∙ one_more sessions session h.front (lines_of y) bytes (for_itself sessions session bytes (is bytes r.2).named) in
-    let place : number ≡ length (lines_for sessions session h.front) = here ∙ h.counted session low in
-    (bytes, is bytes r.2, ap (slice_get (lines_for sessions session lines)) place ∙ ap (λ (ls : List (List ℕ)). slice_get ls (length (lines_for sessions session h.front))) mine
-    ∙ get_behind (lines_for sessions session h.front) (lines_for sessions session (lines_of y)) bytes)
+    let place : number ≡ length (lines_for sessions session h.front) = here ∙ h.counted session low in (
+      bytes,
+      is bytes r.2,
+      ap (slice_get (lines_for sessions session lines)) place ∙ ap (λ (ls : List (List ℕ)). slice_get ls (length (lines_for sessions session h.front))) mine
+          ∙ get_behind (lines_for sessions session h.front) (lines_for sessions session (lines_of y)) bytes,
+    )
 
 -- this line is counted
 count_one : (sessions session number : ℕ) (counts : List ℕ) (front : List (List ℕ)) (line : List ℕ) → session < length counts → number ≡ slice_index counts session → session_in sessions line ≡ Some session → Counts sessions counts front
