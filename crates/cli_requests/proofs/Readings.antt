@@ -32,7 +32,7 @@ unread_nowhere sessions line id fault is none = (
 pub bad_nowhere : (sessions : ℕ) (line : List ℕ) (id : Id) (value : Data) → value_of line ≡ Ok value → None ≡ session_at sessions value → id_data id ≡ id_of value → IsDestination sessions line (Nowhere id BadSession)
 bad_nowhere sessions line id value is named same = (
   ap (session_read sessions) is ∙ sym named,
-  subst (λ (read : Result Data RequestFault). IsReading sessions read (Bad id None BadSession)) (sym is) (same, (sym named, refl)),
+  subst (λ (read : Result Data RequestFault). IsReading sessions read (Bad id None BadSession)) (sym is) (same, sym named, refl),
 )
 
 -- a line goes to the session that its value names
@@ -53,8 +53,8 @@ named_of sessions bytes parsed is = sym (ap (session_read sessions) is.read) ∙
 
 -- a line is a request for what its value asks for
 pub good_request : (sessions : ℕ) (bytes : List ℕ) (parsed : ParsedLine) (id : Id) (wanted : Wanted) → IsParsed sessions bytes parsed → id_data id ≡ id_of (parsed_data parsed) → AsksFor (parsed_data parsed) wanted → IsRequest sessions bytes (Good id parsed.session wanted)
-good_request sessions bytes parsed id wanted is same asks = subst (λ (read : Result Data RequestFault). IsReading sessions read (Good id parsed.session wanted)) (sym is.read) (same, (named_of sessions bytes parsed is, asks))
+good_request sessions bytes parsed id wanted is same asks = subst (λ (read : Result Data RequestFault). IsReading sessions read (Good id parsed.session wanted)) (sym is.read) (same, named_of sessions bytes parsed is, asks)
 
 -- a line is a request with what is wrong with its value
 pub wrong_request : (sessions : ℕ) (bytes : List ℕ) (parsed : ParsedLine) (id : Id) (fault : RequestFault) → IsParsed sessions bytes parsed → id_data id ≡ id_of (parsed_data parsed) → IsWrong (parsed_data parsed) fault → IsRequest sessions bytes (Bad id (Some parsed.session) fault)
-wrong_request sessions bytes parsed id fault is same wrong = subst (λ (read : Result Data RequestFault). IsReading sessions read (Bad id (Some parsed.session) fault)) (sym is.read) (same, (named_of sessions bytes parsed is, wrong))
+wrong_request sessions bytes parsed id fault is same wrong = subst (λ (read : Result Data RequestFault). IsReading sessions read (Bad id (Some parsed.session) fault)) (sym is.read) (same, named_of sessions bytes parsed is, wrong)
