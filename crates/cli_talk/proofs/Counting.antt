@@ -39,7 +39,7 @@ for_none sessions k line is = ap (is_at k) is
 -- a line is the next of its session
 pub placed : (sessions number : ℕ) (counts : List ℕ) (known : Option (List (List ℕ))) (old new : Option (List ℕ)) (line : InputLine) (parsed : ParsedLine) → (parsed.session < sessions) × ((bytes : List ℕ) × IsParsed sessions bytes parsed)
     → CountsSoFar sessions counts known old → ReadsNext MOST_REQUEST_BYTES old new (Some line) → ((bytes : List ℕ) → IsLine MOST_REQUEST_BYTES bytes line → IsParsed sessions bytes parsed) → number ≡ slice_index counts parsed.session → IsParsedOf sessions number parsed known
-placed sessions number counts None old new line parsed (low, bytes, was) h r is here = (bytes, was, refl)
+placed sessions number counts None old new line parsed from h r is here = (from.1.0, from.1.1, refl)
 placed sessions number counts (Some lines) None new line parsed from h r is here = absurd h
 placed sessions number counts (Some lines) (Some x) None line parsed from h r is here = absurd r
 placed sessions number counts (Some lines) (Some x) (Some y) line parsed (low, was) h r is here =
