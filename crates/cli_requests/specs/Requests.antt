@@ -1,5 +1,5 @@
 -- Lines, read as requests.
-use Rattle.std.specs.Prelude.{◌≡◌, ℕ, List, Option, Some, None, Result, Ok, Err}
+use Rattle.std.specs.Prelude.{◌≡◌, ℕ, List, Some, None, Result, Ok, Err}
 use Rattle.serde_json.specs.Data.{Data, null}
 use Rattle.cli_requests.specs.declared.fault.RequestFault.{RequestFault}
 use Rattle.cli_requests.specs.declared.fault.RequestFault.TheVariants.{BadSession}

@@ -11,7 +11,7 @@ use Rattle.cli_requests.specs.Destinations.{IsParsed}
 use Rattle.cli_requests.specs.Requests.{IsRequest}
 use Rattle.cli_requests.specs.Sessions.{session_in}
 use Rattle.cli_talk.specs.declared.router.RoutedLine.TheVariants.{End, Told, Sent}
-use Rattle.cli_talk.specs.Wires.{Takes, TakesAll}
+use Rattle.cli_talk.specs.Wires.{Takes}
 use Rattle.cli_talk.specs.Turns.{IsWholeLine, wrong_answer}
 use Rattle.cli_talk.specs.Routed.{RoutesNext}
 use Rattle.cli_talk.proofs.Flows.{takes_none, takes_one}

@@ -1,7 +1,6 @@
 use Rattle.std.proofs.Common.{refl}
 use Rattle.bc_text.specs.Reading.{read, read_types}
 use Rattle.cli_file.specs.declared.file.FileChange.{FileChange}
-use Rattle.cli_file.specs.declared.heading.Heading.{Heading}
 use Rattle.cli_file.specs.declared.heading.Heading.TheVariants as headings
 use Rattle.cli_file.specs.Left.{part_of}
 use Rattle.cli_file.specs.Changes.{Takes, Makes, seen}

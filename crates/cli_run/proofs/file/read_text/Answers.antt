@@ -1,7 +1,6 @@
 use Rattle.std.proofs.Common.{◌≡◌, ◌×◌}
 use Rattle.bc_calls.specs.declared.call.Call.{Call}
 use Rattle.bc_text.specs.Reading.{read, read_types}
-use Rattle.cli_file.specs.declared.heading.Heading.{Heading}
 use Rattle.cli_file.specs.declared.heading.Heading.TheVariants as headings
 use Rattle.cli_file.specs.Headings.{heading_of}
 use Rattle.cli_file.specs.Left.{part_of}
