@@ -7,11 +7,12 @@ use Rattle.serde_json.specs.Written.{has_float, compact_text}
 use Rattle.bc_prov.specs.declared.outcome.Outcome.{Outcome}
 use Rattle.bc_calls.specs.declared.call.Event.{Event}
 use Rattle.cli_entries.specs.Replies.{IsOutcomeData, IsReplyData, reply_key}
+use Rattle.cli_entries.specs.Words.{refusal_words}
 use Rattle.cli_requests.specs.declared.fault.RequestFault.{RequestFault}
 use Rattle.cli_requests.specs.declared.fault.RequestFault.TheVariants.{NotJson, TooLong, BadSession, BadCall, BadName, BadText, Text}
 use Rattle.cli_requests.specs.declared.fault.TextFault.{TextFault}
 use Rattle.cli_answers.specs.Feeds.{IsOneLine}
-use Rattle.cli_answers.specs.Words.{refusal_word, kind_word}
+use Rattle.cli_answers.specs.Words.{kind_word}
 use Rattle.cli_answers.specs.declared.answer.Answer.{Answer}
 use Rattle.cli_answers.specs.declared.answer.Answer.TheVariants.{Entered, Glanced, Refused, Wrong}
 
@@ -65,7 +66,7 @@ abbrev pub IsAnswerOf : Data → Option ℕ → Answer → Data → Type 0
 IsAnswerOf id session (Entered before event) value = IsEntryOf id session before event value
 IsAnswerOf id session (Glanced found) value =
     (published : Data) × IsPublished (option_map arc_value found) published × (value ≡ glance_data id session published)
-IsAnswerOf id session (Refused refusal) value = value ≡ fault_data id session (refusal_word refusal)
+IsAnswerOf id session (Refused refusal) value = value ≡ fault_data id session (refusal_words refusal)
 IsAnswerOf id session (Wrong fault) value = value ≡ wrong_data id session fault
 
 -- A line of JSON is the text of this value. It is the value's compact text if the value has no float. It reads as the value if that is not

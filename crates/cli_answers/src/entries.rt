@@ -1,7 +1,7 @@
 //! The JSON values of calls that were made.
 ghost use Rattle.std.specs.Prelude.{IfOk};
 ghost use Rattle.serde_json.specs.View.{view as data_of};
-ghost use Rattle.cli_requests.specs.Ids.{told};
+ghost use Rattle.cli_requests.specs.Ids.{id_data};
 ghost use Rattle.cli_answers.specs.Answers.{IsEntryOf};
 
 use crate::members::new_members;
@@ -19,7 +19,7 @@ pub(crate) fn entry_value(
     number: usize,
     event: &Event,
 ) -> Result<Value, AllocError>
-    ensures { IfOk result (λ value. IsEntryOf (told id.now) session number event.now (data_of value)) }
+    ensures { IfOk result (λ value. IsEntryOf (id_data id.now) session number event.now (data_of value)) }
 {
     let mut members = new_members(alloc, id, session)?;
     put_entry(&mut members, alloc, number, event)?;

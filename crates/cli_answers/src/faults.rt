@@ -1,26 +1,24 @@
-//! The JSON values of refusals and of faults.
+//! The JSON values of faults.
 ghost use Rattle.std.specs.Prelude.{◌≡◌, IfOk};
 ghost use Rattle.serde_json.specs.View.{view as data_of};
-ghost use Rattle.cli_requests.specs.Ids.{told};
-ghost use Rattle.cli_answers.specs.Words.{refusal_word};
+ghost use Rattle.cli_requests.specs.Ids.{id_data};
 ghost use Rattle.cli_answers.specs.Answers.{fault_data, text_data, wrong_data};
 
 use crate::members::new_members;
-use crate::words::{kind_name, refusal_name};
-use bc_book::Refusal;
+use crate::words::kind_name;
 use bc_json::{put_number, put_string};
 use cli_requests::{Id, RequestFault, TextFault};
 use serde_json::Value;
 use std::alloc::{AllocError, Global};
 
 /// Returns the object of a fault in these words.
-fn fault_value(
+pub(crate) fn fault_value(
     alloc: Global,
     id: &Id,
     session: Option<u8>,
     words: &str,
 ) -> Result<Value, AllocError>
-    ensures { IfOk result (λ value. data_of value ≡ fault_data (told id.now) session words.now) }
+    ensures { IfOk result (λ value. data_of value ≡ fault_data (id_data id.now) session words.now) }
 {
     let mut members = new_members(alloc, id, session)?;
     put_string(&mut members, alloc, "fault", words)?;
@@ -34,7 +32,7 @@ fn text_value(
     session: Option<u8>,
     fault: &TextFault,
 ) -> Result<Value, AllocError>
-    ensures { IfOk result (λ value. data_of value ≡ text_data (told id.now) session fault.now) }
+    ensures { IfOk result (λ value. data_of value ≡ text_data (id_data id.now) session fault.now) }
 {
     let mut members = new_members(alloc, id, session)?;
     put_number(&mut members, alloc, "at", fault.at)?;
@@ -44,18 +42,6 @@ fn text_value(
     Ok(Value::Object(members))
 }
 
-/// Returns the object of a refusal.
-pub(crate) fn refusal_value(
-    alloc: Global,
-    id: &Id,
-    session: Option<u8>,
-    refusal: Refusal,
-) -> Result<Value, AllocError>
-    ensures { IfOk result (λ value. data_of value ≡ fault_data (told id.now) session (refusal_word refusal)) }
-{
-    fault_value(alloc, id, session, refusal_name(refusal))
-}
-
 /// Returns the object that says what is wrong with a request.
 pub(crate) fn wrong_value(
     alloc: Global,
@@ -63,7 +49,7 @@ pub(crate) fn wrong_value(
     session: Option<u8>,
     fault: &RequestFault,
 ) -> Result<Value, AllocError>
-    ensures { IfOk result (λ value. data_of value ≡ wrong_data (told id.now) session fault.now) }
+    ensures { IfOk result (λ value. data_of value ≡ wrong_data (id_data id.now) session fault.now) }
 {
     match fault {
         RequestFault::NotJson => fault_value(alloc, id, session, "not json"),

@@ -2,7 +2,7 @@
 ghost use Rattle.std.specs.Prelude.{◌≡◌, IfOk, option_map};
 ghost use Rattle.std.specs.Arc.{arc_value};
 ghost use Rattle.serde_json.specs.View.{view as data_of};
-ghost use Rattle.cli_requests.specs.Ids.{told};
+ghost use Rattle.cli_requests.specs.Ids.{id_data};
 ghost use Rattle.cli_answers.specs.declared.answer.Answer.TheVariants.{Glanced};
 ghost use Rattle.cli_answers.specs.Answers.{IsAnswerOf, IsPublished, glance_data};
 
@@ -34,7 +34,7 @@ fn glance_object(
     session: Option<u8>,
     published: Value,
 ) -> Result<Value, AllocError>
-    ensures { IfOk result (λ value. data_of value ≡ glance_data (told id.now) session (data_of published)) }
+    ensures { IfOk result (λ value. data_of value ≡ glance_data (id_data id.now) session (data_of published)) }
 {
     let mut members = new_members(alloc, id, session)?;
     put(&mut members, alloc, "outcome", published)?;
@@ -48,7 +48,7 @@ pub(crate) fn glance_value(
     session: Option<u8>,
     published: &Option<Arc<Outcome, Global>>,
 ) -> Result<Value, AllocError>
-    ensures { IfOk result (λ value. IsAnswerOf (told id.now) session (Glanced published.now) (data_of value)) }
+    ensures { IfOk result (λ value. IsAnswerOf (id_data id.now) session (Glanced published.now) (data_of value)) }
 {
     let published = published_value(alloc, published)?;
     glance_object(alloc, id, session, published)

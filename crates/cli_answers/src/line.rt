@@ -1,13 +1,14 @@
 //! The line of an answer.
 ghost use Rattle.std.specs.Prelude.{IfOk, string_bytes};
 ghost use Rattle.serde_json.specs.View.{view as data_of};
-ghost use Rattle.cli_requests.specs.Ids.{told};
+ghost use Rattle.cli_requests.specs.Ids.{id_data};
 ghost use Rattle.cli_answers.specs.Answers.{IsAnswerLine, IsAnswerOf, IsLineOf};
 
 use crate::answer::Answer;
 use crate::entries::entry_value;
-use crate::faults::{refusal_value, wrong_value};
+use crate::faults::{fault_value, wrong_value};
 use crate::glances::glance_value;
+use cli_entries::refusal_words;
 use cli_requests::Id;
 use serde_json::Value;
 use std::alloc::{AllocError, Global};
@@ -19,12 +20,12 @@ fn answer_value(
     session: Option<u8>,
     answer: &Answer,
 ) -> Result<Value, AllocError>
-    ensures { IfOk result (λ value. IsAnswerOf (told id.now) session answer.now (data_of value)) }
+    ensures { IfOk result (λ value. IsAnswerOf (id_data id.now) session answer.now (data_of value)) }
 {
     match answer {
         Answer::Entered { number, event } => entry_value(alloc, id, session, *number, event),
         Answer::Glanced(published) => glance_value(alloc, id, session, published),
-        Answer::Refused(refusal) => refusal_value(alloc, id, session, *refusal),
+        Answer::Refused(refusal) => fault_value(alloc, id, session, refusal_words(*refusal)),
         Answer::Wrong(fault) => wrong_value(alloc, id, session, fault),
     }
 }
@@ -49,7 +50,7 @@ pub fn answer_line(
     session: Option<u8>,
     answer: &Answer,
 ) -> Result<String, AllocError>
-    ensures { IfOk result (λ line. IsAnswerLine (told id.now) session answer.now (string_bytes line)) }
+    ensures { IfOk result (λ line. IsAnswerLine (id_data id.now) session answer.now (string_bytes line)) }
 {
     let value = answer_value(alloc, id, session, answer)?;
     line_of(alloc, &value)

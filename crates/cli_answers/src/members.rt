@@ -2,7 +2,7 @@
 ghost use Rattle.std.specs.Prelude.{◌≡◌, codes, IfOk};
 ghost use Rattle.serde_json.specs.Data.{member, no_members};
 ghost use Rattle.serde_json.specs.View.{members_view, view as data_of};
-ghost use Rattle.cli_requests.specs.Ids.{told};
+ghost use Rattle.cli_requests.specs.Ids.{id_data};
 ghost use Rattle.cli_answers.specs.Answers.{session_data};
 
 use cli_requests::Id;
@@ -26,7 +26,7 @@ pub(crate) fn new_members(
     session: Option<u8>,
 ) -> Result<Map<String, Value>, AllocError>
     ensures { IfOk result (λ members. members_view members.entries
-        ≡ member (codes "id") (told id.now) (member (codes "session") (session_data session) no_members)) }
+        ≡ member (codes "id") (id_data id.now) (member (codes "session") (session_data session) no_members)) }
 {
     let mut members = Map::new(alloc);
     put(&mut members, alloc, "id", id.value().clone()?)?;

@@ -1,19 +1,8 @@
-//! The words of refusals and of faults.
+//! The words of faults.
 ghost use Rattle.std.specs.Prelude.{◌≡◌};
-ghost use Rattle.cli_answers.specs.Words.{kind_word, refusal_word};
+ghost use Rattle.cli_answers.specs.Words.{kind_word};
 
-use bc_book::Refusal;
 use cli_requests::TextFaultKind;
-
-/// Returns the words of a refusal.
-pub(crate) fn refusal_name(refusal: Refusal) -> &'static str
-    ensures { result.now ≡ refusal_word refusal }
-{
-    match refusal {
-        Refusal::NoMemory => "no memory",
-        Refusal::HistoryFull => "history full",
-    }
-}
 
 /// Returns the words of a kind of fault that a text has.
 pub(crate) fn kind_name(kind: TextFaultKind) -> &'static str

@@ -12,7 +12,7 @@ use std::collections::BTreeSet;
 use std::thread;
 use std::thread::Threads;
 
-/// Begins an ask of each name in a session, in the order of the names.
+/// Begins an ask of each name in a session, and returns the asks in the order of the names.
 fn begin_each<N: Ending>(
     alloc: Global,
     session: &mut Session<N>,

@@ -3,7 +3,7 @@ ghost use Rattle.std.specs.Prelude.{◌≡◌, IfOk, OnErr};
 ghost use Rattle.std.specs.Arc.{arc_value};
 ghost use Rattle.bc_calls.specs.declared.call.Event.TheVariants as events;
 ghost use Rattle.bc_share.specs.Sessions.{IsAnswered, IsSame, Stays};
-ghost use Rattle.cli_asks.specs.Stages.{IsStageOf};
+ghost use Rattle.cli_asks.specs.Progress.{IsProgressOf};
 
 use bc_book::Refusal;
 use bc_calls::{Begun, Work};
@@ -18,7 +18,7 @@ use std::sync::{Arc, Wait};
 
 /// How far an ask is.
 #[derive(Drop)]
-pub(crate) enum Stage {
+pub(crate) enum AskProgress {
     /// It has begun.
     Begun(Begun),
     /// It was worked on.
@@ -27,13 +27,13 @@ pub(crate) enum Stage {
     Refused,
 }
 
-/// Returns the stage after the work on what was begun. It is `Refused` if memory runs out, as a provider may report too.
-fn worked(alloc: Global, providers: &Providers, begun: Begun) -> Stage
-    ensures { IsStageOf begun.root result }
+/// Returns the progress after the work on what was begun. It is `Refused` if memory runs out, as a provider may report too.
+fn worked(alloc: Global, providers: &Providers, begun: Begun) -> AskProgress
+    ensures { IsProgressOf begun.root result }
 {
     match begun.work(alloc, providers) {
-        Ok(work) => Stage::Worked(work),
-        Err(_) => Stage::Refused,
+        Ok(work) => AskProgress::Worked(work),
+        Err(_) => AskProgress::Refused,
     }
 }
 
@@ -41,24 +41,27 @@ fn worked(alloc: Global, providers: &Providers, begun: Begun) -> Stage
 /// work on it, are always of that name.
 pub struct PendingAsk {
     name: Name,
-    stage: Stage,
+    progress: AskProgress,
 }
 
 impl Drop for PendingAsk {
     fn drop(self) {
-        let Self { name: _, stage: _ } = self;
+        let Self {
+            name: _,
+            progress: _,
+        } = self;
     }
 }
 
 impl Model for PendingAsk {
     ghost use Rattle.bc_names.specs.Names.{NameParts};
-    ghost use Rattle.cli_asks.specs.Stages.{IsStageOf};
+    ghost use Rattle.cli_asks.specs.Progress.{IsProgressOf};
 
     ghost Value = { NameParts };
 
     ghost view = { λ ask. ask.name };
 
-    ghost invariant = { λ ask. IsStageOf ask.name ask.stage };
+    ghost invariant = { λ ask. IsProgressOf ask.name ask.progress };
 }
 
 impl PendingAsk {
@@ -68,11 +71,14 @@ impl PendingAsk {
         ensures name { result ≡ name.now }
         ensures kept { Stays session.old session.new }
     {
-        let stage = match session.begin(name) {
-            Ok(begun) => Stage::Begun(begun),
-            Err(_) => Stage::Refused,
+        let progress = match session.begin(name) {
+            Ok(begun) => AskProgress::Begun(begun),
+            Err(_) => AskProgress::Refused,
         };
-        PendingAsk { name: *name, stage }
+        PendingAsk {
+            name: *name,
+            progress,
+        }
     }
 
     /// Returns the name that is asked.
@@ -86,13 +92,13 @@ impl PendingAsk {
     fn into_worked(self, alloc: Global, providers: &Providers) -> PendingAsk
         ensures { result ≡ self }
     {
-        let PendingAsk { name, stage } = self;
-        let stage = match stage {
-            Stage::Begun(begun) => worked(alloc, providers, begun),
-            Stage::Worked(work) => Stage::Worked(work),
-            Stage::Refused => Stage::Refused,
+        let PendingAsk { name, progress } = self;
+        let progress = match progress {
+            AskProgress::Begun(begun) => worked(alloc, providers, begun),
+            AskProgress::Worked(work) => AskProgress::Worked(work),
+            AskProgress::Refused => AskProgress::Refused,
         };
-        PendingAsk { name, stage }
+        PendingAsk { name, progress }
     }
 
     /// Works on the ask if that was begun and is not done yet. It holds no lock and waits for nobody. If it is out of memory, as a provider
@@ -101,8 +107,8 @@ impl PendingAsk {
         ensures { self.new ≡ self.old }
     {
         let name = self.name;
-        let stage = Stage::Refused;
-        let pending = mem::replace(self, PendingAsk { name, stage });
+        let progress = AskProgress::Refused;
+        let pending = mem::replace(self, PendingAsk { name, progress });
         *self = pending.into_worked(alloc, providers);
     }
 
@@ -111,11 +117,11 @@ impl PendingAsk {
     fn into_work(self, alloc: Global, providers: &Providers) -> Result<Work, AllocError>
         ensures { IfOk result (λ work. work.snapshot.root ≡ self) }
     {
-        let PendingAsk { name: _, stage } = self;
-        match stage {
-            Stage::Begun(begun) => begun.work(alloc, providers),
-            Stage::Worked(work) => Ok(work),
-            Stage::Refused => Err(AllocError),
+        let PendingAsk { name: _, progress } = self;
+        match progress {
+            AskProgress::Begun(begun) => begun.work(alloc, providers),
+            AskProgress::Worked(work) => Ok(work),
+            AskProgress::Refused => Err(AllocError),
         }
     }
 

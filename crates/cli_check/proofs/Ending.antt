@@ -17,37 +17,37 @@ use Rattle.bc_share.specs.Closings.{IsOneHistory}
 use Rattle.bc_share.specs.declared.db.TheConstants.{MOST_ENTRIES}
 use Rattle.cli_file.specs.declared.stop.Stop.{Stop}
 use Rattle.cli_file.specs.declared.stop.Stop.TheVariants.{CannotWrite, CannotTell, NoMemory, HistoryFull}
-use Rattle.cli_file.specs.declared.file.Change.{Change}
-use Rattle.cli_file.specs.declared.file.Change.TheVariants as changes
+use Rattle.cli_file.specs.declared.file.FileChange.{FileChange}
+use Rattle.cli_file.specs.declared.file.FileChange.TheVariants as changes
 use Rattle.cli_file.specs.Changes.{seen}
 use Rattle.cli_file.specs.Stops.{is_refused}
 use Rattle.cli_file.specs.Statuses.{greatest}
 use Rattle.cli_file.proofs.Printing.{nothing_added}
 use Rattle.cli_check.specs.declared.form.Form.{Form}
-use Rattle.cli_check.specs.Run.{calls_of, told, shown, AreLegal, AreReplied}
-use Rattle.cli_check.specs.Served.{Adds, OwesLast, Served, ServedPart, ServedAll, ServedFirst, ServedThen, Runs, Begins, Prints, HasSeenItsOwn, IsAtMostOneMore}
+use Rattle.cli_check.specs.Run.{calls_of, error_lines, shown, AreLegal, AreReplied}
+use Rattle.cli_check.specs.Performed.{Adds, OwesLast, Performed, PerformedPart, PerformedAll, PerformedFirst, PerformedThen, Runs, Begins, Prints, HasSeenItsOwn, IsAtMostOneMore}
 use Rattle.cli_check.proofs.Members.{Contains-one}
 use Rattle.cli_check.proofs.Shorter.{the_last, legal_shorter}
-use Rattle.cli_check.proofs.Serving.{adds_one, adds_then}
+use Rattle.cli_check.proofs.Performing.{adds_one, adds_then}
 
 -- an ask prints nothing on standard error
-told_ask : (e : Event) (name : NameParts) → call_of e ≡ calls_made.Ask name → told e ≡ []
+told_ask : (e : Event) (name : NameParts) → call_of e ≡ calls_made.Ask name → error_lines e ≡ []
 told_ask (Types types) name is = refl
 told_ask (Put other body reply) name is = absurd cc
 told_ask (Remove other reply) name is = refl
 told_ask (Ask other outcome) name is = refl
 told_ask (EveryRoot rows) name is = refl
 
-told_asks : (names : List NameParts) (events : List Event) (ahead : List Call) → map call_of events ++ ahead ≡ map calls_made.Ask names → flat_map told events ≡ []
+told_asks : (names : List NameParts) (events : List Event) (ahead : List Call) → map call_of events ++ ahead ≡ map calls_made.Ask names → flat_map error_lines events ≡ []
 told_asks names [] ahead h = refl
 told_asks [] (e ∷ events) ahead h = absurd cc
 told_asks (name ∷ names) (e ∷ events) ahead h =
     let one : call_of e ≡ calls_made.Ask name = cc in
     let rest : map call_of events ++ ahead ≡ map calls_made.Ask names = cc in
-    ap (λ (text : List ℕ). text ++ flat_map told events) (told_ask e name one) ∙ told_asks names events ahead rest
+    ap (λ (text : List ℕ). text ++ flat_map error_lines events) (told_ask e name one) ∙ told_asks names events ahead rest
 
 -- a change prints nothing on standard output
-shown_change : (form : Form) (e : Event) (change : Change) → call_of e ≡ seen change → shown form e ≡ []
+shown_change : (form : Form) (e : Event) (change : FileChange) → call_of e ≡ seen change → shown form e ≡ []
 shown_change form (Types types) change is = refl
 shown_change form (Put name body reply) change is = refl
 shown_change form (Remove name reply) change is = refl
@@ -55,7 +55,7 @@ shown_change form (Ask name outcome) (changes.Types types) is = absurd cc
 shown_change form (Ask name outcome) (changes.Put other unit) is = absurd cc
 shown_change form (EveryRoot rows) change is = refl
 
-shown_changes : (form : Form) (list : List Change) (events : List Event) (ahead : List Call) → map call_of events ++ ahead ≡ map seen list → flat_map (shown form) events ≡ []
+shown_changes : (form : Form) (list : List FileChange) (events : List Event) (ahead : List Call) → map call_of events ++ ahead ≡ map seen list → flat_map (shown form) events ≡ []
 shown_changes form list [] ahead h = refl
 shown_changes form [] (e ∷ events) ahead h = absurd cc
 shown_changes form (change ∷ list) (e ∷ events) ahead h =
@@ -105,10 +105,10 @@ replied_of events s t is adds =
     }
 
 -- all changes and all asks
-pub served_all : (form : Form) (list : List Change) (names : List NameParts) (m n : ℕ) (s0 s1 s2 : SessionView) (o0 o1 e0 e1 : Option (List ℕ)) → Served (map seen list) told m s0 s1 e0 e1 → Served (map calls_made.Ask names) (shown form) n s1 s2 o0 o1 → ServedAll form (map seen list) names (max m n) s0 s2 o0 o1 e0 e1
-served_all form list names m n s0 s1 s2 o0 o1 e0 e1 p a =
-    let silent : flat_map told p.events ≡ flat_map told (p.events ++ a.events) =
-    sym (flat_map-append told p.events a.events ∙ ap (λ (t : List ℕ). flat_map told p.events ++ t) (told_asks names a.events [] (append-nil _ ∙ a.made)) ∙ append-nil _) in
+pub performed_all : (form : Form) (list : List FileChange) (names : List NameParts) (m n : ℕ) (s0 s1 s2 : SessionView) (o0 o1 e0 e1 : Option (List ℕ)) → Performed (map seen list) error_lines m s0 s1 e0 e1 → Performed (map calls_made.Ask names) (shown form) n s1 s2 o0 o1 → PerformedAll form (map seen list) names (max m n) s0 s2 o0 o1 e0 e1
+performed_all form list names m n s0 s1 s2 o0 o1 e0 e1 p a =
+    let silent : flat_map error_lines p.events ≡ flat_map error_lines (p.events ++ a.events) =
+    sym (flat_map-append error_lines p.events a.events ∙ ap (λ (t : List ℕ). flat_map error_lines p.events ++ t) (told_asks names a.events [] (append-nil _ ∙ a.made)) ∙ append-nil _) in
     let hidden : flat_map (shown form) a.events ≡ flat_map (shown form) (p.events ++ a.events) =
     sym (flat_map-append (shown form) p.events a.events ∙ ap (λ (t : List ℕ). t ++ flat_map (shown form) a.events) (shown_changes form list p.events [] (append-nil _ ∙ p.made))) in
     record {
@@ -121,27 +121,27 @@ served_all form list names m n s0 s1 s2 o0 o1 e0 e1 p a =
     }
 
 -- some of the changes
-pub first_changes : (form : Form) (list : List Change) (names : List NameParts) (s0 s1 : SessionView) (o e0 e1 : Option (List ℕ)) → ServedPart (map seen list) told s0 s1 e0 e1 → ServedFirst form (map seen list) names s0 s1 o o e0 e1
+pub first_changes : (form : Form) (list : List FileChange) (names : List NameParts) (s0 s1 : SessionView) (o e0 e1 : Option (List ℕ)) → PerformedPart (map seen list) error_lines s0 s1 e0 e1 → PerformedFirst form (map seen list) names s0 s1 o o e0 e1
 first_changes form list names s0 s1 o e0 e1 h =
-    let cut : map call_of h.served.events ++ h.ahead ≡ map seen list = ap (λ (cs : List Call). cs ++ h.ahead) h.served.made ∙ h.cut in
+    let cut : map call_of h.performed.events ++ h.ahead ≡ map seen list = ap (λ (cs : List Call). cs ++ h.ahead) h.performed.made ∙ h.cut in
     record {
-      events = h.served.events;
+      events = h.performed.events;
       ahead = h.ahead ++ map calls_made.Ask names;
-      made = sym (append_assoc (map call_of h.served.events) h.ahead (map calls_made.Ask names)) ∙ ap (λ (cs : List Call). cs ++ map calls_made.Ask names) cut;
+      made = sym (append_assoc (map call_of h.performed.events) h.ahead (map calls_made.Ask names)) ∙ ap (λ (cs : List Call). cs ++ map calls_made.Ask names) cut;
       between = h.between;
-      adds = h.served.adds;
+      adds = h.performed.adds;
       last = h.last;
-      output = subst (λ (t : List ℕ). Appends o o t) (sym (shown_changes form list h.served.events h.ahead cut)) (nothing_added o);
-      errors = h.served.printed;
+      output = subst (λ (t : List ℕ). Appends o o t) (sym (shown_changes form list h.performed.events h.ahead cut)) (nothing_added o);
+      errors = h.performed.printed;
     }
 
 -- all changes and some of the asks
-pub first_asks : (form : Form) (list : List Change) (names : List NameParts) (m : ℕ) (s0 s1 s2 : SessionView) (o0 o1 e0 e1 : Option (List ℕ)) → Served (map seen list) told m s0 s1 e0 e1 → ServedPart (map calls_made.Ask names) (shown form) s1 s2 o0 o1 → ServedFirst form (map seen list) names s0 s2 o0 o1 e0 e1
+pub first_asks : (form : Form) (list : List FileChange) (names : List NameParts) (m : ℕ) (s0 s1 s2 : SessionView) (o0 o1 e0 e1 : Option (List ℕ)) → Performed (map seen list) error_lines m s0 s1 e0 e1 → PerformedPart (map calls_made.Ask names) (shown form) s1 s2 o0 o1 → PerformedFirst form (map seen list) names s0 s2 o0 o1 e0 e1
 first_asks form list names m s0 s1 s2 o0 o1 e0 e1 p h =
-    let asks : List Event = h.served.events in
-    let cut : map call_of asks ++ h.ahead ≡ map calls_made.Ask names = ap (λ (cs : List Call). cs ++ h.ahead) h.served.made ∙ h.cut in
-    let silent : flat_map told p.events ≡ flat_map told (p.events ++ asks) =
-    sym (flat_map-append told p.events asks ∙ ap (λ (t : List ℕ). flat_map told p.events ++ t) (told_asks names asks h.ahead cut) ∙ append-nil _) in
+    let asks : List Event = h.performed.events in
+    let cut : map call_of asks ++ h.ahead ≡ map calls_made.Ask names = ap (λ (cs : List Call). cs ++ h.ahead) h.performed.made ∙ h.cut in
+    let silent : flat_map error_lines p.events ≡ flat_map error_lines (p.events ++ asks) =
+    sym (flat_map-append error_lines p.events asks ∙ ap (λ (t : List ℕ). flat_map error_lines p.events ++ t) (told_asks names asks h.ahead cut) ∙ append-nil _) in
     let hidden : flat_map (shown form) asks ≡ flat_map (shown form) (p.events ++ asks) =
     sym (flat_map-append (shown form) p.events asks ∙ ap (λ (t : List ℕ). t ++ flat_map (shown form) asks) (shown_changes form list p.events [] (append-nil _ ∙ p.made))) in
     record {
@@ -151,9 +151,9 @@ first_asks form list names m s0 s1 s2 o0 o1 e0 e1 p h =
           ∙ append_assoc (map seen list) (map call_of asks) h.ahead
           ∙ ap (λ (cs : List Call). map seen list ++ cs) cut;
       between = h.between;
-      adds = adds_then p.events asks s0 s1 h.between p.adds h.served.adds;
+      adds = adds_then p.events asks s0 s1 h.between p.adds h.performed.adds;
       last = h.last;
-      output = subst (λ (t : List ℕ). Appends o0 o1 t) hidden h.served.printed;
+      output = subst (λ (t : List ℕ). Appends o0 o1 t) hidden h.performed.printed;
       errors = subst (λ (t : List ℕ). Appends e0 e1 t) silent p.printed;
     }
 
@@ -164,7 +164,7 @@ closed_with opened left handed s t h new popped pushed one =
     (last.1, subst (λ (ss : List SessionView). IsOneHistory ss h) (pushed ∙ ap (λ (ss : List SessionView). ss ++ t ∷ []) last.0) one)
 
 -- the database closed well after the calls that a new session made
-pub runs_of : (form : Form) (first : List Call) (names : List NameParts) (s t : SessionView) (o o' e e' : Option (List ℕ)) (h : List Entry) (r : Result ℕ Stop) → s ≡ new_session 0 0 → length first + length names ≤ MOST_ENTRIES → IsOneHistory (t ∷ []) h → IfOk r (λ exit. ServedAll form first names exit s t o o' e e') → IfOk r (λ exit. Runs form first names exit o o' e e')
+pub runs_of : (form : Form) (first : List Call) (names : List NameParts) (s t : SessionView) (o o' e e' : Option (List ℕ)) (h : List Entry) (r : Result ℕ Stop) → s ≡ new_session 0 0 → length first + length names ≤ MOST_ENTRIES → IsOneHistory (t ∷ []) h → IfOk r (λ exit. PerformedAll form first names exit s t o o' e e') → IfOk r (λ exit. Runs form first names exit o o' e e')
 runs_of form first names s t o o' e e' h (Ok exit) is few one all = record {
   events = all.events;
   made = all.made;
@@ -176,7 +176,7 @@ runs_of form first names s t o o' e e' h (Ok exit) is few one all = record {
 }
 runs_of form first names s t o o' e e' h (Err stop) is few one all = tt
 
-pub begins_of : (form : Form) (first : List Call) (names : List NameParts) (s t : SessionView) (o o' e e' : Option (List ℕ)) (h : List Entry) → s ≡ new_session 0 0 → IsOneHistory (t ∷ []) h → ServedFirst form first names s t o o' e e' → Begins AreLegal form first names o o' e e'
+pub begins_of : (form : Form) (first : List Call) (names : List NameParts) (s t : SessionView) (o o' e e' : Option (List ℕ)) (h : List Entry) → s ≡ new_session 0 0 → IsOneHistory (t ∷ []) h → PerformedFirst form first names s t o o' e e' → Begins AreLegal form first names o o' e e'
 begins_of form first names s t o o' e e' h is one some = record {
   events = some.events;
   ahead = some.ahead;
@@ -187,12 +187,12 @@ begins_of form first names s t o o' e e' h is one some = record {
 }
 
 -- what was printed about calls that a new session answered
-pub prints_of : (list : List Call) (text : Event → List ℕ) (s : SessionView) (u v : Option (List ℕ)) → s ≡ new_session 0 0 → ServedThen list text s u v → Prints list text u v
+pub prints_of : (list : List Call) (text : Event → List ℕ) (s : SessionView) (u v : Option (List ℕ)) → s ≡ new_session 0 0 → PerformedThen list text s u v → Prints list text u v
 prints_of list text s u v is h = record {
-  events = h.served.events;
-  made = h.served.made;
-  replied = replied_of h.served.events s h.between is h.served.adds;
-  printed = h.served.printed;
+  events = h.performed.events;
+  made = h.performed.made;
+  replied = replied_of h.performed.events s h.between is h.performed.adds;
+  printed = h.performed.printed;
 }
 
 -- the calls up to one whose line was not printed
@@ -203,7 +203,7 @@ owed_of P Q list f h = record { events = h.events; last = h.last; ahead = h.ahea
 pub legal_adds : (s t : SessionView) (h : List Entry) → s ≡ new_session 0 0 → IsOneHistory (t ∷ []) h → (events : List Event) → Adds events s t → AreLegal events
 legal_adds s t h is one events adds = legal_added events s t h is adds.number adds.own one
 
-shown_all : (form : Form) (first : List Call) (names : List NameParts) (exit : ℕ) (s t : SessionView) (o o' e e' : Option (List ℕ)) → s ≡ new_session 0 0 → ServedAll form first names exit s t o o' e e' → Begins AreReplied form first names o o' e e'
+shown_all : (form : Form) (first : List Call) (names : List NameParts) (exit : ℕ) (s t : SessionView) (o o' e e' : Option (List ℕ)) → s ≡ new_session 0 0 → PerformedAll form first names exit s t o o' e e' → Begins AreReplied form first names o o' e e'
 shown_all form first names exit s t o o' e e' is all = record {
   events = all.events;
   ahead = [];
@@ -213,7 +213,7 @@ shown_all form first names exit s t o o' e e' is all = record {
   errors = all.errors;
 }
 
-shown_first : (form : Form) (first : List Call) (names : List NameParts) (s t : SessionView) (o o' e e' : Option (List ℕ)) → s ≡ new_session 0 0 → ServedFirst form first names s t o o' e e' → Begins AreReplied form first names o o' e e'
+shown_first : (form : Form) (first : List Call) (names : List NameParts) (s t : SessionView) (o o' e e' : Option (List ℕ)) → s ≡ new_session 0 0 → PerformedFirst form first names s t o o' e e' → Begins AreReplied form first names o o' e e'
 shown_first form first names s t o o' e e' is some = record {
   events = some.events;
   ahead = some.ahead;
@@ -225,8 +225,8 @@ shown_first form first names s t o o' e e' is some = record {
 
 -- what was printed, or a line that was not, if standard output has not failed
 pub shown_of : (form : Form) (first : List Call) (names : List NameParts) (s t : SessionView) (o o' e e' : Option (List ℕ)) (r : Result ℕ Stop) → s ≡ new_session 0 0
-    → IfOk r (λ exit. ServedAll form first names exit s t o o' e e')
-    → IfErr r (λ stop. is_refused stop ≡ true → ServedFirst form first names s t o o' e e')
+    → IfOk r (λ exit. PerformedAll form first names exit s t o o' e e')
+    → IfErr r (λ stop. is_refused stop ≡ true → PerformedFirst form first names s t o o' e e')
     → (IsErrOf r CannotTell → OwesLast (λ events. Adds events s t) first)
     → (IsErrOf r CannotTell → Keeps o o')
     → IfErr r (λ stop. (stop ≡ CannotTell) ⊎ (stop ≡ CannotWrite) ⊎ (stop ≡ NoMemory) ⊎ (stop ≡ HistoryFull))

@@ -11,15 +11,15 @@ use Rattle.cli_file.specs.declared.stop.Stop.{Stop}
 use Rattle.cli_file.specs.declared.stop.Stop.TheVariants.{WrongUse, CannotRead, CannotWrite, CannotTell, NoMemory, File, TooManyCalls, HistoryFull, Foreign, Audit}
 use Rattle.cli_file.specs.Parts.{sections_of}
 use Rattle.cli_file.specs.Changes.{MakeAll, IsToldFault}
-use Rattle.cli_file.specs.Sections.{Answers}
+use Rattle.cli_file.specs.Sections.{IsResult}
 use Rattle.cli_file.specs.Stops.{is_of_calls, is_refused, last_line, stop_status}
 use Rattle.cli_check.specs.Asked.{AreAsked}
 use Rattle.cli_check.specs.Forms.{form_of}
 use Rattle.bc_calls.specs.declared.call.Event.{Event}
 use Rattle.cli_file.specs.Ends.{IsSilent, OfFile}
 use Rattle.cli_file.proofs.Stopping.{stops, IfOk-map}
-use Rattle.cli_check.specs.Run.{told, AreLegal, AreReplied}
-use Rattle.cli_check.specs.Served.{Begins, OwesLast, Prints}
+use Rattle.cli_check.specs.Run.{error_lines, AreLegal, AreReplied}
+use Rattle.cli_check.specs.Performed.{Begins, OwesLast, Prints}
 use Rattle.cli_check.specs.Ends.{HasBegun, HasTold, HasTooManyCalls, HasUntold, IsEnd, Leaves}
 use Rattle.cli_check.proofs.Ending.{known_is}
 
@@ -35,7 +35,7 @@ pub record Broken (line : CheckParts) (r : Result ℕ Stop) (file : List ℕ) (m
   pub refused : IfErr r (λ stop. is_refused stop ≡ true → Begins AreLegal (form_of line (sections_of file) made) made names o o' e e')
   pub untold : IsErrOf r CannotTell → OwesLast AreLegal made
   pub silent : IsErrOf r CannotTell → Keeps o o'
-  pub unwritten : IsErrOf r CannotWrite → Prints made told e e'
+  pub unwritten : IsErrOf r CannotWrite → Prints made error_lines e e'
   pub audited : IsErrOf r Audit → Begins AreReplied (form_of line (sections_of file) made) made names o o' e e' ⊎ (OwesLast AreReplied made × Keeps o o')
 
 pub few_of : {P Q : Type 0} (r : Result ℕ Stop) (x : Stop) → (P → Q) → (r ≡ Err x) ⊎ P → (r ≡ Err x) ⊎ Q
@@ -85,7 +85,7 @@ kept None = tt
 kept (Some bytes) = refl
 
 unread_file : {T : Type 0} (Good : T → Type 0) (line : CheckParts) (stop : Stop) (known o e : Option (List ℕ)) (file : List ℕ) → IfSome known (λ bytes. file ≡ bytes)
-    → length file ≤ most_bytes → Answers Good (IsToldFault line.positions file) (Err stop) → Leaves line stop known o o e e
+    → length file ≤ most_bytes → IsResult Good (IsToldFault line.positions file) (Err stop) → Leaves line stop known o o e e
 unread_file Good line WrongUse known o e file whole short bad = absurd bad
 unread_file Good line CannotRead known o e file whole short bad = absurd bad
 unread_file Good line CannotWrite known o e file whole short bad = absurd bad
@@ -101,15 +101,15 @@ unread_file Good line Audit known o e file whole short bad = absurd bad
 -- the file has a fault, or reading it ran out of memory
 pub unread : {T : Type 0} (Good : T → Type 0) (line : CheckParts) (positions : Bool) (stop : Stop) (r : Result ℕ Stop) (known o e : Option (List ℕ)) (file bytes : List ℕ)
     → IsErrAnd r (λ y. y ≡ stop) → IfSome known (λ all. file ≡ all) → length file ≤ most_bytes → bytes ≡ file → positions ≡ line.positions
-    → Answers Good (IsToldFault positions bytes) (Err stop) → IfErr r (λ y. Leaves line y known o o e e)
-unread Good line positions stop (Ok n) known o e file bytes is whole short same told bad = absurd is
-unread Good line positions stop (Err y) known o e file bytes is whole short same told bad =
-    let of_file : Answers Good (IsToldFault positions file) (Err stop) = subst (λ (f : List ℕ). Answers Good (IsToldFault positions f) (Err stop)) same bad in
-    let of_line : Answers Good (IsToldFault line.positions file) (Err stop) = subst (λ (p : Bool). Answers Good (IsToldFault p file) (Err stop)) told of_file in
+    → IsResult Good (IsToldFault positions bytes) (Err stop) → IfErr r (λ y. Leaves line y known o o e e)
+unread Good line positions stop (Ok n) known o e file bytes is whole short same same_positions bad = absurd is
+unread Good line positions stop (Err y) known o e file bytes is whole short same same_positions bad =
+    let of_file : IsResult Good (IsToldFault positions file) (Err stop) = subst (λ (f : List ℕ). IsResult Good (IsToldFault positions f) (Err stop)) same bad in
+    let of_line : IsResult Good (IsToldFault line.positions file) (Err stop) = subst (λ (p : Bool). IsResult Good (IsToldFault p file) (Err stop)) same_positions of_file in
     subst (λ (x : Stop). Leaves line x known o o e e) (sym is) (unread_file Good line stop known o e file whole short of_line)
 
-pub stopped_end : {E : Type 0} (line : CheckParts) (known o o' e told e' : Option (List ℕ)) (stop : Stop) (r : Result ℕ E) → Leaves line stop known o o' e told → IfOk r (λ n. n ≡ stop_status stop) → OnOk r (Appends told e' (last_line line.file stop)) → IfOk r (λ n. IsEnd line known n o o' e e')
-stopped_end line known o o' e told e' stop r left status said = IfOk-map r (λ n h. inr h) (stops (λ s t. Leaves line s known o o' e t) line.file told e' stop r left status said)
+pub stopped_end : {E : Type 0} (line : CheckParts) (known o o' e before e' : Option (List ℕ)) (stop : Stop) (r : Result ℕ E) → Leaves line stop known o o' e before → IfOk r (λ n. n ≡ stop_status stop) → OnOk r (Appends before e' (last_line line.file stop)) → IfOk r (λ n. IsEnd line known n o o' e e')
+stopped_end line known o o' e before e' stop r left status said = IfOk-map r (λ n h. inr h) (stops (λ s t. Leaves line s known o o' e t) line.file before e' stop r left status said)
 
 -- below status 3 the writer has not failed
 pub handed_end : {E : Type 0} (P : Type 0) (stop : Stop) (q : Result ℕ Stop) (r : Result ℕ E) → q ≡ Err stop → (q ≡ Err CannotWrite) ⊎ P → IfOk r (λ n. n ≡ stop_status stop) → IfOk r (λ n. n < 3 → P)

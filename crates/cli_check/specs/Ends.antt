@@ -15,8 +15,8 @@ use Rattle.cli_file.specs.Changes.{MakeAll, IsToldFault}
 use Rattle.cli_file.specs.Ends.{OfFile, IsSilent, StopsWith}
 use Rattle.cli_check.specs.Asked.{AreAsked}
 use Rattle.cli_check.specs.Forms.{form_of}
-use Rattle.cli_check.specs.Run.{told, AreLegal, AreReplied}
-use Rattle.cli_check.specs.Served.{Runs, Begins, OwesLast, Prints}
+use Rattle.cli_check.specs.Run.{error_lines, AreLegal, AreReplied}
+use Rattle.cli_check.specs.Performed.{Runs, Begins, OwesLast, Prints}
 
 -- each section made its call, each root under which one put a body was asked for, and what belongs to these calls was printed
 pub record Checked (line : CheckParts) (file : List ℕ) (exit : ℕ) (out out' err err' : Option (List ℕ)) : Type 0 where
@@ -50,7 +50,7 @@ pub record HasTold (file : List ℕ) (err err' : Option (List ℕ)) : Type 0 whe
   pub good : MakeAll (sections_of file) made
   pub asked : AreAsked made names
   pub few : length made + length names ≤ MOST_ENTRIES
-  pub prints : Prints made told err err'
+  pub prints : Prints made error_lines err err'
 
 -- the file has no fault, `Holds` holds of a beginning of its calls and their replies, and standard error is owed a line about the last of
 -- these
@@ -77,7 +77,7 @@ Leaves line Audit known out out' err err' = OfFile known (λ file. HasBegun AreR
 
 -- the command ended with this status on the file that its line names: at its end, or after a stop
 abbrev pub IsEnd : CheckParts → Option (List ℕ) → ℕ → Option (List ℕ) → Option (List ℕ) → Option (List ℕ) → Option (List ℕ) → Type 0
-IsEnd line known exit out out' err err' = OfFile known (λ file. Checked line file exit out out' err err') ⊎ StopsWith (λ stop told. Leaves line stop known out out' err told) line.file exit err'
+IsEnd line known exit out out' err err' = OfFile known (λ file. Checked line file exit out out' err err') ⊎ StopsWith (λ stop before. Leaves line stop known out out' err before) line.file exit err'
 
 -- the command ended with this status on the file that a line of `check` names
 abbrev pub IsEndOf : Line → Option (List ℕ) → ℕ → Option (List ℕ) → Option (List ℕ) → Option (List ℕ) → Option (List ℕ) → Type 0

@@ -35,13 +35,13 @@ answer_lines Text name outcome = line (codes "ask " ++ name_text name) ++ report
 answer_lines Json name outcome = line (json_line name outcome)
 answer_lines (Sourced sources) name outcome = line (codes "ask " ++ name_text name) ++ sourced_report sources outcome
 
--- what is printed about a call on standard error
-abbrev pub told : Event → List ℕ
-told (Types types) = []
-told (Put name body reply) = refused_line name reply
-told (Remove name reply) = []
-told (Ask name outcome) = []
-told (EveryRoot rows) = []
+-- the lines about a call on standard error
+abbrev pub error_lines : Event → List ℕ
+error_lines (Types types) = []
+error_lines (Put name body reply) = refused_line name reply
+error_lines (Remove name reply) = []
+error_lines (Ask name outcome) = []
+error_lines (EveryRoot rows) = []
 
 -- what is printed about a call on standard output; no file of `check` asks for all
 abbrev pub shown : Form → Event → List ℕ

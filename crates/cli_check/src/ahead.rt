@@ -5,7 +5,7 @@ ghost use Rattle.bc_share.specs.Sessions.{Makes};
 ghost use Rattle.cli_file.specs.Stops.{is_refused};
 ghost use Rattle.cli_file.specs.Still.{IsStill};
 ghost use Rattle.cli_check.specs.Run.{shown};
-ghost use Rattle.cli_check.specs.Served.{Served, ServedPart};
+ghost use Rattle.cli_check.specs.Performed.{Performed, PerformedPart};
 ghost use Rattle.cli_check.specs.Asks.{AsksAll, AsksOne, AsksSome, RefusesOne};
 
 use crate::command::{Asking, write_answer};
@@ -43,7 +43,7 @@ fn settle_ask<R: AllocGlobal + Wait, N: Ending, O: Write>(
     ensures still { IsStill session.old session.new }
     ensures refused { RefusesOne result session.old session.new (O.contents out.old) (O.contents out.new) }
     ensures unwritten { IsErrOf result Stop.CannotWrite → Makes session.old session.new (calls.Ask ask) }
-    ensures served { AsksOne asking.now.form.now ask result session.old session.new (O.contents out.old) (O.contents out.new) }
+    ensures performed { AsksOne asking.now.form.now ask result session.old session.new (O.contents out.old) (O.contents out.new) }
     ensures range { IfOk result (λ status. status ≤ 2) }
     ensures stop { IfErr result (λ stop. (stop ≡ Stop.CannotWrite) ⊎ (stop ≡ Stop.NoMemory) ⊎ (stop ≡ Stop.HistoryFull)) }
 {
@@ -61,10 +61,10 @@ fn settle_asks<R: AllocGlobal + Wait, N: Ending, O: Write>(
     asks: Vec<PendingAsk>,
     out: &mut O,
 ) -> Result<u8, Stop>
-    ensures served { IfOk result (λ status. Served (map calls.Ask asks.items) (shown asking.now.form.now) status
+    ensures performed { IfOk result (λ status. Performed (map calls.Ask asks.items) (shown asking.now.form.now) status
         session.old session.new (O.contents out.old) (O.contents out.new)) }
     ensures still { IsStill session.old session.new }
-    ensures refused { IfErr result (λ stop. is_refused stop ≡ true → ServedPart (map calls.Ask asks.items) (shown asking.now.form.now)
+    ensures refused { IfErr result (λ stop. is_refused stop ≡ true → PerformedPart (map calls.Ask asks.items) (shown asking.now.form.now)
         session.old session.new (O.contents out.old) (O.contents out.new)) }
     ensures range { IfOk result (λ status. status ≤ 2) }
     ensures stop { IfErr result (λ stop. (stop ≡ Stop.CannotWrite) ⊎ (stop ≡ Stop.NoMemory) ⊎ (stop ≡ Stop.HistoryFull)) }
@@ -85,7 +85,7 @@ pub(crate) fn ask_ahead<R: AllocGlobal + Threads + Wait + Sync, N: Ending, O: Wr
     asking: &Asking<'_, '_>,
     out: &mut O,
 ) -> Result<u8, Stop>
-    ensures served { AsksAll asking.now.form.now asking.now.names.now.keys result session.old session.new (O.contents out.old) (O.contents out.new) }
+    ensures performed { AsksAll asking.now.form.now asking.now.names.now.keys result session.old session.new (O.contents out.old) (O.contents out.new) }
     ensures still { IsStill session.old session.new }
     ensures refused { AsksSome asking.now.form.now asking.now.names.now.keys result session.old session.new (O.contents out.old) (O.contents out.new) }
     ensures range { IfOk result (λ status. status ≤ 2) }

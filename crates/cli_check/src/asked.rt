@@ -4,23 +4,23 @@ ghost use Rattle.cli_file.specs.Changes.{seen};
 ghost use Rattle.cli_check.specs.Asked.{AreAsked, root_put as root};
 
 use bc_names::{Name, names_are_told_apart};
-use cli_file::{Change, Stop};
+use cli_file::{FileChange, Stop};
 use std::alloc::Global;
 use std::collections::BTreeSet;
 
 /// Returns the root under which a change puts a body, if it puts one under a root.
-fn root_put(change: &Change) -> Option<Name>
+fn root_put(change: &FileChange) -> Option<Name>
     ensures { result ≡ root (seen change.now) }
 {
     match change {
-        Change::Types(_) => None,
-        Change::Put(name, _) => { if name.depth() == 0 { Some(*name) } else { None } }
+        FileChange::Types(_) => None,
+        FileChange::Put(name, _) => { if name.depth() == 0 { Some(*name) } else { None } }
     }
 }
 
 /// Returns the roots under which these changes put bodies, in the order of names, each once. Returns `NoMemory` if there is no room for
 /// them.
-pub fn find_asked(alloc: Global, changes: &[Change]) -> Result<BTreeSet<Name>, Stop>
+pub fn find_asked(alloc: Global, changes: &[FileChange]) -> Result<BTreeSet<Name>, Stop>
     ensures asked { IfOk result (λ names. AreAsked (map seen changes.now) names.keys) }
     ensures stop { IfErr result (λ stop. stop ≡ Stop.NoMemory) }
 {

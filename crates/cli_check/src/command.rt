@@ -13,8 +13,9 @@ ghost use Rattle.cli_file.specs.Stops.{is_of_calls, is_refused};
 ghost use Rattle.cli_file.specs.Ends.{OfFile};
 ghost use Rattle.cli_file.specs.Still.{IsStill};
 ghost use Rattle.cli_check.specs.Ends.{Checked, IsEnd, IsEndOf, Leaves};
-ghost use Rattle.cli_check.specs.Run.{refused_line, answer_lines, told, AreLegal, AreReplied};
-ghost use Rattle.cli_check.specs.Served.{Serves, Served, ServedPart, ServedAll, ServedFirst, ServedThen, Adds, Owes, OwesLast, Runs, Begins, Prints};
+ghost use Rattle.cli_check.specs.Run.{refused_line, answer_lines, error_lines, AreLegal, AreReplied};
+ghost use Rattle.cli_check.specs.Performed.{Performs, Performed, PerformedPart, PerformedAll, PerformedFirst, PerformedThen};
+ghost use Rattle.cli_check.specs.Performed.{Adds, Owes, OwesLast, Runs, Begins, Prints};
 ghost use Rattle.cli_check.specs.Asks.{AsksAll, AsksOne, AsksSome, RefusesOne};
 ghost use Rattle.cli_line.specs.Lines.{is_check};
 
@@ -30,7 +31,8 @@ use bc_share::{Db, Session};
 use bc_source::{SourcedBody, Sources, find_bodies, write_sourced_report};
 use bc_versions::{Ending, Waiting};
 use cli_file::{
-    Change, Stop, find_capacity, outcome_status, put_status, read_changes_by, read_whole, stop_with,
+    FileChange, Stop, find_capacity, outcome_status, put_status, read_changes_by, read_whole,
+    stop_with,
 };
 use cli_line::{CheckLine, Line};
 use std::alloc::Global;
@@ -144,22 +146,22 @@ pub(crate) fn write_answer<O: Write>(
 fn make_change<R: Wait, N: Ending, E: Write>(
     rt: &R,
     session: &mut Session<N>,
-    change: Change,
+    change: FileChange,
     err: &mut E,
 ) -> Result<u8, Stop>
     ensures still { IsStill session.old session.new }
     ensures refused { RefusesOne result session.old session.new (E.contents err.old) (E.contents err.new) }
     ensures untold { IsErrOf result Stop.CannotTell → Owes (seen change) session.old session.new }
-    ensures served { IfOk result (λ status. Serves (seen change) told status session.old session.new (E.contents err.old) (E.contents err.new)) }
+    ensures performed { IfOk result (λ status. Performs (seen change) error_lines status session.old session.new (E.contents err.old) (E.contents err.new)) }
     ensures range { IfOk result (λ status. status ≤ 2) }
     ensures stop { IfErr result (λ stop. (stop ≡ Stop.CannotTell) ⊎ (stop ≡ Stop.NoMemory) ⊎ (stop ≡ Stop.HistoryFull)) }
 {
     match change {
-        Change::Types(types) => {
+        FileChange::Types(types) => {
             session.put_types(rt, types.into_arc())?;
             Ok(0)
         }
-        Change::Put(name, unit) => {
+        FileChange::Put(name, unit) => {
             let reply = session.put(rt, name, unit.into_arc())?;
             if write_refusal(&name, reply, err).is_err() {
                 return Err(Stop::CannotTell);
@@ -190,7 +192,7 @@ fn make_ask<R: AllocGlobal + Wait, N: Ending, O: Write>(
     ensures still { IsStill session.old session.new }
     ensures refused { RefusesOne result session.old session.new (O.contents out.old) (O.contents out.new) }
     ensures unwritten { IsErrOf result Stop.CannotWrite → Makes session.old session.new (calls.Ask name.now) }
-    ensures served { AsksOne asking.now.form.now name.now result session.old session.new (O.contents out.old) (O.contents out.new) }
+    ensures performed { AsksOne asking.now.form.now name.now result session.old session.new (O.contents out.old) (O.contents out.new) }
     ensures range { IfOk result (λ status. status ≤ 2) }
     ensures stop { IfErr result (λ stop. (stop ≡ Stop.CannotWrite) ⊎ (stop ≡ Stop.NoMemory) ⊎ (stop ≡ Stop.HistoryFull)) }
 {
@@ -203,14 +205,14 @@ fn make_ask<R: AllocGlobal + Wait, N: Ending, O: Write>(
 fn make_changes<R: Wait, N: Ending, E: Write>(
     rt: &R,
     session: &mut Session<N>,
-    changes: Vec<Change>,
+    changes: Vec<FileChange>,
     err: &mut E,
 ) -> Result<u8, Stop>
-    ensures served { IfOk result (λ status.
-        Served (map seen changes.items) told status session.old session.new (E.contents err.old) (E.contents err.new)) }
+    ensures performed { IfOk result (λ status.
+        Performed (map seen changes.items) error_lines status session.old session.new (E.contents err.old) (E.contents err.new)) }
     ensures still { IsStill session.old session.new }
     ensures refused { IfErr result (λ stop. is_refused stop ≡ true →
-        ServedPart (map seen changes.items) told session.old session.new (E.contents err.old) (E.contents err.new)) }
+        PerformedPart (map seen changes.items) error_lines session.old session.new (E.contents err.old) (E.contents err.new)) }
     ensures untold { IsErrOf result Stop.CannotTell → OwesLast (λ events. Adds events session.old session.new) (map seen changes.items) }
     ensures range { IfOk result (λ status. status ≤ 2) }
     ensures stop { IfErr result (λ stop. (stop ≡ Stop.CannotTell) ⊎ (stop ≡ Stop.NoMemory) ⊎ (stop ≡ Stop.HistoryFull)) }
@@ -229,7 +231,7 @@ fn make_asks<R: AllocGlobal + Wait, N: Ending, O: Write>(
     asking: &Asking<'_, '_>,
     out: &mut O,
 ) -> Result<u8, Stop>
-    ensures served { AsksAll asking.now.form.now asking.now.names.now.keys result session.old session.new (O.contents out.old) (O.contents out.new) }
+    ensures performed { AsksAll asking.now.form.now asking.now.names.now.keys result session.old session.new (O.contents out.old) (O.contents out.new) }
     ensures still { IsStill session.old session.new }
     ensures refused { AsksSome asking.now.form.now asking.now.names.now.keys result session.old session.new (O.contents out.old) (O.contents out.new) }
     ensures range { IfOk result (λ status. status ≤ 2) }
@@ -251,7 +253,7 @@ fn ask_names<R: AllocGlobal + Threads + Wait + Sync, N: Ending, O: Write>(
     asking: &Asking<'_, '_>,
     out: &mut O,
 ) -> Result<u8, Stop>
-    ensures served { AsksAll asking.now.form.now asking.now.names.now.keys result session.old session.new (O.contents out.old) (O.contents out.new) }
+    ensures performed { AsksAll asking.now.form.now asking.now.names.now.keys result session.old session.new (O.contents out.old) (O.contents out.new) }
     ensures still { IsStill session.old session.new }
     ensures refused { AsksSome asking.now.form.now asking.now.names.now.keys result session.old session.new (O.contents out.old) (O.contents out.new) }
     ensures range { IfOk result (λ status. status ≤ 2) }
@@ -308,7 +310,7 @@ fn answer_all<R: AllocGlobal + Threads + Wait + Sync, N: Ending, O: Write + Drop
     asking: &Asking<'_, '_>,
     out: &mut BufWriter<O>,
 ) -> Result<u8, Stop>
-    ensures served { AsksAll asking.now.form.now asking.now.names.now.keys result session.old session.new
+    ensures performed { AsksAll asking.now.form.now asking.now.names.now.keys result session.old session.new
         (writer_contents O.contents out.old) (writer_contents O.contents out.new) }
     ensures still { IsStill session.old session.new }
     ensures refused { AsksSome asking.now.form.now asking.now.names.now.keys result session.old session.new
@@ -325,20 +327,21 @@ fn answer_all<R: AllocGlobal + Threads + Wait + Sync, N: Ending, O: Write + Drop
 fn make_all<R: AllocGlobal + Threads + Wait + Sync, N: Ending, O: Write + Drop, E: Write>(
     rt: &R,
     session: &mut Session<N>,
-    changes: Vec<Change>,
+    changes: Vec<FileChange>,
     asking: &Asking<'_, '_>,
     out: &mut BufWriter<O>,
     err: &mut E,
 ) -> Result<u8, Stop>
-    ensures served { IfOk result (λ status. ServedAll asking.now.form.now (map seen changes.items) asking.now.names.now.keys status session.old session.new
-        (writer_contents O.contents out.old) (writer_contents O.contents out.new) (E.contents err.old) (E.contents err.new)) }
+    ensures performed { IfOk result (λ status. PerformedAll asking.now.form.now (map seen changes.items) asking.now.names.now.keys status
+        session.old session.new (writer_contents O.contents out.old) (writer_contents O.contents out.new) (E.contents err.old) (E.contents err.new)) }
     ensures still { IsStill session.old session.new }
     ensures refused { IfErr result (λ stop. is_refused stop ≡ true →
-        ServedFirst asking.now.form.now (map seen changes.items) asking.now.names.now.keys session.old session.new
+        PerformedFirst asking.now.form.now (map seen changes.items) asking.now.names.now.keys session.old session.new
         (writer_contents O.contents out.old) (writer_contents O.contents out.new) (E.contents err.old) (E.contents err.new)) }
     ensures untold { IsErrOf result Stop.CannotTell → OwesLast (λ events. Adds events session.old session.new) (map seen changes.items) }
     ensures silent { IsErrOf result Stop.CannotTell → Keeps (writer_contents O.contents out.old) (writer_contents O.contents out.new) }
-    ensures unwritten { IsErrOf result Stop.CannotWrite → ServedThen (map seen changes.items) told session.old (E.contents err.old) (E.contents err.new) }
+    ensures unwritten { IsErrOf result Stop.CannotWrite →
+        PerformedThen (map seen changes.items) error_lines session.old (E.contents err.old) (E.contents err.new) }
     ensures range { IfOk result (λ status. status ≤ 2) }
     ensures stop { IfErr result (λ stop. (stop ≡ Stop.CannotTell) ⊎ (stop ≡ Stop.CannotWrite) ⊎ (stop ≡ Stop.NoMemory) ⊎ (stop ≡ Stop.HistoryFull)) }
     ensures handed_on { writer_buffer out.old ≡ [] → (result ≡ Err Stop.CannotWrite) ⊎ (writer_buffer out.new ≡ []) }
@@ -355,7 +358,7 @@ fn make_all<R: AllocGlobal + Threads + Wait + Sync, N: Ending, O: Write + Drop, 
 /// A failure of `out` is reported first, then a fault of the close, then a refused call or a line that was not written.
 fn call_and_close<R: AllocGlobal + Threads + Wait + Sync, O: Write + Drop, E: Write>(
     rt: &R,
-    changes: Vec<Change>,
+    changes: Vec<FileChange>,
     asking: &Asking<'_, '_>,
     out: &mut BufWriter<O>,
     err: &mut E,
@@ -371,7 +374,7 @@ fn call_and_close<R: AllocGlobal + Threads + Wait + Sync, O: Write + Drop, E: Wr
         (writer_contents O.contents out.old) (writer_contents O.contents out.new) (E.contents err.old) (E.contents err.new)) }
     ensures untold { IsErrOf result Stop.CannotTell → OwesLast AreLegal (map seen changes.items) }
     ensures silent { IsErrOf result Stop.CannotTell → Keeps (writer_contents O.contents out.old) (writer_contents O.contents out.new) }
-    ensures unwritten { IsErrOf result Stop.CannotWrite → Prints (map seen changes.items) told (E.contents err.old) (E.contents err.new) }
+    ensures unwritten { IsErrOf result Stop.CannotWrite → Prints (map seen changes.items) error_lines (E.contents err.old) (E.contents err.new) }
     ensures audited { IsErrOf result Stop.Audit →
         Begins AreReplied asking.now.form.now (map seen changes.items) asking.now.names.now.keys
         (writer_contents O.contents out.old) (writer_contents O.contents out.new) (E.contents err.old) (E.contents err.new) ⊎

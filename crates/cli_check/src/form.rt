@@ -7,7 +7,7 @@ ghost use Rattle.cli_check.specs.Forms.{does_suit, source_put, sources_of, form_
 
 use bc_memo::suits;
 use bc_source::{Source, Sources};
-use cli_file::{Change, Section, Sections, Stop};
+use cli_file::{FileChange, Section, Sections, Stop};
 use cli_line::CheckLine;
 use std::alloc::{AllocError, Global};
 
@@ -24,13 +24,13 @@ fn push_source<'a>(
     alloc: Global,
     sources: &mut Sources<'a>,
     section: &Section<'a>,
-    change: &Change,
+    change: &FileChange,
 ) -> Result<(), AllocError>
     ensures { OnOk result (sources.new ≡ sources.old ++ source_put (part_of section.now) (seen change.now)) }
 {
     match change {
-        Change::Types(_) => Ok(()),
-        Change::Put(name, unit) => {
+        FileChange::Types(_) => Ok(()),
+        FileChange::Put(name, unit) => {
             if suits(alloc, unit.get(), name)? {
                 sources.push(Source::new(*name, section.line, section.text))?;
             }
@@ -43,7 +43,7 @@ fn push_source<'a>(
 fn find_sources<'a>(
     alloc: Global,
     file: &'a [u8],
-    changes: &[Change],
+    changes: &[FileChange],
 ) -> Result<Sources<'a>, AllocError>
     ensures { IfOk result (λ sources. sources ≡ sources_of (sections_of file.now) (map seen changes.now)) }
 {
@@ -64,7 +64,7 @@ pub(crate) fn find_form<'a>(
     alloc: Global,
     line: &CheckLine,
     file: &'a [u8],
-    changes: &[Change],
+    changes: &[FileChange],
 ) -> Result<Form<'a>, Stop>
     ensures found { IfOk result (λ form. form ≡ form_of line.now (sections_of file.now) (map seen changes.now)) }
     ensures stop { IfErr result (λ stop. stop ≡ Stop.NoMemory) }

@@ -1,5 +1,7 @@
--- The words of replies.
+-- The words of replies and of refusals.
 use Rattle.std.specs.Prelude.{ℕ, List, codes}
+use Rattle.bc_book.specs.declared.ledger.Refusal.{Refusal}
+use Rattle.bc_book.specs.declared.ledger.Refusal.TheVariants.{NoMemory, HistoryFull}
 use Rattle.bc_calls.specs.declared.call.PutReply.{PutReply}
 use Rattle.bc_calls.specs.declared.call.PutReply.TheVariants.{Added, Replaced, Full, WrongKind}
 use Rattle.bc_calls.specs.declared.call.RemoveReply.{RemoveReply}
@@ -16,3 +18,8 @@ put_word WrongKind = codes "wrongkind"
 abbrev pub remove_word : RemoveReply → List ℕ
 remove_word Removed = codes "removed"
 remove_word Absent = codes "absent"
+
+-- the words for why a call was refused
+abbrev pub refusal_words : Refusal → List ℕ
+refusal_words NoMemory = codes "no memory"
+refusal_words HistoryFull = codes "history full"

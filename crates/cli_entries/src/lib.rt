@@ -6,4 +6,4 @@ mod replies;
 mod words;
 
 pub use entries::{entry_line, put_entry};
-pub use words::{put_word, remove_word};
+pub use words::{put_word, refusal_words, remove_word};

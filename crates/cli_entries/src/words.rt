@@ -1,7 +1,8 @@
-//! The words of replies.
+//! The words of replies and of refusals.
 ghost use Rattle.std.specs.Prelude.{◌≡◌};
-ghost use Rattle.cli_entries.specs.Words.{put_word, remove_word};
+ghost use Rattle.cli_entries.specs.Words.{put_word, refusal_words, remove_word};
 
+use bc_book::Refusal;
 use bc_calls::{PutReply, RemoveReply};
 
 /// Returns the word of the reply to a put: `added`, `replaced`, `full` or `wrongkind`.
@@ -23,5 +24,15 @@ pub fn remove_word(reply: RemoveReply) -> &'static str
     match reply {
         RemoveReply::Removed => "removed",
         RemoveReply::Absent => "absent",
+    }
+}
+
+/// Returns the words for why a call was refused: `no memory` or `history full`.
+pub fn refusal_words(refusal: Refusal) -> &'static str
+    ensures { result.now ≡ refusal_words refusal }
+{
+    match refusal {
+        Refusal::NoMemory => "no memory",
+        Refusal::HistoryFull => "history full",
     }
 }

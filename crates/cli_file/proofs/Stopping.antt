@@ -11,9 +11,9 @@ IfOk-map (Ok x) f p = f x p
 IfOk-map (Err e) f p = tt
 
 -- the last line is written
-pub stops : {E : Type 0} (Left : Stop → Option (List ℕ) → Type 0) (name : List ℕ) (told err : Option (List ℕ)) (stop : Stop) (r : Result ℕ E) → Left stop told → IfOk r (λ n. n ≡ stop_status stop) → OnOk r (Appends told err (last_line name stop)) → IfOk r (λ n. StopsWith Left name n err)
-stops Left name told err stop (Ok n) left status said = record { stop = stop; told = told; left = left; said = said; status = status }
-stops Left name told err stop (Err fault) left status said = tt
+pub stops : {E : Type 0} (Left : Stop → Option (List ℕ) → Type 0) (name : List ℕ) (before err : Option (List ℕ)) (stop : Stop) (r : Result ℕ E) → Left stop before → IfOk r (λ n. n ≡ stop_status stop) → OnOk r (Appends before err (last_line name stop)) → IfOk r (λ n. StopsWith Left name n err)
+stops Left name before err stop (Ok n) left status said = record { stop = stop; before = before; left = left; said = said; status = status }
+stops Left name before err stop (Err fault) left status said = tt
 
 -- a result that passes this stop on is that error
 pub is_stop : {A : Type 0} (r : Result A Stop) (x n : Stop) → IsErrAnd r (λ y. y ≡ x) → x ≡ n → r ≡ Err n

@@ -7,8 +7,8 @@ use Rattle.bc_calls.specs.declared.call.Call.TheVariants as calls
 use Rattle.cli_file.specs.declared.heading.Heading.{Heading}
 use Rattle.cli_file.specs.declared.heading.Heading.TheVariants as headings
 use Rattle.cli_file.specs.declared.fault.FileFault.{FileFault}
-use Rattle.cli_file.specs.declared.file.Change.{Change}
-use Rattle.cli_file.specs.declared.file.Change.TheVariants as changes
+use Rattle.cli_file.specs.declared.file.FileChange.{FileChange}
+use Rattle.cli_file.specs.declared.file.FileChange.TheVariants as changes
 use Rattle.cli_file.specs.declared.stop.Stop.{Stop}
 use Rattle.cli_file.specs.Parts.{Part, sections_of}
 use Rattle.cli_file.specs.Headings.{IsHeader, heading_of}
@@ -40,23 +40,23 @@ abbrev pub IsFirstFault : List Part → FileFault → Type 0
 IsFirstFault parts fault = sections.IsFirstFault Makes Takes parts fault
 
 -- the call of a change
-abbrev pub seen : Change → Call
+abbrev pub seen : FileChange → Call
 seen (changes.Types types) = calls.Types types
 seen (changes.Put name unit) = calls.Put name unit
 
 -- the result is the call that the section makes, or what is wrong with the section, unless memory ran out
-abbrev pub GivesChange : Part → Result Change Stop → Type 0
+abbrev pub GivesChange : Part → Result FileChange Stop → Type 0
 GivesChange section result =
-    sections.Answers (λ change. Makes section (seen change)) (λ fault. (fault.line ≡ section.line) × sections.IsFault Takes section fault.kind) result
+    sections.IsResult (λ change. Makes section (seen change)) (λ fault. (fault.line ≡ section.line) × sections.IsFault Takes section fault.kind) result
 
 -- the result is the calls that the sections make, or the first fault among them, unless memory ran out
-abbrev pub GivesChanges : List Part → Result (Vec Change Global) Stop → Type 0
-GivesChanges parts result = sections.Answers (λ list. MakeAll parts (map seen list.items)) (IsFirstFault parts) result
+abbrev pub GivesChanges : List Part → Result (Vec FileChange Global) Stop → Type 0
+GivesChanges parts result = sections.IsResult (λ list. MakeAll parts (map seen list.items)) (IsFirstFault parts) result
 
 -- this is the first fault of a file, with its position if asked for
 abbrev pub IsToldFault : Bool → List ℕ → FileFault → Type 0
 IsToldFault positions file fault = IsFirstFault (sections_of file) fault × IsLocated positions file fault
 
 -- the result is the calls that a file makes, or its first fault, with its position if asked for, unless memory ran out
-abbrev pub GivesTold : Bool → List ℕ → Result (Vec Change Global) Stop → Type 0
-GivesTold positions file result = sections.Answers (λ list. MakeAll (sections_of file) (map seen list.items)) (IsToldFault positions file) result
+abbrev pub GivesTold : Bool → List ℕ → Result (Vec FileChange Global) Stop → Type 0
+GivesTold positions file result = sections.IsResult (λ list. MakeAll (sections_of file) (map seen list.items)) (IsToldFault positions file) result

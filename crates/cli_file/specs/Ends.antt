@@ -16,7 +16,7 @@ IsSilent out out' err err' = Keeps out out' × Keeps err err'
 -- the command stopped with this status: its last line follows what else standard error has, of which `Left` holds
 pub record StopsWith (Left : Stop → Option (List ℕ) → Type 0) (name : List ℕ) (exit : ℕ) (err : Option (List ℕ)) : Type 0 where
   pub stop : Stop
-  pub told : Option (List ℕ)
-  pub left : Left stop told
-  pub said : Appends told err (last_line name stop)
+  pub before : Option (List ℕ)
+  pub left : Left stop before
+  pub said : Appends before err (last_line name stop)
   pub status : exit ≡ stop_status stop

@@ -66,18 +66,22 @@ pub record IsFirstFault {Given : Type 0} (Gives : Part → Given → Type 0) (Ta
   pub kind : IsFault Takes section fault.kind
 
 -- the result is a good value or a bad fault of the file, unless memory ran out
-abbrev pub Answers : {T : Type 0} → (T → Type 0) → (FileFault → Type 0) → Result T Stop → Type 0
-Answers Good Bad (Ok value) = Good value
-Answers Good Bad (Err (File fault)) = Bad fault
-Answers Good Bad (Err NoMemory) = Unit {0}
-Answers Good Bad (Err WrongUse) = ⊥
-Answers Good Bad (Err CannotRead) = ⊥
-Answers Good Bad (Err CannotWrite) = ⊥
-Answers Good Bad (Err CannotTell) = ⊥
-Answers Good Bad (Err TooManyCalls) = ⊥
-Answers Good Bad (Err HistoryFull) = ⊥
-Answers Good Bad (Err Foreign) = ⊥
-Answers Good Bad (Err Audit) = ⊥
+abbrev pub IsResult : {T : Type 0} → (T → Type 0) → (FileFault → Type 0) → Result T Stop → Type 0
+IsResult Good Bad (Ok value) = Good value
+IsResult Good Bad (Err (File fault)) = Bad fault
+IsResult Good Bad (Err NoMemory) = Unit {0}
+IsResult Good Bad (Err WrongUse) = ⊥
+IsResult Good Bad (Err CannotRead) = ⊥
+IsResult Good Bad (Err CannotWrite) = ⊥
+IsResult Good Bad (Err CannotTell) = ⊥
+IsResult Good Bad (Err TooManyCalls) = ⊥
+IsResult Good Bad (Err HistoryFull) = ⊥
+IsResult Good Bad (Err Foreign) = ⊥
+IsResult Good Bad (Err Audit) = ⊥
+
+-- the result is what the text of a section was read as, or the fault of the text, at the section's line, unless memory ran out
+abbrev pub GivesRead : {T : Type 0} → Result T ReadFault → Part → Result T Stop → Type 0
+GivesRead read section result = IsResult (λ value. read ≡ Ok value) (λ fault. (fault.line ≡ section.line) × IsUnread read fault.kind) result
 
 -- why a command stops at the section of this line, if its text cannot be read
 abbrev pub stop_of : ℕ → ReadFault → Stop

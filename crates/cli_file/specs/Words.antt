@@ -17,8 +17,8 @@ abbrev pub Shows : List ℕ → ℕ → Option (List ℕ) → Option (List ℕ) 
 Shows text exit out out' err err' = (exit ≡ 0) × Appends out out' text × Keeps err err' ⊎ Says stops.CannotWrite exit err err'
 
 -- the help on a topic or the line of the version is on standard output, or one line says why the words are no command line
-abbrev pub Answers : LineFault → ℕ → Option (List ℕ) → Option (List ℕ) → Option (List ℕ) → Option (List ℕ) → Type 0
-Answers (Help topic) exit out out' err err' = Shows (usage_of topic) exit out out' err err'
-Answers Version exit out out' err err' = Shows version_line exit out out' err err'
-Answers WrongUse exit out out' err err' = Keeps out out' × Says stops.WrongUse exit err err'
-Answers NoMemory exit out out' err err' = Keeps out out' × Says stops.NoMemory exit err err'
+abbrev pub AnswersWords : LineFault → ℕ → Option (List ℕ) → Option (List ℕ) → Option (List ℕ) → Option (List ℕ) → Type 0
+AnswersWords (Help topic) exit out out' err err' = Shows (usage_of topic) exit out out' err err'
+AnswersWords Version exit out out' err err' = Shows version_line exit out out' err err'
+AnswersWords WrongUse exit out out' err err' = Keeps out out' × Says stops.WrongUse exit err err'
+AnswersWords NoMemory exit out out' err err' = Keeps out out' × Says stops.NoMemory exit err err'

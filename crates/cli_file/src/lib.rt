@@ -18,7 +18,7 @@ mod words;
 pub use capacity::find_capacity;
 pub use fault::{FaultKind, FileFault};
 pub use file::{
-    Change, read_body, read_changes, read_declarations, read_told_changes, stop_at, text_stop,
+    FileChange, read_body, read_changes, read_declarations, read_told_changes, stop_at,
 };
 pub use heading::{Heading, behind, read_heading};
 pub use input::read_whole;

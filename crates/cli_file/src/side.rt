@@ -4,7 +4,7 @@ ghost use Rattle.cli_file.specs.Parts.{sections_of};
 ghost use Rattle.cli_file.specs.Left.{part_of};
 ghost use Rattle.cli_file.specs.Changes.{GivesChange, GivesChanges, GivesTold};
 
-use crate::file::{Change, read_change, read_told_changes};
+use crate::file::{FileChange, read_change, read_told_changes};
 use crate::location::locate;
 use crate::section::{Section, Sections};
 use crate::stop::Stop;
@@ -18,7 +18,7 @@ use std::thread::Threads;
 #[derive(Drop)]
 struct PendingSection<'a> {
     section: Section<'a>,
-    read: Option<Result<Change, Stop>>,
+    read: Option<Result<FileChange, Stop>>,
 }
 
 impl<'a> Model for PendingSection<'a> {
@@ -54,7 +54,7 @@ impl<'a> PendingSection<'a> {
     }
 
     /// Returns the change that the section makes. It is read now if it was not read yet.
-    fn into_change(self, alloc: Global) -> Result<Change, Stop>
+    fn into_change(self, alloc: Global) -> Result<FileChange, Stop>
         ensures { GivesChange self.entry result }
     {
         match self.read {
@@ -110,7 +110,7 @@ fn read_sections<'a, R: Threads + Sync>(
 }
 
 /// Returns the changes that these sections make, in their order. Returns `File` with their first fault if one has a fault, or `NoMemory`.
-fn gather(alloc: Global, sections: Vec<PendingSection<'_>>) -> Result<Vec<Change>, Stop>
+fn gather(alloc: Global, sections: Vec<PendingSection<'_>>) -> Result<Vec<FileChange>, Stop>
     ensures { GivesChanges sections.entry.items result }
 {
     let mut changes = Vec::new(alloc);
@@ -127,7 +127,7 @@ fn read_changes_ahead<R: Threads + Sync>(
     alloc: Global,
     threads: usize,
     file: &[u8],
-) -> Result<Vec<Change>, Stop>
+) -> Result<Vec<FileChange>, Stop>
     ensures { GivesChanges (sections_of file.now) result }
 {
     let sections = read_sections(rt, alloc, threads, file)?;
@@ -143,7 +143,7 @@ pub fn read_changes_by<R: Threads + Sync>(
     threads: usize,
     positions: bool,
     file: &[u8],
-) -> Result<Vec<Change>, Stop>
+) -> Result<Vec<FileChange>, Stop>
     ensures { GivesTold positions file.now result }
 {
     if threads <= 1 {

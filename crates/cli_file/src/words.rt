@@ -1,16 +1,16 @@
 //! The answer to words that are no command line, such as `--help`.
 ghost use Rattle.std.specs.Prelude.{◌≤◌, IfOk};
-ghost use Rattle.cli_file.specs.Words.{Answers};
+ghost use Rattle.cli_file.specs.Words.{AnswersWords};
 
 use crate::stop::{Stop, stop_with};
 use cli_line::{LineFault, Topic, write_usage, write_version};
 use std::io;
 use std::io::Write;
 
-/// Prints the help on a topic, or says that standard output failed.
+/// Prints the help on a topic, or says that standard output failed. Returns the exit status.
 fn help<O: Write, E: Write>(topic: Topic, out: &mut O, err: &mut E) -> io::Result<u8>
     ensures range { IfOk result (λ status. status ≤ 3) }
-    ensures answered { IfOk result (λ status. Answers (LineFault.Help topic) status
+    ensures answered { IfOk result (λ status. AnswersWords (LineFault.Help topic) status
         (O.contents out.old) (O.contents out.new) (E.contents err.old) (E.contents err.new)) }
 {
     match write_usage(topic, out) {
@@ -19,10 +19,10 @@ fn help<O: Write, E: Write>(topic: Topic, out: &mut O, err: &mut E) -> io::Resul
     }
 }
 
-/// Prints the line of the version, or says that standard output failed.
+/// Prints the line of the version, or says that standard output failed. Returns the exit status.
 fn version<O: Write, E: Write>(out: &mut O, err: &mut E) -> io::Result<u8>
     ensures range { IfOk result (λ status. status ≤ 3) }
-    ensures answered { IfOk result (λ status. Answers LineFault.Version status
+    ensures answered { IfOk result (λ status. AnswersWords LineFault.Version status
         (O.contents out.old) (O.contents out.new) (E.contents err.old) (E.contents err.new)) }
 {
     match write_version(out) {
@@ -40,7 +40,7 @@ pub fn answer_words<O: Write, E: Write>(
     err: &mut E,
 ) -> io::Result<u8>
     ensures range { IfOk result (λ status. status ≤ 3) }
-    ensures answered { IfOk result (λ status. Answers fault status (O.contents out.old) (O.contents out.new) (E.contents err.old) (E.contents err.new)) }
+    ensures answered { IfOk result (λ status. AnswersWords fault status (O.contents out.old) (O.contents out.new) (E.contents err.old) (E.contents err.new)) }
 {
     match fault {
         LineFault::Help(topic) => help(topic, out, err),

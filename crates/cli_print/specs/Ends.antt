@@ -37,4 +37,4 @@ Leaves line Audit known out out' = ⊥
 abbrev pub IsEnd : PrintParts → Option (List ℕ) → ℕ → Option (List ℕ) → Option (List ℕ) → Option (List ℕ) → Option (List ℕ) → Type 0
 IsEnd line known exit out out' err err' =
     ((exit ≡ 0) × OfFile known (λ file. Printed file out out') × Keeps err err')
-    ⊎ StopsWith (λ stop told. Leaves line stop known out out' × Keeps err told) line.file exit err'
+    ⊎ StopsWith (λ stop before. Leaves line stop known out out' × Keeps err before) line.file exit err'

@@ -6,22 +6,22 @@ ghost use Rattle.cli_file.specs.Parts.{sections_of};
 ghost use Rattle.cli_print.specs.Printed.{text_of, section_text, file_text};
 
 use bc_print::{print_types, print_unit};
-use cli_file::{Change, Sections};
+use cli_file::{FileChange, Sections};
 use std::io;
 use std::io::Write;
 
 /// Writes the declarations or the unit that a change stores, in their one spelling.
-fn print_change<O: Write>(change: &Change, out: &mut O) -> io::Result<()>
+fn print_change<O: Write>(change: &FileChange, out: &mut O) -> io::Result<()>
     ensures { OnOk result (Appends (O.contents out.old) (O.contents out.new) (text_of (seen change.now))) }
 {
     match change {
-        Change::Types(types) => Ok(print_types(types.get(), out)?),
-        Change::Put(_, unit) => Ok(print_unit(unit.get(), out)?),
+        FileChange::Types(types) => Ok(print_types(types.get(), out)?),
+        FileChange::Put(_, unit) => Ok(print_unit(unit.get(), out)?),
     }
 }
 
 /// Writes a section: its header line, then what its change stores.
-fn print_section<O: Write>(header: &[u8], change: &Change, out: &mut O) -> io::Result<()>
+fn print_section<O: Write>(header: &[u8], change: &FileChange, out: &mut O) -> io::Result<()>
     ensures { OnOk result (Appends (O.contents out.old) (O.contents out.new) (section_text header.now (seen change.now))) }
 {
     out.write_all(header)?;
@@ -30,7 +30,7 @@ fn print_section<O: Write>(header: &[u8], change: &Change, out: &mut O) -> io::R
 }
 
 /// Writes the sections of a file, each with what its change stores.
-pub fn print_sections<O: Write>(file: &[u8], changes: &[Change], out: &mut O) -> io::Result<()>
+pub fn print_sections<O: Write>(file: &[u8], changes: &[FileChange], out: &mut O) -> io::Result<()>
     ensures { OnOk result (Appends (O.contents out.old) (O.contents out.new) (file_text (sections_of file.now) (map seen changes.now))) }
 {
     let mut rest = changes;

@@ -24,19 +24,19 @@ silent o e = (stays o, stays e)
 -- `check` whose file cannot be opened
 pub check_unopened : {E : Type 0} (line : CheckParts) (known o e e' : Option (List ℕ)) (r : Result ℕ E) → IfOk r (λ status. status ≡ 3)
     → OnOk r (Appends e e' (last_line line.file CannotRead)) → IfOk r (λ status. IsEndOfCheck line known status o o e e')
-check_unopened line known o e e' (Ok status) is said = inr (record { stop = CannotRead; told = e; left = silent o e; said = said; status = is })
+check_unopened line known o e e' (Ok status) is said = inr (record { stop = CannotRead; before = e; left = silent o e; said = said; status = is })
 check_unopened line known o e e' (Err fault) is said = tt
 
 -- `run` whose file cannot be opened
 pub run_unopened : {E : Type 0} (line : RunParts) (known o e e' : Option (List ℕ)) (r : Result ℕ E) → IfOk r (λ status. status ≡ 3)
     → OnOk r (Appends e e' (last_line line.file CannotRead)) → IfOk r (λ status. IsEndOfRun line known status o o e e')
-run_unopened line known o e e' (Ok status) is said = inr (record { stop = CannotRead; told = e; left = silent o e; said = said; status = is })
+run_unopened line known o e e' (Ok status) is said = inr (record { stop = CannotRead; before = e; left = silent o e; said = said; status = is })
 run_unopened line known o e e' (Err fault) is said = tt
 
 -- `print` whose file cannot be opened
 pub print_unopened : {E : Type 0} (line : PrintParts) (known o e e' : Option (List ℕ)) (r : Result ℕ E) → IfOk r (λ status. status ≡ 3)
     → OnOk r (Appends e e' (last_line line.file CannotRead)) → IfOk r (λ status. IsEndOfPrint line known status o o e e')
-print_unopened line known o e e' (Ok status) is said = inr (record { stop = CannotRead; told = e; left = (stays o, stays e); said = said; status = is })
+print_unopened line known o e e' (Ok status) is said = inr (record { stop = CannotRead; before = e; left = (stays o, stays e); said = said; status = is })
 print_unopened line known o e e' (Err fault) is said = tt
 
 -- a line whose command was out of memory, and did nothing
@@ -44,12 +44,12 @@ pub without_memory : {E : Type 0} (files : List ℕ → Option (List ℕ)) (stan
     → o' ≡ o → e1 ≡ e → IfOk r (λ status. status ≡ 3) → OnOk r (Appends e1 e' (last_line [] NoMemory)) → IfOk r (λ status. IsEndOfLine files standard line status o o' e e')
 without_memory files standard line o o' e e1 e' r same_out same_err is said =
     subst (λ (out : Option (List ℕ)). IfOk r (λ status. IsEndOfLine files standard line status o out e e')) (sym same_out)
-    (told line r is (subst (λ (err : Option (List ℕ)). OnOk r (Appends err e' (last_line [] NoMemory))) same_err said))
+    (ended line r is (subst (λ (err : Option (List ℕ)). OnOk r (Appends err e' (last_line [] NoMemory))) same_err said))
   where
-    told : {E : Type 0} (line : Line) (r : Result ℕ E) → IfOk r (λ status. status ≡ 3) → OnOk r (Appends e e' (last_line [] NoMemory))
+    ended : {E : Type 0} (line : Line) (r : Result ℕ E) → IfOk r (λ status. status ≡ 3) → OnOk r (Appends e e' (last_line [] NoMemory))
         → IfOk r (λ status. IsEndOfLine files standard line status o o e e')
-    told (Check line) (Ok status) is said = inr (record { stop = NoMemory; told = e; left = inl (silent o e); said = said; status = is })
-    told (Run line) (Ok status) is said = inr (record { stop = NoMemory; told = e; left = inl (silent o e); said = said; status = is })
-    told (Serve line) (Ok status) is said = inr (stops.NoMemory, is, said)
-    told (Print line) (Ok status) is said = inr (record { stop = NoMemory; told = e; left = (stays o, stays e); said = said; status = is })
-    told line (Err fault) is said = tt
+    ended (Check line) (Ok status) is said = inr (record { stop = NoMemory; before = e; left = inl (silent o e); said = said; status = is })
+    ended (Run line) (Ok status) is said = inr (record { stop = NoMemory; before = e; left = inl (silent o e); said = said; status = is })
+    ended (Serve line) (Ok status) is said = inr (stops.NoMemory, is, said)
+    ended (Print line) (Ok status) is said = inr (record { stop = NoMemory; before = e; left = (stays o, stays e); said = said; status = is })
+    ended line (Err fault) is said = tt

@@ -10,7 +10,7 @@ use Rattle.cli_line.specs.declared.fault.LineFault.{LineFault}
 use Rattle.cli_line.specs.declared.fault.LineFault.TheVariants as faults
 use Rattle.cli_file.specs.declared.stop.Stop.{Stop}
 use Rattle.cli_file.specs.Ends.{StopsWith}
-use Rattle.cli_file.specs.Words.{Answers, Shows}
+use Rattle.cli_file.specs.Words.{AnswersWords, Shows}
 use Rattle.cli_check.specs.Ends.{Checked, IsEnd as IsEndOfCheck}
 use Rattle.cli_run.specs.Ends.{Ran, IsEnd as IsEndOfRun}
 use Rattle.cli_print.specs.Ends.{IsEnd as IsEndOfPrint}
@@ -19,7 +19,7 @@ use Rattle.cli_program.specs.Ends.{IsEndOfLine, IsEndOfWords}
 
 -- the line of a stop
 stop_kept : (Left : Stop → Option (List ℕ) → Type 0) (name : List ℕ) (exit : ℕ) (e e' : Option (List ℕ)) → StopsWith Left name exit e → Keeps e e' → StopsWith Left name exit e'
-stop_kept Left name exit e e' s k = record { stop = s.stop; told = s.told; left = s.left; said = Appends-kept _ _ _ _ s.said k; status = s.status }
+stop_kept Left name exit e e' s k = record { stop = s.stop; before = s.before; left = s.left; said = Appends-kept _ _ _ _ s.said k; status = s.status }
 
 checked_kept : (line : CheckParts) (file : List ℕ) (exit : ℕ) (o o' b e e' : Option (List ℕ)) → Checked line file exit o o' b e → Keeps e e' → Checked line file exit o o' b e'
 checked_kept line file exit o o' b e e' c k =
@@ -58,7 +58,7 @@ shows_kept : (text : List ℕ) (exit : ℕ) (o o' b e e' : Option (List ℕ)) �
 shows_kept text exit o o' b e e' (inl shown) k = inl (shown.0, shown.1, Keeps-trans b e e' shown.2 k)
 shows_kept text exit o o' b e e' (inr said) k = inr (said.0, Appends-kept _ _ _ _ said.1 k)
 
-answers_kept : (fault : LineFault) (exit : ℕ) (o o' b e e' : Option (List ℕ)) → Answers fault exit o o' b e → Keeps e e' → Answers fault exit o o' b e'
+answers_kept : (fault : LineFault) (exit : ℕ) (o o' b e e' : Option (List ℕ)) → AnswersWords fault exit o o' b e → Keeps e e' → AnswersWords fault exit o o' b e'
 answers_kept (faults.Help topic) exit o o' b e e' said k = shows_kept _ exit o o' b e e' said k
 answers_kept faults.Version exit o o' b e e' said k = shows_kept _ exit o o' b e e' said k
 answers_kept faults.WrongUse exit o o' b e e' said k = (said.0, (said.1.0, Appends-kept _ _ _ _ said.1.1 k))
@@ -79,8 +79,8 @@ line_kept files standard line status o o' b e e' (Err fault) same k end = tt
 words_end_kept : (files : List ℕ → Option (List ℕ)) (standard : Option (List ℕ)) (words : List (List ℕ)) (exit : ℕ) (o o' b e e' : Option (List ℕ)) → IsEndOfWords files standard words exit o o' b e → Keeps e e' → IsEndOfWords files standard words exit o o' b e'
 words_end_kept files standard words exit o o' b e e' end k = record { read = end.read; given = end.given; ended = kept end.read end.ended }
   where
-    kept : (read : Result Line LineFault) → MatchResult read (λ line. IsEndOfLine files standard line exit o o' b e) (λ fault. Answers fault exit o o' b e)
-        → MatchResult read (λ line. IsEndOfLine files standard line exit o o' b e') (λ fault. Answers fault exit o o' b e')
+    kept : (read : Result Line LineFault) → MatchResult read (λ line. IsEndOfLine files standard line exit o o' b e) (λ fault. AnswersWords fault exit o o' b e)
+        → MatchResult read (λ line. IsEndOfLine files standard line exit o o' b e') (λ fault. AnswersWords fault exit o o' b e')
     kept (Ok line) end = end_kept files standard line exit o o' b e e' end k
     kept (Err fault) end = answers_kept fault exit o o' b e e' end k
 

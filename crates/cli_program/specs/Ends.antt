@@ -7,7 +7,7 @@ use Rattle.cli_line.specs.declared.line.Line.{Line}
 use Rattle.cli_line.specs.declared.line.Line.TheVariants.{Check, Run, Serve, Print}
 use Rattle.cli_line.specs.Written.{GivesLine}
 use Rattle.cli_file.specs.declared.stop.Stop.TheVariants as stops
-use Rattle.cli_file.specs.Words.{Answers, Says}
+use Rattle.cli_file.specs.Words.{AnswersWords, Says}
 use Rattle.cli_check.specs.Ends.{IsEnd as IsEndOfCheck}
 use Rattle.cli_run.specs.Ends.{IsEnd as IsEndOfRun}
 use Rattle.cli_print.specs.Ends.{IsEnd as IsEndOfPrint}
@@ -33,7 +33,7 @@ IsEndOfLine files standard (Print line) exit out out' err err' = IsEndOfPrint li
 pub record IsEndOfWords (files : List ℕ → Option (List ℕ)) (standard : Option (List ℕ)) (words : List (List ℕ)) (exit : ℕ) (out out' err err' : Option (List ℕ)) : Type 0 where
   pub read : Result Line LineFault
   pub given : GivesLine words read
-  pub ended : MatchResult read (λ line. IsEndOfLine files standard line exit out out' err err') (λ fault. Answers fault exit out out' err err')
+  pub ended : MatchResult read (λ line. IsEndOfLine files standard line exit out out' err err') (λ fault. AnswersWords fault exit out out' err err')
 
 -- the status is unchanged, or standard output failed at the end and nothing had failed before
 abbrev pub HandsOn : ℕ → ℕ → Option (List ℕ) → Option (List ℕ) → Type 0

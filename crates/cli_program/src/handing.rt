@@ -8,6 +8,9 @@ use cli_file::{Stop, stop_with};
 use std::io;
 use std::io::{BufWriter, Write};
 
+/// How a command ended: its exit status, or the fault of standard error, so that nothing more can be said.
+pub(crate) type Exit = io::Result<u8>;
+
 /// Flushes the buffer if nothing has failed yet, and writes that standard output failed if it does here. Returns the exit status.
 pub(crate) fn hand_on<O: Write + Drop, E: Write>(
     status: u8,

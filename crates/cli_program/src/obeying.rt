@@ -9,7 +9,7 @@ ghost use Rattle.cli_program.specs.Ends.{IsEndOfLine, input_of};
 
 use crate::Inputs;
 use crate::handing::{hand_on, hand_on_told};
-use crate::inputs::is_standard_input;
+use crate::inputs::open_input;
 use crate::printing::obey_print;
 use bc_prov::Providers;
 use cli_check::check_and_tell;
@@ -29,26 +29,7 @@ pub struct Engine<'a, R> {
     pub providers: &'a Providers,
 }
 
-/// Runs the command `check` on the file that its line names.
-fn check_file<R: AllocGlobal + Threads + Wait + Sync, S: Inputs, O: Write + Drop, E: Write>(
-    engine: &Engine<'_, R>,
-    check: &CheckLine,
-    inputs: &S,
-    out: &mut BufWriter<O>,
-    err: &mut E,
-) -> io::Result<u8>
-    ensures range { IfOk result (λ status. status ≤ 3) }
-    ensures ended { IfOk result (λ status. IsEndOfCheck check.now (S.bytes_of inputs.now check.now.file) status
-        (writer_contents O.contents out.old) (writer_contents O.contents out.new) (E.contents err.old) (E.contents err.new)) }
-    ensures handed_on { writer_buffer out.old ≡ [] → IfOk result (λ status. status < 3 → writer_buffer out.new ≡ []) }
-{
-    match inputs.open(check.file()) {
-        Ok(mut input) => check_and_tell(engine.rt, engine.providers, check, &mut input, out, err),
-        Err(_) => stop_with(check.file(), &Stop::CannotRead, err),
-    }
-}
-
-/// Runs the command `check` on standard input or the file that its line names.
+/// Runs the command `check` on standard input or the file that its line names, and returns its exit status.
 fn obey_check<
     R: AllocGlobal + Threads + Wait + Sync,
     S: Inputs,
@@ -68,33 +49,13 @@ fn obey_check<
         (writer_contents O.contents out.old) (writer_contents O.contents out.new) (E.contents err.old) (E.contents err.new)) }
     ensures handed_on { writer_buffer out.old ≡ [] → IfOk result (λ status. status < 3 → writer_buffer out.new ≡ []) }
 {
-    if is_standard_input(check.file()) {
-        check_and_tell(engine.rt, engine.providers, check, standard, out, err)
-    } else {
-        check_file(engine, check, inputs, out, err)
+    match open_input(inputs, standard, check.file()) {
+        Ok(mut input) => check_and_tell(engine.rt, engine.providers, check, &mut input, out, err),
+        Err(_) => stop_with(check.file(), &Stop::CannotRead, err),
     }
 }
 
-/// Runs the command `run` on the file that its line names.
-fn run_file<R: AllocGlobal + Threads + Wait + Sync, S: Inputs, O: Write + Drop, E: Write>(
-    engine: &Engine<'_, R>,
-    run: &RunLine,
-    inputs: &S,
-    out: &mut BufWriter<O>,
-    err: &mut E,
-) -> io::Result<u8>
-    ensures range { IfOk result (λ status. status ≤ 3) }
-    ensures ended { IfOk result (λ status. IsEndOfRun run.now (S.bytes_of inputs.now run.now.file) status
-        (writer_contents O.contents out.old) (writer_contents O.contents out.new) (E.contents err.old) (E.contents err.new)) }
-    ensures handed_on { writer_buffer out.old ≡ [] → IfOk result (λ status. status < 3 → writer_buffer out.new ≡ []) }
-{
-    match inputs.open(run.file()) {
-        Ok(mut input) => run_and_tell(engine.rt, engine.providers, run, &mut input, out, err),
-        Err(_) => stop_with(run.file(), &Stop::CannotRead, err),
-    }
-}
-
-/// Runs the command `run` on standard input or the file that its line names.
+/// Runs the command `run` on standard input or the file that its line names, and returns its exit status.
 fn obey_run<
     R: AllocGlobal + Threads + Wait + Sync,
     S: Inputs,
@@ -114,14 +75,13 @@ fn obey_run<
         (writer_contents O.contents out.old) (writer_contents O.contents out.new) (E.contents err.old) (E.contents err.new)) }
     ensures handed_on { writer_buffer out.old ≡ [] → IfOk result (λ status. status < 3 → writer_buffer out.new ≡ []) }
 {
-    if is_standard_input(run.file()) {
-        run_and_tell(engine.rt, engine.providers, run, standard, out, err)
-    } else {
-        run_file(engine, run, inputs, out, err)
+    match open_input(inputs, standard, run.file()) {
+        Ok(mut input) => run_and_tell(engine.rt, engine.providers, run, &mut input, out, err),
+        Err(_) => stop_with(run.file(), &Stop::CannotRead, err),
     }
 }
 
-/// Runs the command `serve` on standard input.
+/// Runs the command `serve` on standard input, and returns its exit status.
 fn obey_serve<R: AllocGlobal + Threads + Wait + Sync, I: BufRead, O: Write + Drop + Send, E: Write>(
     engine: &Engine<'_, R>,
     serve: &ServeLine,
@@ -141,7 +101,7 @@ fn obey_serve<R: AllocGlobal + Threads + Wait + Sync, I: BufRead, O: Write + Dro
     }
 }
 
-/// Runs the command of a line, as `obey_line` does, without flushing standard error.
+/// Runs the command of a line, and returns its exit status, as `obey_line` does, without flushing standard error.
 pub(crate) fn obey_command<
     R: AllocGlobal + Threads + Wait + Sync,
     S: Inputs,

@@ -1,11 +1,11 @@
 //! The program over any inputs and outputs.
 ghost use Rattle.std.specs.Prelude.{◌≡◌, ◌≤◌, ◌<◌, [], IfOk, OnErr, map};
 ghost use Rattle.std.specs.Io.Buffered.{writer_buffer, writer_contents};
-ghost use Rattle.cli_file.specs.Words.{Answers};
+ghost use Rattle.cli_file.specs.Words.{AnswersWords};
 ghost use Rattle.cli_program.specs.Ends.{IsEndOfLine, IsEndOfWords};
 
 use crate::Inputs;
-use crate::handing::{hand_on, hand_on_told};
+use crate::handing::{Exit, hand_on, hand_on_told};
 use crate::obeying::{Engine, obey_command};
 use bc_analyses::{find_plain_values, providers};
 use cli_file::{Stop, answer_words, stop_with};
@@ -38,7 +38,7 @@ fn obey_by_components<
     standard: &mut I,
     out: &mut BufWriter<O>,
     err: &mut E,
-) -> Result<io::Result<u8>, AllocError>
+) -> Result<Exit, AllocError>
     ensures range { IfOk result (λ ended. IfOk ended (λ status. status ≤ 3)) }
     ensures ended { IfOk result (λ ended. IfOk ended (λ status. IsEndOfLine (S.bytes_of inputs.now) (I.remaining standard.old) line.now status
         (writer_contents O.contents out.old) (writer_contents O.contents out.new) (E.contents err.old) (E.contents err.new))) }
@@ -67,7 +67,7 @@ fn obey_plainly<
     standard: &mut I,
     out: &mut BufWriter<O>,
     err: &mut E,
-) -> Result<io::Result<u8>, AllocError>
+) -> Result<Exit, AllocError>
     ensures range { IfOk result (λ ended. IfOk ended (λ status. status ≤ 3)) }
     ensures ended { IfOk result (λ ended. IfOk ended (λ status. IsEndOfLine (S.bytes_of inputs.now) (I.remaining standard.old) line.now status
         (writer_contents O.contents out.old) (writer_contents O.contents out.new) (E.contents err.old) (E.contents err.new))) }
@@ -97,7 +97,7 @@ fn obey_by_its_solver<
     standard: &mut I,
     out: &mut BufWriter<O>,
     err: &mut E,
-) -> Result<io::Result<u8>, AllocError>
+) -> Result<Exit, AllocError>
     ensures range { IfOk result (λ ended. IfOk ended (λ status. status ≤ 3)) }
     ensures ended { IfOk result (λ ended. IfOk ended (λ status. IsEndOfLine (S.bytes_of inputs.now) (I.remaining standard.old) line.now status
         (writer_contents O.contents out.old) (writer_contents O.contents out.new) (E.contents err.old) (E.contents err.new))) }
@@ -110,7 +110,7 @@ fn obey_by_its_solver<
     }
 }
 
-/// Runs the command of a line, or reports that there is no room for the providers.
+/// Runs the command of a line, or reports that there is no room for the providers. Returns the exit status.
 fn obey<
     R: AllocGlobal + Threads + Wait + Sync,
     S: Inputs,
@@ -137,14 +137,14 @@ fn obey<
     }
 }
 
-/// Answers words that are no command line, and flushes the output.
+/// Answers words that are no command line, and flushes the output. Returns the exit status.
 fn answer<O: Write + Drop, E: Write>(
     fault: LineFault,
     out: &mut BufWriter<O>,
     err: &mut E,
 ) -> io::Result<u8>
     ensures range { IfOk result (λ status. status ≤ 3) }
-    ensures answered { IfOk result (λ status. Answers fault status
+    ensures answered { IfOk result (λ status. AnswersWords fault status
         (writer_contents O.contents out.old) (writer_contents O.contents out.new) (E.contents err.old) (E.contents err.new)) }
     ensures handed_on { IfOk result (λ status. status < 3 → writer_buffer out.new ≡ []) }
 {
@@ -154,7 +154,7 @@ fn answer<O: Write + Drop, E: Write>(
     }
 }
 
-/// Runs the command of the line that words are, or answers words that are none, without flushing standard error.
+/// Runs the command of the line that words are, or answers words that are none, without flushing standard error. Returns the exit status.
 pub(crate) fn obey_words<
     R: AllocGlobal + Threads + Wait + Sync,
     S: Inputs,

@@ -2,7 +2,7 @@
 ghost use Rattle.std.specs.Prelude.{◌≤◌, IfOk};
 
 use crate::SystemFiles;
-use crate::handing::hand_on_told;
+use crate::handing::{Exit, hand_on_told};
 use crate::program::obey_words;
 use cli_file::{Stop, answer_words, stop_with};
 use cli_line::LineFault;
@@ -41,7 +41,7 @@ fn run_words<
     standard: &mut I,
     out: &mut BufWriter<O>,
     err: &mut E,
-) -> Result<io::Result<u8>, LineFault>
+) -> Result<Exit, LineFault>
     ensures { IfOk result (λ ended. IfOk ended (λ status. status ≤ 3)) }
 {
     let mut views = Vec::new(rt.alloc());
@@ -52,7 +52,7 @@ fn run_words<
     Ok(obey_words(rt, &views, &files, standard, out, err))
 }
 
-/// Runs the program on its own words, or answers why it has none.
+/// Runs the program on its own words, or answers why it has none. Returns the exit status.
 fn run_own_words<
     R: Env + Files + AllocGlobal + Threads + Wait + Sync,
     I: BufRead,
@@ -71,8 +71,8 @@ fn run_own_words<
     }
 }
 
-/// Runs the program on its own words, over buffers. What is left in the buffer of `out` at the end is dropped unwritten: its writer has
-/// failed then.
+/// Runs the program on its own words, over buffers, and returns the exit status. What is left in the buffer of `out` at the end is dropped
+/// unwritten: its writer has failed then.
 fn run_over_buffers<
     R: Env + Files + AllocGlobal + Threads + Wait + Sync,
     I: Read + Drop,

@@ -7,8 +7,8 @@ use Rattle.bc_text.specs.declared.fault.ReadFault.TheVariants as causes
 use Rattle.cli_requests.specs.declared.fault.RequestFault.{RequestFault}
 use Rattle.cli_requests.specs.declared.fault.RequestFault.TheVariants.{TooLong, Text}
 use Rattle.cli_requests.specs.declared.fault.TextFault.{TextFault}
-use Rattle.cli_requests.specs.declared.fault.Stop.{Stop}
-use Rattle.cli_requests.specs.declared.fault.Stop.TheVariants.{Fault, NoMemory}
+use Rattle.cli_requests.specs.declared.fault.RequestStop.{RequestStop}
+use Rattle.cli_requests.specs.declared.fault.RequestStop.TheVariants.{Fault, NoMemory}
 use Rattle.cli_requests.specs.declared.verb.Verb.TheVariants.{Put}
 use Rattle.cli_requests.specs.Asking.{Calls, HasName, HasText}
 use Rattle.cli_requests.specs.Faults.{HasBadText, IsTextFault, IsWrong, Stops, Tells}
@@ -27,7 +27,7 @@ wrong_as value fault bad (inl is) = subst (IsWrong value) (sym is) (subst (HasBa
 wrong_as value fault bad (inr (it, is)) = subst (IsWrong value) (sym is) (subst (HasBadText value) is bad)
 
 -- a request for a put is wrong if it is right up to its text, which cannot be read
-pub bad_body : (value : Data) (name : NameParts) (text : List ℕ) (stop : Stop) → Calls value Put → HasName value name → HasText value text → Stops (IsTextFault Put text) stop → Stops (IsWrong value) stop
-bad_body value name text (Fault fault) calls named has told =
-    wrong_as value fault (record { verb = Put; right = (calls, (name, named)); text = text; has = has; told = told }) (told_as text told.0 fault told.2)
-bad_body value name text NoMemory calls named has told = tt
+pub bad_body : (value : Data) (name : NameParts) (text : List ℕ) (stop : RequestStop) → Calls value Put → HasName value name → HasText value text → Stops (IsTextFault Put text) stop → Stops (IsWrong value) stop
+bad_body value name text (Fault fault) calls named has unread =
+    wrong_as value fault (record { verb = Put; right = (calls, (name, named)); text = text; has = has; unread = unread }) (told_as text unread.0 fault unread.2)
+bad_body value name text NoMemory calls named has unread = tt

@@ -10,8 +10,8 @@ use Rattle.cli_requests.specs.declared.fault.RequestFault.{RequestFault}
 use Rattle.cli_requests.specs.declared.fault.RequestFault.TheVariants.{NotJson, TooLong, BadSession, BadCall, BadName, BadText, Text}
 use Rattle.cli_requests.specs.declared.fault.TextFaultKind.{TextFaultKind}
 use Rattle.cli_requests.specs.declared.fault.TextFaultKind.TheVariants.{NotAscii, Token, Grammar, Limit}
-use Rattle.cli_requests.specs.declared.fault.Stop.{Stop}
-use Rattle.cli_requests.specs.declared.fault.Stop.TheVariants.{Fault, NoMemory}
+use Rattle.cli_requests.specs.declared.fault.RequestStop.{RequestStop}
+use Rattle.cli_requests.specs.declared.fault.RequestStop.TheVariants.{Fault, NoMemory}
 use Rattle.cli_requests.specs.declared.verb.Verb.{Verb}
 use Rattle.cli_requests.specs.declared.verb.Verb.TheVariants as verbs
 use Rattle.cli_requests.specs.Asking.{Calls, HasName, HasText, word}
@@ -66,7 +66,7 @@ pub record HasBadText (value : Data) (fault : RequestFault) : Type 0 where
   pub right : IsRightUpToText value verb
   pub text : List ℕ
   pub has : HasText value text
-  pub told : IsTextFault verb text fault
+  pub unread : IsTextFault verb text fault
 
 -- this is the first thing that is wrong with a request whose session is right
 abbrev pub IsWrong : Data → RequestFault → Type 0
@@ -79,6 +79,6 @@ IsWrong value TooLong = HasBadText value TooLong
 IsWrong value (Text fault) = HasBadText value (Text fault)
 
 -- a reading stopped with such a fault, unless memory ran out
-abbrev pub Stops : (RequestFault → Type 0) → Stop → Type 0
+abbrev pub Stops : (RequestFault → Type 0) → RequestStop → Type 0
 Stops Is (Fault fault) = Is fault
 Stops Is NoMemory = ⊤

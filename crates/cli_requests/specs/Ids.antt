@@ -6,8 +6,8 @@ use Rattle.serde_json.specs.View.{view}
 use Rattle.cli_requests.specs.declared.id.Id.{Id}
 
 -- the data of an id
-abbrev pub told : Id → Data
-told id = view id.value
+abbrev pub id_data : Id → Data
+id_data id = view id.value
 
 -- the member `id`, or `null` if there is none
 abbrev pub id_of : Data → Data

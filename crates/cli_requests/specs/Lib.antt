@@ -4,3 +4,4 @@ pub mod Sessions
 pub mod Asking
 pub mod Faults
 pub mod Requests
+pub mod Destinations

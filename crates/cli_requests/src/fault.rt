@@ -37,7 +37,7 @@ pub enum RequestFault {
 
 /// Why a step of the reading has no result: something is wrong with the request, or memory ran out.
 #[derive(Clone, Copy, Debug)]
-pub enum Stop {
+pub enum RequestStop {
     Fault(RequestFault),
     NoMemory,
 }

@@ -1,6 +1,7 @@
 //! Requests: what a line of JSON asks of a session.
 #![tactic(auto)]
 
+mod destination;
 mod fault;
 mod id;
 mod line;
@@ -11,8 +12,8 @@ mod session;
 mod text;
 mod verb;
 
+pub use destination::{Destination, ParsedLine, find_destination};
 pub use fault::{RequestFault, TextFault, TextFaultKind};
 pub use id::Id;
 pub use read::read_request;
 pub use request::{MOST_REQUEST_BYTES, Request, Wanted};
-pub use session::find_session;

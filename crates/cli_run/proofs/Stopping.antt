@@ -9,8 +9,8 @@ use Rattle.cli_file.specs.Stops.{last_line, stop_status}
 use Rattle.cli_file.proofs.Stopping.{stops, IfOk-map}
 use Rattle.cli_run.specs.Ends.{IsEnd, Leaves}
 
-pub stopped_end : {E : Type 0} (line : RunParts) (known o o' e told e' : Option (List ℕ)) (stop : Stop) (r : Result ℕ E) → Leaves line stop known o o' e told → IfOk r (λ n. n ≡ stop_status stop) → OnOk r (Appends told e' (last_line line.file stop)) → IfOk r (λ n. IsEnd line known n o o' e e')
-stopped_end line known o o' e told e' stop r left status said = IfOk-map r (λ n h. inr h) (stops (λ s t. Leaves line s known o o' e t) line.file told e' stop r left status said)
+pub stopped_end : {E : Type 0} (line : RunParts) (known o o' e before e' : Option (List ℕ)) (stop : Stop) (r : Result ℕ E) → Leaves line stop known o o' e before → IfOk r (λ n. n ≡ stop_status stop) → OnOk r (Appends before e' (last_line line.file stop)) → IfOk r (λ n. IsEnd line known n o o' e e')
+stopped_end line known o o' e before e' stop r left status said = IfOk-map r (λ n h. inr h) (stops (λ s t. Leaves line s known o o' e t) line.file before e' stop r left status said)
 
 pub at_each_error : {A E P : Type 0} (r : Result A E) → P → OnErr r P
 at_each_error (Ok a) p = tt

@@ -33,17 +33,17 @@ IsFirstFault sessions parts fault = sections.IsFirstFault (Gives sessions) (Take
 -- the result is the call of a section with this heading, or what is wrong with its text, unless memory ran out
 abbrev pub GivesText : Heading → Part → Result Call Stop → Type 0
 GivesText heading section result =
-    sections.Answers (λ call. (heading_of call ≡ heading) × sections.GivesCall call section.text)
+    sections.IsResult (λ call. (heading_of call ≡ heading) × sections.GivesCall call section.text)
     (λ fault. (fault.line ≡ section.line) × sections.IsTextFault heading section.text fault.kind) result
 
 -- the result is the call that a section gives, or what is wrong with the section, unless memory ran out
 abbrev pub GivesOne : ℕ → Part → Result SessionCall Stop → Type 0
 GivesOne sessions section result =
-    sections.Answers (Gives sessions section) (λ fault. (fault.line ≡ section.line) × sections.IsFault (Takes sessions) section fault.kind) result
+    sections.IsResult (Gives sessions section) (λ fault. (fault.line ≡ section.line) × sections.IsFault (Takes sessions) section fault.kind) result
 
 -- the result is the calls that the sections give, or the first fault among them, unless memory ran out
 abbrev pub GivesAll : ℕ → List Part → Result (Vec SessionCall Global) Stop → Type 0
-GivesAll sessions parts result = sections.Answers (λ list. GiveAll sessions parts list.items) (IsFirstFault sessions parts) result
+GivesAll sessions parts result = sections.IsResult (λ list. GiveAll sessions parts list.items) (IsFirstFault sessions parts) result
 
 -- this is the first fault of a file, with its position if asked for
 abbrev pub IsToldFault : ℕ → Bool → List ℕ → FileFault → Type 0
@@ -51,7 +51,7 @@ IsToldFault sessions positions file fault = IsFirstFault sessions (sections_of f
 
 -- the result is the calls that a file gives, or its first fault, with its position if asked for, unless memory ran out
 abbrev pub GivesTold : ℕ → Bool → List ℕ → Result (Vec SessionCall Global) Stop → Type 0
-GivesTold sessions positions file result = sections.Answers (λ list. GiveAll sessions (sections_of file) list.items) (IsToldFault sessions positions file) result
+GivesTold sessions positions file result = sections.IsResult (λ list. GiveAll sessions (sections_of file) list.items) (IsToldFault sessions positions file) result
 
 -- a call, if it is this session's
 abbrev pub own_call : ℕ → SessionCall → List Call

@@ -81,7 +81,7 @@ Leaves line Audit known out out' err err' = OfFile known (IsWell line.sessions) 
 -- the command of a line with these parts ended with this status: at its end, or after a stop
 abbrev pub IsEnd : RunParts → Option (List ℕ) → ℕ → Option (List ℕ) → Option (List ℕ) → Option (List ℕ) → Option (List ℕ) → Type 0
 IsEnd line known exit out out' err err' =
-    OfFile known (λ file. Ran line.json line.sessions file exit out out' err err') ⊎ StopsWith (λ stop told. Leaves line stop known out out' err told) line.file exit err'
+    OfFile known (λ file. Ran line.json line.sessions file exit out out' err err') ⊎ StopsWith (λ stop before. Leaves line stop known out out' err before) line.file exit err'
 
 -- the command ended with this status on the file that a line of `run` names
 abbrev pub IsEndOf : Line → Option (List ℕ) → ℕ → Option (List ℕ) → Option (List ℕ) → Option (List ℕ) → Option (List ℕ) → Type 0

@@ -7,11 +7,9 @@ use Rattle.bc_prov.specs.declared.outcome.Outcome.{Outcome}
 use Rattle.bc_calls.specs.declared.call.Entry.{Entry}
 use Rattle.bc_calls.specs.declared.call.Event.{Event}
 use Rattle.bc_calls.specs.declared.call.Event.TheVariants.{Types, Put, Remove, Ask, All as EveryRoot}
-use Rattle.bc_book.specs.declared.ledger.Refusal.{Refusal}
-use Rattle.bc_book.specs.declared.ledger.Refusal.TheVariants as refusals
 use Rattle.bc_scripts.specs.declared.run.End.{End}
 use Rattle.bc_scripts.specs.declared.run.End.TheVariants.{Done, Stopped}
-use Rattle.cli_entries.specs.Words.{put_word, remove_word}
+use Rattle.cli_entries.specs.Words.{put_word, refusal_words, remove_word}
 use Rattle.cli_entries.specs.Json.{entry_json}
 use Rattle.bc_report.specs.Text.{line}
 use Rattle.bc_report.specs.Report.{report}
@@ -52,15 +50,10 @@ pub record PrintsPart (entries : List Entry) (out out' : Option (List ℕ)) : Ty
   pub cut : front ++ next ∷ ahead ≡ entries
   pub printed : Appends out out' (flat_map (entry_lines true) front)
 
--- the words for why a call was refused
-abbrev pub refusal_text : Refusal → List ℕ
-refusal_text refusals.NoMemory = codes "no memory"
-refusal_text refusals.HistoryFull = codes "history full"
-
 -- the line of a session that stopped early
 abbrev pub stopped_line : ℕ → End → List ℕ
 stopped_line session Done = []
-stopped_line session (Stopped number refusal) = line (codes "session " ++ decimal session ++ codes " stopped: " ++ refusal_text refusal)
+stopped_line session (Stopped number refusal) = line (codes "session " ++ decimal session ++ codes " stopped: " ++ refusal_words refusal)
 
 -- the lines of the sessions that stopped early, of which the first has this number
 abbrev pub stopped_lines : ℕ → List End → List ℕ

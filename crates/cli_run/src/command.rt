@@ -39,22 +39,23 @@ fn show<O: Write + Drop>(
     ensures handed_on { (result ≡ Err Stop.CannotWrite) ⊎ (writer_buffer out.new ≡ []) }
     ensures stop { IfErr result (λ stop. (stop ≡ Stop.CannotWrite) ⊎ (stop ≡ Stop.NoMemory)) }
 {
-    let Ok(made) = write_history(alloc, json, history.entries(), out) else {
+    let made = write_history(alloc, json, history.entries(), out);
+    if let Err(Stop::CannotWrite) = made {
         return Err(Stop::CannotWrite);
-    };
+    }
     if out.flush().is_err() {
         return Err(Stop::CannotWrite);
     }
     match made {
         Ok(()) => Ok(()),
-        Err(_) => Err(Stop::NoMemory),
+        Err(stop) => Err(stop),
     }
 }
 
 /// Writes a line for each session that stopped early.
 fn tell<E: Write>(ends: &[End], err: &mut E) -> Result<(), Stop>
     requires { length ends.now ≤ 16 }
-    ensures told { OnOk result (Appends (E.contents err.old) (E.contents err.new) (stopped_lines 0 ends.now)) }
+    ensures written { OnOk result (Appends (E.contents err.old) (E.contents err.new) (stopped_lines 0 ends.now)) }
     ensures owed { OnErr result (greatest_end ends.now ≡ 3) }
     ensures stop { IfErr result (λ stop. stop ≡ Stop.CannotTell) }
 {

@@ -10,7 +10,6 @@ use bc_calls::Call;
 use bc_names::Name;
 use cli_file::{
     FaultKind, Heading, Section, Sections, Stop, locate, read_body, read_declarations, stop_at,
-    text_stop,
 };
 use std::alloc::Global;
 
@@ -33,26 +32,6 @@ fn is_blank(text: &[u8]) -> bool
     ensures { result ≡ list_all (λ b. b == 32 || b == 10) text.now }
 {
     text.iter().all(|byte| is_blank_byte(*byte))
-}
-
-/// Returns the call that stores the declarations of a section.
-fn read_stored(alloc: Global, section: &Section<'_>) -> Result<Call, Stop>
-    ensures { GivesText Heading.Types (part_of section.now) result }
-{
-    match read_declarations(alloc, section.text) {
-        Ok(types) => Ok(Call::Types(types)),
-        Err(fault) => Err(text_stop(section.line, fault)),
-    }
-}
-
-/// Returns the call that puts the unit of a section under a name.
-fn read_put(alloc: Global, section: &Section<'_>, name: Name) -> Result<Call, Stop>
-    ensures { GivesText (Heading.Put name) (part_of section.now) result }
-{
-    match read_body(alloc, section.text) {
-        Ok(unit) => Ok(Call::Put(name, unit)),
-        Err(fault) => Err(text_stop(section.line, fault)),
-    }
 }
 
 /// Returns the call that removes the body of a name, of a section with a blank text.
@@ -90,8 +69,8 @@ fn read_text(alloc: Global, section: &Section<'_>, heading: Heading) -> Result<C
     ensures { GivesText heading (part_of section.now) result }
 {
     match heading {
-        Heading::Types => read_stored(alloc, section),
-        Heading::Put(name) => read_put(alloc, section, name),
+        Heading::Types => Ok(Call::Types(read_declarations(alloc, section)?)),
+        Heading::Put(name) => Ok(Call::Put(name, read_body(alloc, section)?)),
         Heading::Remove(name) => read_remove(section, name),
         Heading::Ask(name) => read_ask(section, name),
         Heading::All => read_all(section),

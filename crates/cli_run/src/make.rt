@@ -22,12 +22,12 @@ impl Gate for Open {
 }
 
 /// The history of a file's calls, and how each session ended, in the order of sessions.
-pub struct Made {
+pub struct RunResult {
     pub history: History,
     pub ends: Vec<End>,
 }
 
-impl Drop for Made {
+impl Drop for RunResult {
     fn drop(self) {
         let Self {
             history: _,
@@ -59,7 +59,7 @@ pub fn make_calls<R: AllocGlobal + Threads + Wait + Sync>(
     providers: &Providers,
     calls: &[SessionCall],
     sessions: u8,
-) -> Result<Made, Stop>
+) -> Result<RunResult, Stop>
     requires least { 1 ≤ sessions }
     requires most { sessions ≤ 16 }
     ensures made { IfOk result (λ made. AreMade sessions calls.now made.history made.ends.items) }
@@ -78,7 +78,7 @@ pub fn make_calls<R: AllocGlobal + Threads + Wait + Sync>(
         Ok(ran) => {
             part(ran, &mut back, &mut ends);
             let history = db.close(rt, back)?;
-            Ok(Made { history, ends })
+            Ok(RunResult { history, ends })
         }
         Err(opened) => {
             db.close(rt, opened)?;

@@ -1,19 +1,19 @@
 //! Printing a history, and the sessions that stopped early.
-ghost use Rattle.std.specs.Prelude.{◌≡◌, ◌≤◌, true, false, IfOk, OnOk, OnErr, length};
+ghost use Rattle.std.specs.Prelude.{◌≡◌, ◌≤◌, ◌⊎◌, true, false, IfErr, IsErrOf, OnOk, OnErr, length};
 ghost use Rattle.std.specs.List.{flat_map};
 ghost use Rattle.std.specs.Io.KnownBytes.{Appends, Keeps};
 ghost use Rattle.bc_report.specs.Text.{line};
 ghost use Rattle.cli_run.specs.Runs.{end_status, greatest_end};
-ghost use Rattle.cli_run.specs.Print.{event_text, entry_line, root_lines, outcome_lines, refusal_text, entry_lines, stopped_line, stopped_lines, PrintsPart};
+ghost use Rattle.cli_run.specs.Print.{event_text, entry_line, root_lines, outcome_lines, entry_lines, stopped_line, stopped_lines, PrintsPart};
 
-use bc_book::Refusal;
 use bc_calls::{Entry, Event};
 use bc_names::Name;
 use bc_prov::{Outcome, Shared};
 use bc_report::write_report;
 use bc_scripts::End;
-use cli_entries::{entry_line, put_word, remove_word};
-use std::alloc::{AllocError, Global};
+use cli_entries::{entry_line, put_word, refusal_words, remove_word};
+use cli_file::Stop;
+use std::alloc::Global;
 use std::io;
 use std::io::Write;
 
@@ -87,69 +87,52 @@ fn write_text<O: Write>(entry: &Entry, out: &mut O) -> io::Result<()>
     write_outcome(&entry.event, out)
 }
 
-/// Writes the JSON line of an entry. Returns `AllocError`, with nothing written, if there is no room for it.
-fn write_json<O: Write>(
-    alloc: Global,
-    entry: &Entry,
-    out: &mut O,
-) -> io::Result<Result<(), AllocError>>
-    ensures written { IfOk result (λ made. OnOk made (Appends (O.contents out.old) (O.contents out.new) (entry_lines true entry.now))) }
-    ensures no_memory { IfOk result (λ made. OnErr made (Keeps (O.contents out.old) (O.contents out.new))) }
+/// Writes the JSON line of an entry. Returns `NoMemory`, with nothing written, if there is no room for it.
+fn write_json<O: Write>(alloc: Global, entry: &Entry, out: &mut O) -> Result<(), Stop>
+    ensures written { OnOk result (Appends (O.contents out.old) (O.contents out.new) (entry_lines true entry.now)) }
+    ensures no_memory { IsErrOf result Stop.NoMemory → Keeps (O.contents out.old) (O.contents out.new) }
+    ensures stop { IfErr result (λ stop. (stop ≡ Stop.CannotWrite) ⊎ (stop ≡ Stop.NoMemory)) }
 {
-    match entry_line(alloc, entry) {
-        Ok(text) => {
-            writeln!(out, "{text}")?;
-            Ok(Ok(()))
-        }
-        Err(refused) => Ok(Err(refused)),
+    let Ok(text) = entry_line(alloc, entry) else {
+        return Err(Stop::NoMemory);
+    };
+    if writeln!(out, "{text}").is_err() {
+        return Err(Stop::CannotWrite);
     }
+    Ok(())
 }
 
-/// Writes an entry as text or as JSON. Returns `AllocError`, with nothing written, if there is no room for its JSON.
-fn write_entry<O: Write>(
-    alloc: Global,
-    json: bool,
-    entry: &Entry,
-    out: &mut O,
-) -> io::Result<Result<(), AllocError>>
-    ensures written { IfOk result (λ made. OnOk made (Appends (O.contents out.old) (O.contents out.new) (entry_lines json entry.now))) }
-    ensures no_memory { IfOk result (λ made. OnErr made ((json ≡ true) × Keeps (O.contents out.old) (O.contents out.new))) }
+/// Writes an entry as text or as JSON. Returns `NoMemory`, with nothing written, if there is no room for its JSON.
+fn write_entry<O: Write>(alloc: Global, json: bool, entry: &Entry, out: &mut O) -> Result<(), Stop>
+    ensures written { OnOk result (Appends (O.contents out.old) (O.contents out.new) (entry_lines json entry.now)) }
+    ensures no_memory { IsErrOf result Stop.NoMemory → (json ≡ true) × Keeps (O.contents out.old) (O.contents out.new) }
+    ensures stop { IfErr result (λ stop. (stop ≡ Stop.CannotWrite) ⊎ (stop ≡ Stop.NoMemory)) }
 {
     if json {
         return write_json(alloc, entry, out);
     }
-    write_text(entry, out)?;
-    Ok(Ok(()))
+    if write_text(entry, out).is_err() {
+        return Err(Stop::CannotWrite);
+    }
+    Ok(())
 }
 
-/// Writes the entries of a history in order, as text or as JSON. Returns the writer's fault if it fails. Returns `AllocError` at the first
+/// Writes the entries of a history in order, as text or as JSON. Returns `CannotWrite` if the writer fails. Returns `NoMemory` at the first
 /// entry for whose JSON there is no room: this entry and those after it are not written. Text needs no room.
 pub fn write_history<O: Write>(
     alloc: Global,
     json: bool,
     entries: &[Entry],
     out: &mut O,
-) -> io::Result<Result<(), AllocError>>
-    ensures written { IfOk result (λ made. OnOk made (Appends (O.contents out.old) (O.contents out.new) (flat_map (entry_lines json) entries.now))) }
-    ensures no_memory { IfOk result (λ made. OnErr made ((json ≡ true) × PrintsPart entries.now (O.contents out.old) (O.contents out.new))) }
+) -> Result<(), Stop>
+    ensures written { OnOk result (Appends (O.contents out.old) (O.contents out.new) (flat_map (entry_lines json) entries.now)) }
+    ensures no_memory { IsErrOf result Stop.NoMemory → (json ≡ true) × PrintsPart entries.now (O.contents out.old) (O.contents out.new) }
+    ensures stop { IfErr result (λ stop. (stop ≡ Stop.CannotWrite) ⊎ (stop ≡ Stop.NoMemory)) }
 {
     for entry in entries {
-        match write_entry(alloc, json, entry, out)? {
-            Ok(()) => {}
-            Err(refused) => return Ok(Err(refused)),
-        }
+        write_entry(alloc, json, entry, out)?;
     }
-    Ok(Ok(()))
-}
-
-/// Returns the words for why a call was refused.
-fn refusal_word(refusal: Refusal) -> &'static str
-    ensures { result.now ≡ refusal_text refusal }
-{
-    match refusal {
-        Refusal::NoMemory => "no memory",
-        Refusal::HistoryFull => "history full",
-    }
+    Ok(())
 }
 
 /// Writes the line of a session that stopped early, if it did. It fails only if there is such a line.
@@ -160,7 +143,7 @@ fn write_stopped<E: Write>(session: u8, end: &End, err: &mut E) -> io::Result<()
     match end {
         End::Done => Ok(()),
         End::Stopped { number: _, refusal } => {
-            let why = refusal_word(*refusal);
+            let why = refusal_words(*refusal);
             writeln!(err, "session {session} stopped: {why}")
         }
     }

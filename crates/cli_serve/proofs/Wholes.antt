@@ -21,5 +21,5 @@ pub whole : (sessions number count : ℕ) (counts : List ℕ) (known : Option (L
 whole sessions number count counts known new texts h counted low is = record {
   lines = h.lines;
   all = all_first sessions number count counts known h.lines h.first h.sized counted low is;
-  turns = subst (Turns sessions number false h.lines (new_session 0 number) new) (sym h.told) h.turns;
+  turns = subst (Turns sessions number false h.lines (new_session 0 number) new) (sym h.taken) h.turns;
 }

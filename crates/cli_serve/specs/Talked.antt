@@ -74,7 +74,7 @@ AreWholeBy sessions known all pens =
 abbrev pub AreTold : ℕ → List (List ℕ) → List (List ℕ) → Type 0
 AreTold sessions [] texts = texts ≡ []
 AreTold sessions (line ∷ lines) texts =
-    (message : Option (ℕ × List ℕ)) × (now : List (List ℕ)) × (later : List (List ℕ)) × GoesTo sessions line message now × AreTold sessions lines later × (texts ≡ now ++ later)
+    (named : Option ℕ) × (now : List (List ℕ)) × (later : List (List ℕ)) × GoesTo sessions line named now × AreTold sessions lines later × (texts ≡ now ++ later)
 
 -- these are the texts of the router for the lines of an input, if they are known
 abbrev pub AreAllTold : ℕ → Option (List (List ℕ)) → List (List ℕ) → Type 0

@@ -1,5 +1,5 @@
 //! The backlog: the lines that the router has read and no worker has answered. It has a bound, so a conversation needs a bounded memory for
-//! its lines.
+//! its lines. A line counts as many bytes as it has in the input, whatever room its JSON value takes.
 ghost use Rattle.std.specs.Prelude.{◌≡◌, ◌≤◌, ◌<◌, ◌+◌, ◌-◌, ◌/◌, ◌↔◌, IsFalse, IsTrue};
 ghost use Rattle.cli_serve.specs.declared.backlog.TheConstants.{MOST_BYTES, MOST_LINES};
 

@@ -1,4 +1,5 @@
-//! The command `serve`.
+//! The command `serve`. Its steps are functions of their own, since a contract can speak of the output only from a certain step on: `serve_by`
+//! owns the writer, `serve_on` has named what the writer holds before, and `talk_and_close` prints on the output through its lock.
 ghost use Rattle.std.specs.Prelude.{◌≡◌, ◌≢◌, ◌⊎◌, [], IfOk, OnOk};
 ghost use Rattle.std.specs.Io.Buffered.{writer_buffer, writer_contents};
 ghost use Rattle.cli_serve.specs.Printed.{HasPrinted, HasServed};
@@ -8,7 +9,7 @@ ghost use Rattle.cli_serve.specs.Talked.{lines_left};
 use crate::close::close;
 use crate::service::Service;
 use crate::stop::{ServeStop, write_stop};
-use crate::talk::{Talked, converse};
+use crate::talk::{TalkResult, converse};
 use bc_share::{CloseFault, Db, History};
 use bc_versions::Waiting;
 use cli_output::{Authors, Opening, Output, Pen, Sheet};
@@ -21,20 +22,21 @@ use std::thread::Threads;
 
 /// A conversation whose database is closed: the history, the pens with which the sessions' answers were printed, and the router's pen.
 #[derive(Drop)]
-struct Served<J: Sheet> {
+struct ServeResult<J: Sheet> {
     history: History,
     pens: Vec<Pen<J>>,
     router: Pen<J>,
 }
 
-/// Opens a database for the sessions of a service, has them answer the lines of an input on an output, and closes the database.
+/// Opens a database for the sessions of a service, has them answer the lines of an input on an output, and closes the database. Returns the
+/// history and the pens.
 fn talk_and_close<J, R, I, O>(
     rt: &R,
     service: &Service<'_>,
     input: &mut I,
     out: &Mutex<Output<J, O>>,
     authors: &mut Authors<J>,
-) -> Result<Served<J>, ServeStop>
+) -> Result<ServeResult<J>, ServeStop>
 where
     J: Sheet + Send + Sync,
     R: AllocGlobal + Threads + Wait + Sync,
@@ -51,7 +53,7 @@ where
         Ok(talked) => talked,
         Err(stop) => return Err(stop),
     };
-    let Talked {
+    let TalkResult {
         sessions,
         pens,
         router,
@@ -59,7 +61,7 @@ where
     } = talked;
     match db.close(rt, sessions) {
         Ok(history) => match ended {
-            Ok(()) => Ok(Served {
+            Ok(()) => Ok(ServeResult {
                 history,
                 pens,
                 router,
@@ -93,7 +95,7 @@ where
     let shared = Mutex::new(output);
     let served = talk_and_close(rt, service, input, &shared, &mut authors);
     let output = shared.into_inner();
-    let Served {
+    let ServeResult {
         history,
         pens,
         router,

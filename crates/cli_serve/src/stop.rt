@@ -47,7 +47,7 @@ pub(crate) fn both(
     ensures which { result ≡ both before now }
 {
     match (before, now) {
-        (Ok(()), told) => told,
+        (Ok(()), now) => now,
         (Err(ServeStop::LostLine), Err(stop)) => Err(stop),
         (Err(stop), _) => Err(stop),
     }

@@ -1,4 +1,5 @@
-//! A conversation: the router on this thread, and a worker for each session on a thread of its own.
+//! A conversation: the router on this thread, and a worker for each session on a thread of its own. `converse` names the lines of the input
+//! for all contracts below it, `converse_about` opens the scope of the threads, and `converse_in` runs in it.
 ghost use Rattle.std.specs.Prelude.{◌≡◌, [], IfErr, IfOk, OnOk, length};
 ghost use Rattle.bc_share.specs.Sessions.{new_session};
 ghost use Rattle.cli_talk.specs.Counted.{CountsAll};
@@ -12,7 +13,7 @@ use bc_prov::Providers;
 use bc_share::Session;
 use bc_versions::Ending;
 use cli_output::{Authors, Output, Pen, Sheet};
-use cli_talk::{Message, Post, Talk, no_counts, route_line};
+use cli_talk::{Message, Post, RoutedLine, Talk, no_counts, route_line};
 use crossbeam_channel::{Receiver, SendError, Sender, unbounded};
 use std::alloc::{AllocError, Global};
 use std::io::{BufRead, Write};
@@ -24,7 +25,7 @@ use std::thread::{Scope, Threads};
 /// The sessions of a conversation, in order, with the pens with which their answers were printed, the router's pen, and how the
 /// conversation ended.
 #[derive(Drop)]
-pub(crate) struct Talked<J: Sheet, N: Ending> {
+pub(crate) struct TalkResult<J: Sheet, N: Ending> {
     pub sessions: Vec<Session<N>>,
     pub pens: Vec<Pen<J>>,
     pub router: Pen<J>,
@@ -73,10 +74,10 @@ fn send<L: Talk + Drop, R: Wait>(
     queues: &[Sender<Message<L>>],
     message: Message<L>,
 ) -> Result<(), ServeStop> {
-    let Some(queue) = queues.get(usize::from(message.session)) else {
+    let Some(queue) = queues.get(usize::from(message.line.session())) else {
         return Err(ServeStop::LostLine);
     };
-    if !backlog.add(rt, message.line.len()) {
+    if !backlog.add(rt, message.line.bytes()) {
         return Err(ServeStop::LostLine);
     }
     match queue.send(rt, message) {
@@ -107,9 +108,9 @@ fn route_all<L: Talk + Drop, J: Sheet, I: BufRead, R: AllocGlobal + Wait, O: Wri
     };
     'lines: for _ in 0..u64::MAX {
         match route_line::<L, I, _>(alloc, input, talk.sessions, printer, &mut counts) {
-            Ok(None) => return Ok(counts),
-            Ok(Some(None)) => {}
-            Ok(Some(Some(message))) => {
+            Ok(RoutedLine::End) => return Ok(counts),
+            Ok(RoutedLine::Told) => {}
+            Ok(RoutedLine::Sent(message)) => {
                 if let Err(stop) = send(talk.rt, talk.backlog, queues, message) {
                     return Err(stop);
                 }
@@ -130,7 +131,7 @@ fn join_all<L: Talk + Drop, J: Sheet, N: Ending, R: Threads>(
     room: Room<J, N>,
     router: Pen<J>,
     routed: &Result<Vec<u64>, ServeStop>,
-) -> Result<Talked<J, N>, ServeStop>
+) -> Result<TalkResult<J, N>, ServeStop>
     requires sessions { count ≡ L.sessions }
     requires counts { IfOk routed.now (λ counts. CountsAll count counts.items L.lines) }
     requires told { OnOk routed.now (AreAllTold count L.lines router.texts) }
@@ -143,8 +144,8 @@ fn join_all<L: Talk + Drop, J: Sheet, N: Ending, R: Threads>(
         let Some(joined) = join(rt, count, worker, done.len(), routed) else {
             return Err(ServeStop::LostLine);
         };
-        let (session, pen, told) = joined;
-        ended = both(ended, told);
+        let (session, pen, answered) = joined;
+        ended = both(ended, answered);
         if done.push(session).is_err() || pens.push(pen).is_err() {
             return Err(ServeStop::NoMemory);
         }
@@ -156,7 +157,7 @@ fn join_all<L: Talk + Drop, J: Sheet, N: Ending, R: Threads>(
         Ok(_) => ended,
         Err(stop) => both(ended, Err(*stop)),
     };
-    Ok(Talked {
+    Ok(TalkResult {
         sessions: done,
         pens,
         router,
@@ -200,7 +201,6 @@ where
     N: Ending + Send + 's,
     R: AllocGlobal + Wait + Sync,
     O: Write + Drop + Send + 's,
-    requires sessions { talk.now.sessions ≡ L.sessions }
     requires is_new { session ≡ new_session 0 session.number }
 {
     let number = session.number();
@@ -213,11 +213,7 @@ where
     };
     let inbox = Inbox::new(talk.rt, from, talk.backlog);
     let printer = Printer::new(talk.rt, talk.out, pen);
-    let post = Post {
-        providers,
-        sessions: talk.sessions,
-        number,
-    };
+    let post = Post { providers, number };
     let Some(worker) = start::<V, L, J, N, _, _, R>(scope, talk.rt, post, inbox, session, printer)
     else {
         return Err(ServeStop::NoThread);
@@ -228,7 +224,7 @@ where
     Ok(())
 }
 
-/// Starts a worker for each session. If one cannot be started, it dismisses those before it.
+/// Starts a worker for each session, and returns the workers with their queues. If one cannot be started, it dismisses those before it.
 fn start_all<'s, V, L, J, N, R, O>(
     scope: &Scope<'s, V>,
     talk: &Conversation<'s, J, R, O>,
@@ -242,7 +238,6 @@ where
     N: Ending + Send + 's,
     R: AllocGlobal + Threads + Wait + Sync,
     O: Write + Drop + Send + 's,
-    requires sessions { talk.now.sessions ≡ L.sessions }
     requires are_new { AreNew L.sessions sessions.items }
 {
     let alloc = talk.rt.alloc();
@@ -261,7 +256,7 @@ where
     Ok(staff)
 }
 
-/// Holds the conversation of new sessions about the lines of an input, in a scope of threads.
+/// Holds the conversation of new sessions about the lines of an input, in a scope of threads. Returns what `converse` does.
 fn converse_in<'s, V, L, J, N, R, I, O>(
     scope: &Scope<'s, V>,
     talk: &Conversation<'s, J, R, O>,
@@ -269,7 +264,7 @@ fn converse_in<'s, V, L, J, N, R, I, O>(
     input: &mut I,
     sessions: Vec<Session<N>>,
     authors: &mut Authors<J>,
-) -> Result<Talked<J, N>, ServeStop>
+) -> Result<TalkResult<J, N>, ServeStop>
 where
     L: Talk + Drop + Send + 's,
     J: Sheet + Send + 's,
@@ -310,7 +305,7 @@ where
     )
 }
 
-/// Holds the conversation of new sessions about the lines of an input.
+/// Holds the conversation of new sessions about the lines of an input. Returns what `converse` does.
 fn converse_about<L, J, N, R, I, O>(
     rt: &R,
     providers: &Providers,
@@ -318,7 +313,7 @@ fn converse_about<L, J, N, R, I, O>(
     sessions: Vec<Session<N>>,
     out: &Mutex<Output<J, O>>,
     authors: &mut Authors<J>,
-) -> Result<Talked<J, N>, ServeStop>
+) -> Result<TalkResult<J, N>, ServeStop>
 where
     L: Talk + Drop + Send + 'static,
     J: Sheet + Send,
@@ -341,7 +336,7 @@ where
     thread::scope(
         thread::scope_env(),
         rt,
-        |scope| -> Result<Talked<J, N>, ServeStop>
+        |scope| -> Result<TalkResult<J, N>, ServeStop>
             requires { (shared.now.sessions ≡ L.sessions) × AreNew L.sessions sessions.items × (L.lines ≡ lines_left (I.remaining input.now)) }
             ensures { IfOk result (λ talked. IsTalk L.sessions L.lines talked.sessions.items talked.pens.items talked.router talked.ended) }
         { converse_in::<_, L, J, N, R, I, O>(scope, shared, providers, input, sessions, authors) },
@@ -360,7 +355,7 @@ pub(crate) fn converse<J, N, R, I, O>(
     sessions: Vec<Session<N>>,
     out: &Mutex<Output<J, O>>,
     authors: &mut Authors<J>,
-) -> Result<Talked<J, N>, ServeStop>
+) -> Result<TalkResult<J, N>, ServeStop>
 where
     J: Sheet + Send,
     N: Ending + Send,

@@ -16,13 +16,13 @@ use std::thread::{Promise, PromisedHandle, Scope, Threads};
 
 /// A session that answered its lines, the number of these or why it stopped, and the pen with which its answers were printed.
 #[derive(Drop)]
-pub(crate) struct Ran<J: Sheet, N: Ending> {
+pub(crate) struct WorkerResult<J: Sheet, N: Ending> {
     session: Session<N>,
     ended: Result<u64, TalkFault>,
     pen: Pen<J>,
 }
 
-/// Answers the lines of a post's new session.
+/// Answers the lines of a post's new session. Returns the session, the number of its lines or why it stopped, and its pen.
 fn run_worker<
     L: Talk + Drop,
     J: Sheet,
@@ -30,15 +30,14 @@ fn run_worker<
     M: Messages<L> + Drop,
     P: Prints<J> + Drop,
     R: AllocGlobal + Wait,
->(rt: &R, post: &Post<'_>, mut inbox: M, session: Session<N>, mut printer: P) -> Ran<J, N>
-    requires sessions { post.now.sessions ≡ L.sessions }
+>(rt: &R, post: &Post<'_>, mut inbox: M, session: Session<N>, mut printer: P) -> WorkerResult<J, N>
     requires is_new { session ≡ new_session 0 post.now.number }
     requires nothing { P.given printer ≡ Some [] }
     ensures { HasTalked L.sessions post.now.number L.lines result.session result.pen.texts result.ended }
 {
     let mut session = session;
     let ended = serve_messages::<L, _, _, _, _>(rt, post, &mut inbox, &mut session, &mut printer);
-    Ran {
+    WorkerResult {
         session,
         ended,
         pen: printer.into_pen(),
@@ -53,7 +52,7 @@ pub(crate) struct Answering<L: Talk + Drop> {
     of: PhantomData<L>,
 }
 
-impl<L: Talk + Drop, J: Sheet, N: Ending> Promise<Ran<J, N>> for Answering<L> {
+impl<L: Talk + Drop, J: Sheet, N: Ending> Promise<WorkerResult<J, N>> for Answering<L> {
     ghost use Rattle.cli_serve.specs.Talked.{HasTalked};
 
     ghost kept_by = { λ p r. HasTalked L.sessions p.number L.lines r.session r.pen.texts r.ended };
@@ -63,7 +62,7 @@ impl<L: Talk + Drop, J: Sheet, N: Ending> Promise<Ran<J, N>> for Answering<L> {
 #[derive(Drop)]
 pub(crate) struct Worker<L: Talk + Drop, J: Sheet, N: Ending> {
     number: u8,
-    handle: PromisedHandle<Ran<J, N>, Answering<L>>,
+    handle: PromisedHandle<WorkerResult<J, N>, Answering<L>>,
     ghost promised: { handle.promise.number ≡ number },
 }
 
@@ -84,31 +83,22 @@ where
     M: Messages<L> + Drop + Send + 's,
     P: Prints<J> + Drop + Send + 's,
     R: AllocGlobal + Wait + Sync,
-    requires sessions { post.sessions ≡ L.sessions }
     requires is_new { session ≡ new_session 0 post.number }
     requires nothing { P.given printer ≡ Some [] }
 {
     // (taken apart, so that what goes to the thread is shown to be fit for it part by part)
-    let Post {
-        providers,
-        sessions,
-        number,
-    } = post;
+    let Post { providers, number } = post;
     let promise = Answering {
         number,
         of: PhantomData,
     };
     let started = scope.spawn_with(
         promise,
-        move || -> Ran<J, N>
-            requires { (sessions ≡ L.sessions) × (session ≡ new_session 0 number) × (P.given printer ≡ Some []) }
+        move || -> WorkerResult<J, N>
+            requires { (session ≡ new_session 0 number) × (P.given printer ≡ Some []) }
             ensures { HasTalked L.sessions number L.lines result.session result.pen.texts result.ended }
         {
-            let post = Post {
-                providers,
-                sessions,
-                number,
-            };
+            let post = Post { providers, number };
             run_worker::<L, J, N, M, P, R>(rt, &post, inbox, session, printer)
         },
     );
@@ -168,7 +158,7 @@ pub(crate) fn join<L: Talk + Drop, J: Sheet, N: Ending, R: Threads>(
         number: own,
         handle,
     } = worker;
-    let Ran {
+    let WorkerResult {
         session,
         ended,
         pen,
@@ -176,8 +166,8 @@ pub(crate) fn join<L: Talk + Drop, J: Sheet, N: Ending, R: Threads>(
     if own >= sessions || usize::from(own) != number || pen.number() != own {
         return None;
     }
-    let told = find_whole::<L, J, N>(sessions, own, &session, &pen, ended, routed);
-    Some((session, pen, told))
+    let answered = find_whole::<L, J, N>(sessions, own, &session, &pen, ended, routed);
+    Some((session, pen, answered))
 }
 
 /// Waits for a worker, whatever it did.

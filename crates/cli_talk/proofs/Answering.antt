@@ -5,13 +5,13 @@ use Rattle.std.specs.List.{slice_get}
 use Rattle.bc_share.specs.Sessions.{SessionView}
 use Rattle.cli_requests.specs.Sessions.{lines_for}
 use Rattle.cli_talk.specs.Wires.{Takes}
-use Rattle.cli_talk.specs.declared.answer.Answered.{Answered}
+use Rattle.cli_talk.specs.declared.answer.Response.{Response}
 use Rattle.cli_talk.specs.Turns.{IsGiven, IsTurn, StopsIn, Turns}
 use Rattle.cli_talk.specs.Talks.{AreFirst, IsLineOf, HasAnswered, HasStopped}
 use Rattle.cli_talk.proofs.Flows.{takes_none, takes_one, takes_more}
 
 -- more answers may be lost
-given_may : (number : ℕ) (a b : Bool) (answered : Answered) (text : List ℕ) → (a ≡ true → b ≡ true) → IsGiven number a answered text → IsGiven number b answered text
+given_may : (number : ℕ) (a b : Bool) (answered : Response) (text : List ℕ) → (a ≡ true → b ≡ true) → IsGiven number a answered text → IsGiven number b answered text
 given_may number a b answered text may (inl whole) = inl whole
 given_may number a b answered text may (inr lost) = inr (may lost.0, lost.1)
 
@@ -69,11 +69,11 @@ first_none sessions session None = tt
 first_none sessions session (Some lines) = (lines_for sessions session lines, refl)
 
 pub begins : (sessions session : ℕ) (known : Option (List (List ℕ))) (own : SessionView) (given : Option (List (List ℕ))) → HasAnswered sessions session 0 false known own own given given
-begins sessions session known own given = record { lines = []; sized = refl; first = first_none sessions session known; texts = []; turns = (refl, refl); told = takes_none given }
+begins sessions session known own given = record { lines = []; sized = refl; first = first_none sessions session known; texts = []; turns = (refl, refl); taken = takes_none given }
 
 pub goes_on : (sessions session n : ℕ) (lossy now both : Bool) (known : Option (List (List ℕ))) (old mid new : SessionView) (given given' given'' : Option (List (List ℕ))) (line : List ℕ) → HasAnswered sessions session n lossy known old mid given given' → IsLineOf sessions session n line known
     → (text : List ℕ) × IsTurn sessions session now line mid new text × Takes given' given'' text → both ≡ (lossy || now) → HasAnswered sessions session (n + 1) both known old new given given''
-goes_on sessions session n lossy now both known old mid new given given' given'' line h is (text, turn, told) sum =
+goes_on sessions session n lossy now both known old mid new given given' given'' line h is (text, turn, taken) sum =
     let before : lossy ≡ true → both ≡ true = λ true_before. sum ∙ or_before lossy now true_before in
     let here : now ≡ true → both ≡ true = λ true_now. sum ∙ or_now lossy now true_now in
     record {
@@ -82,7 +82,7 @@ goes_on sessions session n lossy now both known old mid new given given' given''
       first = first_more sessions session n known h.lines line h.first h.sized is;
       texts = h.texts ++ text ∷ [];
       turns = turns_more sessions session both h.lines line old mid new h.texts text (turns_may sessions session lossy both h.lines old mid h.texts before h.turns) (turn_may sessions session now both line mid new text here turn);
-      told = takes_more given given' given'' h.texts (text ∷ []) h.told (takes_one given' given'' text told);
+      taken = takes_more given given' given'' h.texts (text ∷ []) h.taken (takes_one given' given'' text taken);
     }
 
 -- no more lines were answered
@@ -120,6 +120,5 @@ none_lost sessions session n lossy known old new given given' is h = subst (λ (
 pub some_lost : (sessions session n : ℕ) (lossy : Bool) (known : Option (List (List ℕ))) (old new : SessionView) (given given' : Option (List (List ℕ))) → lossy ≡ true → HasAnswered sessions session n lossy known old new given given' → HasAnswered sessions session n true known old new given given'
 some_lost sessions session n lossy known old new given given' is h = subst (λ (b : Bool). HasAnswered sessions session n b known old new given given') is h
 
-pub same_place : (a s j k m n : ℕ) (line : List ℕ) (known : Option (List (List ℕ))) → s ≡ a → j ≡ k → m ≡ n → IsLineOf a j m line known → IsLineOf s k n line known
-same_place a s j k m n line known es ek en h =
-    subst (λ (x : ℕ). IsLineOf x k n line known) (sym es) (subst (λ (x : ℕ). IsLineOf a x n line known) ek (subst (λ (x : ℕ). IsLineOf a j x line known) en h))
+pub same_place : (sessions j k m n : ℕ) (line : List ℕ) (known : Option (List (List ℕ))) → j ≡ k → m ≡ n → IsLineOf sessions j m line known → IsLineOf sessions k n line known
+same_place sessions j k m n line known ek en h = subst (λ (x : ℕ). IsLineOf sessions x n line known) ek (subst (λ (x : ℕ). IsLineOf sessions j x line known) en h)

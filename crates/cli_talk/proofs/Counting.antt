@@ -7,9 +7,11 @@ use Rattle.std.proofs.lemmas.List.Elements.{filter-append}
 use Rattle.std.proofs.lemmas.Bool.Decides.{nat_tests}
 use Rattle.cli_input.specs.declared.line.InputLine.{InputLine}
 use Rattle.cli_input.specs.Lines.{lines_of, IsLine, ReadsNext}
+use Rattle.cli_requests.specs.declared.destination.ParsedLine.{ParsedLine}
 use Rattle.cli_requests.specs.declared.request.TheConstants.{MOST_REQUEST_BYTES}
+use Rattle.cli_requests.specs.Destinations.{IsParsed}
 use Rattle.cli_requests.specs.Sessions.{session_in, is_at, is_for, lines_for}
-use Rattle.cli_talk.specs.Talks.{IsLineOf}
+use Rattle.cli_talk.specs.Talks.{IsParsedOf}
 use Rattle.cli_talk.specs.Counted.{Counts, CountsAll, CountsSoFar}
 
 get_behind : (xs ys : List (List ℕ)) (y : List ℕ) → slice_get (xs ++ y ∷ ys) (length xs) ≡ Some y
@@ -35,20 +37,23 @@ for_none : (sessions k : ℕ) (line : List ℕ) → session_in sessions line ≡
 for_none sessions k line is = ap (is_at k) is
 
 -- a line is the next of its session
-pub placed : (sessions session number : ℕ) (counts : List ℕ) (known : Option (List (List ℕ))) (old new : Option (List ℕ)) (line : InputLine) (text : List ℕ) → session < sessions → CountsSoFar sessions counts known old → ReadsNext MOST_REQUEST_BYTES old new (Some line)
-    → ((bytes : List ℕ) → IsLine MOST_REQUEST_BYTES bytes line → (text ≡ bytes) × (session_in sessions bytes ≡ Some session)) → number ≡ slice_index counts session → IsLineOf sessions session number text known
-placed sessions session number counts None old new line text low h r is here = refl
-placed sessions session number counts (Some lines) None new line text low h r is here = absurd h
-placed sessions session number counts (Some lines) (Some x) None line text low h r is here = absurd r
-placed sessions session number counts (Some lines) (Some x) (Some y) line text low h r is here =
+pub placed : (sessions number : ℕ) (counts : List ℕ) (known : Option (List (List ℕ))) (old new : Option (List ℕ)) (line : InputLine) (parsed : ParsedLine) → (parsed.session < sessions) × ((bytes : List ℕ) × IsParsed sessions bytes parsed)
+    → CountsSoFar sessions counts known old → ReadsNext MOST_REQUEST_BYTES old new (Some line) → ((bytes : List ℕ) → IsLine MOST_REQUEST_BYTES bytes line → IsParsed sessions bytes parsed) → number ≡ slice_index counts parsed.session → IsParsedOf sessions number parsed known
+placed sessions number counts None old new line parsed from h r is here = (from.1.0, from.1.1, refl)
+placed sessions number counts (Some lines) None new line parsed from h r is here = absurd h
+placed sessions number counts (Some lines) (Some x) None line parsed from h r is here = absurd r
+placed sessions number counts (Some lines) (Some x) (Some y) line parsed (low, was) h r is here =
+    let session = parsed.session in
     let bytes : List ℕ = r.0 in
-    let told = is bytes r.2 in
     let all : lines ≡ h.front ++ bytes ∷ lines_of y = h.cut ∙ ap (λ (ls : List (List ℕ)). h.front ++ ls) r.1 in
     let mine : lines_for sessions session lines ≡ lines_for sessions session h.front ++ bytes ∷ lines_for sessions session (lines_of y) =
-    ap (lines_for sessions session) all ∙ one_more sessions session h.front (lines_of y) bytes (for_itself sessions session bytes told.1) in
-    let place : number ≡ length (lines_for sessions session h.front) = here ∙ h.counted session low in
-    ap (slice_get (lines_for sessions session lines)) place ∙ ap (λ (ls : List (List ℕ)). slice_get ls (length (lines_for sessions session h.front))) mine
-    ∙ get_behind (lines_for sessions session h.front) (lines_for sessions session (lines_of y)) bytes ∙ ap Some (sym told.0)
+    ap (lines_for sessions session) all ∙ one_more sessions session h.front (lines_of y) bytes (for_itself sessions session bytes (is bytes r.2).named) in
+    let place : number ≡ length (lines_for sessions session h.front) = here ∙ h.counted session low in (
+      bytes,
+      is bytes r.2,
+      ap (slice_get (lines_for sessions session lines)) place ∙ ap (λ (ls : List (List ℕ)). slice_get ls (length (lines_for sessions session h.front))) mine
+          ∙ get_behind (lines_for sessions session h.front) (lines_for sessions session (lines_of y)) bytes,
+    )
 
 -- this line is counted
 count_one : (sessions session number : ℕ) (counts : List ℕ) (front : List (List ℕ)) (line : List ℕ) → session < length counts → number ≡ slice_index counts session → session_in sessions line ≡ Some session → Counts sessions counts front

@@ -7,7 +7,7 @@ use Rattle.cli_requests.specs.declared.request.Wanted.{Wanted}
 use Rattle.cli_requests.specs.declared.request.Wanted.TheVariants.{Call, Glance}
 use Rattle.cli_answers.specs.declared.answer.Answer.{Answer}
 use Rattle.cli_answers.specs.declared.answer.Answer.TheVariants.{Entered, Glanced, Refused, Wrong}
-use Rattle.cli_talk.specs.declared.answer.Answered.{Answered}
+use Rattle.cli_talk.specs.declared.answer.Response.{Response}
 use Rattle.cli_talk.specs.Turns.{IsAnswerTo, IsReplyTo, IsStill, IsTurn, Turns}
 use Rattle.cli_talk.specs.Talks.{HasAnswered, HasStopped}
 
@@ -27,7 +27,7 @@ wanted_still (Glance name) (Glanced found) old new h = (h.0.tag, h.0.number)
 wanted_still (Glance name) (Refused refusal) old new h = (h.0.tag, h.0.number)
 wanted_still (Glance name) (Wrong fault) old new h = absurd h
 
-reply_still : (request : Request) (answered : Answered) (old new : SessionView) → IsReplyTo request answered old new → IsStill old new
+reply_still : (request : Request) (answered : Response) (old new : SessionView) → IsReplyTo request answered old new → IsStill old new
 reply_still (Good id session wanted) answered old new h = wanted_still wanted answered.answer old new h.2
 reply_still (Bad id session fault) answered old new h = same_still old new h.3
 

@@ -6,8 +6,8 @@ use Rattle.cli_talk.specs.Turns.{IsTurn}
 use Rattle.cli_talk.specs.Talks.{HasAnswered}
 
 -- a line of a session was answered by a text, and this text was given
-abbrev pub Answers : ℕ → ℕ → Bool → List ℕ → SessionView → SessionView → Option (List (List ℕ)) → Option (List (List ℕ)) → Type 0
-Answers sessions number lossy line old new given given' = (text : List ℕ) × IsTurn sessions number lossy line old new text × Takes given given' text
+abbrev pub AnswersLine : ℕ → ℕ → Bool → List ℕ → SessionView → SessionView → Option (List (List ℕ)) → Option (List (List ℕ)) → Type 0
+AnswersLine sessions number lossy line old new given given' = (text : List ℕ) × IsTurn sessions number lossy line old new text × Takes given given' text
 
 -- the first lines of a session were answered, and there was no memory for some of the answers
 abbrev pub LosesSome : ℕ → ℕ → Option (List (List ℕ)) → SessionView → SessionView → Option (List (List ℕ)) → Option (List (List ℕ)) → Type 0

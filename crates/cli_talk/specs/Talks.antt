@@ -2,14 +2,20 @@
 use Rattle.std.specs.Prelude.{◌≡◌, ◌⊎◌, ℕ, Bool, true, List, [], ◌∷◌, ◌++◌, length, Option, Some, None, option_and_then, option_map, ⊤}
 use Rattle.std.specs.List.{slice_get}
 use Rattle.bc_share.specs.Sessions.{SessionView}
+use Rattle.cli_requests.specs.declared.destination.ParsedLine.{ParsedLine}
+use Rattle.cli_requests.specs.Destinations.{IsParsed}
 use Rattle.cli_requests.specs.Sessions.{lines_for}
-use Rattle.cli_talk.specs.declared.answer.Answered.{Answered}
+use Rattle.cli_talk.specs.declared.answer.Response.{Response}
 use Rattle.cli_talk.specs.Wires.{TakesAll}
 use Rattle.cli_talk.specs.Turns.{IsLineAnswered, Turns}
 
 -- this line is the one of this number among those that name a session, if the lines of the input are known
 abbrev pub IsLineOf : ℕ → ℕ → ℕ → List ℕ → Option (List (List ℕ)) → Type 0
 IsLineOf sessions session number line known = option_and_then (λ lines. slice_get (lines_for sessions session lines) number) known ≡ option_map (λ _. line) known
+
+-- this is what a line was parsed as that is the one of this number among those that name its session, if the lines of the input are known
+abbrev pub IsParsedOf : ℕ → ℕ → ParsedLine → Option (List (List ℕ)) → Type 0
+IsParsedOf sessions number parsed known = (line : List ℕ) × IsParsed sessions line parsed × IsLineOf sessions parsed.session number line known
 
 -- these are the first lines that name a session, if the lines of the input are known
 abbrev pub AreFirst : ℕ → ℕ → Option (List (List ℕ)) → List (List ℕ) → Type 0
@@ -24,7 +30,7 @@ pub record HasAnswered (sessions session number : ℕ) (lossy : Bool) (known : O
   pub first : AreFirst sessions session known lines
   pub texts : List (List ℕ)
   pub turns : Turns sessions session lossy lines old new texts
-  pub told : TakesAll given given' texts
+  pub taken : TakesAll given given' texts
 
 -- the first lines of a session were answered in order, though some answers may be lost, and perhaps one more line, for which no text was
 -- given
@@ -35,4 +41,4 @@ pub record HasStopped (sessions session : ℕ) (known : Option (List (List ℕ))
   pub texts : List (List ℕ)
   pub between : SessionView
   pub turns : Turns sessions session true lines old between texts
-  pub left : ((last ≡ []) × (new ≡ between)) ⊎ ((line : List ℕ) × (answered : Answered) × (last ≡ line ∷ []) × IsLineAnswered sessions line answered between new)
+  pub left : ((last ≡ []) × (new ≡ between)) ⊎ ((line : List ℕ) × (answered : Response) × (last ≡ line ∷ []) × IsLineAnswered sessions line answered between new)

@@ -12,12 +12,12 @@ use Rattle.cli_requests.specs.declared.request.Request.{Request}
 use Rattle.cli_requests.specs.declared.request.Request.TheVariants.{Good, Bad}
 use Rattle.cli_requests.specs.declared.request.Wanted.{Wanted}
 use Rattle.cli_requests.specs.declared.request.Wanted.TheVariants.{Call, Glance}
-use Rattle.cli_requests.specs.Ids.{told}
+use Rattle.cli_requests.specs.Ids.{id_data}
 use Rattle.cli_requests.specs.Requests.{IsRequest}
 use Rattle.cli_answers.specs.declared.answer.Answer.{Answer}
 use Rattle.cli_answers.specs.declared.answer.Answer.TheVariants.{Entered, Glanced, Refused, Wrong}
 use Rattle.cli_answers.specs.Answers.{IsAnswerLine}
-use Rattle.cli_talk.specs.declared.answer.Answered.{Answered}
+use Rattle.cli_talk.specs.declared.answer.Response.{Response}
 
 -- the session is the same, whatever calls it made
 abbrev pub IsStill : SessionView → SessionView → Type 0
@@ -37,16 +37,16 @@ IsAnswerTo (Glance name) (Wrong fault) old new = ⊥
 
 -- a request was answered: its id and its session are repeated, and what it asks for was done, or what is wrong with it is reported and
 -- nothing else happened
-abbrev pub IsReplyTo : Request → Answered → SessionView → SessionView → Type 0
-IsReplyTo (Good id session wanted) answered old new = (told answered.id ≡ told id) × (answered.session ≡ Some session) × IsAnswerTo wanted answered.answer old new
-IsReplyTo (Bad id session fault) answered old new = (told answered.id ≡ told id) × (answered.session ≡ session) × (answered.answer ≡ Wrong fault) × (new ≡ old)
+abbrev pub IsReplyTo : Request → Response → SessionView → SessionView → Type 0
+IsReplyTo (Good id session wanted) answered old new = (id_data answered.id ≡ id_data id) × (answered.session ≡ Some session) × IsAnswerTo wanted answered.answer old new
+IsReplyTo (Bad id session fault) answered old new = (id_data answered.id ≡ id_data id) × (answered.session ≡ session) × (answered.answer ≡ Wrong fault) × (new ≡ old)
 
 -- the line of an answer, with its line feed
-abbrev pub IsWholeLine : Answered → List ℕ → Type 0
-IsWholeLine answered text = (line : List ℕ) × IsAnswerLine (told answered.id) answered.session answered.answer line × (text ≡ line ++ 10 ∷ [])
+abbrev pub IsWholeLine : Response → List ℕ → Type 0
+IsWholeLine answered text = (line : List ℕ) × IsAnswerLine (id_data answered.id) answered.session answered.answer line × (text ≡ line ++ 10 ∷ [])
 
 -- a line was read as a request, which was answered like this
-pub record IsLineAnswered (sessions : ℕ) (line : List ℕ) (answered : Answered) (old new : SessionView) : Type 0 where
+pub record IsLineAnswered (sessions : ℕ) (line : List ℕ) (answered : Response) (old new : SessionView) : Type 0 where
   pub request : Request
   pub is : IsRequest sessions line request
   pub answers : IsReplyTo request answered old new
@@ -60,17 +60,17 @@ abbrev pub IsUnread : ℕ → SessionView → SessionView → List ℕ → Type 
 IsUnread number old new text = (new ≡ old) × (text ≡ lost_line (codes "no memory") number)
 
 -- this text is the line of an answer; or, if answers may be lost, it says that there was no memory for that
-abbrev pub IsGiven : ℕ → Bool → Answered → List ℕ → Type 0
+abbrev pub IsGiven : ℕ → Bool → Response → List ℕ → Type 0
 IsGiven number lossy answered text = IsWholeLine answered text ⊎ ((lossy ≡ true) × (text ≡ lost_line (codes "no memory for the answer") number))
 
 -- a line of the session of this number was answered by this text, or there was no memory to read it
 abbrev pub IsTurn : ℕ → ℕ → Bool → List ℕ → SessionView → SessionView → List ℕ → Type 0
 IsTurn sessions number lossy line old new text =
-    ((answered : Answered) × IsLineAnswered sessions line answered old new × IsGiven number lossy answered text) ⊎ IsUnread number old new text
+    ((answered : Response) × IsLineAnswered sessions line answered old new × IsGiven number lossy answered text) ⊎ IsUnread number old new text
 
 -- nothing was done for a line, or it was answered, whatever happened to the text
 abbrev pub StopsIn : ℕ → List ℕ → SessionView → SessionView → Type 0
-StopsIn sessions line old new = (new ≡ old) ⊎ ((answered : Answered) × IsLineAnswered sessions line answered old new)
+StopsIn sessions line old new = (new ≡ old) ⊎ ((answered : Response) × IsLineAnswered sessions line answered old new)
 
 -- each line was answered, in order, by a text of its own
 abbrev pub Turns : ℕ → ℕ → Bool → List (List ℕ) → SessionView → SessionView → List (List ℕ) → Type 0
@@ -78,9 +78,13 @@ Turns sessions number lossy [] old new texts = (new ≡ old) × (texts ≡ [])
 Turns sessions number lossy (line ∷ lines) old new texts =
     (between : SessionView) × (text : List ℕ) × (rest : List (List ℕ)) × IsTurn sessions number lossy line old between text × Turns sessions number lossy lines between new rest × (texts ≡ text ∷ rest)
 
+-- the answer to a line of this id that names no session
+abbrev pub wrong_answer : Id → RequestFault → Response
+wrong_answer id fault = record { id = id; session = None; answer = Wrong fault }
+
 -- a line names no session, and this text has its id and what is wrong with it
 pub record IsTold (sessions : ℕ) (line text : List ℕ) : Type 0 where
   pub id : Id
   pub fault : RequestFault
   pub is : IsRequest sessions line (Bad id None fault)
-  pub written : IsWholeLine (record { id = id; session = None; answer = Wrong fault }) text
+  pub written : IsWholeLine (wrong_answer id fault) text

@@ -17,14 +17,14 @@ use std::alloc::{AllocError, Global};
 use std::sync::Wait;
 
 /// The answer to a request, with the id and the session that its line repeats.
-pub(crate) struct Answered {
+pub(crate) struct Response {
     pub id: Id,
     pub session: Option<u8>,
     pub answer: Answer,
 }
 
 // Handwritten, so that it is proved once.
-impl Drop for Answered {
+impl Drop for Response {
     fn drop(self) {
         let Self {
             id: _,
@@ -99,22 +99,22 @@ fn answer_wanted<R: AllocGlobal + Wait, E: Ending>(
     }
 }
 
-/// Answers a request: does what is asked of the session, or says what is wrong with the request.
+/// Returns the answer to a request: does what is asked of the session, or says what is wrong with the request.
 pub(crate) fn answer_request<R: AllocGlobal + Wait, E: Ending>(
     rt: &R,
     session: &mut Session<E>,
     request: Request,
     providers: &Providers,
-) -> Answered
+) -> Response
     ensures { IsReplyTo request result session.old session.new }
 {
     match request {
-        Request::Good(id, number, wanted) => Answered {
+        Request::Good(id, number, wanted) => Response {
             id,
             session: Some(number),
             answer: answer_wanted(rt, session, wanted, providers),
         },
-        Request::Bad(id, session, fault) => Answered {
+        Request::Bad(id, session, fault) => Response {
             id,
             session,
             answer: Answer::Wrong(fault),
@@ -123,7 +123,7 @@ pub(crate) fn answer_request<R: AllocGlobal + Wait, E: Ending>(
 }
 
 /// Returns the line of an answer, with its line feed.
-pub(crate) fn whole_line(alloc: Global, answered: &Answered) -> Result<String, AllocError>
+pub(crate) fn whole_line(alloc: Global, answered: &Response) -> Result<String, AllocError>
     ensures { IfOk result (λ line. IsWholeLine answered.now (string_bytes line)) }
 {
     let mut line = answer_line(alloc, &answered.id, answered.session, &answered.answer)?;

@@ -13,5 +13,5 @@ mod worker;
 pub use fault::TalkFault;
 pub use message::{Message, Messages, Talk};
 pub use replies::{Closed, Replies};
-pub use router::{no_counts, route_line};
+pub use router::{RoutedLine, no_counts, route_line};
 pub use worker::{Post, serve_messages};

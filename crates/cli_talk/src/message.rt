@@ -1,8 +1,7 @@
 //! Messages: lines of the input, numbered within their sessions.
-ghost use Rattle.std.specs.Prelude.{◌≤◌, length};
-ghost use Rattle.cli_requests.specs.declared.request.TheConstants.{MOST_REQUEST_BYTES};
-ghost use Rattle.cli_talk.specs.Talks.{IsLineOf};
+ghost use Rattle.cli_talk.specs.Talks.{IsParsedOf};
 
+use cli_requests::ParsedLine;
 use std::marker::{Brand, PhantomData};
 
 /// The parameters of a conversation, for contracts: the number of sessions, and the lines of the input if they are known. The call that
@@ -27,12 +26,10 @@ impl Talk for Brand {
 /// number, if the lines of the input are known.
 #[derive(Drop)]
 pub struct Message<L: Talk> {
-    pub session: u8,
     pub number: u64,
-    pub line: Vec<u8>,
+    pub line: ParsedLine,
     pub of: PhantomData<L>,
-    ghost short: { length line.items ≤ MOST_REQUEST_BYTES },
-    ghost is_of: { IsLineOf L.sessions session number line.items L.lines },
+    ghost is_of: { IsParsedOf L.sessions number line L.lines },
 }
 
 /// A source of messages for a session. It may return any messages: the worker finds one that is not the next of its session by its number.

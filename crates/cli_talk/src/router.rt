@@ -1,33 +1,43 @@
 //! The router, which numbers the lines of each session.
-ghost use Rattle.std.specs.Prelude.{◌≡◌, ◌≤◌, ◌<◌, IfOk, IfSome, List, OnOk, length, option_map, ℕ};
+ghost use Rattle.std.specs.Prelude.{◌≡◌, ◌≤◌, ◌<◌, IfOk, List, OnOk, length, option_map, ℕ};
 ghost use Rattle.cli_input.specs.Lines.{ReadsNext, lines_of};
 ghost use Rattle.cli_requests.specs.declared.request.TheConstants.{MOST_REQUEST_BYTES};
 ghost use Rattle.cli_talk.specs.Wires.{Takes};
-ghost use Rattle.cli_talk.specs.Turns.{IsWholeLine};
-ghost use Rattle.cli_talk.specs.Talks.{IsLineOf};
+ghost use Rattle.cli_talk.specs.Turns.{IsWholeLine, wrong_answer};
+ghost use Rattle.cli_talk.specs.Talks.{IsParsedOf};
 ghost use Rattle.cli_talk.specs.Counted.{CountsSoFar, CountsWith};
-ghost use Rattle.cli_talk.specs.Routed.{IsToldOf, Names, Routes};
+ghost use Rattle.cli_talk.specs.Routed.{Routes};
 
-use crate::answer::{Answered, whole_line};
+use crate::answer::{Response, whole_line};
 use crate::fault::TalkFault;
 use crate::message::{Message, Talk};
 use crate::replies::Replies;
 use cli_answers::Answer;
 use cli_input::{InputLine, read_input_line};
-use cli_requests::{MOST_REQUEST_BYTES, Request, find_session, read_request};
+use cli_requests::{
+    Destination, Id, MOST_REQUEST_BYTES, ParsedLine, RequestFault, find_destination,
+};
 use std::alloc::Global;
 use std::io::{BufRead, ErrorKind};
 use std::marker::PhantomData;
 
+/// What the router did with the next line of an input.
+#[derive(Drop)]
+pub enum RoutedLine<M> {
+    /// There is none: no line is left.
+    End,
+    /// The line names no session, and was answered what is wrong with it.
+    Told,
+    /// The line names a session. This is the message for the worker of the session.
+    Sent(M),
+}
+
 /// Returns the message with a line.
-fn make_message<L: Talk>(session: u8, number: u64, line: Vec<u8>) -> Message<L>
-    requires short { length line.items ≤ MOST_REQUEST_BYTES }
-    requires is_of { IsLineOf L.sessions session number line.items L.lines }
-    ensures session { result.session ≡ session }
-    ensures line { result.line ≡ line }
+fn make_message<L: Talk>(number: u64, line: ParsedLine) -> Message<L>
+    requires is_of { IsParsedOf L.sessions number line L.lines }
+    ensures { result.line ≡ line }
 {
     Message {
-        session,
         number,
         line,
         of: PhantomData,
@@ -48,7 +58,7 @@ fn next_line<I: BufRead>(alloc: Global, input: &mut I) -> Result<Option<InputLin
 }
 
 /// Writes the line of an answer.
-fn give<P: Replies>(alloc: Global, answered: &Answered, replies: &mut P) -> Result<(), TalkFault>
+fn give<P: Replies>(alloc: Global, answered: &Response, replies: &mut P) -> Result<(), TalkFault>
     ensures { OnOk result ((text : List ℕ) × IsWholeLine answered.now text × Takes (P.given replies.old) (P.given replies.new) text) }
 {
     let Ok(text) = whole_line(alloc, answered) else {
@@ -60,96 +70,69 @@ fn give<P: Replies>(alloc: Global, answered: &Answered, replies: &mut P) -> Resu
     }
 }
 
-/// Answers what is wrong with a line that names no session.
+/// Answers what is wrong with a line of this id, which names no session.
 fn tell<P: Replies>(
     alloc: Global,
-    line: &InputLine,
-    sessions: u8,
+    id: Id,
+    fault: RequestFault,
     replies: &mut P,
 ) -> Result<(), TalkFault>
-    ensures { OnOk result (IsToldOf sessions line.now (P.given replies.old) (P.given replies.new)) }
+    ensures { OnOk result ((text : List ℕ) × IsWholeLine (wrong_answer id fault) text × Takes (P.given replies.old) (P.given replies.new) text) }
 {
-    let Ok(request) = read_request(alloc, line, sessions) else {
-        return Err(TalkFault::NoMemory);
-    };
-    let Request::Bad(id, None, fault) = request else {
-        return Err(TalkFault::OutOfTurn);
-    };
-    let answered = Answered {
+    let answered = Response {
         id,
         session: None,
         answer: Answer::Wrong(fault),
     };
-    match give(alloc, &answered, replies) {
-        Ok(()) => Ok(()),
-        Err(fault) => Err(fault),
-    }
+    give(alloc, &answered, replies)
 }
 
-/// Returns the session that a line names, if it names one.
-fn session_of_line(alloc: Global, line: &InputLine, sessions: u8) -> Result<Option<u8>, TalkFault>
-    ensures which { IfOk result (λ found. IfSome found (Names sessions line.now)) }
-    ensures low { IfOk result (λ found. IfSome found (λ session. session < sessions)) }
-{
-    let InputLine::Text(text) = line else {
-        return Ok(None);
-    };
-    match find_session(alloc, text.as_slice(), sessions) {
-        Ok(found) => Ok(found),
-        Err(_) => Err(TalkFault::NoMemory),
-    }
-}
-
-/// Reads the next line of an input, of at most `MOST_REQUEST_BYTES` bytes, and returns it as a message, numbered within the session that it
-/// names. The message is for the worker of that session. Nothing after the line is waited for. Returns `Some(None)` if the line names no
-/// session: then it was answered what is wrong with it. Returns `None` if no line is left. `counts` has the number of earlier lines of each
-/// session: it is what `no_counts` returned, as the calls since then left it.
+/// Reads the next line of an input, of at most `MOST_REQUEST_BYTES` bytes. If the line names a session, it returns `Sent` with the message
+/// for the worker of that session: the line, parsed as JSON, and its number among the lines that name the session. If it names none, it
+/// answers what is wrong with the line, and returns `Told`. It returns `End` if no line is left. Nothing after the line is waited for.
+/// `counts` has the number of earlier lines of each session: it is what `no_counts` returned, as the calls since then left it.
 ///
-/// Returns `CannotRead` if the input fails, `NoMemory` if there is no room for the line or its answer, and `CannotWrite` if the answer
-/// cannot be written.
+/// Returns `CannotRead` if the input fails, `NoMemory` if there is no room for the line, parsed, or for its answer, and `CannotWrite` if
+/// the answer cannot be written.
 pub fn route_line<L: Talk + Drop, I: BufRead, P: Replies>(
     alloc: Global,
     input: &mut I,
     sessions: u8,
     replies: &mut P,
     counts: &mut Vec<u64>,
-) -> Result<Option<Option<Message<L>>>, TalkFault>
+) -> Result<RoutedLine<Message<L>>, TalkFault>
     requires sessions { sessions ≡ L.sessions }
     requires sized { length counts.old.items ≡ sessions }
     requires counted { CountsSoFar sessions counts.old.items L.lines (I.remaining input.old) }
     ensures sized { length counts.new.items ≡ sessions }
     ensures counted { IfOk result (CountsWith sessions counts.new.items L.lines (I.remaining input.new)) }
-    ensures routed { Routes (λ m. (m.session, m.line.items)) sessions result I.remaining input.old input.new P.given replies.old replies.new }
+    ensures routed { Routes (λ m. m.line) sessions result I.remaining input.old input.new P.given replies.old replies.new }
 {
     let line = match next_line(alloc, input) {
         Ok(Some(line)) => line,
-        Ok(None) => return Ok(None),
+        Ok(None) => return Ok(RoutedLine::End),
         Err(fault) => return Err(fault),
     };
-    let found = match session_of_line(alloc, &line, sessions) {
-        Ok(found) => found,
-        Err(fault) => return Err(fault),
+    let Ok(destination) = find_destination(alloc, &line, sessions) else {
+        return Err(TalkFault::NoMemory);
     };
-    let Some(session) = found else {
-        if let Err(fault) = tell(alloc, &line, sessions, replies) {
-            return Err(fault);
+    let parsed = match destination {
+        Destination::Session(parsed) => parsed,
+        Destination::Nowhere(id, fault) => {
+            return match tell(alloc, id, fault, replies) {
+                Ok(()) => Ok(RoutedLine::Told),
+                Err(fault) => Err(fault),
+            };
         }
-        return Ok(Some(None));
     };
-    let InputLine::Text(text) = line else {
-        return Err(TalkFault::OutOfTurn);
-    };
-    if text.len() > MOST_REQUEST_BYTES {
-        return Err(TalkFault::OutOfTurn);
-    }
-    let place = usize::from(session);
+    let place = usize::from(parsed.session());
     let number = counts[place];
     if number == u64::MAX {
         return Err(TalkFault::OutOfTurn);
     }
-    let message = make_message(session, number, text);
+    let message = make_message(number, parsed);
     counts[place] = number + 1;
-    Ok(Some(Some(message)))
+    Ok(RoutedLine::Sent(message))
 }
 
 /// Returns the counts of lines before any line is read: 0 for each session. Fails only with `NoMemory`.

@@ -1,12 +1,12 @@
 //! The worker of a session.
-ghost use Rattle.std.specs.Prelude.{◌≡◌, ◌≤◌, ◌||◌, IfOk, IsErrOf, OnErr, List, false, length, ℕ};
-ghost use Rattle.cli_requests.specs.declared.request.TheConstants.{MOST_REQUEST_BYTES};
+ghost use Rattle.std.specs.Prelude.{◌≡◌, ◌||◌, IfOk, IsErrOf, OnErr, List, false, ℕ};
+ghost use Rattle.cli_requests.specs.Destinations.{IsParsed};
 ghost use Rattle.cli_talk.specs.Wires.{Takes};
 ghost use Rattle.cli_talk.specs.Turns.{IsGiven, IsStill, StopsIn};
 ghost use Rattle.cli_talk.specs.Talks.{HasAnswered, HasStopped};
-ghost use Rattle.cli_talk.specs.Posts.{Answers, LosesSome};
+ghost use Rattle.cli_talk.specs.Posts.{AnswersLine, LosesSome};
 
-use crate::answer::{Answered, answer_request, whole_line};
+use crate::answer::{Response, answer_request, whole_line};
 use crate::fault::TalkFault;
 use crate::lost::{tell_unread, tell_untold};
 use crate::message::{Messages, Talk};
@@ -14,8 +14,7 @@ use crate::replies::{Closed, Replies};
 use bc_prov::Providers;
 use bc_share::Session;
 use bc_versions::Ending;
-use cli_input::InputLine;
-use cli_requests::read_request;
+use cli_requests::{ParsedLine, read_request};
 use std::alloc::Global;
 use std::sync::Wait;
 
@@ -24,7 +23,7 @@ use std::sync::Wait;
 fn give_or_tell<P: Replies>(
     alloc: Global,
     number: u8,
-    answered: &Answered,
+    answered: &Response,
     replies: &mut P,
 ) -> Result<bool, Closed>
     ensures { IfOk result (λ lossy. (text : List ℕ) × IsGiven number lossy answered.now text × Takes (P.given replies.old) (P.given replies.new) text) }
@@ -41,11 +40,10 @@ fn give_or_tell<P: Replies>(
     }
 }
 
-/// What a worker is set up with: the providers, the number of sessions, and the number of its own.
+/// What a worker is set up with: the providers, and the number of its session.
 #[derive(Drop)]
 pub struct Post<'a> {
     pub providers: &'a Providers,
-    pub sessions: u8,
     pub number: u8,
 }
 
@@ -53,18 +51,17 @@ pub struct Post<'a> {
 fn serve_line<R: AllocGlobal + Wait, E: Ending, P: Replies>(
     rt: &R,
     post: &Post<'_>,
-    line: Vec<u8>,
+    line: &ParsedLine,
     session: &mut Session<E>,
     replies: &mut P,
 ) -> Result<bool, Closed>
-    requires { length line.items ≤ MOST_REQUEST_BYTES }
-    ensures answered { IfOk result (λ lossy. Answers post.now.sessions post.now.number lossy line.items
-        session.old session.new (P.given replies.old) (P.given replies.new)) }
-    ensures stopped { OnErr result (StopsIn post.now.sessions line.items session.old session.new) }
+    ensures answered { (sessions : ℕ) (bytes : List ℕ) → IsParsed sessions bytes line.now →
+        IfOk result (λ lossy. AnswersLine sessions post.now.number lossy bytes session.old session.new (P.given replies.old) (P.given replies.new)) }
+    ensures stopped { (sessions : ℕ) (bytes : List ℕ) → IsParsed sessions bytes line.now →
+        OnErr result (StopsIn sessions bytes session.old session.new) }
 {
     let alloc = rt.alloc();
-    let line = InputLine::Text(line);
-    let Ok(request) = read_request(alloc, &line, post.sessions) else {
+    let Ok(request) = read_request(alloc, line) else {
         return match tell_unread(post.number, replies) {
             Ok(()) => Ok(false),
             Err(closed) => Err(closed),
@@ -104,12 +101,11 @@ where
     R: AllocGlobal + Wait,
     E: Ending,
     P: Replies,
-    requires { post.now.sessions ≡ L.sessions }
-    ensures answered { IfOk result (λ count. HasAnswered post.now.sessions post.now.number count false L.lines
+    ensures answered { IfOk result (λ count. HasAnswered L.sessions post.now.number count false L.lines
         session.old session.new (P.given replies.old) (P.given replies.new)) }
-    ensures lossy { IsErrOf result TalkFault.NoMemory → LosesSome post.now.sessions post.now.number L.lines
+    ensures lossy { IsErrOf result TalkFault.NoMemory → LosesSome L.sessions post.now.number L.lines
         session.old session.new (P.given replies.old) (P.given replies.new) }
-    ensures stopped { OnErr result (HasStopped post.now.sessions post.now.number L.lines session.old session.new) }
+    ensures stopped { OnErr result (HasStopped L.sessions post.now.number L.lines session.old session.new) }
     ensures still { IsStill session.old session.new }
 {
     let mut lossy = false;
@@ -120,10 +116,11 @@ where
             }
             return Ok(next);
         };
-        if message.session != post.number || message.number != next {
+        let named = message.line.session();
+        if named != post.number || message.number != next {
             return Err(TalkFault::OutOfTurn);
         }
-        match serve_line(rt, post, message.line, session, replies) {
+        match serve_line(rt, post, &message.line, session, replies) {
             Ok(lost) => lossy = is_either(lossy, lost),
             Err(_) => return Err(TalkFault::CannotWrite),
         }

@@ -1,7 +1,7 @@
 use Rattle.std.proofs.Common.{arith, rules, ◌≡◌, ◌∙◌}
 use Rattle.bc_calls.specs.declared.call.Call.TheVariants.{Ask}
 use Rattle.cli_check.specs.Run.{shown}
-use Rattle.cli_check.proofs.Serving.{making_none, making_more, making_part, same_refused}
+use Rattle.cli_check.proofs.Performing.{making_none, making_more, making_part, same_refused}
 use Rattle.cli_check.proofs.ahead.settle_asks.Goals as goal
 
 pub loop-ask-init : goal.loop-ask-init
@@ -11,7 +11,7 @@ loop-ask-init g c =
 
 pub loop-ask-preserved : goal.loop-ask-preserved
 loop-ask-preserved g c = record {
-  made = rw c.max-status.ensures (making_more _ _ _ _ _ _ _ _ _ _ _ _ _ _ c.loop-ask.invariant.made c.in-Some.ensures.steps.0 c.in_ok-asked.ensures.served);
+  made = rw c.max-status.ensures (making_more _ _ _ _ _ _ _ _ _ _ _ _ _ _ c.loop-ask.invariant.made c.in-Some.ensures.steps.0 c.in_ok-asked.ensures.performed);
   range = omega (arith, c.max-status.ensures, c.in_ok-asked.ensures.range, c.loop-ask.invariant.range);
 }
 
@@ -22,4 +22,4 @@ returns-in_err-asked-clause-refused g c = same_refused c.from_residual.result c.
     ))
 
 pub returns-in_err-asked-clause-still : goal.returns-in_err-asked-clause-still
-returns-in_err-asked-clause-still g c = (c.in_err-asked.ensures.still.0 ∙ c.loop-ask.invariant.made.served.adds.tag, c.in_err-asked.ensures.still.1 ∙ c.loop-ask.invariant.made.served.adds.number)
+returns-in_err-asked-clause-still g c = (c.in_err-asked.ensures.still.0 ∙ c.loop-ask.invariant.made.performed.adds.tag, c.in_err-asked.ensures.still.1 ∙ c.loop-ask.invariant.made.performed.adds.number)

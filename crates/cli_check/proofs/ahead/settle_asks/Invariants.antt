@@ -1,7 +1,7 @@
 use Rattle.std.proofs.Common.{◌≤◌}
 use Rattle.bc_calls.specs.declared.call.Call.TheVariants.{Ask}
 use Rattle.cli_check.specs.Run.{shown}
-use Rattle.cli_check.proofs.Serving.{Making}
+use Rattle.cli_check.proofs.Performing.{Making}
 use Rattle.cli_check.proofs.ahead.settle_asks.Given as goal
 
 abbrev pub invariant-loop-ask : goal.invariant-loop-ask

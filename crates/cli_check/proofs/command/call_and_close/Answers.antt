@@ -9,9 +9,9 @@ use Rattle.bc_calls.specs.declared.call.Event.{Event}
 use Rattle.cli_file.specs.Changes.{seen}
 use Rattle.cli_file.proofs.Stopping.{is_stop}
 use Rattle.cli_file.proofs.Closing.{only_audited}
-use Rattle.cli_check.specs.Run.{told, AreLegal}
-use Rattle.cli_check.specs.Served.{Adds}
-use Rattle.cli_check.proofs.Serving.{always_refused, refused_map}
+use Rattle.cli_check.specs.Run.{error_lines, AreLegal}
+use Rattle.cli_check.specs.Performed.{Adds}
+use Rattle.cli_check.proofs.Performing.{always_refused, refused_map}
 use Rattle.cli_check.proofs.Shorter.{the_last}
 use Rattle.cli_check.proofs.Ending.{runs_of, begins_of, begins_none, closed_with, legal_adds, owed_of, prints_of, shown_of}
 use Rattle.cli_check.proofs.Closing.{one_session}
@@ -36,18 +36,18 @@ pub returns-in_err-closed-clause-audited : goal.returns-in_err-closed-clause-aud
 returns-in_err-closed-clause-audited g c e =
     let new = (the_last _ _ _ (sym c.in_ok-db.ensures.opened.1 ∙ c.in-Some.ensures.items)).1 in
     let made = c.make_all-made.ensures in
-    shown_of c.args.asking.now.form.now (map seen c.args.changes.items) c.args.asking.now.names.now.keys c.in-Some.session c.make_all-made.new.session _ _ _ _ c.make_all-made.result new made.served made.refused made.untold made.silent made.stop (λ failed. absurd (true≢false (sym (c.is_unwritten.ensures.1 failed) ∙ c.if-is_unwritten.false)))
+    shown_of c.args.asking.now.form.now (map seen c.args.changes.items) c.args.asking.now.names.now.keys c.in-Some.session c.make_all-made.new.session _ _ _ _ c.make_all-made.result new made.performed made.refused made.untold made.silent made.stop (λ failed. absurd (true≢false (sym (c.is_unwritten.ensures.1 failed) ∙ c.if-is_unwritten.false)))
 
 pub returns-then-is_unwritten-clause-unwritten : goal.returns-then-is_unwritten-clause-unwritten
 returns-then-is_unwritten-clause-unwritten g c e =
     let new = (the_last _ _ _ (sym c.in_ok-db.ensures.opened.1 ∙ c.in-Some.ensures.items)).1 in
-    prints_of (map seen c.args.changes.items) told c.in-Some.session _ _ new (c.make_all-made.ensures.unwritten e)
+    prints_of (map seen c.args.changes.items) error_lines c.in-Some.session _ _ new (c.make_all-made.ensures.unwritten e)
 
 pub returns-clause-done : goal.returns-clause-done
 returns-clause-done g c =
     let closed = closed_with _ _ _ c.in-Some.session c.make_all-made.new.session c.in_ok-closed.field-0 c.in_ok-db.ensures.opened.1 c.in-Some.ensures.items c.push_reserved.ensures.items c.in_ok-closed.ensures.one_history in
     let few : length (map seen c.args.changes.items) + length c.args.asking.now.names.now.keys ≤ MOST_ENTRIES = omega (arith, length-map c.args.changes.items seen, c.in_ok-capacity.ensures.fits, c.len.ensures, c.len-2.ensures.len, c.args.changes.ok.0) in
-    runs_of c.args.asking.now.form.now (map seen c.args.changes.items) c.args.asking.now.names.now.keys c.in-Some.session c.make_all-made.new.session _ _ _ _ c.in_ok-closed.field-0 c.make_all-made.result closed.0 few closed.1 c.make_all-made.ensures.served
+    runs_of c.args.asking.now.form.now (map seen c.args.changes.items) c.args.asking.now.names.now.keys c.in-Some.session c.make_all-made.new.session _ _ _ _ c.in_ok-closed.field-0 c.make_all-made.result closed.0 few closed.1 c.make_all-made.ensures.performed
 
 pub returns-clause-untold : goal.returns-clause-untold
 returns-clause-untold g c e =

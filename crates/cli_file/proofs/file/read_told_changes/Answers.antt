@@ -1,7 +1,7 @@
 use Rattle.std.proofs.Common.{map}
 use Rattle.cli_file.specs.Parts.{sections_of}
 use Rattle.cli_file.specs.Changes.{MakeAll, Makes, Takes, seen}
-use Rattle.cli_file.specs.declared.file.Change.{Change}
+use Rattle.cli_file.specs.declared.file.FileChange.{FileChange}
 use Rattle.std.specs.Prelude.{Vec}
 use Rattle.std.specs.declared.alloc.Global.{Global}
 use Rattle.cli_file.proofs.Locating.{located_answers}
@@ -9,4 +9,4 @@ use Rattle.cli_file.proofs.file.read_told_changes.Goals as goal
 
 pub returns-in-Err : goal.returns-in-Err
 returns-in-Err c =
-    rw c.locate.ensures (located_answers (λ (list : Vec Change Global). MakeAll (sections_of c.args.file.now) (map seen list.items)) Makes Takes (sections_of c.args.file.now) c.args.positions c.args.file.now c.in-Err.stop c.in-Err.ensures)
+    rw c.locate.ensures (located_answers (λ (list : Vec FileChange Global). MakeAll (sections_of c.args.file.now) (map seen list.items)) Makes Takes (sections_of c.args.file.now) c.args.positions c.args.file.now c.in-Err.stop c.in-Err.ensures)

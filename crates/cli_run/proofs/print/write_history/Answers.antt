@@ -1,12 +1,10 @@
 use Rattle.cli_run.proofs.Printing.{more_printed, part_printed}
 use Rattle.cli_run.proofs.print.write_history.Goals as goal
 
-pub returns-in-Err-clause-no_memory : goal.returns-in-Err-clause-no_memory
-returns-in-Err-clause-no_memory g c =
-    let refused = rw c.in-Err.is at c.in_ok-write_entry.ensures.no_memory in
-    (refused.0, part_printed c.args.json c.args.entries.now c.loop-entry.entry-index _ _ _ c.loop-entry-test.true refused.0 c.loop-entry.invariant refused.1)
+pub returns-in_err-write_entry-clause-no_memory : goal.returns-in_err-write_entry-clause-no_memory
+returns-in_err-write_entry-clause-no_memory g c = λ is.
+    (let refused = c.in_err-write_entry.ensures.no_memory is in
+    (refused.0, part_printed c.args.json c.args.entries.now c.loop-entry.entry-index _ _ _ c.loop-entry-test.true refused.0 c.loop-entry.invariant refused.1))
 
 pub loop-entry-preserved : goal.loop-entry-preserved
-loop-entry-preserved g c =
-    let written = rw c.in-Ok.is at c.in_ok-write_entry.ensures.written in
-    more_printed c.args.json _ _ _ c.args.entries.now c.loop-entry.entry-index c.entry-item.result c.loop-entry-test.true c.entry-item.is c.loop-entry.invariant written
+loop-entry-preserved g c = more_printed c.args.json _ _ _ c.args.entries.now c.loop-entry.entry-index c.entry-item.result c.loop-entry-test.true c.entry-item.is c.loop-entry.invariant c.in_ok-write_entry.ensures.written

@@ -10,10 +10,10 @@ use Rattle.bc_share.specs.Sessions.{SessionView, IsAnswered, IsSame}
 use Rattle.bc_share.specs.declared.db.TheConstants.{MOST_ENTRIES}
 use Rattle.cli_file.specs.Statuses.{event_status, greatest}
 use Rattle.cli_check.specs.declared.form.Form.{Form}
-use Rattle.cli_check.specs.Run.{calls_of, shown, told, AreLegal, AreReplied}
+use Rattle.cli_check.specs.Run.{calls_of, shown, error_lines, AreLegal, AreReplied}
 
 -- one call was answered and printed, and this is its status
-pub record Serves (call : Call) (text : Event → List ℕ) (exit : ℕ) (old new : SessionView) (before after : Option (List ℕ)) : Type 0 where
+pub record Performs (call : Call) (text : Event → List ℕ) (exit : ℕ) (old new : SessionView) (before after : Option (List ℕ)) : Type 0 where
   pub event : Event
   pub made : call_of event ≡ call
   pub answered : IsAnswered event old new
@@ -22,7 +22,7 @@ pub record Serves (call : Call) (text : Event → List ℕ) (exit : ℕ) (old ne
 
 -- one call was answered, and standard error is owed a line about it
 abbrev pub Owes : Call → SessionView → SessionView → Type 0
-Owes call old new = (event : Event) × (call_of event ≡ call) × (told event ≢ []) × IsAnswered event old new
+Owes call old new = (event : Event) × (call_of event ≡ call) × (error_lines event ≢ []) × IsAnswered event old new
 
 -- what a session has seen begins with a legal list, and its calls there are its own list
 pub record HasSeenItsOwn (session : SessionView) : Type 0 where
@@ -43,7 +43,7 @@ abbrev pub IsAtMostOneMore : SessionView → SessionView → Type 0
 IsAtMostOneMore old new = IsSame old new ⊎ ((event : Event) × IsAnswered event old new)
 
 -- some calls were answered and printed in this order, and this is the greatest of their statuses
-pub record Served (list : List Call) (text : Event → List ℕ) (exit : ℕ) (old new : SessionView) (before after : Option (List ℕ)) : Type 0 where
+pub record Performed (list : List Call) (text : Event → List ℕ) (exit : ℕ) (old new : SessionView) (before after : Option (List ℕ)) : Type 0 where
   pub events : List Event
   pub made : map call_of events ≡ list
   pub adds : Adds events old new
@@ -51,13 +51,13 @@ pub record Served (list : List Call) (text : Event → List ℕ) (exit : ℕ) (o
   pub status : exit ≡ greatest events
 
 -- a beginning of some calls was answered and printed, and at most one more call was answered
-pub record ServedPart (list : List Call) (text : Event → List ℕ) (old new : SessionView) (before after : Option (List ℕ)) : Type 0 where
+pub record PerformedPart (list : List Call) (text : Event → List ℕ) (old new : SessionView) (before after : Option (List ℕ)) : Type 0 where
   pub front : List Call
   pub ahead : List Call
   pub cut : front ++ ahead ≡ list
   pub exit : ℕ
   pub between : SessionView
-  pub served : Served front text exit old between before after
+  pub performed : Performed front text exit old between before after
   pub last : IsAtMostOneMore between new
 
 -- some calls were answered as a legal history has them, and what belongs to each was printed
@@ -74,26 +74,26 @@ pub record OwesLast (Holds : List Event → Type 0) (list : List Call) : Type 0 
   pub ahead : List Call
   pub made : map call_of (events ++ last ∷ []) ++ ahead ≡ list
   pub holds : Holds (events ++ last ∷ [])
-  pub owed : told last ≢ []
+  pub owed : error_lines last ≢ []
 
 -- some calls were answered and printed, whatever the session did then
-pub record ServedThen (list : List Call) (text : Event → List ℕ) (old : SessionView) (before after : Option (List ℕ)) : Type 0 where
+pub record PerformedThen (list : List Call) (text : Event → List ℕ) (old : SessionView) (before after : Option (List ℕ)) : Type 0 where
   pub exit : ℕ
   pub between : SessionView
-  pub served : Served list text exit old between before after
+  pub performed : Performed list text exit old between before after
 
 -- the calls of the sections were answered and the names were asked for, what belongs to each call was printed, and the status is the
 -- greatest of theirs
-pub record ServedAll (form : Form) (first : List Call) (names : List NameParts) (exit : ℕ) (old new : SessionView) (out out' err err' : Option (List ℕ)) : Type 0 where
+pub record PerformedAll (form : Form) (first : List Call) (names : List NameParts) (exit : ℕ) (old new : SessionView) (out out' err err' : Option (List ℕ)) : Type 0 where
   pub events : List Event
   pub made : map call_of events ≡ calls_of first names
   pub adds : Adds events old new
   pub output : Appends out out' (flat_map (shown form) events)
-  pub errors : Appends err err' (flat_map told events)
+  pub errors : Appends err err' (flat_map error_lines events)
   pub status : exit ≡ greatest events
 
 -- a beginning of these calls was answered and printed, and at most one more call was answered
-pub record ServedFirst (form : Form) (first : List Call) (names : List NameParts) (old new : SessionView) (out out' err err' : Option (List ℕ)) : Type 0 where
+pub record PerformedFirst (form : Form) (first : List Call) (names : List NameParts) (old new : SessionView) (out out' err err' : Option (List ℕ)) : Type 0 where
   pub events : List Event
   pub ahead : List Call
   pub made : map call_of events ++ ahead ≡ calls_of first names
@@ -101,7 +101,7 @@ pub record ServedFirst (form : Form) (first : List Call) (names : List NameParts
   pub adds : Adds events old between
   pub last : IsAtMostOneMore between new
   pub output : Appends out out' (flat_map (shown form) events)
-  pub errors : Appends err err' (flat_map told events)
+  pub errors : Appends err err' (flat_map error_lines events)
 
 -- The calls of the sections were made and the names were asked for, at most as many as a history may have, as the legal history of one
 -- session. What belongs to each call was printed, and the status is the greatest of theirs.
@@ -111,7 +111,7 @@ pub record Runs (form : Form) (first : List Call) (names : List NameParts) (exit
   pub few : length first + length names ≤ MOST_ENTRIES
   pub legal : AreLegal events
   pub output : Appends out out' (flat_map (shown form) events)
-  pub errors : Appends err err' (flat_map told events)
+  pub errors : Appends err err' (flat_map error_lines events)
   pub status : exit ≡ greatest events
 
 -- what belongs to a beginning of the calls was printed, and `Holds` holds of these and their replies
@@ -121,4 +121,4 @@ pub record Begins (Holds : List Event → Type 0) (form : Form) (first : List Ca
   pub made : map call_of events ++ ahead ≡ calls_of first names
   pub holds : Holds events
   pub output : Appends out out' (flat_map (shown form) events)
-  pub errors : Appends err err' (flat_map told events)
+  pub errors : Appends err err' (flat_map error_lines events)

@@ -1,6 +1,6 @@
 use Rattle.cli_program.proofs.Opening.{print_opened}
 use Rattle.cli_program.proofs.Stopping.{print_unopened}
-use Rattle.cli_program.proofs.printing.print_file.Goals as goal
+use Rattle.cli_program.proofs.printing.obey_print.Goals as goal
 
 pub returns-in-Ok-clause-ended : goal.returns-in-Ok-clause-ended
 returns-in-Ok-clause-ended g c =

@@ -15,7 +15,7 @@ use Rattle.cli_file.specs.declared.stop.Stop.{Stop}
 use Rattle.cli_file.specs.Statuses.{event_status, greatest}
 use Rattle.cli_file.specs.Stops.{is_refused}
 use Rattle.cli_file.proofs.Printing.{nothing_added, kept_adds, added_then}
-use Rattle.cli_check.specs.Served.{Adds, Owes, OwesLast, Serves, Served, ServedPart, IsAtMostOneMore}
+use Rattle.cli_check.specs.Performed.{Adds, Owes, OwesLast, Performs, Performed, PerformedPart, IsAtMostOneMore}
 
 greatest-snoc : (events : List Event) (event : Event) → greatest (events ++ event ∷ []) ≡ max (greatest events) (event_status event)
 greatest-snoc [] event = omega arith
@@ -57,8 +57,8 @@ adds_then a b old mid new h k = record {
   seen = λ own. k.seen (h.seen own);
 }
 
-pub served_none : (text : Event → List ℕ) (s : SessionView) (u : Option (List ℕ)) → Served [] text 0 s s u u
-served_none text s u = record {
+pub performed_none : (text : Event → List ℕ) (s : SessionView) (u : Option (List ℕ)) → Performed [] text 0 s s u u
+performed_none text s u = record {
   events = [];
   made = refl;
   adds = adds_none s;
@@ -67,8 +67,8 @@ served_none text s u = record {
 }
 
 -- one more call
-pub served_more : (list : List Call) (call : Call) (text : Event → List ℕ) (m n : ℕ) (old mid new : SessionView) (u v w : Option (List ℕ)) → Served list text m old mid u v → Serves call text n mid new v w → Served (list ++ call ∷ []) text (max m n) old new u w
-served_more list call text m n old mid new u v w h k =
+pub performed_more : (list : List Call) (call : Call) (text : Event → List ℕ) (m n : ℕ) (old mid new : SessionView) (u v w : Option (List ℕ)) → Performed list text m old mid u v → Performs call text n mid new v w → Performed (list ++ call ∷ []) text (max m n) old new u w
+performed_more list call text m n old mid new u v w h k =
     let event : Event = k.event in
     let one : Adds (event ∷ []) mid new = adds_one event mid new k.answered in
     let printed : flat_map text h.events ++ text event ≡ flat_map text (h.events ++ event ∷ []) = ap (λ (t : List ℕ). flat_map text h.events ++ t) (sym (one_text text event)) ∙ sym (flat_map-append text h.events (event ∷ [])) in
@@ -84,20 +84,20 @@ served_more list call text m n old mid new u v w h k =
 pub record Making {X : Type 0} (call_at : X → Call) (all left : List X) (text : Event → List ℕ) (exit : ℕ) (old new : SessionView) (before after : Option (List ℕ)) : Type 0 where
   pub front : List X
   pub cut : all ≡ front ++ left
-  pub served : Served (map call_at front) text exit old new before after
+  pub performed : Performed (map call_at front) text exit old new before after
 
 pub making_none : {X : Type 0} (call_at : X → Call) (all left : List X) (text : Event → List ℕ) (s : SessionView) (u : Option (List ℕ)) → left ≡ all → Making call_at all left text 0 s s u u
-making_none call_at all left text s u is = record { front = []; cut = sym is; served = served_none text s u }
+making_none call_at all left text s u is = record { front = []; cut = sym is; performed = performed_none text s u }
 
-pub making_more : {X : Type 0} (call_at : X → Call) (all left rest : List X) (x : X) (text : Event → List ℕ) (m n : ℕ) (old mid new : SessionView) (u v w : Option (List ℕ)) → Making call_at all left text m old mid u v → left ≡ x ∷ rest → Serves (call_at x) text n mid new v w → Making call_at all rest text (max m n) old new u w
+pub making_more : {X : Type 0} (call_at : X → Call) (all left rest : List X) (x : X) (text : Event → List ℕ) (m n : ℕ) (old mid new : SessionView) (u v w : Option (List ℕ)) → Making call_at all left text m old mid u v → left ≡ x ∷ rest → Performs (call_at x) text n mid new v w → Making call_at all rest text (max m n) old new u w
 making_more {X} call_at all left rest x text m n old mid new u v w h next k = record {
   front = h.front ++ x ∷ [];
   cut = h.cut ∙ ap (λ (xs : List X). h.front ++ xs) next ∙ sym (append_assoc h.front (x ∷ []) rest);
-  served = subst (λ (cs : List Call). Served cs text (max m n) old new u w) (sym (map-append call_at h.front (x ∷ []))) (served_more (map call_at h.front) (call_at x) text m n old mid new u v w h.served k);
+  performed = subst (λ (cs : List Call). Performed cs text (max m n) old new u w) (sym (map-append call_at h.front (x ∷ []))) (performed_more (map call_at h.front) (call_at x) text m n old mid new u v w h.performed k);
 }
 
-pub served_kept : (list : List Call) (text : Event → List ℕ) (exit : ℕ) (old new : SessionView) (u v w : Option (List ℕ)) → Served list text exit old new u v → Keeps v w → Served list text exit old new u w
-served_kept list text exit old new u v w h k = record {
+pub performed_kept : (list : List Call) (text : Event → List ℕ) (exit : ℕ) (old new : SessionView) (u v w : Option (List ℕ)) → Performed list text exit old new u v → Keeps v w → Performed list text exit old new u w
+performed_kept list text exit old new u v w h k = record {
   events = h.events;
   made = h.made;
   adds = h.adds;
@@ -106,14 +106,14 @@ served_kept list text exit old new u v w h k = record {
 }
 
 -- the calls that were made before one was refused
-pub making_part : {X : Type 0} (call_at : X → Call) (all left : List X) (text : Event → List ℕ) (exit : ℕ) (old mid new : SessionView) (u v w : Option (List ℕ)) → Making call_at all left text exit old mid u v → IsAtMostOneMore mid new → Keeps v w → ServedPart (map call_at all) text old new u w
+pub making_part : {X : Type 0} (call_at : X → Call) (all left : List X) (text : Event → List ℕ) (exit : ℕ) (old mid new : SessionView) (u v w : Option (List ℕ)) → Making call_at all left text exit old mid u v → IsAtMostOneMore mid new → Keeps v w → PerformedPart (map call_at all) text old new u w
 making_part {X} call_at all left text exit old mid new u v w h last k = record {
   front = map call_at h.front;
   ahead = map call_at left;
   cut = sym (map-append call_at h.front left) ∙ ap (λ (xs : List X). map call_at xs) (sym h.cut);
   exit = exit;
   between = mid;
-  served = served_kept (map call_at h.front) text exit old mid u v w h.served k;
+  performed = performed_kept (map call_at h.front) text exit old mid u v w h.performed k;
   last = last;
 }
 
@@ -121,17 +121,17 @@ making_part {X} call_at all left text exit old mid new u v w h last k = record {
 pub owes_last : {X : Type 0} (call_at : X → Call) (all left rest : List X) (x : X) (text : Event → List ℕ) (exit : ℕ) (old mid new : SessionView) (u v : Option (List ℕ)) → Making call_at all left text exit old mid u v → left ≡ x ∷ rest → Owes (call_at x) mid new → OwesLast (λ events. Adds events old new) (map call_at all)
 owes_last {X} call_at all left rest x text exit old mid new u v h next owes =
     let event : Event = owes.0 in
-    let events : List Event = h.served.events in
+    let events : List Event = h.performed.events in
     let last : call_of event ≡ call_at x = owes.1 in
     record {
       events = events;
       last = event;
       ahead = map call_at rest;
-      made = ap (λ (cs : List Call). cs ++ map call_at rest) (map-append call_of events (event ∷ []) ∙ ap (λ (cs : List Call). cs ++ call_of event ∷ []) h.served.made ∙ ap (λ (c : Call). map call_at h.front ++ c ∷ []) last)
+      made = ap (λ (cs : List Call). cs ++ map call_at rest) (map-append call_of events (event ∷ []) ∙ ap (λ (cs : List Call). cs ++ call_of event ∷ []) h.performed.made ∙ ap (λ (c : Call). map call_at h.front ++ c ∷ []) last)
           ∙ append_assoc (map call_at h.front) (call_at x ∷ []) (map call_at rest)
           ∙ sym (map-append call_at h.front (x ∷ rest))
           ∙ ap (map call_at) (sym (h.cut ∙ ap (λ (xs : List X). h.front ++ xs) next));
-      holds = adds_then events (event ∷ []) old mid new h.served.adds (adds_one event mid new owes.3);
+      holds = adds_then events (event ∷ []) old mid new h.performed.adds (adds_one event mid new owes.3);
       owed = owes.2;
     }
 
