@@ -12,14 +12,14 @@ use Rattle.bc_versions.proofs.front.read_part.Goals as goal
 pub enter_as-requires : goal.enter_as-requires
 enter_as-requires c = looks _ _
 
-pub begin_root-requires-clause-history : goal.begin_root-requires-clause-history
-begin_root-requires-clause-history c =
+pub begin_root-begun-requires-clause-history : goal.begin_root-begun-requires-clause-history
+begin_root-begun-requires-clause-history c =
     let h = view c.in-Ok.reading.place in
     let held = c.shelf.ensures ∙ ap (λ (x : TableView). x.shelf) c.get-table.ensures in
     (h, subst (λ (s : ShelfView). IsShelfOf s h) (sym held) c.in-Ok.ensures.1.2.shelf)
 
-pub begin_root-requires-clause-pieces : goal.begin_root-requires-clause-pieces
-begin_root-requires-clause-pieces c =
+pub begin_root-begun-requires-clause-pieces : goal.begin_root-begun-requires-clause-pieces
+begin_root-begun-requires-clause-pieces c =
     let held = c.shelf.ensures ∙ ap (λ (x : TableView). x.shelf) c.get-table.ensures in
     let kept = c.pieces.ensures ∙ ap (λ (x : TableView). x.pieces) c.get-table.ensures in
     subst (λ (q : ShelfView × PieceRows). AreKeptPieces q.0 q.1) (λ i. (sym held i, sym kept i)) c.in-Ok.ensures.1.2.pieces
