@@ -243,6 +243,8 @@ pub enum Statement {
 }
 
 impl Drop for Statement {
+    /// Frees what the statement owns, which is mostly nothing. It is inlined, so that a list of statements does not move each one for it.
+    #[inline(always)]
     fn drop(self) {
         match self {
             Self::Assign(_) => {}
