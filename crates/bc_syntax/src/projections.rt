@@ -66,7 +66,12 @@ impl PartialEq for Projections {
 
     ghost laws = { lists_per laws-law };
 
+    /// Returns whether the lists are equal. Most are empty, and those are told without a look at their steps.
+    #[inline(always)]
     fn eq(&self, other: &Self) -> bool {
+        if self.as_slice().is_empty() && other.as_slice().is_empty() {
+            return true;
+        }
         self.as_slice() == other.as_slice()
     }
 }

@@ -4,6 +4,7 @@ ghost use Rattle.std.specs.Prelude.{◌≡◌};
 use crate::apart::Apart;
 use crate::projections::Projections;
 use crate::sequence::{Sequence, ShortSequence};
+use std::alloc::AllocError;
 
 /// A region: a universal one by its number (0 is `'static`, then come the declared ones in the order of the header), or a region variable
 /// by its number (rustc-dev-guide, "Region inference (NLL)").
@@ -196,13 +197,31 @@ impl Drop for Creation {
 }
 
 /// The value that an assignment computes. (rustc-dev-guide, "The MIR".)
-#[derive(Clone, PartialEq)]
+#[derive(PartialEq)]
 pub enum Rvalue {
     Use(Operand),
     Borrow(Borrow),
     Aggregate(Apart<Aggregate>),
     Closure(Apart<Creation>),
     Calc(ShortSequence<Operand, 2>),
+}
+
+// Handwritten, so that what is small is copied as it stands.
+impl Clone for Rvalue {
+    ghost use Rattle.std.specs.Prelude.{◌≡◌};
+
+    ghost is_clone = { λ s t. t ≡ s };
+
+    #[inline(always)]
+    fn clone(&self) -> Result<Self, AllocError> {
+        match self {
+            Self::Use(operand) => Ok(Self::Use(*operand)),
+            Self::Borrow(borrow) => Ok(Self::Borrow(*borrow)),
+            Self::Aggregate(aggregate) => Ok(Self::Aggregate(aggregate.clone()?)),
+            Self::Closure(creation) => Ok(Self::Closure(creation.clone()?)),
+            Self::Calc(operands) => Ok(Self::Calc(operands.clone()?)),
+        }
+    }
 }
 
 impl Drop for Rvalue {
@@ -218,10 +237,25 @@ impl Drop for Rvalue {
 }
 
 /// An assignment, `P = rvalue`. (rustc-dev-guide, "The MIR".)
-#[derive(Clone, PartialEq)]
+#[derive(PartialEq)]
 pub struct Assignment {
     pub target: Place,
     pub value: Rvalue,
+}
+
+// Handwritten, as that of `Rvalue`.
+impl Clone for Assignment {
+    ghost use Rattle.std.specs.Prelude.{◌≡◌};
+
+    ghost is_clone = { λ s t. t ≡ s };
+
+    #[inline(always)]
+    fn clone(&self) -> Result<Self, AllocError> {
+        Ok(Self {
+            target: self.target,
+            value: self.value.clone()?,
+        })
+    }
 }
 
 impl Drop for Assignment {
@@ -234,7 +268,7 @@ impl Drop for Assignment {
 }
 
 /// A point that is not the last of its block. `Dead` ends the storage of a local. (rustc-dev-guide, "The MIR".)
-#[derive(Clone, PartialEq)]
+#[derive(PartialEq)]
 pub enum Statement {
     Assign(Assignment),
     Dead(u8),
@@ -242,7 +276,26 @@ pub enum Statement {
     Nop,
 }
 
+// Handwritten, as that of `Rvalue`.
+impl Clone for Statement {
+    ghost use Rattle.std.specs.Prelude.{◌≡◌};
+
+    ghost is_clone = { λ s t. t ≡ s };
+
+    #[inline(always)]
+    fn clone(&self) -> Result<Self, AllocError> {
+        match self {
+            Self::Assign(assignment) => Ok(Self::Assign(assignment.clone()?)),
+            Self::Dead(local) => Ok(Self::Dead(*local)),
+            Self::Drop(place) => Ok(Self::Drop(*place)),
+            Self::Nop => Ok(Self::Nop),
+        }
+    }
+}
+
 impl Drop for Statement {
+    /// Frees what the statement owns, which is mostly nothing. It is inlined, so that a list of statements does not move each one for it.
+    #[inline(always)]
     fn drop(self) {
         match self {
             Self::Assign(_) => {}
