@@ -2,7 +2,7 @@
 import dataclasses
 
 # In how many turns all wrong bodies are tried.
-TURNS = 12
+TURNS = 16
 # What a check takes before it tries an edit, in edits of a crate that stands on nothing: a seed, which is a check of the crate as it is, and a check of
 # some functions alone. Each library that has to be read first makes an edit a seventh longer, and a check of some functions by these edits.
 SEED, ALONE, LIBRARY = 30, 10, 0.7

@@ -54,16 +54,6 @@ answered_more tag number own own' seen seen' event noted longer later legal last
   mine = mine number own own' seen seen' event noted longer later legal last;
 }
 
--- a session that stays, and then stays again or is answered
-pub stays_again : (old mid new : SessionView) → Stays old mid → Stays mid new → Stays old new
-stays_again old mid new first second = record {
-  tag = second.tag ∙ first.tag;
-  number = second.number ∙ first.number;
-  own = second.own ∙ first.own;
-  later = starts_again new.seen mid.seen old.seen second.later first.later;
-  legal = second.legal;
-}
-
 -- a session that stays is the same
 pub same_of : (old new : SessionView) → Stays old new → IsSame old new
 same_of old new stays = record { tag = stays.tag; number = stays.number; own = stays.own; later = stays.later }
@@ -76,6 +66,12 @@ same_then_stays old mid new first second = record {
   own = second.own ∙ first.own;
   later = starts_again new.seen mid.seen old.seen second.later first.later;
 }
+
+-- a session that stays, and then stays again
+pub stays_again : (old mid new : SessionView) → Stays old mid → Stays mid new → Stays old new
+stays_again old mid new first second =
+    let same = same_then_stays old mid new (same_of old mid first) second in
+    record { tag = same.tag; number = same.number; own = same.own; later = same.later; legal = second.legal }
 
 -- the same session, of which a call is then answered
 pub same_then_answered : (event : Event) (old mid new : SessionView) → IsSame old mid → IsAnswered event mid new → IsAnswered event old new

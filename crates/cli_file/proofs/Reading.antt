@@ -2,11 +2,14 @@
 use Rattle.std.proofs.Common.{◌≡◌, ℕ, List, [], ◌∷◌, ◌++◌, refl, sym, ap, ◌∙◌, append_assoc, append-nil, subst, inr}
 use Rattle.std.specs.Prelude.{◌≢◌, Result, Err}
 use Rattle.std.specs.List.{AllZip}
+use Rattle.bc_names.specs.Names.{NameParts}
 use Rattle.bc_text.specs.declared.fault.ReadFault.{ReadFault}
 use Rattle.bc_text.specs.declared.fault.ReadFault.TheVariants as read_faults
+use Rattle.bc_text.specs.Reading.{read, read_types}
 use Rattle.cli_file.specs.declared.fault.FaultKind.{FaultKind}
 use Rattle.cli_file.specs.declared.fault.FileFault.{FileFault}
 use Rattle.cli_file.specs.declared.heading.Heading.{Heading}
+use Rattle.cli_file.specs.declared.heading.Heading.TheVariants as headings
 use Rattle.cli_file.specs.declared.stop.Stop.{Stop}
 use Rattle.cli_file.specs.declared.stop.Stop.TheVariants.{WrongUse, CannotRead, CannotWrite, CannotTell, NoMemory, File, TooManyCalls, HistoryFull, Foreign, Audit}
 use Rattle.cli_file.specs.Parts.{Part}
@@ -65,7 +68,7 @@ unread found section (read_faults.Limit at) is = (refl, (_, is (λ e. absurd cc)
 unread found section read_faults.NoMemory is = tt
 
 -- if the text of a section cannot be read, something is wrong with the text
-pub wrong_text : {T U : Type 0} (Good : U → Type 0) (heading : Heading) (section : Part) (found : Result T ReadFault) (stop : Stop) → ((kind : FaultKind) → IsUnread found kind → IsTextFault heading section.text kind)
+wrong_text : {T U : Type 0} (Good : U → Type 0) (heading : Heading) (section : Part) (found : Result T ReadFault) (stop : Stop) → ((kind : FaultKind) → IsUnread found kind → IsTextFault heading section.text kind)
     → GivesRead found section (Err stop) → IsResult Good (λ fault. (fault.line ≡ section.line) × IsTextFault heading section.text fault.kind) (Err stop)
 wrong_text Good heading section found WrongUse wrong h = absurd h
 wrong_text Good heading section found CannotRead wrong h = absurd h
@@ -77,6 +80,16 @@ wrong_text Good heading section found TooManyCalls wrong h = absurd h
 wrong_text Good heading section found HistoryFull wrong h = absurd h
 wrong_text Good heading section found Foreign wrong h = absurd h
 wrong_text Good heading section found Audit wrong h = absurd h
+
+-- if a section's declarations cannot be read, something is wrong with its text
+pub wrong_declarations : {U : Type 0} (Good : U → Type 0) (section : Part) (stop : Stop) → GivesRead (read_types section.text) section (Err stop)
+    → IsResult Good (λ fault. (fault.line ≡ section.line) × IsTextFault headings.Types section.text fault.kind) (Err stop)
+wrong_declarations Good section stop = wrong_text Good headings.Types section (read_types section.text) stop (λ kind is. is)
+
+-- if a section's body cannot be read, something is wrong with its text
+pub wrong_body : {U : Type 0} (Good : U → Type 0) (name : NameParts) (section : Part) (stop : Stop) → GivesRead (read section.text) section (Err stop)
+    → IsResult Good (λ fault. (fault.line ≡ section.line) × IsTextFault (headings.Put name) section.text fault.kind) (Err stop)
+wrong_body Good name section stop = wrong_text Good (headings.Put name) section (read section.text) stop (λ kind is. is)
 
 -- if something is wrong with the text after a header line that the command takes, something is wrong with the section
 pub wrong_section : {U : Type 0} (Good : U → Type 0) (Takes : Heading → List ℕ → Type 0) (heading : Heading) (section : Part) (stop : Stop) → Takes heading section.header

@@ -1,7 +1,7 @@
-use Rattle.std.proofs.Common.{◌≡◌, ◌<◌, ◌∷◌, ◌∙◌, List, length, get_or, refl, ap, sym, subst, arith}
+use Rattle.std.proofs.Common.{◌≡◌, ◌<◌, ◌∷◌, ◌++◌, ◌∙◌, List, length, get_or, refl, ap, sym, subst, arith, append-nil}
 use Rattle.std.specs.List.{flat_map}
 use Rattle.std.proofs.lemmas.Grind.{common_steps}
-use Rattle.bc_types.proofs.Appending.{appended-all}
+use Rattle.std.proofs.lemmas.List.{at_drop_all}
 use Rattle.bc_names.specs.Names.{NameParts}
 use Rattle.bc_prov.specs.Snapshots.{children_named, names_used}
 use Rattle.bc_memo.specs.declared.place.Place.{Place}
@@ -39,5 +39,6 @@ returns c =
     let ps = c.args.self.now.held.places in
     let items : c.within-row-items.result.now ≡ part_in root ps =
     c.within-row-items.ensures ∙ ap (λ (qs : Places). part_in root qs) (c.deref.ensures.value ∙ ap (λ (r : ShelfRoom). r.held.places) c.self.view_is) in
-    let all = appended-all (flat_map closures_at) _ _ c.within-row-items.result.now c.loop-row.row-index c.loop-row-test.false refl c.loop-row.invariant in
+    let past = at_drop_all (flat_map closures_at) c.within-row-items.result.now c.loop-row.row-index c.loop-row-test.false in
+    let all = sym (append-nil c.loop-row.names.items) ∙ ap (λ (l : List NameParts). c.loop-row.names.items ++ l) (sym past) ∙ c.loop-row.invariant in
     all ∙ ap (λ (l : List NameParts). root ∷ l) (ap (flat_map closures_at) items ∙ sym (flat_over children_named unit_in (part_in root ps)))
