@@ -12,15 +12,14 @@ ghost use Rattle.bc_names.specs.Names.{NameParts};
 ghost use Rattle.bc_prov.specs.State.{at_name};
 ghost use Rattle.bc_calls.specs.declared.call.Event.TheVariants as events;
 ghost use Rattle.bc_book.specs.Ledgers.{Appends, AreRows, HasPlace, IsFull, Keeps, KeepsOthers, KeepsUnasked, Remembers, RemembersEach, empty_book, kept_rows, remembering};
-ghost use Rattle.bc_book.specs.Operations.{IsCallOf};
 
 use crate::ledger::{Ledger, MOST_SESSIONS, Refusal};
-use crate::operation::Operation;
+use crate::operation::Entered;
 use crate::roots::{ListingResult, NameResult, count_pieces, push_row};
 use bc_calls::{Begun, Entry, Event, EventOwners, PutReply, RemoveReply, Work, no_declarations};
 use bc_memo::Remembered;
 use bc_names::Name;
-use bc_prov::{Declared, Outcome, PieceSet, Providers, Shared, share};
+use bc_prov::{Declared, Listing, Outcome, PieceSet, Providers, Shared, share};
 use bc_syntax::{Sequence, Unit};
 use bc_versions::{Ending, Fronts, Press, Update};
 use std::alloc::{AllocError, Global};
@@ -140,32 +139,6 @@ impl<E: Ending> Book<E> {
         self.press.fronts()
     }
 
-    /// Enters what a session does as a call, and returns two owners of the call with its reply: one for the session's own list and one for
-    /// its caller. Published and refused as the method of that call says.
-    pub fn enter<R: Wait>(
-        &mut self,
-        rt: &R,
-        alloc: Global,
-        session: u8,
-        operation: Operation<&Providers>,
-    ) -> Result<EventOwners, Refusal>
-        requires session { session < MOST_SESSIONS }
-        ensures step { IfOk result (λ told. IsCallOf operation.entry told × Appends session told self.old self.new) }
-        ensures refused { OnErr result (self.new ≡ self.old) }
-        ensures full { IfErr result (IsFull self.old) }
-        ensures below { OnOk result (length self.old.entries < self.old.capacity) }
-    {
-        match operation {
-            Operation::Types(types) => self.put_types(rt, alloc, session, types),
-            Operation::Put(name, unit) => self.put(rt, alloc, session, name, unit),
-            Operation::Remove(name) => self.remove(rt, alloc, session, name),
-            Operation::Settle(work, providers) => self.settle(rt, alloc, session, work, providers),
-            Operation::All(works, providers) => {
-                self.settle_all(rt, alloc, session, works, providers)
-            }
-        }
-    }
-
     /// Stores declarations in place of those before, as a call of a session. They are already checked, since that takes memory and time.
     /// Publishes the entry, and waits for those who still read what was published before.
     ///
@@ -177,16 +150,17 @@ impl<E: Ending> Book<E> {
         alloc: Global,
         session: u8,
         types: Shared<Declared>,
-    ) -> Result<EventOwners, Refusal>
+    ) -> Result<Entered<()>, Refusal>
         requires session { session < MOST_SESSIONS }
-        ensures step { IfOk result (λ told. (told ≡ Event.Types types) × Appends session told self.old self.new) }
-        ensures answers { IfOk result (λ told. Keeps told self.old self.new) }
+        ensures step { IfOk result (λ entered. (entered.owners ≡ Event.Types types) × Appends session entered.owners self.old self.new) }
+        ensures answers { IfOk result (λ entered. Keeps entered.owners self.old self.new) }
         ensures refused { OnErr result (self.new ≡ self.old) }
         ensures full { IfErr result (IsFull self.old) }
         ensures below { OnOk result (length self.old.entries < self.old.capacity) }
     {
         let effects = SideEffects::none(alloc);
-        self.append(rt, alloc, session, Event::Types(types), effects)
+        let owners = self.append(rt, alloc, session, Event::Types(types), effects)?;
+        Ok(Entered { owners, reply: () })
     }
 
     /// Stores a unit under a name, as a call of a session, if the reply says so: `WrongKind` if the unit does not suit the name (a function
@@ -199,23 +173,20 @@ impl<E: Ending> Book<E> {
         session: u8,
         name: Name,
         unit: Shared<Unit>,
-    ) -> Result<EventOwners, Refusal>
+    ) -> Result<Entered<PutReply>, Refusal>
         requires session { session < MOST_SESSIONS }
-        ensures step { IfOk result (λ told. (reply : PutReply) × (told ≡ Event.Put name unit reply) × Appends session told self.old self.new) }
-        ensures answers { IfOk result (λ told. Keeps told self.old self.new) }
+        ensures step { IfOk result (λ entered. (entered.owners ≡ Event.Put name unit entered.reply) × Appends session entered.owners self.old self.new) }
+        ensures answers { IfOk result (λ entered. Keeps entered.owners self.old self.new) }
         ensures refused { OnErr result (self.new ≡ self.old) }
         ensures full { IfErr result (IsFull self.old) }
         ensures below { OnOk result (length self.old.entries < self.old.capacity) }
     {
         self.ledger.has_room()?;
         let reply = self.ledger.put_reply(alloc, &name, unit.get())?;
-        self.append(
-            rt,
-            alloc,
-            session,
-            Event::Put(name, unit, reply),
-            SideEffects::none(alloc),
-        )
+        let effects = SideEffects::none(alloc);
+        let event = Event::Put(name, unit, reply);
+        let owners = self.append(rt, alloc, session, event, effects)?;
+        Ok(Entered { owners, reply })
     }
 
     /// Removes the unit of a name, as a call of a session, and replies `Removed`, or `Absent` if the name holds none. Publishes and fails
@@ -226,22 +197,18 @@ impl<E: Ending> Book<E> {
         alloc: Global,
         session: u8,
         name: Name,
-    ) -> Result<EventOwners, Refusal>
+    ) -> Result<Entered<RemoveReply>, Refusal>
         requires session { session < MOST_SESSIONS }
-        ensures step { IfOk result (λ told. (reply : RemoveReply) × (told ≡ Event.Remove name reply) × Appends session told self.old self.new) }
-        ensures answers { IfOk result (λ told. Keeps told self.old self.new) }
+        ensures step { IfOk result (λ entered. (entered.owners ≡ Event.Remove name entered.reply) × Appends session entered.owners self.old self.new) }
+        ensures answers { IfOk result (λ entered. Keeps entered.owners self.old self.new) }
         ensures refused { OnErr result (self.new ≡ self.old) }
         ensures full { IfErr result (IsFull self.old) }
         ensures below { OnOk result (length self.old.entries < self.old.capacity) }
     {
         let reply = self.ledger.remove_reply(&name);
-        self.append(
-            rt,
-            alloc,
-            session,
-            Event::Remove(name, reply),
-            SideEffects::none(alloc),
-        )
+        let effects = SideEffects::none(alloc);
+        let owners = self.append(rt, alloc, session, Event::Remove(name, reply), effects)?;
+        Ok(Entered { owners, reply })
     }
 
     /// Returns the part of what is stored that the outcome of a name depends on: the declarations, and the units at the name and at names
@@ -271,10 +238,10 @@ impl<E: Ending> Book<E> {
         session: u8,
         work: Work,
         providers: &Providers,
-    ) -> Result<EventOwners, Refusal>
+    ) -> Result<Entered<Shared<Outcome>>, Refusal>
         requires session { session < MOST_SESSIONS }
-        ensures step { IfOk result (λ told. (outcome : Outcome) × (told ≡ Event.Ask work.snapshot.root outcome) ×
-            Appends session told self.old self.new × Remembers work.snapshot.root outcome self.new) }
+        ensures step { IfOk result (λ entered. (entered.owners ≡ Event.Ask work.snapshot.root entered.reply) ×
+            Appends session entered.owners self.old self.new × Remembers work.snapshot.root entered.reply self.new) }
         ensures others { OnOk result (KeepsOthers work.snapshot.root self.old self.new) }
         ensures absent { OnOk result (at_name self.old.shelf.places work.snapshot.root ≡ None → self.new.answers ≡ self.old.answers) }
         ensures refused { OnErr result (self.new ≡ self.old) }
@@ -290,8 +257,10 @@ impl<E: Ending> Book<E> {
         } = self.ledger.outcome(alloc, &name, Some(work), providers)?;
         let mut rows = Vec::new(alloc);
         push_row(&mut rows, row)?;
+        let reply = outcome.clone()?;
         let effects = SideEffects { rows, pieces };
-        self.append(rt, alloc, session, Event::Ask(name, outcome), effects)
+        let owners = self.append(rt, alloc, session, Event::Ask(name, outcome), effects)?;
+        Ok(Entered { owners, reply })
     }
 
     /// Enters an ask for all, as a call of a session, and replies with the outcome of each root that holds a body, in the order of their
@@ -305,11 +274,11 @@ impl<E: Ending> Book<E> {
         session: u8,
         works: Vec<Work>,
         providers: &Providers,
-    ) -> Result<EventOwners, Refusal>
+    ) -> Result<Entered<Shared<Listing>>, Refusal>
         requires session { session < MOST_SESSIONS }
-        ensures step { IfOk result (λ told. (listing : List (NameParts × Outcome)) × (told ≡ events.All listing) ×
-            Appends session told self.old self.new × RemembersEach self.new.shelf self.new.answers listing) }
-        ensures others { IfOk result (λ told. KeepsUnasked told self.old self.new) }
+        ensures step { IfOk result (λ entered. (entered.owners ≡ events.All entered.reply) ×
+            Appends session entered.owners self.old self.new × RemembersEach self.new.shelf self.new.answers entered.reply) }
+        ensures others { IfOk result (λ entered. KeepsUnasked entered.owners self.old self.new) }
         ensures refused { OnErr result (self.new ≡ self.old) }
         ensures full { IfErr result (IsFull self.old) }
         ensures below { OnOk result (length self.old.entries < self.old.capacity) }
@@ -321,11 +290,13 @@ impl<E: Ending> Book<E> {
             pieces,
         } = self.ledger.outcomes(alloc, works, providers)?;
         let listing = share(alloc, Sequence::from(listing))?;
+        let reply = listing.clone()?;
         let effects = SideEffects {
             rows,
             pieces: Some(pieces),
         };
-        self.append(rt, alloc, session, Event::All(listing), effects)
+        let owners = self.append(rt, alloc, session, Event::All(listing), effects)?;
+        Ok(Entered { owners, reply })
     }
 
     /// Adds a session's event, publishes it, remembers outcomes and keeps pieces, if there are any. Requires that the event has the right

@@ -1,14 +1,12 @@
 //! What the sessions of a database share: its book, under a lock.
 ghost use Rattle.std.specs.Prelude.{◌≡◌, ◌<◌, IfErr, IfOk, OnErr};
 ghost use Rattle.bc_book.specs.Ledgers.{Appends, IsFull};
-ghost use Rattle.bc_book.specs.Operations.{IsCallOf};
 ghost use Rattle.bc_calls.specs.Calls.{IsLegal};
 ghost use Rattle.bc_share.specs.Sessions.{IsAnswered};
 
 use crate::notes::Notes;
-use bc_book::{Book, Operation, Refusal};
+use bc_book::{Book, Enter, Entered, Refusal};
 use bc_calls::{Entry, Event};
-use bc_prov::Providers;
 use bc_versions::Ending;
 use std::alloc::Global;
 use std::sync::{Mutex, Wait};
@@ -28,17 +26,17 @@ impl<E: Ending> Desk<E> {
         }
     }
 
-    /// Enters an operation of a session, and returns the call with its reply. Returns `HistoryFull` only if the history is full or the book
-    /// was taken out, and `NoMemory` only if out of memory.
-    pub(crate) fn enter<R: Wait>(
+    /// Enters an operation of a session, and returns the call with its reply, and the reply by itself. Returns `HistoryFull` only if the
+    /// history is full or the book was taken out, and `NoMemory` only if out of memory.
+    pub(crate) fn enter<R: Wait, O: Enter>(
         &self,
         rt: &R,
         alloc: Global,
         notes: &mut Notes,
-        operation: Operation<&Providers>,
-    ) -> Result<Event, Refusal>
+        operation: O,
+    ) -> Result<(Event, O::Reply), Refusal>
         requires room { 0 < notes.old.room }
-        ensures told { IfOk result (λ event. IsCallOf operation.entry event × IsAnswered event notes.old.session notes.new.session) }
+        ensures told { IfOk result (λ told. O.becomes operation told.0 told.1 × IsAnswered told.0 notes.old.session notes.new.session) }
         ensures refused { OnErr result (notes.new ≡ notes.old) }
     {
         match &mut *self.book.lock(rt) {
@@ -59,24 +57,24 @@ impl<E: Ending> Desk<E> {
     }
 }
 
-/// Enters an operation of a session as one entry of the book, notes it once it is read, and returns the call with its reply. Its contract
-/// says what becomes of the book, which callers of the desk cannot see.
-fn enter<R: Wait, E: Ending>(
+/// Enters an operation of a session as one entry of the book, notes it once it is read, and returns the call with its reply, and the reply
+/// by itself. Its contract says what becomes of the book, which callers of the desk cannot see.
+fn enter<R: Wait, E: Ending, O: Enter>(
     rt: &R,
     alloc: Global,
     book: &mut Book<E>,
     notes: &mut Notes,
-    operation: Operation<&Providers>,
-) -> Result<Event, Refusal>
+    operation: O,
+) -> Result<(Event, O::Reply), Refusal>
     requires room { 0 < notes.old.room }
-    ensures told { IfOk result (λ event. IsCallOf operation.entry event × IsAnswered event notes.old.session notes.new.session) }
-    ensures entered { IfOk result (λ event. Appends notes.old.session.number event book.old book.new) }
+    ensures told { IfOk result (λ told. O.becomes operation told.0 told.1 × IsAnswered told.0 notes.old.session notes.new.session) }
+    ensures entered { IfOk result (λ told. Appends notes.old.session.number told.0 book.old book.new) }
     ensures kept { OnErr result (book.new ≡ book.old) }
     ensures refused { OnErr result (notes.new ≡ notes.old) }
     ensures full { IfErr result (IsFull book.old) }
 {
-    let owners = book.enter(rt, alloc, notes.number(), operation)?;
+    let Entered { owners, reply } = operation.enter(rt, alloc, book, notes.number())?;
     let (listed, answered) = owners.into_owners();
     notes.note(rt, listed);
-    Ok(answered)
+    Ok((answered, reply))
 }

@@ -8,13 +8,12 @@ ghost use Rattle.bc_calls.specs.Answers.{IsAnswer};
 ghost use Rattle.bc_calls.specs.Beginnings.{AreAllBegun};
 ghost use Rattle.bc_calls.specs.Calls.{after, calls};
 ghost use Rattle.bc_book.specs.declared.ledger.TheConstants.{MOST_SESSIONS};
-ghost use Rattle.bc_book.specs.Operations.{IsCallOf};
 ghost use Rattle.bc_share.specs.Sessions.{IsAnswered, Stays, new_session};
 
 use crate::desk::Desk;
 use crate::notes::Notes;
 use crate::works::work_all;
-use bc_book::{Operation, Refusal};
+use bc_book::{Enter, Operation, Put, Refusal, Remove, Settle, SettleAll};
 use bc_calls::{Begun, Entry, Event, PutReply, RemoveReply, Work, checked};
 use bc_names::Name;
 use bc_prov::{Listing, Outcome, Providers, Shared};
@@ -23,6 +22,15 @@ use bc_versions::{Ending, Front};
 use std::alloc::{AllocError, Global};
 use std::marker::Model;
 use std::sync::{Arc, Wait};
+
+/// A call that a session made: how many calls it had made before, which is the number of its entry; the call with its reply; and the reply
+/// by itself.
+#[derive(Drop)]
+pub struct Made<T> {
+    pub number: usize,
+    pub event: Event,
+    pub reply: T,
+}
 
 /// One session of a database. It makes calls, keeps its own list of them and their replies, and reads what is published. It may move from
 /// thread to thread, and the other sessions of its database make their calls meanwhile. A contract sees its number, the tag of its
@@ -101,11 +109,9 @@ impl<E: Ending> Session<E> {
         ensures told { IfOk result (λ reply. IsAnswered (events.Put name (arc_value unit) reply) self.old self.new) }
         ensures refused { OnErr result (Stays self.old self.new) }
     {
-        let (_, event) = self.make(rt, Operation::Put(name, Shared::new(unit)))?;
-        let Event::Put(_, _, reply) = event else {
-            unreachable!();
-        };
-        Ok(reply)
+        let unit = Shared::new(unit);
+        let made = self.make(rt, Put { name, unit })?;
+        Ok(made.reply)
     }
 
     /// Removes the unit of a name, and replies `Removed`, or `Absent` if the name holds none. Room in the session's own list is made first.
@@ -114,11 +120,8 @@ impl<E: Ending> Session<E> {
         ensures told { IfOk result (λ reply. IsAnswered (events.Remove name reply) self.old self.new) }
         ensures refused { OnErr result (Stays self.old self.new) }
     {
-        let (_, event) = self.make(rt, Operation::Remove(name))?;
-        let Event::Remove(_, reply) = event else {
-            unreachable!();
-        };
-        Ok(reply)
+        let made = self.make(rt, Remove { name })?;
+        Ok(made.reply)
     }
 
     /// Returns a consistent snapshot of one name and its closures, taken without the lock. Pass it to `work`, then to `settle`. It carries
@@ -171,11 +174,8 @@ impl<E: Ending> Session<E> {
         ensures told { IfOk result (λ outcome. IsAnswered (events.Ask work.snapshot.root (arc_value outcome)) self.old self.new) }
         ensures refused { OnErr result (Stays self.old self.new) }
     {
-        let (_, event) = self.make(rt, Operation::Settle(work, providers))?;
-        let Event::Ask(_, outcome) = event else {
-            unreachable!();
-        };
-        Ok(outcome.into_arc())
+        let made = self.make(rt, Settle { work, providers })?;
+        Ok(made.reply.into_arc())
     }
 
     /// Asks whether the body under a name is borrow-correct now, and returns the outcome of what the name holds, over the stored
@@ -213,11 +213,8 @@ impl<E: Ending> Session<E> {
         ensures told { IfOk result (λ listing. IsAnswered (events.All (arc_value listing)) self.old self.new) }
         ensures refused { OnErr result (Stays self.old self.new) }
     {
-        let (_, event) = self.make(rt, Operation::All(works, providers))?;
-        let Event::All(listing) = event else {
-            unreachable!();
-        };
-        Ok(listing.into_arc())
+        let made = self.make(rt, SettleAll { works, providers })?;
+        Ok(made.reply.into_arc())
     }
 
     /// Asks which bodies are borrow-correct now, and returns the outcome of each root that holds a body, in the order of the names, each as
@@ -238,26 +235,30 @@ impl<E: Ending> Session<E> {
         self.settle_all(rt, works, providers)
     }
 
-    /// Makes a call: returns how many calls the session had made before, which is the number of its entry, and the call with its reply. The
-    /// other calls are this one with one kind of operation each. Work for an Ask is done before, with no lock held (`begin`, `begin_all`).
+    /// Makes a call, and returns its number, the call with its reply, and the reply by itself. The other calls are this one with one
+    /// operation each. Work for an Ask is done before, with no lock held (`begin`, `begin_all`).
     ///
     /// Room in the session's own list is made first. Returns `HistoryFull` only if the history is full or the database is closed, and
     /// `NoMemory` only if out of memory, as a provider may report too. The session's own list and the history are then as they were, and
     /// the work is gone.
-    pub fn make<R: Wait>(
+    pub fn make<R: Wait, O: Enter>(
         &mut self,
         rt: &R,
-        operation: Operation<&Providers>,
-    ) -> Result<(usize, Event), Refusal>
-        ensures made { IfOk result (λ made. IsCallOf operation.entry made.1 × IsAnswered made.1 self.old self.new) }
-        ensures number { IfOk result (λ made. made.0 ≡ length self.old.own) }
+        operation: O,
+    ) -> Result<Made<O::Reply>, Refusal>
+        ensures made { IfOk result (λ made. O.becomes operation made.event made.reply × IsAnswered made.event self.old self.new) }
+        ensures number { IfOk result (λ made. made.number ≡ length self.old.own) }
         ensures refused { OnErr result (Stays self.old self.new) }
     {
         // Before the lock is taken: a call without room returns `NoMemory` even if the history is full.
         self.notes.reserve()?;
         let number = self.notes.count();
-        let event = self.desk.enter(rt, self.alloc, &mut self.notes, operation)?;
-        Ok((number, event))
+        let (event, reply) = self.desk.enter(rt, self.alloc, &mut self.notes, operation)?;
+        Ok(Made {
+            number,
+            event,
+            reply,
+        })
     }
 
     /// Returns the tag of the session's database.

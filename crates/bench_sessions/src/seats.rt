@@ -1,7 +1,7 @@
 //! Sessions that each repeat one thing, on threads of their own.
 use anyhow::{Result, bail};
 use bc_book::Book;
-use bc_calls::{Event, PutReply};
+use bc_calls::PutReply;
 use bc_names::Name;
 use bc_prov::{Outcome, Shared};
 use bc_share::Session;
@@ -90,7 +90,7 @@ impl<R: AllocGlobal + Clock + Wait, E: Ending> Seat<'_, R, E> {
             .lock(rt)
             .put(rt, alloc, 0, *name, Shared::new(unit));
         match reply {
-            Ok(told) => matches!(told.into_owners().0, Event::Put(_, _, PutReply::Replaced)),
+            Ok(entered) => matches!(entered.reply, PutReply::Replaced),
             Err(_) => false,
         }
     }

@@ -1,6 +1,5 @@
 use Rattle.bc_prov.specs.State.{at_name}
-use Rattle.std.specs.Prelude.{is_some}
-use Rattle.std.proofs.Common.{◌≡◌, length, sym, ◌∙◌, subst, arith, ap}
+use Rattle.std.proofs.Common.{◌≡◌, length, sym, ◌∙◌, subst, arith}
 use Rattle.bc_calls.specs.Calls.{HoldsCount}
 use Rattle.bc_book.specs.Ledgers.{bodies_of}
 use Rattle.bc_calls.specs.declared.call.TheConstants.{MOST_BODIES}

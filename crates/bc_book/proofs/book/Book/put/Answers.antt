@@ -11,10 +11,10 @@ append-requires-clause-reply g c =
     subst (λ (x : BookView × Body). IsPutReply (after x.0.entries).bodies c.args.name x.1 c.in_ok-reply.reply) (λ i. (c.self.view_is i, c.get.ensures i)) c.in_ok-reply.ensures.reply
 
 pub append-requires-clause-fit : goal.append-requires-clause-fit
-append-requires-clause-fit g c = none_fit _ c.none.result.pieces c.none.ensures.pieces
+append-requires-clause-fit g c = none_fit _ c.none-effects.result.pieces c.none-effects.ensures.pieces
 
 pub append-requires-clause-published : goal.append-requires-clause-published
-append-requires-clause-published g c = none_fit _ c.none.result.pieces c.none.ensures.pieces
+append-requires-clause-published g c = none_fit _ c.none-effects.result.pieces c.none-effects.ensures.pieces
 
 pub append-requires-clause-place : goal.append-requires-clause-place
 append-requires-clause-place g c = subst (λ (v : BookView). c.in_ok-reply.reply ≡ Added → length v.shelf.places < most_bodies) c.self.view_is c.in_ok-reply.ensures.place

@@ -1,7 +1,7 @@
 use Rattle.bc_calls.specs.Calls.{after}
 use Rattle.bc_prov.specs.Outcome.{IsOutcomeIn}
 use Rattle.std.proofs.Common.{◌≡◌, ◌++◌, List, ap, sym, ◌∙◌, subst}
-use Rattle.std.specs.Prelude.{IfOk, OnOk, None}
+use Rattle.std.specs.Prelude.{None}
 use Rattle.bc_names.specs.Names.{NameParts}
 use Rattle.bc_prov.specs.State.{at_name}
 use Rattle.bc_prov.specs.Pieces.{rows_of}
@@ -12,7 +12,8 @@ use Rattle.bc_memo.proofs.Found.{fitting_answer}
 use Rattle.bc_calls.specs.declared.call.Event.TheVariants as events
 use Rattle.bc_calls.specs.Changes.{change_of, writes_after, writes_of}
 use Rattle.bc_book.specs.Ledgers.{Appends, AreRows, BookView, KeepsOthers, Remembers, kept_rows, remembering, row_list}
-use Rattle.bc_book.proofs.Settling.{rows_of_row, settled_absent, settled_others, settled_step}
+use Rattle.bc_book.proofs.Recalling.{others_kept_by}
+use Rattle.bc_book.proofs.Settling.{rows_of_row, settled_absent, settled_step}
 use Rattle.bc_book.proofs.book.Book.settle.Goals as goal
 
 pub append-requires-clause-rows : goal.append-requires-clause-rows
@@ -45,11 +46,12 @@ returns-clause-step g c =
     let n : NameParts = c.args.work.snapshot.root in
     let x : Outcome = c.in_ok-outcome.field-0.outcome in
     let rows : c.push_row.new.rows.items ≡ row_list row = c.in_ok-push_row.ensures ∙ ap (λ (l : List (NameParts × Remembered)). l ++ row_list row) c.new-rows.ensures.items in
-    let step : OnOk c.append.result (Appends c.args.session (events.Ask k x) old new) = subst (λ (v : BookView). OnOk c.append.result (Appends c.args.session (events.Ask k x) v new)) (sym c.self.view_is) c.append.ensures.step in
-    let answers : OnOk c.append.result (new.answers ≡ kept_rows (change_of (events.Ask k x)) (remembering (row_list row) old.answers)) =
-    subst (λ (y : List (NameParts × Remembered) × BookView). OnOk c.append.result (new.answers ≡ kept_rows (change_of (events.Ask k x)) (remembering y.0 y.1.answers))) (λ i. (rows i, sym c.self.view_is i)) c.append.ensures.answers in
-    subst (λ (v : BookView). IfOk c.append.result (λ told. (outcome : Outcome) × (told ≡ events.Ask n outcome) × Appends c.args.session told v new × Remembers n outcome new)) c.self.view_is
-    (settled_step c.append.result c.args.session k n x old new row c.append.ensures.told step answers c.name.ensures c.in_ok-outcome.ensures.recalls c.in_ok-outcome.ensures.row)
+    let answers : new.answers ≡ kept_rows (change_of (events.Ask k x)) (remembering (row_list row) old.answers) =
+    subst (λ (y : List (NameParts × Remembered) × BookView). new.answers ≡ kept_rows (change_of (events.Ask k x)) (remembering y.0 y.1.answers)) (λ i. (rows i, sym c.self.view_is i)) c.in_ok-owners.ensures.answers in
+    let told = c.in_ok-owners.owners in
+    let step : Appends c.args.session (events.Ask k x) old new = subst (λ (v : BookView). Appends c.args.session (events.Ask k x) v new) (sym c.self.view_is) c.in_ok-owners.ensures.step in
+    subst (λ (y : BookView × Outcome). (told ≡ events.Ask n y.1) × Appends c.args.session told y.0 new × Remembers n y.1 new) (λ i. (c.self.view_is i, sym c.in_ok-reply.ensures.cases i))
+    (settled_step c.args.session k n x told old new row c.in_ok-owners.ensures.told step answers c.name.ensures c.in_ok-outcome.ensures.recalls c.in_ok-outcome.ensures.row)
 
 pub returns-clause-others : goal.returns-clause-others
 returns-clause-others g c =
@@ -61,10 +63,9 @@ returns-clause-others g c =
     let n : NameParts = c.args.work.snapshot.root in
     let x : Outcome = c.in_ok-outcome.field-0.outcome in
     let rows : c.push_row.new.rows.items ≡ row_list row = c.in_ok-push_row.ensures ∙ ap (λ (l : List (NameParts × Remembered)). l ++ row_list row) c.new-rows.ensures.items in
-    let answers : OnOk c.append.result (new.answers ≡ kept_rows (change_of (events.Ask k x)) (remembering (row_list row) old.answers)) =
-    subst (λ (y : List (NameParts × Remembered) × BookView). OnOk c.append.result (new.answers ≡ kept_rows (change_of (events.Ask k x)) (remembering y.0 y.1.answers))) (λ i. (rows i, sym c.self.view_is i)) c.append.ensures.answers in
-    subst (λ (v : BookView). OnOk c.append.result (KeepsOthers n v new)) c.self.view_is
-    (settled_others c.append.result k n x old new row answers c.name.ensures c.in_ok-outcome.ensures.row)
+    let answers : new.answers ≡ kept_rows (change_of (events.Ask k x)) (remembering (row_list row) old.answers) =
+    subst (λ (y : List (NameParts × Remembered) × BookView). new.answers ≡ kept_rows (change_of (events.Ask k x)) (remembering y.0 y.1.answers)) (λ i. (rows i, sym c.self.view_is i)) c.in_ok-owners.ensures.answers in
+    subst (λ (v : BookView). KeepsOthers n v new) c.self.view_is (others_kept_by k n x old new row answers c.name.ensures c.in_ok-outcome.ensures.row)
 
 pub returns-clause-absent : goal.returns-clause-absent
 returns-clause-absent g c =
@@ -76,19 +77,9 @@ returns-clause-absent g c =
     let n : NameParts = c.args.work.snapshot.root in
     let x : Outcome = c.in_ok-outcome.field-0.outcome in
     let rows : c.push_row.new.rows.items ≡ row_list row = c.in_ok-push_row.ensures ∙ ap (λ (l : List (NameParts × Remembered)). l ++ row_list row) c.new-rows.ensures.items in
-    let answers : OnOk c.append.result (new.answers ≡ kept_rows (change_of (events.Ask k x)) (remembering (row_list row) old.answers)) =
-    subst (λ (y : List (NameParts × Remembered) × BookView). OnOk c.append.result (new.answers ≡ kept_rows (change_of (events.Ask k x)) (remembering y.0 y.1.answers))) (λ i. (rows i, sym c.self.view_is i)) c.append.ensures.answers in
-    subst (λ (v : BookView). OnOk c.append.result (at_name v.shelf.places n ≡ None → new.answers ≡ v.answers)) c.self.view_is
-    (settled_absent c.append.result k n x old new row answers c.name.ensures c.in_ok-outcome.ensures.row)
+    let answers : new.answers ≡ kept_rows (change_of (events.Ask k x)) (remembering (row_list row) old.answers) =
+    subst (λ (y : List (NameParts × Remembered) × BookView). new.answers ≡ kept_rows (change_of (events.Ask k x)) (remembering y.0 y.1.answers)) (λ i. (rows i, sym c.self.view_is i)) c.in_ok-owners.ensures.answers in
+    subst (λ (v : BookView). at_name v.shelf.places n ≡ None → new.answers ≡ v.answers) c.self.view_is (settled_absent k n x old new row answers c.name.ensures c.in_ok-outcome.ensures.row)
 
 pub append-requires-clause-reply : goal.append-requires-clause-reply
 append-requires-clause-reply g c = subst (λ (v : BookView). IsOutcomeIn (after v.entries) c.name.result.now c.in_ok-outcome.field-0.outcome) c.self.view_is c.in_ok-outcome.ensures.outcome
-
-pub returns-clause-refused : goal.returns-clause-refused
-returns-clause-refused g c = c.append.ensures.refused
-
-pub returns-clause-full : goal.returns-clause-full
-returns-clause-full g c = c.append.ensures.full
-
-pub returns-clause-below : goal.returns-clause-below
-returns-clause-below g c = c.append.ensures.below

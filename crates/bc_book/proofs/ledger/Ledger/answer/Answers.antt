@@ -13,7 +13,7 @@ returns-in_ok-outcome-in-Some-clause-right c =
     let n = c.args.name.now in
     let row = c.in-Some.ensures.stands in
     subst (λ (x : LedgerView × Outcome). IsOutcomeIn (after x.0.entries) n x.1) (λ k. (c.self.view_is k, sym c.in_ok-outcome-in-Some.ensures.cases k))
-    (answer_right i.history.items i.shelf.held i.memo.rows n row.0 c.in-Some.field-0.now c.self.invariant.0.right row.1 row.2 row.3)
+    (answer_right i.history.items i.shelf.held i.memo.rows n row.0 c.in-Some.outcome.now c.self.invariant.0.right row.1 row.2 row.3)
 
 pub returns-in_ok-outcome-in-Some-clause-remembered : goal.returns-in_ok-outcome-in-Some-clause-remembered
 returns-in_ok-outcome-in-Some-clause-remembered c =

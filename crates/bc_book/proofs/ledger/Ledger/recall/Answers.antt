@@ -1,7 +1,6 @@
-use Rattle.std.proofs.Common.{◌≡◌, Option, sym, subst}
+use Rattle.std.proofs.Common.{◌≡◌, Option, subst}
 use Rattle.std.specs.Prelude.{IfSome}
 use Rattle.bc_names.specs.Names.{NameParts}
-use Rattle.bc_prov.specs.declared.outcome.Outcome.{Outcome}
 use Rattle.bc_prov.specs.Outcome.{IsOutcomeIn}
 use Rattle.bc_prov.specs.Pieces.{rows_of}
 use Rattle.bc_memo.specs.Places.{AreFitting}
