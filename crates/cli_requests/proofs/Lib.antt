@@ -1,3 +1,4 @@
 mod Values
 mod Texts
 mod Readings
+pub mod Sending

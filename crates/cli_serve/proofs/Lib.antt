@@ -5,3 +5,4 @@ pub mod Closing
 pub mod Told
 pub mod Telling
 pub mod Printing
+mod Sending

@@ -63,7 +63,7 @@ impl<L: Talk + Drop, R: Wait> Messages<L> for Inbox<'_, L, R> {
         if self.backlog.has_stopped(self.rt) {
             return None;
         }
-        self.taken = Some(message.line.bytes());
+        self.taken = Some(message.line().bytes());
         Some(message)
     }
 }

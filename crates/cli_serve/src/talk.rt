@@ -74,10 +74,10 @@ fn send<L: Talk + Drop, R: Wait>(
     queues: &[Sender<Message<L>>],
     message: Message<L>,
 ) -> Result<(), ServeStop> {
-    let Some(queue) = queues.get(usize::from(message.line.session())) else {
+    let Some(queue) = queues.get(usize::from(message.line().session())) else {
         return Err(ServeStop::LostLine);
     };
-    if !backlog.add(rt, message.line.bytes()) {
+    if !backlog.add(rt, message.line().bytes()) {
         return Err(ServeStop::LostLine);
     }
     match queue.send(rt, message) {

@@ -13,6 +13,11 @@ use Rattle.cli_talk.specs.Turns.{IsLineAnswered, Turns}
 abbrev pub IsLineOf : ℕ → ℕ → ℕ → List ℕ → Option (List (List ℕ)) → Type 0
 IsLineOf sessions session number line known = option_and_then (λ lines. slice_get (lines_for sessions session lines) number) known ≡ option_map (λ _. line) known
 
+-- a message: a line that was parsed, and its number among those that name its session
+pub record MessageView : Type 0 where
+  pub number : ℕ
+  pub line : ParsedLine
+
 -- this is what a line was parsed as that is the one of this number among those that name its session, if the lines of the input are known
 abbrev pub IsParsedOf : ℕ → ℕ → ParsedLine → Option (List (List ℕ)) → Type 0
 IsParsedOf sessions number parsed known = (line : List ℕ) × IsParsed sessions line parsed × IsLineOf sessions parsed.session number line known

@@ -7,9 +7,9 @@ ghost use Rattle.bc_share.specs.Sessions.{IsAnswered, IsSame};
 ghost use Rattle.cli_talk.specs.Turns.{IsAnswerTo, IsReplyTo, IsWholeLine};
 
 use bc_book::{Operation, Refusal};
-use bc_calls::{Call, Event, checked};
+use bc_calls::{Call, checked};
 use bc_prov::Providers;
-use bc_share::{Session, work_all};
+use bc_share::{Made, Session, work_all};
 use bc_versions::Ending;
 use cli_answers::{Answer, answer_line};
 use cli_requests::{Id, Request, Wanted};
@@ -62,16 +62,15 @@ fn prepare<'a, E: Ending>(
     }
 }
 
-/// Makes a call. Returns the number of calls that the session had made before, and the call with its reply. Fails as `Session::make` does,
-/// and with `NoMemory` if the call cannot be prepared.
+/// Makes a call. Fails as `Session::make` does, and with `NoMemory` if the call cannot be prepared.
 fn make<R: AllocGlobal + Wait, E: Ending>(
     rt: &R,
     session: &mut Session<E>,
     call: Call,
     providers: &Providers,
-) -> Result<(usize, Event), Refusal>
-    ensures made { IfOk result (λ made. (call_of made.1 ≡ call) × IsAnswered made.1 session.old session.new) }
-    ensures number { IfOk result (λ made. made.0 ≡ length session.old.own) }
+) -> Result<Made<()>, Refusal>
+    ensures made { IfOk result (λ made. (call_of made.event ≡ call) × IsAnswered made.event session.old session.new) }
+    ensures number { IfOk result (λ made. made.number ≡ length session.old.own) }
     ensures refused { OnErr result (IsSame session.old session.new) }
 {
     let operation = prepare(rt.alloc(), session, call, providers)?;
@@ -89,7 +88,10 @@ fn answer_wanted<R: AllocGlobal + Wait, E: Ending>(
 {
     match wanted {
         Wanted::Call(call) => match make(rt, session, call, providers) {
-            Ok((number, event)) => Answer::Entered { number, event },
+            Ok(made) => Answer::Entered {
+                number: made.number,
+                event: made.event,
+            },
             Err(refusal) => Answer::Refused(refusal),
         },
         Wanted::Glance(name) => match session.glance(&name) {

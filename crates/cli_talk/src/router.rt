@@ -4,7 +4,6 @@ ghost use Rattle.cli_input.specs.Lines.{ReadsNext, lines_of};
 ghost use Rattle.cli_requests.specs.declared.request.TheConstants.{MOST_REQUEST_BYTES};
 ghost use Rattle.cli_talk.specs.Wires.{Takes};
 ghost use Rattle.cli_talk.specs.Turns.{IsWholeLine, wrong_answer};
-ghost use Rattle.cli_talk.specs.Talks.{IsParsedOf};
 ghost use Rattle.cli_talk.specs.Counted.{CountsSoFar, CountsWith};
 ghost use Rattle.cli_talk.specs.Routed.{Routes};
 
@@ -14,12 +13,9 @@ use crate::message::{Message, Talk};
 use crate::replies::Replies;
 use cli_answers::Answer;
 use cli_input::{InputLine, read_input_line};
-use cli_requests::{
-    Destination, Id, MOST_REQUEST_BYTES, ParsedLine, RequestFault, find_destination,
-};
+use cli_requests::{Destination, Id, MOST_REQUEST_BYTES, RequestFault, find_destination};
 use std::alloc::Global;
 use std::io::{BufRead, ErrorKind};
-use std::marker::PhantomData;
 
 /// What the router did with the next line of an input.
 #[derive(Drop)]
@@ -30,18 +26,6 @@ pub enum RoutedLine<M> {
     Told,
     /// The line names a session. This is the message for the worker of the session.
     Sent(M),
-}
-
-/// Returns the message with a line.
-fn make_message<L: Talk>(number: u64, line: ParsedLine) -> Message<L>
-    requires is_of { IsParsedOf L.sessions number line L.lines }
-    ensures { result.line ≡ line }
-{
-    Message {
-        number,
-        line,
-        of: PhantomData,
-    }
 }
 
 /// Returns the next line of an input, or `None` if none is left.
@@ -119,10 +103,8 @@ pub fn route_line<L: Talk + Drop, I: BufRead, P: Replies>(
     let parsed = match destination {
         Destination::Session(parsed) => parsed,
         Destination::Nowhere(id, fault) => {
-            return match tell(alloc, id, fault, replies) {
-                Ok(()) => Ok(RoutedLine::Told),
-                Err(fault) => Err(fault),
-            };
+            tell(alloc, id, fault, replies)?;
+            return Ok(RoutedLine::Told);
         }
     };
     let place = usize::from(parsed.session());
@@ -130,7 +112,7 @@ pub fn route_line<L: Talk + Drop, I: BufRead, P: Replies>(
     if number == u64::MAX {
         return Err(TalkFault::OutOfTurn);
     }
-    let message = make_message(number, parsed);
+    let message = Message::new(number, parsed);
     counts[place] = number + 1;
     Ok(RoutedLine::Sent(message))
 }

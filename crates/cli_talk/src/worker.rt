@@ -116,11 +116,12 @@ where
             }
             return Ok(next);
         };
-        let named = message.line.session();
-        if named != post.number || message.number != next {
+        let (number, line) = (message.number(), message.line());
+        let named = line.session();
+        if named != post.number || number != next {
             return Err(TalkFault::OutOfTurn);
         }
-        match serve_line(rt, post, &message.line, session, replies) {
+        match serve_line(rt, post, line, session, replies) {
             Ok(lost) => lossy = is_either(lossy, lost),
             Err(_) => return Err(TalkFault::CannotWrite),
         }

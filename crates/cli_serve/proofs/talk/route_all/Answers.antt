@@ -6,7 +6,7 @@ use Rattle.cli_serve.proofs.talk.route_all.Goals as goal
 pub lines-preserved : goal.lines-preserved
 lines-preserved g c =
     let more : is_more c.route_line.result ≡ true =
-    elim c.match-this.branch [
+    elim c.match-route_line-2.branch [
       | in-Ok-Told w ↦ search rules
       | in-Ok-Sent+in_default w ↦ search rules
     ] in

@@ -26,16 +26,14 @@ returns-then-named-post-clause-still g c = answered_still _ _ _ _ _ _ _ _ _ c.me
 
 pub returns-in-Err-clause-stopped : goal.returns-in-Err-clause-stopped
 returns-in-Err-clause-stopped g c =
-    let message = c.in-Some.message in
-    let own = message.is_of in
-    let is = same_place g.L.Talk.sessions message.line.session c.args.post.now.number message.number c.messages.next own.0 g.L.Talk.lines (sym c.session-named.ensures ∙ c.if-named-post.false) c.if-message-next.false own.2 in
+    let own = c.line-line.ensures.is_of in
+    let is = same_place g.L.Talk.sessions c.line-line.result.now.session c.args.post.now.number c.in-Some.message.number c.messages.next own.0 g.L.Talk.lines (sym c.session-named.ensures ∙ c.if-named-post.false) (sym c.number-number.ensures ∙ c.if-number-next.false) own.2 in
     stops_in _ _ _ _ _ _ _ _ _ _ own.0 c.messages.invariant is (c.in-Err.ensures.stopped g.L.Talk.sessions own.0 own.1)
 
 pub returns-in-Err-clause-still : goal.returns-in-Err-clause-still
 returns-in-Err-clause-still g c =
-    let message = c.in-Some.message in
-    let own = message.is_of in
-    let is = same_place g.L.Talk.sessions message.line.session c.args.post.now.number message.number c.messages.next own.0 g.L.Talk.lines (sym c.session-named.ensures ∙ c.if-named-post.false) c.if-message-next.false own.2 in
+    let own = c.line-line.ensures.is_of in
+    let is = same_place g.L.Talk.sessions c.line-line.result.now.session c.args.post.now.number c.in-Some.message.number c.messages.next own.0 g.L.Talk.lines (sym c.session-named.ensures ∙ c.if-named-post.false) (sym c.number-number.ensures ∙ c.if-number-next.false) own.2 in
     stopped_still _ _ _ _ _ (stops_in _ _ _ _ _ _ _ _ _ _ own.0 c.messages.invariant is (c.in-Err.ensures.stopped g.L.Talk.sessions own.0 own.1))
 
 pub returns-clause-stopped : goal.returns-clause-stopped
@@ -49,7 +47,6 @@ messages-init g c = begins g.L.Talk.sessions c.args.post.now.number g.L.Talk.lin
 
 pub messages-preserved : goal.messages-preserved
 messages-preserved g c =
-    let message = c.in-Some.message in
-    let own = message.is_of in
-    let is = same_place g.L.Talk.sessions message.line.session c.args.post.now.number message.number c.messages.next own.0 g.L.Talk.lines (sym c.session-named.ensures ∙ c.if-named-post.false) c.if-message-next.false own.2 in
+    let own = c.line-line.ensures.is_of in
+    let is = same_place g.L.Talk.sessions c.line-line.result.now.session c.args.post.now.number c.in-Some.message.number c.messages.next own.0 g.L.Talk.lines (sym c.session-named.ensures ∙ c.if-named-post.false) (sym c.number-number.ensures ∙ c.if-number-next.false) own.2 in
     goes_on _ _ _ _ _ _ _ _ _ _ _ _ _ own.0 c.messages.invariant is (c.in-Ok.ensures.answered g.L.Talk.sessions own.0 own.1) c.is_either-lossy.ensures
