@@ -1,10 +1,12 @@
 -- A printed beginning of a history.
-use Rattle.std.proofs.Common.{◌≡◌, ◌<◌, ◌+◌, ℕ, zero, suc, Bool, true, Option, Some, None, List, [], ◌∷◌, ◌++◌, length, take, drop, get_or, sym, ap, ◌∙◌, subst, append-nil, append_assoc, arith}
+use Rattle.std.proofs.Common.{◌≡◌, ◌<◌, ◌+◌, ℕ, zero, suc, Bool, true, Option, Some, None, List, [], ◌∷◌, ◌++◌, length, take, drop, get_or, Result, Ok, Err, sym, ap, ◌∙◌, subst, append-nil, append_assoc, arith}
+use Rattle.std.specs.Prelude.{IsErrAnd, IsErrOf}
 use Rattle.std.specs.List.{flat_map}
 use Rattle.std.specs.Io.KnownBytes.{Appends, Keeps}
 use Rattle.std.proofs.KnownBytes.{Appends-trans}
 use Rattle.std.proofs.lemmas.List.{drop_more, take-append-drop}
 use Rattle.bc_calls.specs.declared.call.Entry.{Entry}
+use Rattle.cli_file.specs.declared.stop.Stop.{Stop}
 use Rattle.cli_run.specs.Print.{entry_lines, PrintsPart}
 
 added_kept : (u v w : Option (List ℕ)) (a : List ℕ) → Appends u v a → Keeps v w → Appends u w a
@@ -12,6 +14,11 @@ added_kept None v w a x y = tt
 added_kept (Some xs) None w a x y = absurd x
 added_kept (Some xs) (Some ys) None a x y = y
 added_kept (Some xs) (Some ys) (Some zs) a x y = y ∙ x
+
+-- why printing stops is what is reported
+pub passed_on : {T : Type 0} (r : Result T Stop) (stop wanted : Stop) → IsErrAnd r (λ told. told ≡ stop) → IsErrOf r wanted → IsErrOf {T = T} (Err stop) wanted
+passed_on (Ok made) stop wanted is same = absurd is
+passed_on (Err told) stop wanted is same = ap Err (sym is) ∙ same
 
 -- the entries before one of them are printed
 pub part_printed : (json : Bool) (entries : List Entry) (i : ℕ) (u v w : Option (List ℕ)) → i < length entries → json ≡ true

@@ -1,4 +1,4 @@
-use Rattle.std.proofs.Common.{◌≡◌, map, ℕ, Bool, true, false, List, [], ◌∷◌, refl, sym, ap, ◌∙◌}
+use Rattle.std.proofs.Common.{◌≡◌, map, ℕ, Bool, true, false, List, [], ◌∷◌, refl, sym, ◌∙◌}
 use Rattle.std.specs.Prelude.{◌||◌, if◌then◌else◌}
 use Rattle.std.specs.Char.{is_ascii_control}
 use Rattle.std.specs.List.{list_any}
