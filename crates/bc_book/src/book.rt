@@ -14,7 +14,7 @@ ghost use Rattle.bc_calls.specs.declared.call.Event.TheVariants as events;
 ghost use Rattle.bc_book.specs.Ledgers.{Appends, AreRows, HasPlace, IsFull, Keeps, KeepsOthers, KeepsUnasked, Remembers, RemembersEach, empty_book, kept_rows, remembering};
 
 use crate::ledger::{Ledger, MOST_SESSIONS, Refusal};
-use crate::operation::Entered;
+use crate::operation::EnteredCall;
 use crate::roots::{ListingResult, NameResult, count_pieces, push_row};
 use bc_calls::{Begun, Entry, Event, EventOwners, PutReply, RemoveReply, Work, no_declarations};
 use bc_memo::Remembered;
@@ -150,7 +150,7 @@ impl<E: Ending> Book<E> {
         alloc: Global,
         session: u8,
         types: Shared<Declared>,
-    ) -> Result<Entered<()>, Refusal>
+    ) -> Result<EnteredCall<()>, Refusal>
         requires session { session < MOST_SESSIONS }
         ensures step { IfOk result (λ entered. (entered.owners ≡ Event.Types types) × Appends session entered.owners self.old self.new) }
         ensures answers { IfOk result (λ entered. Keeps entered.owners self.old self.new) }
@@ -160,7 +160,7 @@ impl<E: Ending> Book<E> {
     {
         let effects = SideEffects::none(alloc);
         let owners = self.append(rt, alloc, session, Event::Types(types), effects)?;
-        Ok(Entered { owners, reply: () })
+        Ok(EnteredCall { owners, reply: () })
     }
 
     /// Stores a unit under a name, as a call of a session, if the reply says so: `WrongKind` if the unit does not suit the name (a function
@@ -173,7 +173,7 @@ impl<E: Ending> Book<E> {
         session: u8,
         name: Name,
         unit: Shared<Unit>,
-    ) -> Result<Entered<PutReply>, Refusal>
+    ) -> Result<EnteredCall<PutReply>, Refusal>
         requires session { session < MOST_SESSIONS }
         ensures step { IfOk result (λ entered. (entered.owners ≡ Event.Put name unit entered.reply) × Appends session entered.owners self.old self.new) }
         ensures answers { IfOk result (λ entered. Keeps entered.owners self.old self.new) }
@@ -186,7 +186,7 @@ impl<E: Ending> Book<E> {
         let effects = SideEffects::none(alloc);
         let event = Event::Put(name, unit, reply);
         let owners = self.append(rt, alloc, session, event, effects)?;
-        Ok(Entered { owners, reply })
+        Ok(EnteredCall { owners, reply })
     }
 
     /// Removes the unit of a name, as a call of a session, and replies `Removed`, or `Absent` if the name holds none. Publishes and fails
@@ -197,7 +197,7 @@ impl<E: Ending> Book<E> {
         alloc: Global,
         session: u8,
         name: Name,
-    ) -> Result<Entered<RemoveReply>, Refusal>
+    ) -> Result<EnteredCall<RemoveReply>, Refusal>
         requires session { session < MOST_SESSIONS }
         ensures step { IfOk result (λ entered. (entered.owners ≡ Event.Remove name entered.reply) × Appends session entered.owners self.old self.new) }
         ensures answers { IfOk result (λ entered. Keeps entered.owners self.old self.new) }
@@ -208,7 +208,7 @@ impl<E: Ending> Book<E> {
         let reply = self.ledger.remove_reply(&name);
         let effects = SideEffects::none(alloc);
         let owners = self.append(rt, alloc, session, Event::Remove(name, reply), effects)?;
-        Ok(Entered { owners, reply })
+        Ok(EnteredCall { owners, reply })
     }
 
     /// Returns the part of what is stored that the outcome of a name depends on: the declarations, and the units at the name and at names
@@ -238,7 +238,7 @@ impl<E: Ending> Book<E> {
         session: u8,
         work: Work,
         providers: &Providers,
-    ) -> Result<Entered<Shared<Outcome>>, Refusal>
+    ) -> Result<EnteredCall<Shared<Outcome>>, Refusal>
         requires session { session < MOST_SESSIONS }
         ensures step { IfOk result (λ entered. (entered.owners ≡ Event.Ask work.snapshot.root entered.reply) ×
             Appends session entered.owners self.old self.new × Remembers work.snapshot.root entered.reply self.new) }
@@ -260,7 +260,7 @@ impl<E: Ending> Book<E> {
         let reply = outcome.clone()?;
         let effects = SideEffects { rows, pieces };
         let owners = self.append(rt, alloc, session, Event::Ask(name, outcome), effects)?;
-        Ok(Entered { owners, reply })
+        Ok(EnteredCall { owners, reply })
     }
 
     /// Enters an ask for all, as a call of a session, and replies with the outcome of each root that holds a body, in the order of their
@@ -274,7 +274,7 @@ impl<E: Ending> Book<E> {
         session: u8,
         works: Vec<Work>,
         providers: &Providers,
-    ) -> Result<Entered<Shared<Listing>>, Refusal>
+    ) -> Result<EnteredCall<Shared<Listing>>, Refusal>
         requires session { session < MOST_SESSIONS }
         ensures step { IfOk result (λ entered. (entered.owners ≡ events.All entered.reply) ×
             Appends session entered.owners self.old self.new × RemembersEach self.new.shelf self.new.answers entered.reply) }
@@ -296,7 +296,7 @@ impl<E: Ending> Book<E> {
             pieces: Some(pieces),
         };
         let owners = self.append(rt, alloc, session, Event::All(listing), effects)?;
-        Ok(Entered { owners, reply })
+        Ok(EnteredCall { owners, reply })
     }
 
     /// Adds a session's event, publishes it, remembers outcomes and keeps pieces, if there are any. Requires that the event has the right

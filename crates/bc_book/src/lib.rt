@@ -9,4 +9,4 @@ mod roots;
 
 pub use book::Book;
 pub use ledger::{MOST_SESSIONS, Refusal};
-pub use operation::{Enter, Entered, Operation, Put, Remove, Settle, SettleAll};
+pub use operation::{Enter, EnteredCall, Operation, Put, Remove, Settle, SettleAll};

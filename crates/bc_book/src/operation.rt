@@ -17,17 +17,17 @@ use std::sync::Wait;
 
 /// A call that was entered: two owners of it with its reply, and the reply by itself.
 #[derive(Drop)]
-pub struct Entered<T> {
+pub struct EnteredCall<T> {
     pub owners: EventOwners,
     pub reply: T,
 }
 
-impl<T: Drop> Entered<T> {
+impl<T: Drop> EnteredCall<T> {
     /// Returns the owners alone.
-    fn without_reply(self) -> Entered<()>
+    fn without_reply(self) -> EnteredCall<()>
         ensures { result.owners ≡ self.owners }
     {
-        Entered {
+        EnteredCall {
             owners: self.owners,
             reply: (),
         }
@@ -51,7 +51,7 @@ pub trait Enter: Drop {
         alloc: Global,
         book: &mut Book<E>,
         session: u8,
-    ) -> Result<Entered<Self::Reply>, Refusal>
+    ) -> Result<EnteredCall<Self::Reply>, Refusal>
         requires session { session < MOST_SESSIONS }
         ensures step { IfOk result (λ entered. becomes self entered.owners entered.reply × Appends session entered.owners book.old book.new) }
         ensures refused { OnErr result (book.new ≡ book.old) }
@@ -77,7 +77,7 @@ impl Enter for Put {
         alloc: Global,
         book: &mut Book<E>,
         session: u8,
-    ) -> Result<Entered<PutReply>, Refusal> {
+    ) -> Result<EnteredCall<PutReply>, Refusal> {
         let Put { name, unit } = self;
         book.put(rt, alloc, session, name, unit)
     }
@@ -100,7 +100,7 @@ impl Enter for Remove {
         alloc: Global,
         book: &mut Book<E>,
         session: u8,
-    ) -> Result<Entered<RemoveReply>, Refusal> {
+    ) -> Result<EnteredCall<RemoveReply>, Refusal> {
         book.remove(rt, alloc, session, self.name)
     }
 }
@@ -124,7 +124,7 @@ impl Enter for Settle<&Providers> {
         alloc: Global,
         book: &mut Book<E>,
         session: u8,
-    ) -> Result<Entered<Shared<Outcome>>, Refusal> {
+    ) -> Result<EnteredCall<Shared<Outcome>>, Refusal> {
         let Settle { work, providers } = self;
         book.settle(rt, alloc, session, work, providers)
     }
@@ -148,7 +148,7 @@ impl Enter for SettleAll<&Providers> {
         alloc: Global,
         book: &mut Book<E>,
         session: u8,
-    ) -> Result<Entered<Shared<Listing>>, Refusal> {
+    ) -> Result<EnteredCall<Shared<Listing>>, Refusal> {
         let SettleAll { works, providers } = self;
         book.settle_all(rt, alloc, session, works, providers)
     }
@@ -175,7 +175,7 @@ impl Enter for Operation<&Providers> {
         alloc: Global,
         book: &mut Book<E>,
         session: u8,
-    ) -> Result<Entered<()>, Refusal> {
+    ) -> Result<EnteredCall<()>, Refusal> {
         match self {
             Operation::Types(types) => book.put_types(rt, alloc, session, types),
             Operation::Put(name, unit) => {

@@ -5,7 +5,7 @@ ghost use Rattle.bc_calls.specs.Calls.{IsLegal};
 ghost use Rattle.bc_share.specs.Sessions.{IsAnswered};
 
 use crate::notes::Notes;
-use bc_book::{Book, Enter, Entered, Refusal};
+use bc_book::{Book, Enter, EnteredCall, Refusal};
 use bc_calls::{Entry, Event};
 use bc_versions::Ending;
 use std::alloc::Global;
@@ -73,7 +73,7 @@ fn enter<R: Wait, E: Ending, O: Enter>(
     ensures refused { OnErr result (notes.new ≡ notes.old) }
     ensures full { IfErr result (IsFull book.old) }
 {
-    let Entered { owners, reply } = operation.enter(rt, alloc, book, notes.number())?;
+    let EnteredCall { owners, reply } = operation.enter(rt, alloc, book, notes.number())?;
     let (listed, answered) = owners.into_owners();
     notes.note(rt, listed);
     Ok((answered, reply))

@@ -10,5 +10,5 @@ mod session;
 mod works;
 
 pub use db::{CloseFault, Db, History, MOST_ENTRIES, OpenFault};
-pub use session::{Made, Session};
+pub use session::{MadeCall, Session};
 pub use works::work_all;

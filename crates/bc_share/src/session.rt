@@ -26,7 +26,7 @@ use std::sync::{Arc, Wait};
 /// A call that a session made: how many calls it had made before, which is the number of its entry; the call with its reply; and the reply
 /// by itself.
 #[derive(Drop)]
-pub struct Made<T> {
+pub struct MadeCall<T> {
     pub number: usize,
     pub event: Event,
     pub reply: T,
@@ -245,7 +245,7 @@ impl<E: Ending> Session<E> {
         &mut self,
         rt: &R,
         operation: O,
-    ) -> Result<Made<O::Reply>, Refusal>
+    ) -> Result<MadeCall<O::Reply>, Refusal>
         ensures made { IfOk result (λ made. O.becomes operation made.event made.reply × IsAnswered made.event self.old self.new) }
         ensures number { IfOk result (λ made. made.number ≡ length self.old.own) }
         ensures refused { OnErr result (Stays self.old self.new) }
@@ -254,7 +254,7 @@ impl<E: Ending> Session<E> {
         self.notes.reserve()?;
         let number = self.notes.count();
         let (event, reply) = self.desk.enter(rt, self.alloc, &mut self.notes, operation)?;
-        Ok(Made {
+        Ok(MadeCall {
             number,
             event,
             reply,

@@ -9,7 +9,7 @@ ghost use Rattle.cli_talk.specs.Turns.{IsAnswerTo, IsReplyTo, IsWholeLine};
 use bc_book::{Operation, Refusal};
 use bc_calls::{Call, checked};
 use bc_prov::Providers;
-use bc_share::{Made, Session, work_all};
+use bc_share::{MadeCall, Session, work_all};
 use bc_versions::Ending;
 use cli_answers::{Answer, answer_line};
 use cli_requests::{Id, Request, Wanted};
@@ -68,7 +68,7 @@ fn make<R: AllocGlobal + Wait, E: Ending>(
     session: &mut Session<E>,
     call: Call,
     providers: &Providers,
-) -> Result<Made<()>, Refusal>
+) -> Result<MadeCall<()>, Refusal>
     ensures made { IfOk result (λ made. (call_of made.event ≡ call) × IsAnswered made.event session.old session.new) }
     ensures number { IfOk result (λ made. made.number ≡ length session.old.own) }
     ensures refused { OnErr result (IsSame session.old session.new) }
