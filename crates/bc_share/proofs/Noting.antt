@@ -91,6 +91,12 @@ pub told_again : {T E : Type 0} (r : Result T E) (event event' : T → Event) (o
 told_again (Ok t) event event' old mid new stays same told = same_then_answered (event' t) old mid new (same_of old mid stays) (subst (λ (e : Event). IsAnswered e mid new) (same t) told)
 told_again (Err e) event event' old mid new stays same told = tt
 
+-- a call that is made after its session stayed
+pub made_again : {T E : Type 0} (r : Result T E) (Is : T → Type 0) (event : T → Event) (old mid new : SessionView) → Stays old mid
+    → IfOk r (λ made. Is made × IsAnswered (event made) mid new) → IfOk r (λ made. Is made × IsAnswered (event made) old new)
+made_again (Ok made) Is event old mid new stays is = (is.0, same_then_answered (event made) old mid new (same_of old mid stays) is.1)
+made_again (Err e) Is event old mid new stays is = tt
+
 -- what holds also holds if a call fails
 pub on_err : {T E : Type 0} (r : Result T E) (P : Type 0) → P → OnErr r P
 on_err (Ok t) P p = tt

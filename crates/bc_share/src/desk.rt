@@ -1,5 +1,5 @@
 //! What the sessions of a database share: its book, under a lock.
-ghost use Rattle.std.specs.Prelude.{◌≡◌, ◌<◌, IfErr, IfOk, OnErr};
+ghost use Rattle.std.specs.Prelude.{◌≡◌, ◌<◌, IfErr, IfOk, OnErr, length};
 ghost use Rattle.bc_book.specs.Ledgers.{Appends, IsFull};
 ghost use Rattle.bc_calls.specs.Calls.{IsLegal};
 ghost use Rattle.bc_share.specs.Sessions.{IsAnswered};
@@ -10,6 +10,15 @@ use bc_calls::{Entry, Event};
 use bc_versions::Ending;
 use std::alloc::Global;
 use std::sync::{Mutex, Wait};
+
+/// A call that a session made: how many calls it had made before, which is the number of its entry; the call with its reply; and the reply
+/// by itself.
+#[derive(Drop)]
+pub struct MadeCall<T> {
+    pub number: usize,
+    pub event: Event,
+    pub reply: T,
+}
 
 /// The lock of a database, with its book in it. Each call takes the lock for one step. Closing takes the book out, and a later call finds a
 /// full history. A call that is entered is noted under the lock too, once its session has read its entry.
@@ -26,17 +35,18 @@ impl<E: Ending> Desk<E> {
         }
     }
 
-    /// Enters an operation of a session, and returns the call with its reply, and the reply by itself. Returns `HistoryFull` only if the
-    /// history is full or the book was taken out, and `NoMemory` only if out of memory.
+    /// Enters an operation of a session, for which its own list has room, as its next call. Returns `HistoryFull` only if the history is
+    /// full or the book was taken out, and `NoMemory` only if out of memory.
     pub(crate) fn enter<R: Wait, O: Enter>(
         &self,
         rt: &R,
         alloc: Global,
         notes: &mut Notes,
         operation: O,
-    ) -> Result<(Event, O::Reply), Refusal>
+    ) -> Result<MadeCall<O::Reply>, Refusal>
         requires room { 0 < notes.old.room }
-        ensures told { IfOk result (λ told. O.becomes operation told.0 told.1 × IsAnswered told.0 notes.old.session notes.new.session) }
+        ensures made { IfOk result (λ made. O.becomes operation made.event made.reply × IsAnswered made.event notes.old.session notes.new.session) }
+        ensures number { IfOk result (λ made. made.number ≡ length notes.old.session.own) }
         ensures refused { OnErr result (notes.new ≡ notes.old) }
     {
         match &mut *self.book.lock(rt) {
@@ -57,24 +67,30 @@ impl<E: Ending> Desk<E> {
     }
 }
 
-/// Enters an operation of a session as one entry of the book, notes it once it is read, and returns the call with its reply, and the reply
-/// by itself. Its contract says what becomes of the book, which callers of the desk cannot see.
+/// Enters an operation of a session as one entry of the book, and notes it once it is read. Its contract says what becomes of the book,
+/// which callers of the desk cannot see.
 fn enter<R: Wait, E: Ending, O: Enter>(
     rt: &R,
     alloc: Global,
     book: &mut Book<E>,
     notes: &mut Notes,
     operation: O,
-) -> Result<(Event, O::Reply), Refusal>
+) -> Result<MadeCall<O::Reply>, Refusal>
     requires room { 0 < notes.old.room }
-    ensures told { IfOk result (λ told. O.becomes operation told.0 told.1 × IsAnswered told.0 notes.old.session notes.new.session) }
-    ensures entered { IfOk result (λ told. Appends notes.old.session.number told.0 book.old book.new) }
+    ensures made { IfOk result (λ made. O.becomes operation made.event made.reply × IsAnswered made.event notes.old.session notes.new.session) }
+    ensures number { IfOk result (λ made. made.number ≡ length notes.old.session.own) }
+    ensures entered { IfOk result (λ made. Appends notes.old.session.number made.event book.old book.new) }
     ensures kept { OnErr result (book.new ≡ book.old) }
     ensures refused { OnErr result (notes.new ≡ notes.old) }
     ensures full { IfErr result (IsFull book.old) }
 {
+    let number = notes.count();
     let EnteredCall { owners, reply } = operation.enter(rt, alloc, book, notes.number())?;
-    let (listed, answered) = owners.into_owners();
+    let (listed, event) = owners.into_owners();
     notes.note(rt, listed);
-    Ok((answered, reply))
+    Ok(MadeCall {
+        number,
+        event,
+        reply,
+    })
 }

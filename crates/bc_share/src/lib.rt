@@ -10,5 +10,6 @@ mod session;
 mod works;
 
 pub use db::{CloseFault, Db, History, MOST_ENTRIES, OpenFault};
-pub use session::{MadeCall, Session};
+pub use desk::MadeCall;
+pub use session::Session;
 pub use works::work_all;

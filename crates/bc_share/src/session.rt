@@ -10,11 +10,11 @@ ghost use Rattle.bc_calls.specs.Calls.{after, calls};
 ghost use Rattle.bc_book.specs.declared.ledger.TheConstants.{MOST_SESSIONS};
 ghost use Rattle.bc_share.specs.Sessions.{IsAnswered, Stays, new_session};
 
-use crate::desk::Desk;
+use crate::desk::{Desk, MadeCall};
 use crate::notes::Notes;
 use crate::works::work_all;
 use bc_book::{Enter, Operation, Put, Refusal, Remove, Settle, SettleAll};
-use bc_calls::{Begun, Entry, Event, PutReply, RemoveReply, Work, checked};
+use bc_calls::{Begun, Entry, PutReply, RemoveReply, Work, checked};
 use bc_names::Name;
 use bc_prov::{Listing, Outcome, Providers, Shared};
 use bc_syntax::{Types, Unit};
@@ -22,15 +22,6 @@ use bc_versions::{Ending, Front};
 use std::alloc::{AllocError, Global};
 use std::marker::Model;
 use std::sync::{Arc, Wait};
-
-/// A call that a session made: how many calls it had made before, which is the number of its entry; the call with its reply; and the reply
-/// by itself.
-#[derive(Drop)]
-pub struct MadeCall<T> {
-    pub number: usize,
-    pub event: Event,
-    pub reply: T,
-}
 
 /// One session of a database. It makes calls, keeps its own list of them and their replies, and reads what is published. It may move from
 /// thread to thread, and the other sessions of its database make their calls meanwhile. A contract sees its number, the tag of its
@@ -89,10 +80,10 @@ impl<E: Ending> Session<E> {
         ensures told { OnOk result (IsAnswered (events.Types (arc_value types)) self.old self.new) }
         ensures refused { OnErr result (Stays self.old self.new) }
     {
-        // As `make` does again: without room for the call the declarations are not checked in vain.
+        // Before the check, which would be in vain without room for the call.
         self.notes.reserve()?;
-        let types = checked(self.alloc, Shared::new(types))?;
-        self.make(rt, Operation::Types(types))?;
+        let types = Operation::Types(checked(self.alloc, Shared::new(types))?);
+        self.desk.enter(rt, self.alloc, &mut self.notes, types)?;
         Ok(())
     }
 
@@ -236,7 +227,8 @@ impl<E: Ending> Session<E> {
     }
 
     /// Makes a call, and returns its number, the call with its reply, and the reply by itself. The other calls are this one with one
-    /// operation each. Work for an Ask is done before, with no lock held (`begin`, `begin_all`).
+    /// operation each, but `put_types` checks the declarations once there is room. Work for an Ask is done before, with no lock held
+    /// (`begin`, `begin_all`).
     ///
     /// Room in the session's own list is made first. Returns `HistoryFull` only if the history is full or the database is closed, and
     /// `NoMemory` only if out of memory, as a provider may report too. The session's own list and the history are then as they were, and
@@ -252,13 +244,7 @@ impl<E: Ending> Session<E> {
     {
         // Before the lock is taken: a call without room returns `NoMemory` even if the history is full.
         self.notes.reserve()?;
-        let number = self.notes.count();
-        let (event, reply) = self.desk.enter(rt, self.alloc, &mut self.notes, operation)?;
-        Ok(MadeCall {
-            number,
-            event,
-            reply,
-        })
+        self.desk.enter(rt, self.alloc, &mut self.notes, operation)
     }
 
     /// Returns the tag of the session's database.
