@@ -90,7 +90,7 @@ impl Front {
         ensures legal { IsLegal self.new }
         ensures answer { IfOk result (IsAnswer self.new name.now) }
     {
-        replace_with(&mut self.reader, *name, read_answer).ok_or(AllocError)
+        replace_with(&mut self.reader, *name, read_answer)
     }
 
     /// Begins a name: returns its part of the published table, which carries the name's answer if one is published. What was seen only
@@ -130,18 +130,21 @@ impl Front {
     }
 }
 
-/// Reads a name's answer. Returns `None` if the writer is gone, or if the answer has too many owners.
-fn read_answer(reader: TableReader, name: Name) -> (TableReader, Option<Option<Shared<Outcome>>>)
+/// Reads a name's answer. Returns `AllocError` if the writer is gone, or if the answer has too many owners.
+fn read_answer(
+    reader: TableReader,
+    name: Name,
+) -> (TableReader, Result<Option<Shared<Outcome>>, AllocError>)
     ensures later { StartsWith (view result.0.place) (view reader.place) }
     ensures legal { IsLegal (view reader.place) → IsLegal (view result.0.place) }
-    ensures answer { IfSome result.1 (IsAnswer (view result.0.place) name) }
+    ensures answer { IfOk result.1 (IsAnswer (view result.0.place) name) }
 {
     match reader.enter_as::<Look>() {
         Ok(reading) => {
-            let answer = answer_in(reading.get().shelf(), &name).ok();
+            let answer = answer_in(reading.get().shelf(), &name);
             (reading.leave(), answer)
         }
-        Err(reader) => (reader, None),
+        Err(reader) => (reader, Err(AllocError)),
     }
 }
 

@@ -1,5 +1,5 @@
 //! Reading words as a command line.
-ghost use Rattle.std.specs.Prelude.{◌≡◌, IfOk, option_map, map};
+ghost use Rattle.std.specs.Prelude.{◌≡◌, IfErr, IfOk, None, Some, option_map, map};
 ghost use Rattle.clap.specs.Words.{first_of, found_of, rows_of};
 ghost use Rattle.cli_line.specs.Values.{capacity_named, is_capacity, is_job_count, is_session_count, jobs_named, sessions_named};
 ghost use Rattle.cli_line.specs.Lines.{IsInRange};
@@ -106,16 +106,19 @@ fn capacity_given(matches: &ArgMatches<'_>) -> Option<u32>
     capacity_named(value_of(matches, "capacity")?)
 }
 
-/// Returns the value of `--jobs`, if it is given; `None` if it is out of range.
-fn jobs_given(matches: &ArgMatches<'_>) -> Option<Option<u8>>
-    ensures { result ≡ jobs_given (rows_of (found_of matches.now)) }
+/// Returns the value of `--jobs`, if it is given, or `WrongUse` if it is out of range.
+fn jobs_given(matches: &ArgMatches<'_>) -> Result<Option<u8>, LineFault>
+    ensures given { IfOk result (λ jobs. Some jobs ≡ jobs_given (rows_of (found_of matches.now))) }
+    ensures wrong { IfErr result (λ fault. (fault ≡ LineFault.WrongUse) × (None ≡ jobs_given (rows_of (found_of matches.now)))) }
 {
     match value_of(matches, "jobs") {
-        Some(word) => match jobs_named(word) {
-            Some(jobs) => Some(Some(jobs)),
-            None => None,
-        },
-        None => Some(None),
+        Some(word) => {
+            let Some(jobs) = jobs_named(word) else {
+                return Err(LineFault::WrongUse);
+            };
+            Ok(Some(jobs))
+        }
+        None => Ok(None),
     }
 }
 
@@ -133,8 +136,9 @@ fn read_check(alloc: Global, matches: &ArgMatches<'_>) -> Result<CheckLine, Line
     let Some(file) = value_of(matches, "FILE") else {
         return Err(LineFault::WrongUse);
     };
-    let Some(jobs) = jobs_given(matches) else {
-        return Err(LineFault::WrongUse);
+    let jobs = match jobs_given(matches) {
+        Ok(jobs) => jobs,
+        Err(fault) => return Err(fault),
     };
     let Some(solver) = solver_given(matches) else {
         return Err(LineFault::WrongUse);
