@@ -1,0 +1,4 @@
+mod Returning
+mod Cutting
+mod Finding
+mod Reaching

@@ -1,0 +1,19 @@
+//! Reasons, found when they are asked for: which part of a point makes an access, what demands that a region outlives another, and why a
+//! region is in use at a point.
+#![tactic(auto)]
+
+mod access;
+mod body;
+mod demand;
+mod in_use;
+mod pairs;
+mod part;
+mod points;
+mod use_path;
+
+pub use access::{AccessReason, access_reason};
+pub use body::{demands, first_reason};
+pub use demand::{Demand, LinkReason, Rule};
+pub use in_use::{UseReason, use_reason};
+pub use part::{Part, access_parts};
+pub use use_path::use_path;
