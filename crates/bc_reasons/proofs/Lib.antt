@@ -1,4 +1,5 @@
 mod Returning
+mod Operands
 mod Cutting
 mod Finding
 mod Reaching
