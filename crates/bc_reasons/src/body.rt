@@ -4,7 +4,7 @@ ghost use Rattle.std.specs.List.{flat_map, enumerate_from};
 ghost use Rattle.bc_mir.specs.WellFormed.{let_types};
 ghost use Rattle.bc_cons.specs.Facts.{MustOutlive};
 ghost use Rattle.bc_cons.specs.Constraints.{constraints_of};
-ghost use Rattle.bc_reasons.specs.Demands.{step_demands, local_demands, demands_of as all_demands, first_reason as reason_of_first, IsFirstReason};
+ghost use Rattle.bc_reasons.specs.Demands.{step_demands, local_demands, demands_of, first_reason as reason_of_first, IsFirstReason};
 
 use crate::demand::{Demand, LinkReason, push_demands};
 use crate::pairs::push_type_pairs;
@@ -12,6 +12,7 @@ use crate::points::{Here, push_point};
 use bc_cons::{NumberedConstraint, Requirements};
 use bc_mir::Typed;
 use std::alloc::{AllocError, Global};
+use std::marker::Model;
 
 /// Appends what the points demand, in order.
 fn push_points(
@@ -58,38 +59,75 @@ fn push_locals(
     Ok(())
 }
 
-/// Returns what demands each constraint of a body, in order: for each point the demands of its rules, and then those of the types of the `let`
-/// locals. At an assignment, the rules come in this order: the operands for fields or captures, the clauses of a closure that is created,
-/// the value for the target, what that closure requires, the reborrow. At a call or an `invoke`: the operands for parameters, the types of the
-/// parameters, the clauses, the result. A constraint is listed as often as it is demanded. `requirements` has one entry for each child,
-/// ascending, as for `constraints`. (RFC 2094, "Subtyping" and "Reborrow constraints"; RFC 1214; rustc-dev-guide, "Propagating closure
-/// constraints".)
-pub fn demands(
+/// Returns all demands of a body, in order.
+fn all_demands(
     alloc: Global,
     typed: &Typed,
-    requirements: &[(u8, Requirements)],
+    kids: &[(u8, Requirements)],
 ) -> Result<Vec<Demand>, AllocError>
-    ensures listed { IfOk result (λ demands. demands.items ≡ all_demands typed.now requirements.now) }
-    // Their constraints, in order, are the constraints of the body.
-    ensures constraints { IfOk result (λ demands. map (λ demand. demand.constraint) demands.items ≡ constraints_of typed.now requirements.now) }
+    ensures { IfOk result (λ demands. demands.items ≡ demands_of typed.now kids.now) }
 {
     let mut demands = Vec::new(alloc);
-    push_points(alloc, &mut demands, typed, requirements)?;
+    push_points(alloc, &mut demands, typed, kids)?;
     push_locals(alloc, &mut demands, typed)?;
     Ok(demands)
 }
 
-/// Returns the reason of the first demand of a constraint, or `None` exactly if none of the demands is of it. For a link of a chain, the
-/// constraint is that the region outlives the next. (rustc-dev-guide, "Region inference (NLL)", on the constraints that errors are explained
-/// by.)
-pub fn first_reason(demands: &[Demand], link: NumberedConstraint) -> Option<LinkReason>
-    ensures value { result ≡ reason_of_first link demands.now }
-    ensures first { MatchOption result
-        (¬ (MustOutlive (map (λ demand. demand.constraint) demands.now) link.longer link.shorter))
-        (λ reason. IsFirstReason demands.now link reason) }
-{
-    match demands.iter().find(|demand| demand.is_of(link)) {
-        Some(demand) => Some(demand.reason),
-        None => None,
+/// What demands each constraint of a body. Contracts see the demands as a list, in order: for each point those of its rules, and then those of
+/// the types of the `let` locals.
+///
+/// At an assignment the rules come in this order: the operands for fields or captures, the clauses of a closure that is created, the value for
+/// the target, what that closure requires, the reborrow. At a call or an `invoke`: the operands for parameters, the types of the parameters,
+/// the clauses, the result. A constraint is listed as often as it is demanded. The header demands nothing: the body relies on it. (RFC 2094,
+/// "Subtyping" and "Reborrow constraints"; RFC 1214; rustc-dev-guide, "Propagating closure constraints".)
+#[derive(Drop)]
+pub struct Demands {
+    list: Vec<Demand>,
+}
+
+impl Model for Demands {
+    ghost use Rattle.std.specs.Prelude.{List};
+    ghost use Rattle.bc_reasons.specs.declared.demand.Demand.{Demand};
+
+    ghost Value = { List Demand };
+
+    ghost view = { λ demands. demands.list.items };
+}
+
+impl Demands {
+    /// Returns the demands of a body. `requirements` has one entry for each child, ascending, as for `constraints`. The constraints of the
+    /// demands, in order, are the constraints of the body.
+    pub fn of(
+        alloc: Global,
+        typed: &Typed,
+        requirements: &[(u8, Requirements)],
+    ) -> Result<Demands, AllocError>
+        ensures listed { IfOk result (λ demands. demands ≡ demands_of typed.now requirements.now) }
+        ensures constraints { IfOk result (λ demands. map (λ demand. demand.constraint) demands ≡ constraints_of typed.now requirements.now) }
+    {
+        let list = all_demands(alloc, typed, requirements)?;
+        Ok(Demands { list })
+    }
+
+    /// Returns the demands, in order.
+    pub fn as_slice(&self) -> &[Demand]
+        ensures { result.now ≡ self.now }
+    {
+        &self.list
+    }
+
+    /// Returns the reason of the first demand of a constraint, or `None` exactly if no demand is of it. A link of a chain is the constraint
+    /// that a region of the chain outlives the next. (rustc-dev-guide, "Region inference (NLL)", on the constraints that errors are explained
+    /// by.)
+    pub fn first_reason(&self, link: NumberedConstraint) -> Option<LinkReason>
+        ensures value { result ≡ reason_of_first link self.now }
+        ensures first { MatchOption result
+            (¬ (MustOutlive (map (λ demand. demand.constraint) self.now) link.longer link.shorter))
+            (λ reason. IsFirstReason self.now link reason) }
+    {
+        match self.list.iter().find(|demand| demand.is_of(link)) {
+            Some(demand) => Some(demand.reason),
+            None => None,
+        }
     }
 }

@@ -12,7 +12,7 @@ mod points;
 mod use_path;
 
 pub use access::{AccessReason, access_reason};
-pub use body::{demands, first_reason};
+pub use body::Demands;
 pub use demand::{Demand, LinkReason, Rule};
 pub use in_use::{UseReason, use_reason};
 pub use part::{Part, access_parts};

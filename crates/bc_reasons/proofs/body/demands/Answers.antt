@@ -1,2 +1,0 @@
-use Rattle.bc_reasons.proofs.Cutting.{of_body}
-use Rattle.bc_reasons.proofs.body.demands.Goals as goal
