@@ -39,7 +39,7 @@ use Rattle.bc_reasons.specs.declared.demand.Rule.TheVariants as rules
 use Rattle.bc_reasons.specs.declared.demand.LinkReason.{LinkReason}
 use Rattle.bc_reasons.specs.declared.demand.LinkReason.TheVariants as reasons
 use Rattle.bc_reasons.specs.declared.demand.Demand.{Demand}
-use Rattle.bc_reasons.specs.Demands.{demand, demands_by, demands_at, operand_demands, captured_demands, field_demands, value_rule, assignment_demands, parameter_demands, called_demands, call_demands, passed_demands, invoked_demands, invocation_demands, point_demands, step_demands, local_demands, demands_of}
+use Rattle.bc_reasons.specs.Demands.{as_demand, demands_by, demands_at, operand_demands, captured_demands, field_demands, value_rule, assignment_demands, parameter_demands, called_demands, call_demands, passed_demands, invoked_demands, invocation_demands, point_demands, step_demands, local_demands, demands_of}
 
 -- the constraints of demands
 abbrev pub constraints_in : List Demand → List NumberedConstraint
@@ -53,7 +53,7 @@ made universals pairs = map (numbered universals) (filter differ pairs)
 abbrev AreOf : ℕ → List Demand → List Constraint → Type 0
 AreOf universals demands pairs = constraints_in demands ≡ made universals pairs
 
-mapped : (universals : ℕ) (reason : LinkReason) (pairs : List Constraint) → constraints_in (map (demand universals reason) pairs) ≡ map (numbered universals) pairs
+mapped : (universals : ℕ) (reason : LinkReason) (pairs : List Constraint) → constraints_in (map (as_demand universals reason) pairs) ≡ map (numbered universals) pairs
 mapped universals reason [] = refl
 mapped universals reason (pair ∷ pairs) = ap (λ l. numbered universals pair ∷ l) (mapped universals reason pairs)
 

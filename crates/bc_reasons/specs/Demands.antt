@@ -40,12 +40,12 @@ use Rattle.bc_reasons.specs.declared.demand.LinkReason.TheVariants as reasons
 use Rattle.bc_reasons.specs.declared.demand.Demand.{Demand}
 
 -- a pair as a demand, by the numbers of its regions
-abbrev pub demand : ℕ → LinkReason → Constraint → Demand
-demand universals reason pair = record { reason = reason; constraint = numbered universals pair }
+abbrev pub as_demand : ℕ → LinkReason → Constraint → Demand
+as_demand universals reason pair = record { reason = reason; constraint = numbered universals pair }
 
 -- pairs as demands of one reason: a region makes no constraint with itself
 abbrev pub demands_by : ℕ → LinkReason → List Constraint → List Demand
-demands_by universals reason pairs = map (demand universals reason) (filter differ pairs)
+demands_by universals reason pairs = map (as_demand universals reason) (filter differ pairs)
 
 -- pairs as demands by a rule of a numbered point
 abbrev pub demands_at : Mir → ℕ → Rule → List Constraint → List Demand

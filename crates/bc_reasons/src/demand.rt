@@ -16,7 +16,7 @@ use std::alloc::AllocError;
 /// result of a call or an `invoke` is a subtype of its destination. `Clause`: a clause of the function that is called. `WellFormed`: the
 /// types of the parameters are well-formed (RFC 1214). `Creation`: what a closure that is created requires, and its clauses between external
 /// regions and `'static`; `Invocation`: the other clauses of a closure that is called (rustc-dev-guide, "Propagating closure constraints").
-#[derive(Clone, Copy, Debug, PartialEq, Eq)]
+#[derive(Clone, Copy)]
 pub enum Rule {
     Assignment,
     Borrow,
@@ -31,7 +31,7 @@ pub enum Rule {
 
 /// What demands that a region outlives another: a point, by its number, with the rule; or the type of a `let` local, by its number, since it
 /// is well-formed (RFC 1214).
-#[derive(Clone, Copy, Debug, PartialEq, Eq)]
+#[derive(Clone, Copy)]
 pub enum LinkReason {
     Point { point: usize, rule: Rule },
     Local { local: usize },

@@ -11,7 +11,7 @@ use std::alloc::{AllocError, Global};
 /// `Operand`: an operand, by its number from 0 among the operands of the instruction, numbers included. `Borrowed`: the place that a borrow
 /// borrows. `Invoked`: the place of the closure that an `invoke` calls. `Target`: the place that an assignment, a call or an `invoke` writes.
 /// `Drop`, `Dead` and `Return`: the statement or the terminator itself.
-#[derive(Clone, Copy, Debug, PartialEq, Eq)]
+#[derive(Clone, Copy)]
 pub enum Part {
     Operand(usize),
     Borrowed,
