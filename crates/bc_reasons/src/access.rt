@@ -16,9 +16,9 @@ pub struct AccessReason<'a> {
     pub part: Part,
 }
 
-/// Returns the access of a number, counted from 0 as in an error, of a point, given its instruction: whether it reads or writes which place,
-/// how deeply, and which part of the instruction makes it. Returns `None` exactly if the point has no such access. (RFC 2094, "Borrow checker
-/// phase 2: reporting errors".)
+/// Returns the access of a number, counted from 0 as in an error, of a point, given its instruction: whether it reads or writes which
+/// place, how deeply, and which part of the instruction makes it. Returns `None` exactly if the point has no such access. (RFC 2094,
+/// "Borrow checker phase 2: reporting errors".)
 pub fn access_reason<'a>(
     alloc: Global,
     typed: &Typed,

@@ -73,13 +73,13 @@ fn all_demands(
     Ok(demands)
 }
 
-/// What demands each constraint of a body. Contracts see the demands as a list, in order: for each point those of its rules, and then those of
-/// the types of the `let` locals.
+/// What demands each constraint of a body. Contracts see the demands as a list, in order: for each point those of its rules, and then those
+/// of the types of the `let` locals.
 ///
-/// At an assignment the rules come in this order: the operands for fields or captures, the clauses of a closure that is created, the value for
-/// the target, what that closure requires, the reborrow. At a call or an `invoke`: the operands for parameters, the types of the parameters,
-/// the clauses, the result. A constraint is listed as often as it is demanded. The header demands nothing: the body relies on it. (RFC 2094,
-/// "Subtyping" and "Reborrow constraints"; RFC 1214; rustc-dev-guide, "Propagating closure constraints".)
+/// At an assignment the rules come in this order: the operands for fields or captures, the clauses of a closure that is created, the value
+/// for the target, what that closure requires, the reborrow. At a call or an `invoke`: the operands for parameters, the types of the
+/// parameters, the clauses, the result. A constraint is listed as often as it is demanded. The header demands nothing: the body relies on
+/// it. (RFC 2094, "Subtyping" and "Reborrow constraints"; RFC 1214; rustc-dev-guide, "Propagating closure constraints".)
 #[derive(Drop)]
 pub struct Demands {
     list: Vec<Demand>,
@@ -117,8 +117,8 @@ impl Demands {
     }
 
     /// Returns the reason of the first demand of a constraint, or `None` exactly if no demand is of it. A link of a chain is the constraint
-    /// that a region of the chain outlives the next. (rustc-dev-guide, "Region inference (NLL)", on the constraints that errors are explained
-    /// by.)
+    /// that a region of the chain outlives the next. (rustc-dev-guide, "Region inference (NLL)", on the constraints that errors are
+    /// explained by.)
     pub fn first_reason(&self, link: NumberedConstraint) -> Option<LinkReason>
         ensures value { result ≡ reason_of_first link self.now }
         ensures first { MatchOption result

@@ -14,8 +14,9 @@ use std::alloc::AllocError;
 /// "Subtyping"). `Reborrow`: a borrow does not outlive a reference that its place dereferences (RFC 2094, "Reborrow constraints").
 /// `Argument`: an operand, by its number from 0, is a subtype of its field, capture or parameter (RFC 2094, "Subtyping"). `Result`: the
 /// result of a call or an `invoke` is a subtype of its destination. `Clause`: a clause of the function that is called. `WellFormed`: the
-/// types of the parameters are well-formed (RFC 1214). `Creation`: what a closure that is created requires, and its clauses between external
-/// regions and `'static`; `Invocation`: the other clauses of a closure that is called (rustc-dev-guide, "Propagating closure constraints").
+/// types of the parameters are well-formed (RFC 1214). `Creation`: what a closure that is created requires, and its clauses between
+/// external regions and `'static`; `Invocation`: the other clauses of a closure that is called (rustc-dev-guide, "Propagating closure
+/// constraints").
 #[derive(Clone, Copy)]
 pub enum Rule {
     Assignment,
@@ -29,8 +30,8 @@ pub enum Rule {
     Invocation,
 }
 
-/// What demands that a region outlives another: a point, by its number, with the rule; or the type of a `let` local, by its number, since it
-/// is well-formed (RFC 1214).
+/// What demands that a region outlives another: a point, by its number, with the rule; or the type of a `let` local, by its number, since
+/// it is well-formed (RFC 1214).
 #[derive(Clone, Copy)]
 pub enum LinkReason {
     Point { point: usize, rule: Rule },

@@ -11,8 +11,8 @@ use bc_points::region_number;
 use bc_syntax::{Sequence, Ty};
 use std::alloc::{AllocError, Global};
 
-/// Why a region is in use at a point: it is universal, and so in use at each point; or a local, by its number, has the region in its type and
-/// is live on entry to the point. Then the path leads from the point to one that uses the local, and no earlier point of it defines the
+/// Why a region is in use at a point: it is universal, and so in use at each point; or a local, by its number, has the region in its type
+/// and is live on entry to the point. Then the path leads from the point to one that uses the local, and no earlier point of it defines the
 /// local. (RFC 2094, "Liveness".)
 #[derive(Drop)]
 pub enum UseReason {
@@ -63,9 +63,9 @@ fn path_with_region(
     }
 }
 
-/// Returns why a region is in use at a point, both by number: that it is universal; or the least local that has it in its type and is live on
-/// entry to the point, with the path to the nearest use of that local (see `use_path`). Returns `None` exactly if the region is a variable
-/// and no such local is live there. The last region of a chain to a point is in use at that point. (RFC 2094, "Liveness".)
+/// Returns why a region is in use at a point, both by number: that it is universal; or the least local that has it in its type and is live
+/// on entry to the point, with the path to the nearest use of that local (see `use_path`). Returns `None` exactly if the region is a
+/// variable and no such local is live there. The last region of a chain to a point is in use at that point. (RFC 2094, "Liveness".)
 pub fn use_reason(
     alloc: Global,
     typed: &Typed,

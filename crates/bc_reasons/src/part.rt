@@ -9,8 +9,8 @@ use std::alloc::{AllocError, Global};
 /// The part of an instruction that makes an access. (RFC 2094, "Borrow checker phase 2: reporting errors".)
 ///
 /// `Operand`: an operand, by its number from 0 among the operands of the instruction, numbers included. `Borrowed`: the place that a borrow
-/// borrows. `Invoked`: the place of the closure that an `invoke` calls. `Target`: the place that an assignment, a call or an `invoke` writes.
-/// `Drop`, `Dead` and `Return`: the statement or the terminator itself.
+/// borrows. `Invoked`: the place of the closure that an `invoke` calls. `Target`: the place that an assignment, a call or an `invoke`
+/// writes. `Drop`, `Dead` and `Return`: the statement or the terminator itself.
 #[derive(Clone, Copy)]
 pub enum Part {
     Operand(usize),
