@@ -1,5 +1,6 @@
 mod Returning
 mod Operands
+mod Keeping
 mod Cutting
 mod Finding
 mod Reaching

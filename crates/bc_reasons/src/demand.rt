@@ -1,6 +1,6 @@
 //! What demands that a region outlives another.
 ghost use Rattle.std.specs.Prelude.{◌≡◌, ◌++◌, ◌==◌, ◌&&◌, OnOk};
-ghost use Rattle.bc_reasons.specs.Demands.{demands_by, is_of as of_link};
+ghost use Rattle.bc_reasons.specs.Demands.{as_demand, demands_by, is_of as of_link};
 
 use bc_cons::NumberedConstraint;
 use bc_mir::Constraint;
@@ -54,6 +54,18 @@ impl Demand {
     }
 }
 
+fn demand(universals: u8, reason: LinkReason, pair: Constraint) -> Demand
+    ensures { result ≡ as_demand universals reason pair }
+{
+    Demand {
+        reason,
+        constraint: NumberedConstraint {
+            longer: region_number(universals, pair.longer),
+            shorter: region_number(universals, pair.shorter),
+        },
+    }
+}
+
 /// Appends pairs as demands of one reason, without those of a region with itself.
 pub(crate) fn push_demands(
     demands: &mut Vec<Demand>,
@@ -65,13 +77,7 @@ pub(crate) fn push_demands(
 {
     for pair in pairs {
         if !is_same_region(pair.longer, pair.shorter) {
-            demands.push(Demand {
-                reason,
-                constraint: NumberedConstraint {
-                    longer: region_number(universals, pair.longer),
-                    shorter: region_number(universals, pair.shorter),
-                },
-            })?;
+            demands.push(demand(universals, reason, *pair))?;
         }
     }
     Ok(())

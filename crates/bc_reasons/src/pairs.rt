@@ -31,8 +31,12 @@ pub(crate) fn place_pairs(
     match typed.place_type(alloc, place)? {
         Some(target) => match value {
             Some(ty) => {
-                let target = TyRef::of(&target);
-                push_sub(&mut pairs, typed.types(), &TyRef::of(ty), &target)?;
+                push_sub(
+                    &mut pairs,
+                    typed.types(),
+                    &TyRef::of(ty),
+                    &TyRef::of(&target),
+                )?;
                 Ok(pairs)
             }
             None => Ok(pairs),
@@ -55,8 +59,12 @@ pub(crate) fn operand_pairs(
     let target = replace_ty(alloc, arguments, expected)?;
     match typed.type_of_operand(alloc, operand)? {
         Some(value) => {
-            let target = TyRef::of(&target);
-            push_sub(&mut pairs, typed.types(), &TyRef::of(&value), &target)?;
+            push_sub(
+                &mut pairs,
+                typed.types(),
+                &TyRef::of(&value),
+                &TyRef::of(&target),
+            )?;
             Ok(pairs)
         }
         None => Ok(pairs),

@@ -76,7 +76,8 @@ fn push_operands(
 ) -> Result<(), AllocError>
     requires { number + length operands.now < 2 ^ 64 }
     ensures { OnOk result (demands.new.items
-        ≡ demands.old.items ++ operand_demands passing.entry.here.typed.now passing.entry.here.point passing.entry.arguments.now number operands.now expected.now) }
+        ≡ demands.old.items ++ operand_demands passing.entry.here.typed.now passing.entry.here.point passing.entry.arguments.now number
+        operands.now expected.now) }
 {
     match operands {
         [] => Ok(()),
@@ -105,7 +106,7 @@ fn push_captured(
     let captures = header.captures.as_slice();
     let passing = Passing {
         here,
-        arguments: &given,
+        arguments: given.as_slice(),
     };
     push_operands(alloc, demands, passing, 0, creation.operands.as_slice(), captures)?;
     let clauses = header.signature.clauses.as_slice();
@@ -202,7 +203,8 @@ fn push_parameters(
     parameters: &[Ty],
 ) -> Result<(), AllocError>
     ensures { OnOk result (demands.new.items
-        ≡ demands.old.items ++ parameter_demands passing.entry.here.typed.now passing.entry.here.point passing.entry.arguments.now operands.now parameters.now) }
+        ≡ demands.old.items ++ parameter_demands passing.entry.here.typed.now passing.entry.here.point passing.entry.arguments.now
+        operands.now parameters.now) }
 {
     push_operands(alloc, demands, passing, 0, operands, parameters)?;
     let pairs = well_formed_pairs(alloc, passing.here.typed, passing.arguments, parameters)?;
@@ -296,7 +298,7 @@ fn push_invoked(
             let given = arguments(alloc, header, external, invocation.regions.as_slice())?;
             let passing = Passing {
                 here,
-                arguments: &given,
+                arguments: given.as_slice(),
             };
             push_passed(alloc, demands, passing, invocation, header)
         }
