@@ -4,3 +4,4 @@ mod Keeping
 mod Cutting
 mod Finding
 mod Reaching
+mod Starting

@@ -1,5 +1,5 @@
 -- Why a region is in use at a point.
-use Rattle.std.specs.Prelude.{◌≡◌, ℕ, ◌<◌, ◌≤◌, Bool, true, false, List, slice_get}
+use Rattle.std.specs.Prelude.{◌≡◌, ℕ, ◌<◌, ◌≤◌, ◌↔◌, Bool, true, false, List, slice_get}
 use Rattle.std.specs.Option.{option_map_or}
 use Rattle.bc_bodies.specs.Mir.{Mir}
 use Rattle.bc_live.specs.Live.{IsLive}
@@ -33,3 +33,7 @@ IsUseReason mir region point (Live local path) = IsLeastUse mir region point loc
 pub record IsUnused (mir : Mir) (region point : ℕ) : Type 0 where
   pub variable : mir.universals ≤ region
   pub dead : (local : ℕ) → has_region mir region local ≡ true → ¬ (IsLive mir local point)
+
+-- a test is true of a local and a point exactly if the local is live on entry to the point
+abbrev pub TellsLive : Mir → (ℕ → ℕ → Bool) → Type 0
+TellsLive mir live = (local point : ℕ) → (live local point ≡ true) ↔ IsLive mir local point

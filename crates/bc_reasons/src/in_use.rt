@@ -1,9 +1,9 @@
 //! Why a region is in use at a point (RFC 2094, "Liveness").
-ghost use Rattle.std.specs.Prelude.{◌≡◌, true, IfOk, MatchOption};
+ghost use Rattle.std.specs.Prelude.{◌≡◌, ℕ, Bool, true, IfOk, IsSome, MatchOption};
 ghost use Rattle.bc_live.specs.Live.{IsLive};
-ghost use Rattle.bc_cons.specs.Starts.{mentions as mention_test};
+ghost use Rattle.bc_cons.specs.Starts.{mentions as mention_test, starts_with};
 ghost use Rattle.bc_reasons.specs.Paths.{IsFirstUsePath};
-ghost use Rattle.bc_reasons.specs.Uses.{has_region as region_test, IsUseReason, IsUnused};
+ghost use Rattle.bc_reasons.specs.Uses.{has_region as region_test, IsUseReason, IsUnused, TellsLive};
 
 use crate::use_path::use_path;
 use bc_mir::{Typed, base_regions};
@@ -72,9 +72,12 @@ pub fn use_reason(
     region: usize,
     point: usize,
 ) -> Result<Option<UseReason>, AllocError>
-    ensures { IfOk result (λ found. MatchOption found
+    ensures reason { IfOk result (λ found. MatchOption found
         (IsUnused typed.now region point)
         (λ reason. IsUseReason typed.now region point reason)) }
+    // So there is a reason wherever the region starts with the point.
+    ensures starts { IfOk result (λ found. (live : ℕ → ℕ → Bool) → TellsLive typed.now live →
+        starts_with typed.now live region point ≡ true → IsSome found) }
 {
     if region < usize::from(typed.universals()) {
         return Ok(Some(UseReason::Universal));
