@@ -3,5 +3,6 @@ mod Operands
 mod Keeping
 mod Cutting
 mod Finding
+mod Lets
 mod Reaching
 mod Starting

@@ -4,9 +4,10 @@
 //! that it uses, and must outlive each point to which an edge leads from it, unless it defines the local.
 ghost use Rattle.std.specs.Prelude.{◌≡◌, ◌↔◌, ◌≤◌, ◌++◌, ℕ, true, map, length, IfOk, OnOk, MatchOption};
 ghost use Rattle.bc_flow.specs.Flow.{holds, HaveSize};
+ghost use Rattle.bc_flow.specs.Graph.{AreWithin};
+ghost use Rattle.bc_bodies.specs.Mir.{edges_of};
 ghost use Rattle.bc_points.specs.Points.{Uses};
 ghost use Rattle.bc_points.specs.Regions.{region_number as number_of};
-ghost use Rattle.bc_cons.specs.Facts.{ArePairsWithin};
 ghost use Rattle.bc_live.specs.Entries.{entries_at, use_entries as uses_of_points};
 ghost use Rattle.bc_live.specs.Live.{IsLive};
 ghost use Rattle.bc_reasons.specs.Paths.{IsFirstUsePath, is_local as local_test, defines as definition_test, links_of};
@@ -79,7 +80,7 @@ fn defines_local(typed: &Typed, local: usize, point: usize) -> bool
 /// Returns the edges that leave points which do not define a local, as constraints between points.
 fn links(alloc: Global, typed: &Typed, local: usize) -> Result<Vec<NumberedConstraint>, AllocError>
     ensures value { IfOk result (λ links. links.items ≡ links_of typed.now local) }
-    ensures within { IfOk result (λ links. ArePairsWithin (length typed.now.steps) links.items) }
+    ensures within { AreWithin (edges_of typed.now) (length typed.now.steps) }
 {
     let edges = typed.edges(alloc)?;
     edges
