@@ -1,4 +1,4 @@
-mod Returning
+mod Parting
 mod Operands
 mod Keeping
 mod Cutting

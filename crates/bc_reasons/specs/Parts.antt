@@ -1,4 +1,4 @@
--- By which part of an instruction each of its accesses is made.
+-- The accesses of an instruction, each with the part of the instruction that makes it.
 use Rattle.std.specs.Prelude.{ℕ, List, [], ◌∷◌, ◌++◌, length, map}
 use Rattle.std.specs.List.{flat_map, enumerate_from, range_with_len}
 use Rattle.bc_syntax.specs.declared.syntax.Operand.{Operand}
@@ -12,8 +12,63 @@ use Rattle.bc_syntax.specs.declared.syntax.Terminator.TheVariants.{Goto, If, Cal
 use Rattle.bc_bodies.specs.declared.mir.Instruction.{Instruction}
 use Rattle.bc_bodies.specs.declared.mir.Instruction.TheVariants.{Statement, Terminator}
 use Rattle.bc_bodies.specs.Mir.{Mir}
+use Rattle.bc_points.specs.declared.access.Access.{Access}
+use Rattle.bc_points.specs.declared.access.Depth.TheVariants.{Shallow, Deep}
+use Rattle.bc_points.specs.declared.access.AccessKind.TheVariants.{Write}
+use Rattle.bc_points.specs.Accesses.{access_of, operand_accesses, rvalue_accesses, statement_accesses, return_accesses}
 use Rattle.bc_reasons.specs.declared.part.Part.{Part}
 use Rattle.bc_reasons.specs.declared.part.Part.TheVariants as parts
+use Rattle.bc_reasons.specs.declared.access.AccessReason.{AccessReason}
+
+-- accesses that one part makes
+abbrev pub made_by : Part → List Access → List AccessReason
+made_by part accesses = map (λ (access : Access). record { access = access; part = part }) accesses
+
+-- the access of an operand, by its number
+abbrev pub operand_reasons : ℕ → Operand → List AccessReason
+operand_reasons k operand = made_by (parts.Operand k) (operand_accesses operand)
+
+-- the accesses of operands, each operand by its number among all
+abbrev pub operands_reasons : List Operand → List AccessReason
+operands_reasons operands = flat_map (λ (here : ℕ × Operand). operand_reasons here.0 here.1) (enumerate_from 0 operands)
+
+-- a place that is overwritten
+abbrev pub target_reasons : Access → List AccessReason
+target_reasons access = made_by parts.Target (access ∷ [])
+
+-- the accesses of an rvalue, in order
+abbrev pub rvalue_reasons : Rvalue → List AccessReason
+rvalue_reasons (Use operand) = operand_reasons 0 operand
+rvalue_reasons (Borrow borrow) = made_by parts.Borrowed (rvalue_accesses (Borrow borrow))
+rvalue_reasons (Aggregate aggregate) = operands_reasons aggregate.operands
+rvalue_reasons (Closure creation) = operands_reasons creation.operands
+rvalue_reasons (Calc operands) = operands_reasons operands
+
+-- the accesses of a statement, in order; that of the target is the last
+abbrev pub statement_reasons : Mir → Simple → List AccessReason
+statement_reasons mir (Assign assignment) =
+    rvalue_reasons assignment.value ++ target_reasons (access_of Shallow Write assignment.target)
+statement_reasons mir (Dead local) = made_by parts.Dead (statement_accesses mir (Dead local))
+statement_reasons mir (Drop place) = made_by parts.Drop (statement_accesses mir (Drop place))
+statement_reasons mir Nop = []
+
+-- the accesses of a terminator, in order, in a body with this many locals
+abbrev pub terminator_reasons : ℕ → Ending → List AccessReason
+terminator_reasons locals (Goto label) = []
+terminator_reasons locals (If condition) = operand_reasons 0 condition.operand
+terminator_reasons locals (Call call) = operands_reasons call.operands ++ target_reasons (access_of Shallow Write call.destination)
+terminator_reasons locals (Invoke invocation) =
+    made_by parts.Invoked (access_of Deep Write invocation.closure ∷ [])
+    ++ (operands_reasons invocation.operands ++ target_reasons (access_of Shallow Write invocation.destination))
+terminator_reasons locals Return = made_by parts.Return (return_accesses locals)
+terminator_reasons locals Stop = []
+
+-- the accesses of an instruction, in order, each with the part that makes it (RFC 2094, "Borrow checker phase 2")
+abbrev pub access_reasons : Mir → Instruction → List AccessReason
+access_reasons mir (Statement statement) = statement_reasons mir statement
+access_reasons mir (Terminator terminator) = terminator_reasons (length mir.locals) terminator
+
+-- ---- the parts alone
 
 -- an operand by its number: a copy and a move access their place, and a number has no access
 abbrev pub operand_parts : ℕ → Operand → List Part

@@ -2,7 +2,7 @@
 ghost use Rattle.std.specs.Prelude.{◌≡◌, slice_get, IfOk};
 ghost use Rattle.std.specs.Option.{option_map};
 ghost use Rattle.bc_points.specs.Accesses.{accesses_of};
-ghost use Rattle.bc_reasons.specs.Parts.{parts_of};
+ghost use Rattle.bc_reasons.specs.Parts.{access_reasons};
 
 use crate::part::{Part, access_parts};
 use bc_mir::{Instruction, Typed};
@@ -25,8 +25,9 @@ pub fn access_reason<'a>(
     instruction: &'a Instruction,
     number: usize,
 ) -> Result<Option<AccessReason<'a>>, AllocError>
+    ensures reason { IfOk result (λ found. found ≡ slice_get (access_reasons typed.now instruction.now) number) }
+    // The accesses with their parts, in order, are the accesses of the point.
     ensures access { IfOk result (λ found. option_map (λ reason. reason.access) found ≡ slice_get (accesses_of typed.now instruction.now) number) }
-    ensures part { IfOk result (λ found. option_map (λ reason. reason.part) found ≡ slice_get (parts_of typed.now instruction.now) number) }
 {
     let mut accesses = accesses(alloc, typed, instruction)?;
     let parts = access_parts(alloc, typed, instruction)?;

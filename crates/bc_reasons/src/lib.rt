@@ -15,5 +15,5 @@ pub use access::{AccessReason, access_reason};
 pub use body::Demands;
 pub use demand::{Demand, LinkReason, Rule};
 pub use in_use::{UseReason, use_reason};
-pub use part::{Part, access_parts};
+pub use part::Part;
 pub use use_path::use_path;

@@ -126,9 +126,8 @@ fn push_parts(
     }
 }
 
-/// Returns for each access of a point, given its instruction, the part that makes it, in the order of the accesses. (RFC 2094, "Borrow
-/// checker phase 2: reporting errors".)
-pub fn access_parts(
+/// Returns for each access of a point, given its instruction, the part that makes it, in the order of the accesses.
+pub(crate) fn access_parts(
     alloc: Global,
     typed: &Typed,
     instruction: &Instruction,

@@ -1,6 +1,6 @@
 use Rattle.std.proofs.Common.{arith}
 use Rattle.std.proofs.lemmas.Grind.{common_steps}
-use Rattle.bc_reasons.proofs.Returning.{return_parts-more}
+use Rattle.bc_reasons.proofs.Parting.{return_parts-more}
 use Rattle.bc_reasons.proofs.part.push_return.Goals as goal
 
 pub loop-_local-preserved : goal.loop-_local-preserved
