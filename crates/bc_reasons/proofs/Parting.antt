@@ -1,10 +1,11 @@
 -- The accesses with their parts are the accesses, and their parts are the parts.
-use Rattle.std.proofs.Common.{◌≡◌, ℕ, zero, suc, ◌+◌, Some, List, [], ◌∷◌, ◌++◌, length, map, refl, sym, ap, ◌∙◌, subst, arith}
+use Rattle.std.proofs.Common.{◌≡◌, ℕ, zero, suc, ◌+◌, Option, Some, List, [], ◌∷◌, ◌++◌, length, map, refl, sym, ap, ◌∙◌, subst, arith}
 use Rattle.std.specs.Prelude.{slice_get}
 use Rattle.std.specs.List.{flat_map, enumerate_from, range_with_len}
+use Rattle.std.specs.Option.{option_map}
 use Rattle.std.proofs.lemmas.List.{map-append, length-map}
 use Rattle.std.proofs.lemmas.List.FromFn.{map-range_with_len_more}
-use Rattle.std.proofs.lemmas.Option.{same_Some}
+use Rattle.std.proofs.lemmas.Option.{same_Some, slice_get-map}
 use Rattle.bc_syntax.specs.declared.syntax.Operand.{Operand}
 use Rattle.bc_syntax.specs.declared.syntax.Operand.TheVariants.{Copy, Move, Number}
 use Rattle.bc_syntax.specs.declared.syntax.Rvalue.{Rvalue}
@@ -126,3 +127,11 @@ as_many mir instruction = sym (length-map (λ (reason : AccessReason). reason.ac
 pub as_many_parts : (mir : Mir) (instruction : Instruction) → length (parts_of mir instruction) ≡ length (accesses_of mir instruction)
 as_many_parts mir instruction =
     sym (ap length (of_instruction mir instruction).1) ∙ length-map (λ (reason : AccessReason). reason.part) (access_reasons mir instruction) ∙ as_many mir instruction
+
+-- the access of a number with its part has the access of that number
+pub has_access : (mir : Mir) (instruction : Instruction) (n : ℕ) (found : Option AccessReason) → found ≡ slice_get (access_reasons mir instruction) n →
+    option_map (λ (reason : AccessReason). reason.access) found ≡ slice_get (accesses_of mir instruction) n
+has_access mir instruction n found is =
+    ap (option_map (λ (reason : AccessReason). reason.access)) is
+    ∙ sym (slice_get-map (λ (reason : AccessReason). reason.access) (access_reasons mir instruction) n)
+    ∙ ap (λ l. slice_get l n) (of_instruction mir instruction).0
