@@ -54,7 +54,7 @@ impl Demand {
     }
 }
 
-fn demand(universals: u8, reason: LinkReason, pair: Constraint) -> Demand
+fn numbered_demand(universals: u8, reason: LinkReason, pair: Constraint) -> Demand
     ensures { result ≡ as_demand universals reason pair }
 {
     Demand {
@@ -77,7 +77,7 @@ pub(crate) fn push_demands(
 {
     for pair in pairs {
         if !is_same_region(pair.longer, pair.shorter) {
-            demands.push(demand(universals, reason, *pair))?;
+            demands.push(numbered_demand(universals, reason, *pair))?;
         }
     }
     Ok(())

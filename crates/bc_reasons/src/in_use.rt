@@ -5,7 +5,7 @@ ghost use Rattle.bc_cons.specs.Starts.{mentions as mention_test, starts_with};
 ghost use Rattle.bc_reasons.specs.Paths.{IsFirstUsePath};
 ghost use Rattle.bc_reasons.specs.Uses.{has_region as region_test, IsUseReason, IsUnused, TellsLive};
 
-use crate::use_path::use_path;
+use crate::paths::use_path;
 use bc_mir::{Typed, base_regions};
 use bc_points::region_number;
 use bc_syntax::{Sequence, Ty};

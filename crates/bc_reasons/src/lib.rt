@@ -8,12 +8,12 @@ mod demand;
 mod in_use;
 mod pairs;
 mod part;
+mod paths;
 mod points;
-mod use_path;
 
 pub use access::{AccessReason, access_reason};
 pub use body::Demands;
 pub use demand::{Demand, LinkReason, Rule};
 pub use in_use::{UseReason, use_reason};
 pub use part::Part;
-pub use use_path::use_path;
+pub use paths::use_path;

@@ -12,7 +12,7 @@ loop-pair-preserved c =
     let pairs = c.args.pairs.now in
     let i = c.loop-pair.pair-index in
     elim c.if-not-is_same_region.branch [
-      | then-not-is_same_region+in_ok-push w ↦ rw w.demands-is (given-turn made differ pairs i _ c.loop-pair-test.true _ _ _ (ap not (sym c.is_same_region.ensures ∙ w.if-not-is_same_region.true)) (rw w.demand.ensures at w.in_ok-push.ensures.items) c.loop-pair.invariant)
+      | then-not-is_same_region+in_ok-push w ↦ rw w.demands-is (given-turn made differ pairs i _ c.loop-pair-test.true _ _ _ (ap not (sym c.is_same_region.ensures ∙ w.if-not-is_same_region.true)) (rw w.numbered_demand.ensures at w.in_ok-push.ensures.items) c.loop-pair.invariant)
       | else-not-is_same_region w ↦ rw w.demands-is (passed-turn made differ pairs i _ c.loop-pair-test.true _ _ (ap not (sym c.is_same_region.ensures ∙ w.if-not-is_same_region.false)) c.loop-pair.invariant)
     ]
 

@@ -2,7 +2,7 @@ use Rattle.std.proofs.Common.{refl, ◌∙◌}
 use Rattle.std.proofs.lemmas.List.{at_drop_more}
 use Rattle.bc_live.proofs.Appending.{appended-turn, appended-all}
 use Rattle.bc_live.specs.Entries.{entries_at}
-use Rattle.bc_reasons.proofs.use_path.push_entries.Goals as goal
+use Rattle.bc_reasons.proofs.paths.push_entries.Goals as goal
 
 pub loop-local-preserved : goal.loop-local-preserved
 loop-local-preserved c =

@@ -4,7 +4,7 @@ use Rattle.std.proofs.lemmas.List.{at_drop_more}
 use Rattle.bc_bodies.specs.declared.mir.Step.{Step}
 use Rattle.bc_live.specs.Entries.{uses_at}
 use Rattle.bc_live.proofs.Appending.{appended-turn, appended-all}
-use Rattle.bc_reasons.proofs.use_path.use_entries.Goals as goal
+use Rattle.bc_reasons.proofs.paths.use_entries.Goals as goal
 
 pub loop-point-preserved : goal.loop-point-preserved
 loop-point-preserved c =

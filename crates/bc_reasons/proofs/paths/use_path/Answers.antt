@@ -1,5 +1,5 @@
 use Rattle.bc_reasons.proofs.Reaching.{none_live, first_of_chain}
-use Rattle.bc_reasons.proofs.use_path.use_path.Goals as goal
+use Rattle.bc_reasons.proofs.paths.use_path.Goals as goal
 
 pub returns-in-None : goal.returns-in-None
 returns-in-None c =

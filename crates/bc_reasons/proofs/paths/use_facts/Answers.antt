@@ -1,6 +1,6 @@
 use Rattle.std.proofs.Common.{length, arith}
 use Rattle.bc_reasons.proofs.Reaching.{links_within}
-use Rattle.bc_reasons.proofs.use_path.use_facts.Goals as goal
+use Rattle.bc_reasons.proofs.paths.use_facts.Goals as goal
 
 pub new-requires-clause-regions : goal.new-requires-clause-regions
 new-requires-clause-regions c = omega (arith, c.in_ok-starts.ensures.points, c.in_ok-starts.ensures.few)

@@ -1,6 +1,6 @@
 use Rattle.std.proofs.Common.{◌≡◌, ◌++◌, drop}
 use Rattle.bc_live.specs.Entries.{entries_at}
-use Rattle.bc_reasons.proofs.use_path.push_entries.Given as goal
+use Rattle.bc_reasons.proofs.paths.push_entries.Given as goal
 
 abbrev pub invariant-loop-local : goal.invariant-loop-local
 invariant-loop-local l =

@@ -1,7 +1,7 @@
 use Rattle.std.proofs.Common.{◌≡◌, ◌++◌, drop}
 use Rattle.std.specs.List.{flat_map, enumerate_from}
 use Rattle.bc_live.specs.Entries.{uses_at, use_entries}
-use Rattle.bc_reasons.proofs.use_path.use_entries.Given as goal
+use Rattle.bc_reasons.proofs.paths.use_entries.Given as goal
 
 abbrev pub invariant-loop-point : goal.invariant-loop-point
 invariant-loop-point l =

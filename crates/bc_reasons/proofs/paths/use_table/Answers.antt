@@ -5,7 +5,7 @@ use Rattle.bc_points.specs.Points.{Uses}
 use Rattle.bc_live.specs.Entries.{use_entries}
 use Rattle.bc_live.proofs.Within.{use_entries_within}
 use Rattle.bc_live.proofs.Listing.{use_is_listed}
-use Rattle.bc_reasons.proofs.use_path.use_table.Goals as goal
+use Rattle.bc_reasons.proofs.paths.use_table.Goals as goal
 
 pub table-requires : goal.table-requires
 table-requires c =
