@@ -53,18 +53,24 @@ one_later link demand demands reason apart is = record {
   ];
 }
 
+-- one more demand that is not of the constraint
+passed : (link : NumberedConstraint) (demand : Demand) (demands : List Demand) → is_of link demand ≡ false → (found : Option Demand) →
+    Says demands link (option_map (λ (d : Demand). d.reason) found) → Says (demand ∷ demands) link (option_map (λ (d : Demand). d.reason) found)
+passed link demand demands apart None none = none_yet link demand demands apart none
+passed link demand demands apart (Some first) is = one_later link demand demands first.reason apart is
+
+-- and one that is
+found : (link : NumberedConstraint) (demand : Demand) (demands : List Demand) → is_of link demand ≡ true → IsFirstReason (demand ∷ demands) link demand.reason
+found link demand demands is = record {
+  number = 0;
+  is_demand = ap (λ d. Some d) (is_of-same link demand is);
+  first = λ i other below. absurd (omega (arith, below));
+}
+
 pub says : (link : NumberedConstraint) (demands : List Demand) → Says demands link (first_reason link demands)
 says link [] = λ outlives. Contains-nil (record { longer = link.longer; shorter = link.shorter }) outlives
-says link (demand ∷ demands) = by (is_of link demand) refl (says link demands)
-  where
-    by : (b : Bool) → is_of link demand ≡ b → Says demands link (first_reason link demands) → Says (demand ∷ demands) link (option_map (λ (d : Demand). d.reason) (cond b (Some demand) (find (is_of link) demands)))
-    by true is later = record {
-      number = 0;
-      is_demand = ap (λ d. Some d) (is_of-same link demand is);
-      first = λ i other below. absurd (omega (arith, below));
-    }
-    by false is later = on (find (is_of link) demands) later
-      where
-        on : (found : Option Demand) → Says demands link (option_map (λ (d : Demand). d.reason) found) → Says (demand ∷ demands) link (option_map (λ (d : Demand). d.reason) found)
-        on None none = none_yet link demand demands is none
-        on (Some first) first_is = one_later link demand demands first.reason is first_is
+says link (demand ∷ demands) =
+    elim (is_of link demand) as (λ b. is_of link demand ≡ b → Says (demand ∷ demands) link (option_map (λ (d : Demand). d.reason) (cond b (Some demand) (find (is_of link) demands)))) [
+      | true ↦ λ is. found link demand demands is
+      | false ↦ λ apart. passed link demand demands apart (find (is_of link) demands) (says link demands)
+    ] refl
