@@ -54,8 +54,9 @@ fn use_table(alloc: Global, typed: &Typed) -> Result<BitTable, AllocError>
     ensures locals { IfOk result (λ rows. HaveSize (length typed.now.locals) rows) }
     ensures uses { IfOk result (λ rows. (p l : ℕ) → (holds rows p l ≡ true) ↔ Uses typed.now l p) }
 {
+    let points = typed.steps().len();
     let uses = use_entries(alloc, typed)?;
-    table(alloc, typed.steps().len(), typed.locals().len(), &uses)
+    table(alloc, points, typed.locals().len(), &uses)
 }
 
 fn is_local(local: usize, other: Option<u8>) -> bool
