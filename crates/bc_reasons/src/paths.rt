@@ -16,7 +16,7 @@ use bc_cons::{Facts, NumberedConstraint};
 use bc_flow::{BitTable, Entry, table};
 use bc_mir::Typed;
 use bc_points::{defines, push_uses, region_number};
-use bc_solve::explain;
+use bc_solve::Explainer;
 use bc_syntax::Region;
 use std::alloc::{AllocError, Global};
 
@@ -129,7 +129,8 @@ pub fn use_path(
         (λ path. IsFirstUsePath typed.now local point path.items)) }
 {
     let facts = use_facts(alloc, typed, local)?;
-    match explain(alloc, &facts, point, local)? {
+    let mut explainer = Explainer::new(alloc, &facts)?;
+    match explainer.explain(alloc, point, local)? {
         Some(chain) => Ok(Some(numbers(alloc, &chain)?)),
         None => Ok(None),
     }
