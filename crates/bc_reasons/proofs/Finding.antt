@@ -26,7 +26,7 @@ is_of-own : (link : NumberedConstraint) (reason : LinkReason) → is_of link (re
 is_of-own link reason = and_from (eqb link.longer link.longer) (eqb link.shorter link.shorter) (eq-eqb link.longer link.longer refl) (eq-eqb link.shorter link.shorter refl)
 
 -- what a result says, given whether the first demand is of the constraint
-abbrev Says : List Demand → NumberedConstraint → Option LinkReason → Type 0
+abbrev pub Says : List Demand → NumberedConstraint → Option LinkReason → Type 0
 Says demands link found = MatchOption found (¬ (MustOutlive (constraints_in demands) link.longer link.shorter)) (λ reason. IsFirstReason demands link reason)
 
 none_yet : (link : NumberedConstraint) (demand : Demand) (demands : List Demand) → is_of link demand ≡ false → ¬ (MustOutlive (constraints_in demands) link.longer link.shorter) →

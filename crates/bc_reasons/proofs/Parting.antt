@@ -121,12 +121,12 @@ at_both mir instruction n access part one other =
 
 -- there are as many accesses with their parts as accesses
 pub as_many : (mir : Mir) (instruction : Instruction) → length (access_reasons mir instruction) ≡ length (accesses_of mir instruction)
-as_many mir instruction = sym (length-map (λ (reason : AccessReason). reason.access) (access_reasons mir instruction)) ∙ ap length (of_instruction mir instruction).0
+as_many mir instruction = sym (length-map (access_reasons mir instruction) (λ (reason : AccessReason). reason.access)) ∙ ap length (of_instruction mir instruction).0
 
 -- and as many parts
 pub as_many_parts : (mir : Mir) (instruction : Instruction) → length (parts_of mir instruction) ≡ length (accesses_of mir instruction)
 as_many_parts mir instruction =
-    sym (ap length (of_instruction mir instruction).1) ∙ length-map (λ (reason : AccessReason). reason.part) (access_reasons mir instruction) ∙ as_many mir instruction
+    sym (ap length (of_instruction mir instruction).1) ∙ length-map (access_reasons mir instruction) (λ (reason : AccessReason). reason.part) ∙ as_many mir instruction
 
 -- the access of a number with its part has the access of that number
 pub has_access : (mir : Mir) (instruction : Instruction) (n : ℕ) (found : Option AccessReason) → found ≡ slice_get (access_reasons mir instruction) n →

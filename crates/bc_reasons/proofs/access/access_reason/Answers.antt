@@ -19,19 +19,19 @@ returns-in-Some-clause-reason c =
     let mir = c.args.typed.now in
     let here = c.args.instruction.now in
     let found = c.in-Some.ensures.lookup in
-    let part = slice_get_read c.in_ok-parts.parts.items _ c.args.number c.in-Some.part.now refl found.3.0 found.1 in
+    let part = slice_get_read c.deref.result.now _ c.args.number c.in-Some.part.now refl found.3.0 found.1 in
     let access = slice_get_read c.in_ok-accesses.accesses.items _ c.args.number c.swap_remove.result refl (omega (arith, c.len.ensures, c.if-number-len.false)) c.swap_remove.ensures.value in
-    sym (at_both mir here c.args.number c.swap_remove.result c.in-Some.part.now (rw c.in_ok-accesses.ensures at access) (rw c.in_ok-parts.ensures at part))
+    sym (at_both mir here c.args.number c.swap_remove.result c.in-Some.part.now (rw c.in_ok-accesses.ensures at access) (rw (c.deref.ensures.value, c.in_ok-parts.ensures) at part))
 
 pub returns-in-Some-clause-access : goal.returns-in-Some-clause-access
 returns-in-Some-clause-access c = has_access c.args.typed.now c.args.instruction.now c.args.number _ (returns-in-Some-clause-reason c)
 
-pub returns-in-None-clause-reason : goal.returns-in-None-clause-reason
-returns-in-None-clause-reason c =
+pub returns-clause-reason : goal.returns-clause-reason
+returns-clause-reason c =
     let mir = c.args.typed.now in
     let here = c.args.instruction.now in
-    let past : length (access_reasons mir here) ≤ c.args.number = omega (arith, ap length c.in_ok-parts.ensures, c.in-None.ensures.lookup.3, as_many mir here, as_many_parts mir here) in
+    let past : length (access_reasons mir here) ≤ c.args.number = omega (arith, ap length c.deref.ensures.value, ap length c.in_ok-parts.ensures, c.in-None.ensures.lookup.3, as_many mir here, as_many_parts mir here) in
     sym (slice_get_past (access_reasons mir here) c.args.number past)
 
-pub returns-in-None-clause-access : goal.returns-in-None-clause-access
-returns-in-None-clause-access c = has_access c.args.typed.now c.args.instruction.now c.args.number None (returns-in-None-clause-reason c)
+pub returns-clause-access : goal.returns-clause-access
+returns-clause-access c = has_access c.args.typed.now c.args.instruction.now c.args.number None (returns-clause-reason c)

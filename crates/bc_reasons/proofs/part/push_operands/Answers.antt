@@ -7,7 +7,7 @@ use Rattle.bc_reasons.proofs.part.push_operands.Goals as goal
 pub loop-number-preserved : goal.loop-number-preserved
 loop-number-preserved c =
     let each = λ (here : ℕ × Operand). operand_parts here.0 here.1 in
-    numbered-turn each _ _ c.args.operands.now c.loop-number.number c.operand-item.result _ c.loop-number-test.true c.operand-item.is c.in_ok-push_operand.ensures c.loop-number.invariant
+    numbered-turn each _ _ c.args.operands.now c.loop-number.number c.index-operands-number.result _ c.loop-number-test.true c.index-operands-number.is c.in_ok-push_operand.ensures c.loop-number.invariant
 
 pub returns : goal.returns
 returns c =

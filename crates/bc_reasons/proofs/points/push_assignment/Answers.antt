@@ -17,8 +17,8 @@ returns c =
     let value = demands_at mir p (value_rule assignment.value) (sub_place mir (type_of_rvalue mir assignment.value) assignment.target) in
     let required = demands_at mir p rules.Creation (required_pairs mir c.args.kids.now assignment.value) in
     let reborrow = demands_at mir p rules.Reborrow (reborrow_pairs mir assignment.value) in
-    on_ok_weaker c.push_rule.result
+    on_ok_weaker c.push_rule-2.result
     (λ done. appended-both _ _ _ fields (value ++ (required ++ reborrow)) c.in_ok-push_fields.ensures
     (appended-both _ _ _ value (required ++ reborrow) c.in_ok-push_value.ensures
     (appended-both _ _ _ required reborrow (rw (c.deref.ensures.value, c.in_ok-required.ensures) at c.in_ok-push_rule.ensures) done)))
-    (rw (c.deref-2.ensures.value, c.in_ok-reborrow.ensures) at c.push_rule.ensures)
+    (rw (c.deref-2.ensures.value, c.in_ok-reborrow.ensures) at c.push_rule-2.ensures)
