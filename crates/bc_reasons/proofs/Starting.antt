@@ -18,20 +18,20 @@ none_starts : (universals region point : ℕ) (live : ℕ → ℕ → Bool) (n :
 none_starts universals region point live n [] none = refl
 none_starts universals region point live n (ty ∷ tys) none =
     let here : (mentions universals region ty && live n point) ≡ false = false_from_ne_true (mentions universals region ty && live n point) (λ h.
-        let parts = and_parts (mentions universals region ty) (live n point) h in
-        let number : n ≡ n + 0 = omega arith in
-        none 0 ty refl parts.0 (subst (λ k. live k point ≡ true) number parts.1)) in
+    let parts = and_parts (mentions universals region ty) (live n point) h in
+    let number : n ≡ n + 0 = omega arith in
+    none 0 ty refl parts.0 (subst (λ k. live k point ≡ true) number parts.1)) in
     or_from (mentions universals region ty && live n point) _ here
     (none_starts universals region point live (n + 1) tys (λ k t is has alive.
-        let number : n + 1 + k ≡ n + suc k = omega arith in
-        none (suc k) t is has (subst (λ m. live m point ≡ true) number alive)))
+    let number : n + 1 + k ≡ n + suc k = omega arith in
+    none (suc k) t is has (subst (λ m. live m point ≡ true) number alive)))
 
 pub unused_starts : (mir : Mir) (region point : ℕ) → IsUnused mir region point → (live : ℕ → ℕ → Bool) → TellsLive mir live → starts_with mir live region point ≡ true → ⊥
 unused_starts mir region point unused live tells starts =
     let none : variable_start mir.universals mir.locals live region point ≡ false =
-        none_starts mir.universals region point live 0 mir.locals (λ k ty is has alive.
-        let number : 0 + k ≡ k = omega arith in
-        unused.dead k (rw is has) ((tells k point).0 (subst (λ m. live m point ≡ true) number alive))) in
+    none_starts mir.universals region point live 0 mir.locals (λ k ty is has alive.
+    let number : 0 + k ≡ k = omega arith in
+    unused.dead k (rw is has) ((tells k point).0 (subst (λ m. live m point ≡ true) number alive))) in
     let variable : ltb region mir.universals ≡ false = le-ltb region mir.universals unused.variable in
     let inside : Bool = ltb point (length mir.steps) && variable_start mir.universals mir.locals live region point in
     both_ways inside (and_right (ltb point (length mir.steps)) (variable_start mir.universals mir.locals live region point) none)

@@ -40,11 +40,7 @@ fn first_let(typed: &Typed) -> usize
 }
 
 /// Appends what the types of the `let` locals demand, in order.
-fn push_locals(
-    alloc: Global,
-    demands: &mut Vec<Demand>,
-    typed: &Typed,
-) -> Result<(), AllocError>
+fn push_locals(alloc: Global, demands: &mut Vec<Demand>, typed: &Typed) -> Result<(), AllocError>
     ensures { OnOk result (demands.new.items
         ≡ demands.old.items ++ flat_map (local_demands typed.now) (enumerate_from 0 (let_types typed.now))) }
 {
@@ -54,7 +50,12 @@ fn push_locals(
         let local = first + number;
         pairs.clear();
         push_type_pairs(alloc, &mut pairs, typed, ty)?;
-        push_demands(demands, typed.universals(), LinkReason::Local { local }, &pairs)?;
+        push_demands(
+            demands,
+            typed.universals(),
+            LinkReason::Local { local },
+            &pairs,
+        )?;
     }
     Ok(())
 }

@@ -24,10 +24,8 @@ pub enum UseReason {
 fn mentions(universals: u8, region: usize, ty: &Ty) -> bool
     ensures { result ≡ mention_test universals region ty.now }
 {
-    ty.references
-        .as_slice()
-        .iter()
-        .any(|reference| region_number(universals, reference.region) == region)
+    ty.references.as_slice().iter().any(|reference| region_number(universals, reference.region)
+        == region)
         || base_regions(&ty.base)
             .iter()
             .any(|other| region_number(universals, *other) == region)

@@ -108,7 +108,14 @@ fn push_captured(
         here,
         arguments: given.as_slice(),
     };
-    push_operands(alloc, demands, passing, 0, creation.operands.as_slice(), captures)?;
+    push_operands(
+        alloc,
+        demands,
+        passing,
+        0,
+        creation.operands.as_slice(),
+        captures,
+    )?;
     let clauses = header.signature.clauses.as_slice();
     let pairs = outer_pairs(alloc, captures, &given, clauses)?;
     push_rule(demands, here, Rule::Creation, &pairs)
@@ -242,10 +249,22 @@ fn push_called(
     let signature = &declaration.signature;
     let passing = Passing { here, arguments };
     let parameters = signature.parameters.as_slice();
-    push_parameters(alloc, demands, passing, call.operands.as_slice(), parameters)?;
+    push_parameters(
+        alloc,
+        demands,
+        passing,
+        call.operands.as_slice(),
+        parameters,
+    )?;
     let clauses = clause_pairs(alloc, arguments, signature.clauses.as_slice())?;
     push_rule(demands, here, Rule::Clause, &clauses)?;
-    push_result(alloc, demands, passing, &signature.result, &call.destination)
+    push_result(
+        alloc,
+        demands,
+        passing,
+        &signature.result,
+        &call.destination,
+    )
 }
 
 fn push_call(
@@ -276,10 +295,22 @@ fn push_passed(
     let signature = &header.signature;
     let operands = invocation.operands.as_slice();
     let clauses = signature.clauses.as_slice();
-    push_parameters(alloc, demands, passing, operands, signature.parameters.as_slice())?;
+    push_parameters(
+        alloc,
+        demands,
+        passing,
+        operands,
+        signature.parameters.as_slice(),
+    )?;
     let inner = inner_pairs(alloc, header, passing.arguments, clauses)?;
     push_rule(demands, passing.here, Rule::Invocation, &inner)?;
-    push_result(alloc, demands, passing, &signature.result, &invocation.destination)
+    push_result(
+        alloc,
+        demands,
+        passing,
+        &signature.result,
+        &invocation.destination,
+    )
 }
 
 fn push_invoked(
