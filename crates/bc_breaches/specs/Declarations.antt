@@ -1,5 +1,5 @@
 -- Which rule a bad declaration breaks, and where. A list named `earlier` has the last declaration first.
-use Rattle.std.specs.Prelude.{◌≡◌, ℕ, ◌+◌, Bool, true, false, not, if◌then◌else◌, Option, Some, None, is_some, List, [], ◌∷◌, length, reverse, take, slice_get}
+use Rattle.std.specs.Prelude.{◌≡◌, ℕ, ◌+◌, Bool, true, false, not, if◌then◌else◌, Option, Some, None, is_some, List, [], ◌∷◌, ◌++◌, length, reverse, take, slice_get}
 use Rattle.bc_syntax.specs.declared.syntax.Region.{Region}
 use Rattle.bc_syntax.specs.declared.syntax.Ty.{Ty}
 use Rattle.bc_syntax.specs.declared.syntax.Variance.{Variance}
@@ -71,10 +71,12 @@ pub record MentionsUndeclared (earlier : List Declaration) (types : List Ty) (nu
 -- a region is in a position of a field's type in which it may not be
 pub record IsMisplaced (earlier : List Declaration) (variances : List Variance) (types : List Ty) (field : ℕ) (region : Region) : Type 0 where
   pub ty : Ty
-  pub invariant : Bool
+  pub number : ℕ
+  pub position : Position
   pub is_field : slice_get types field ≡ Some ty
-  pub is_position : Contains (positions earlier ty) (record { region = region; invariant = invariant })
-  pub misplaced : stands_well variances (record { region = region; invariant = invariant }) ≡ false
+  pub is_position : slice_get (positions earlier ty) number ≡ Some position
+  pub is_region : position.region ≡ region
+  pub stands_badly : stands_well variances position ≡ false
 
 -- the declaration breaks this rule there
 abbrev pub Breaks : List Declaration → Declaration → DeclarationBreach → Type 0

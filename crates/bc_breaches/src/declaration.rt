@@ -1,5 +1,5 @@
 //! Which rule a bad declaration breaks, and where.
-ghost use Rattle.std.specs.Prelude.{◌≡◌, ◌+◌, ◌<◌, ◌^◌, None, length, reverse, take, slice_get, MatchOption};
+ghost use Rattle.std.specs.Prelude.{⊤, ◌≡◌, ◌+◌, ◌<◌, ◌^◌, None, length, reverse, take, slice_get, MatchOption};
 ghost use Rattle.bc_types.specs.Declarations.{is_invariant as invariance, is_covariant as covariance, stands_well as standing, argument_positions, base_positions, positions_in, first_bad};
 ghost use Rattle.bc_breaches.specs.Declarations.{misplaced, variance_breach as breach_of_variance, field_breach as breach_of_field, fields_breach as breach_of_fields, types_breach as breach_of_types, declaration_breach as breach_of_declaration, IsBadDeclaration};
 
@@ -164,7 +164,10 @@ fn field_breach(
 {
     if is_declared(earlier, &ty.base) {
         let references = ty.references.as_slice();
-        variance_breach(field, misplaced_region(earlier, variances, false, references, &ty.base))
+        variance_breach(
+            field,
+            misplaced_region(earlier, variances, false, references, &ty.base),
+        )
     } else {
         Some(DeclarationBreach::Mention { ty: field })
     }
@@ -190,11 +193,7 @@ fn fields_breach(
 }
 
 /// Returns the first of some types, the first of which has this number, that mentions a struct which is not declared.
-fn types_breach(
-    earlier: &[Declaration],
-    number: usize,
-    types: &[Ty],
-) -> Option<DeclarationBreach>
+fn types_breach(earlier: &[Declaration], number: usize, types: &[Ty]) -> Option<DeclarationBreach>
     requires { number + length types.now < 2 ^ 64 }
     ensures { result ≡ breach_of_types (reverse earlier.now) number types.now }
 {

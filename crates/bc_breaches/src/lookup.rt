@@ -1,9 +1,9 @@
 //! Structs and extern functions by name, among the declarations before one.
-ghost use Rattle.std.specs.Prelude.{◌≡◌, reverse};
-ghost use Rattle.std.specs.List.{find, list_any};
+ghost use Rattle.std.specs.Prelude.{◌≡◌, is_some, reverse};
+ghost use Rattle.std.specs.List.{find};
 ghost use Rattle.std.specs.Option.{option_copied};
 ghost use Rattle.bc_shapes.specs.Shapes.{same_name};
-ghost use Rattle.bc_types.specs.Declarations.{struct_among as among, is_declared as declared};
+ghost use Rattle.bc_types.specs.Declarations.{struct_among as among, extern_among as extern_there, is_declared as declared};
 ghost use Rattle.bc_breaches.specs.Lookups.{is_struct as struct_test, is_extern as extern_test};
 
 use bc_syntax::{Base, Declaration, Instance, ItemName, StructDeclaration};
@@ -61,7 +61,7 @@ pub(crate) fn struct_among<'a>(
 
 /// Returns whether an extern function has a name.
 pub(crate) fn has_extern(earlier: &[Declaration], name: &ItemName) -> bool
-    ensures { result ≡ list_any (extern_test name.now) (reverse earlier.now) }
+    ensures { result ≡ is_some (extern_there (reverse earlier.now) name.now) }
 {
     earlier
         .iter()
