@@ -13,7 +13,7 @@ use Rattle.bc_syntax.specs.declared.syntax.Declaration.TheVariants.{Struct, Exte
 use Rattle.bc_types.specs.Declarations.{Position, struct_among, extern_among, has_declared_base, stands_well, positions, is_good_field, is_good}
 use Rattle.bc_breaches.specs.declared.declaration.DeclarationBreach.{DeclarationBreach}
 use Rattle.bc_breaches.specs.declared.declaration.DeclarationBreach.TheVariants.{Name, Mention, Variance as Invariance}
-use Rattle.bc_breaches.specs.Declarations.{first_of, misplaced, variance_breach, field_breach, fields_breach, types_breach, declaration_breach, types_of, MentionsUndeclared, IsMisplaced, Breaks}
+use Rattle.bc_breaches.specs.Declarations.{first_of, misplaced, variance_breach, field_breach, fields_breach, types_breach, declaration_breach, MentionsUndeclared, IsMisplaced, Breaks}
 
 -- ---- no breach
 

@@ -1,10 +1,9 @@
 -- Structs and extern functions by name.
-use Rattle.std.proofs.Common.{◌≡◌, Bool, true, false, ◌||◌, cond, Option, Some, None, List, [], ◌∷◌, refl, sym, ap, ◌∙◌}
+use Rattle.std.proofs.Common.{◌≡◌, true, false, ◌||◌, cond, Option, Some, None, List, [], ◌∷◌, refl}
 use Rattle.std.specs.Prelude.{is_some, option_and_then}
 use Rattle.std.specs.List.{find, list_any}
 use Rattle.bc_syntax.specs.declared.syntax.ItemName.{ItemName}
 use Rattle.bc_syntax.specs.declared.syntax.StructDeclaration.{StructDeclaration}
-use Rattle.bc_syntax.specs.declared.syntax.ExternDeclaration.{ExternDeclaration}
 use Rattle.bc_syntax.specs.declared.syntax.Declaration.{Declaration}
 use Rattle.bc_syntax.specs.declared.syntax.Declaration.TheVariants.{Struct, Extern}
 use Rattle.bc_shapes.specs.Shapes.{same_name}

@@ -1,13 +1,11 @@
 -- Which rule a bad declaration breaks, and where. A list named `earlier` has the last declaration first.
-use Rattle.std.specs.Prelude.{◌≡◌, ℕ, ◌+◌, Bool, true, false, not, if◌then◌else◌, Option, Some, None, is_some, List, [], ◌∷◌, ◌++◌, length, reverse, take, slice_get}
+use Rattle.std.specs.Prelude.{◌≡◌, ℕ, ◌+◌, Bool, true, false, if◌then◌else◌, Option, Some, None, is_some, List, [], ◌∷◌, ◌++◌, length, reverse, take, slice_get}
 use Rattle.bc_syntax.specs.declared.syntax.Region.{Region}
 use Rattle.bc_syntax.specs.declared.syntax.Ty.{Ty}
 use Rattle.bc_syntax.specs.declared.syntax.Variance.{Variance}
-use Rattle.bc_syntax.specs.declared.syntax.StructDeclaration.{StructDeclaration}
-use Rattle.bc_syntax.specs.declared.syntax.ExternDeclaration.{ExternDeclaration}
 use Rattle.bc_syntax.specs.declared.syntax.Declaration.{Declaration}
 use Rattle.bc_syntax.specs.declared.syntax.Declaration.TheVariants.{Struct, Extern}
-use Rattle.bc_types.specs.Declarations.{Position, struct_among, extern_among, has_declared_base, stands_well, positions, is_good, first_bad}
+use Rattle.bc_types.specs.Declarations.{Position, struct_among, extern_among, has_declared_base, stands_well, positions}
 use Rattle.bc_breaches.specs.declared.declaration.DeclarationBreach.{DeclarationBreach}
 use Rattle.bc_breaches.specs.declared.declaration.DeclarationBreach.TheVariants.{Name, Mention, Variance as Invariance}
 use Rattle.bc_breaches.specs.declared.declaration.BadDeclaration.{BadDeclaration}

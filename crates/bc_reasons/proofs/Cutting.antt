@@ -30,16 +30,16 @@ use Rattle.bc_bodies.specs.Mir.{Mir}
 use Rattle.bc_bodies.specs.Children.{child_of, arguments_of, is_outer_clause}
 use Rattle.bc_mir.specs.Rules.{type_of_rvalue, closure_in}
 use Rattle.bc_mir.specs.WellFormed.{let_types, let_pairs, type_pairs}
-use Rattle.bc_points.specs.Pairs.{operand_pair, operand_pairs, parameter_pairs, sub_place, replaced_clause, clauses_where, is_inner_clause, captured_pairs, field_pairs, assignment_pairs, called_pairs, call_pairs, passed_pairs, invoked_pairs, invocation_pairs}
+use Rattle.bc_points.specs.Pairs.{operand_pair, operand_pairs, parameter_pairs, sub_place, replaced_clause, clauses_where, is_inner_clause, captured_pairs, field_pairs, assignment_pairs, called_pairs, passed_pairs, invoked_pairs}
 use Rattle.bc_cons.specs.declared.facts.NumberedConstraint.{NumberedConstraint}
 use Rattle.bc_cons.specs.declared.requirements.Requirements.{Requirements}
-use Rattle.bc_cons.specs.Constraints.{differ, numbered, reborrow_pairs, required_pairs, pairs_at, point_pairs, all_pairs, constraints_of}
+use Rattle.bc_cons.specs.Constraints.{differ, numbered, reborrow_pairs, required_pairs, pairs_at, point_pairs, constraints_of}
 use Rattle.bc_reasons.specs.declared.demand.Rule.{Rule}
 use Rattle.bc_reasons.specs.declared.demand.Rule.TheVariants as rules
 use Rattle.bc_reasons.specs.declared.demand.LinkReason.{LinkReason}
 use Rattle.bc_reasons.specs.declared.demand.LinkReason.TheVariants as reasons
 use Rattle.bc_reasons.specs.declared.demand.Demand.{Demand}
-use Rattle.bc_reasons.specs.Demands.{as_demand, demands_by, demands_at, operand_demands, captured_demands, field_demands, value_rule, assignment_demands, parameter_demands, called_demands, call_demands, passed_demands, invoked_demands, invocation_demands, point_demands, step_demands, local_demands, demands_of}
+use Rattle.bc_reasons.specs.Demands.{as_demand, demands_by, demands_at, operand_demands, captured_demands, field_demands, value_rule, assignment_demands, parameter_demands, called_demands, passed_demands, invoked_demands, point_demands, step_demands, local_demands, demands_of}
 
 -- the constraints of demands
 abbrev pub constraints_in : List Demand → List NumberedConstraint

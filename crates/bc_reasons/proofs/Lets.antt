@@ -1,6 +1,5 @@
 -- How many locals come before the `let` locals.
-use Rattle.std.proofs.Common.{◌≡◌, ℕ, ◌+◌, ◌-◌, ◌≤◌, List, length, take, drop, arith, length-drop}
-use Rattle.std.specs.Prelude.{slice_range}
+use Rattle.std.proofs.Common.{◌≡◌, ◌+◌, ◌-◌, ◌≤◌, length, drop, arith, length-drop}
 use Rattle.std.proofs.lemmas.List.{length-take}
 use Rattle.bc_bodies.specs.Mir.{Mir}
 use Rattle.bc_mir.specs.WellFormed.{input_types, let_types}

@@ -1,5 +1,5 @@
 -- The accesses with their parts are the accesses, and their parts are the parts.
-use Rattle.std.proofs.Common.{◌≡◌, ℕ, zero, suc, ◌+◌, Option, Some, List, [], ◌∷◌, ◌++◌, length, map, refl, sym, ap, ◌∙◌, subst, arith}
+use Rattle.std.proofs.Common.{◌≡◌, ℕ, zero, suc, ◌+◌, Option, Some, List, [], ◌∷◌, ◌++◌, length, map, refl, sym, ap, ◌∙◌, arith}
 use Rattle.std.specs.Prelude.{slice_get}
 use Rattle.std.specs.List.{flat_map, enumerate_from, range_with_len}
 use Rattle.std.specs.Option.{option_map}
@@ -20,7 +20,7 @@ use Rattle.bc_bodies.specs.Mir.{Mir}
 use Rattle.bc_points.specs.declared.access.Access.{Access}
 use Rattle.bc_points.specs.declared.access.Depth.TheVariants.{Shallow, Deep}
 use Rattle.bc_points.specs.declared.access.AccessKind.TheVariants.{Write}
-use Rattle.bc_points.specs.Accesses.{access_of, local_place, operand_accesses, rvalue_accesses, statement_accesses, return_accesses, terminator_accesses, accesses_of}
+use Rattle.bc_points.specs.Accesses.{access_of, local_place, operand_accesses, rvalue_accesses, statement_accesses, terminator_accesses, accesses_of}
 use Rattle.bc_reasons.specs.declared.part.Part.{Part}
 use Rattle.bc_reasons.specs.declared.part.Part.TheVariants as parts
 use Rattle.bc_reasons.specs.declared.access.AccessReason.{AccessReason}

@@ -1,6 +1,6 @@
-use Rattle.std.proofs.Common.{◌≤◌, Some, None, length, ap, sym, refl, arith}
+use Rattle.std.proofs.Common.{◌≤◌, None, length, ap, sym, refl, arith}
 use Rattle.std.proofs.lemmas.Option.{slice_get_read, slice_get_past}
-use Rattle.bc_reasons.specs.Parts.{access_reasons, parts_of}
+use Rattle.bc_reasons.specs.Parts.{access_reasons}
 use Rattle.bc_reasons.proofs.Parting.{as_many, as_many_parts, at_both, has_access}
 use Rattle.bc_reasons.proofs.access.access_reason.Goals as goal
 
