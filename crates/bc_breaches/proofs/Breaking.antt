@@ -13,17 +13,11 @@ use Rattle.bc_syntax.specs.declared.syntax.Declaration.TheVariants.{Struct, Exte
 use Rattle.bc_types.specs.Declarations.{Position, struct_among, extern_among, has_declared_base, stands_well, positions, is_good_field, is_good}
 use Rattle.bc_breaches.specs.declared.declaration.DeclarationBreach.{DeclarationBreach}
 use Rattle.bc_breaches.specs.declared.declaration.DeclarationBreach.TheVariants.{Name, Mention, Variance as Invariance}
-use Rattle.bc_breaches.specs.Declarations.{first_of, misplaced, variance_breach, field_breach, fields_breach, types_breach, declaration_breach, MentionsUndeclared, IsMisplaced, Breaks}
+use Rattle.bc_breaches.proofs.Firsts.{clear, clear_first}
+use Rattle.bc_breaches.specs.Firsts.{first_of}
+use Rattle.bc_breaches.specs.Declarations.{misplaced, variance_breach, field_breach, fields_breach, types_breach, declaration_breach, MentionsUndeclared, IsMisplaced, Breaks}
 
 -- ---- no breach
-
--- there is no breach
-abbrev clear : Option DeclarationBreach → Bool
-clear found = not (is_some found)
-
-clear_first : (one other : Option DeclarationBreach) → clear (first_of one other) ≡ (clear one && clear other)
-clear_first None other = refl
-clear_first (Some breach) other = refl
 
 clear_positions : (variances : List Variance) (positions : List Position) → not (is_some (misplaced variances positions)) ≡ list_all (stands_well variances) positions
 clear_positions variances [] = refl

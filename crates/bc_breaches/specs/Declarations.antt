@@ -6,14 +6,10 @@ use Rattle.bc_syntax.specs.declared.syntax.Variance.{Variance}
 use Rattle.bc_syntax.specs.declared.syntax.Declaration.{Declaration}
 use Rattle.bc_syntax.specs.declared.syntax.Declaration.TheVariants.{Struct, Extern}
 use Rattle.bc_types.specs.Declarations.{Position, struct_among, extern_among, has_declared_base, stands_well, positions}
+use Rattle.bc_breaches.specs.Firsts.{first_of}
 use Rattle.bc_breaches.specs.declared.declaration.DeclarationBreach.{DeclarationBreach}
 use Rattle.bc_breaches.specs.declared.declaration.DeclarationBreach.TheVariants.{Name, Mention, Variance as Invariance}
 use Rattle.bc_breaches.specs.declared.declaration.BadDeclaration.{BadDeclaration}
-
--- the first of two breaches, if there is one
-abbrev pub first_of : Option DeclarationBreach → Option DeclarationBreach → Option DeclarationBreach
-first_of None other = other
-first_of (Some breach) other = Some breach
 
 -- the region of the first position in which a region marked `+` may not be
 abbrev pub misplaced : List Variance → List Position → Option Region
