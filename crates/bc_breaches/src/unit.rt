@@ -101,8 +101,10 @@ fn share(types: &Arc<GoodTypes, Global>) -> Result<Arc<GoodTypes, Global>, Alloc
     Arc::try_clone(types)
 }
 
-/// Returns the first typing rule that a unit breaks, over declarations and the headers of its children, as for `type_unit`; of a point, the
-/// first in the order in which it is read. Returns `None` exactly if it breaks none. (rustc-dev-guide, "The MIR".)
+/// Returns the first typing rule that a unit breaks, over declarations and the headers of its children: at its header, otherwise at its least
+/// point, where `type_unit` finds it. At a point the rules come in this order: the label of a `call` or an `invoke`; the target of an
+/// assignment; the place that is borrowed or invoked, and what is created or called; the operands in order; the labels of an `if`; the
+/// destination; the shape of the target or destination. Returns `None` exactly if the unit breaks none. (rustc-dev-guide, "The MIR".)
 pub fn ill_breach(
     alloc: Global,
     types: &Arc<GoodTypes, Global>,
