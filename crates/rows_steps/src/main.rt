@@ -2,6 +2,7 @@
 //! the database, so the two are proved side by side.
 #![tactic(auto)]
 
+mod breaches;
 mod children;
 mod rows;
 mod steps;

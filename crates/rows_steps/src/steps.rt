@@ -15,6 +15,7 @@ use bc_judge::{BorrowError, PrintedChain, judge, known_relations};
 use bc_live::{LiveSets, live};
 use bc_loans::{Scopes, loans};
 use bc_mir::{Child, GoodTypes, Step, Typed};
+use bc_reasons::Demands;
 use bc_points::{Access, AccessKind, Depth, Loan, accesses, region_number};
 use bc_solve::Values;
 use bc_syntax::{Sequence, Unit};
@@ -237,6 +238,12 @@ fn without_requirements(
 pub(crate) fn facts_of(alloc: Global, typed: &Typed, live: &LiveSets) -> Result<Facts, AllocError> {
     let kids = without_requirements(alloc, typed.children())?;
     constraints(alloc, typed, live, &kids)
+}
+
+/// Returns the demands of a body, if no child requires anything.
+pub(crate) fn demands_of(alloc: Global, typed: &Typed) -> Result<Demands, AllocError> {
+    let kids = without_requirements(alloc, typed.children())?;
+    Demands::of(alloc, typed, &kids)
 }
 
 fn show_body<W: Write>(alloc: Global, typed: &Typed, out: &mut W) -> io::Result<()> {
