@@ -4,10 +4,12 @@
 
 mod breaches;
 mod children;
+mod reasons;
 mod rows;
 mod steps;
 
 use crate::children::show_children;
+use crate::reasons::show_why;
 use crate::steps::show_steps;
 use std::io;
 use std::io::{BufWriter, Write};
@@ -16,5 +18,6 @@ fn main(rt: HostRuntime) -> io::Result<()> {
     let mut out = BufWriter::new(rt.alloc(), rt.stdout())?;
     show_steps(&rt, &mut out)?;
     show_children(&rt, &mut out)?;
+    show_why(&rt, &mut out)?;
     out.flush()
 }

@@ -15,8 +15,8 @@ use bc_judge::{BorrowError, PrintedChain, judge, known_relations};
 use bc_live::{LiveSets, live};
 use bc_loans::{Scopes, loans};
 use bc_mir::{Child, GoodTypes, Step, Typed};
-use bc_reasons::Demands;
 use bc_points::{Access, AccessKind, Depth, Loan, accesses, region_number};
+use bc_reasons::Demands;
 use bc_solve::Values;
 use bc_syntax::{Sequence, Unit};
 use bc_text::read_unit;
@@ -45,7 +45,7 @@ fn show_numbers<W: Write, F: Fn(usize) -> bool>(
     writeln!(out)
 }
 
-fn show_access<W: Write>(access: &Access<'_>, out: &mut W) -> io::Result<()> {
+pub(crate) fn show_access<W: Write>(access: &Access<'_>, out: &mut W) -> io::Result<()> {
     let depth = match access.depth {
         Depth::Shallow => "shallow",
         Depth::Deep => "deep",
@@ -285,7 +285,7 @@ fn typed_body(alloc: Global, types: &Arc<GoodTypes, Global>, sections: &str) -> 
 }
 
 /// Returns the body of a row over its declarations, typed. Returns `InvalidData` as `declared` and `typed_body` do.
-fn typed(alloc: Global, sections: &str) -> io::Result<Typed> {
+pub(crate) fn typed(alloc: Global, sections: &str) -> io::Result<Typed> {
     let types = declared(alloc, sections)?;
     typed_body(alloc, &types, sections)
 }
