@@ -130,7 +130,7 @@ module _ (mir : Mir) (p : ℕ) where
       both mir.universals _ _ (operand_pairs mir arguments operands parameters) (replaced_well_formed mir.types arguments parameters)
       (of_operands arguments 0 operands parameters) (at_rule rules.WellFormed (replaced_well_formed mir.types arguments parameters))
 
-  of_called : (call : Calling) (d : ExternDeclaration) → AreOf mir.universals (called_demands mir p call d) (called_pairs mir call d)
+  of_called : (call : Calling) (d : ExternDeclaration) → AreOf mir.universals (called_demands mir p call.function.regions call d) (called_pairs mir call d)
   of_called call d =
       let regions = call.function.regions in
       let clauses = map (replaced_clause regions) d.signature.clauses in
@@ -163,7 +163,7 @@ module _ (mir : Mir) (p : ℕ) where
   of_point kids (Statement Nop) = refl
   of_point kids (Terminator (Goto label)) = refl
   of_point kids (Terminator (If condition)) = refl
-  of_point kids (Terminator (Call call)) = maybe mir.universals (called_demands mir p call) (called_pairs mir call) (of_called call) (extern_of mir.types call.function.name)
+  of_point kids (Terminator (Call call)) = maybe mir.universals (called_demands mir p call.function.regions call) (called_pairs mir call) (of_called call) (extern_of mir.types call.function.name)
   of_point kids (Terminator (Invoke invocation)) =
       maybe mir.universals (invoked_demands mir p invocation) (invoked_pairs mir invocation) (of_invoked invocation) (closure_in mir invocation.closure)
   of_point kids (Terminator Return) = refl

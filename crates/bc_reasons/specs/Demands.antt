@@ -101,16 +101,17 @@ parameter_demands mir p arguments operands parameters =
     operand_demands mir p arguments 0 operands parameters
     ++ demands_at mir p rules.WellFormed (replaced_well_formed mir.types arguments parameters)
 
--- the call of a function, by its rules in order: the parameters, the clauses, and the result as a subtype of the destination
-abbrev pub called_demands : Mir → ℕ → Calling → ExternDeclaration → List Demand
-called_demands mir p call d =
-    parameter_demands mir p call.function.regions call.operands d.signature.parameters
-    ++ (demands_at mir p rules.Clause (map (replaced_clause call.function.regions) d.signature.clauses)
-    ++ demands_at mir p rules.Result (sub_place mir (Some (replaced_ty call.function.regions d.signature.result)) call.destination))
+-- the call of a function with these regions, by its rules in order: the parameters, the clauses, and the result as a subtype of the
+-- destination
+abbrev pub called_demands : Mir → ℕ → List Region → Calling → ExternDeclaration → List Demand
+called_demands mir p arguments call d =
+    parameter_demands mir p arguments call.operands d.signature.parameters
+    ++ (demands_at mir p rules.Clause (map (replaced_clause arguments) d.signature.clauses)
+    ++ demands_at mir p rules.Result (sub_place mir (Some (replaced_ty arguments d.signature.result)) call.destination))
 
 -- a call
 abbrev pub call_demands : Mir → ℕ → Calling → List Demand
-call_demands mir p call = option_map_or (called_demands mir p call) (extern_of mir.types call.function.name) []
+call_demands mir p call = option_map_or (called_demands mir p call.function.regions call) (extern_of mir.types call.function.name) []
 
 -- the call of a closure, by its rules in order: the parameters, the clauses that the creation does not demand, and the result as a subtype of
 -- the destination

@@ -235,29 +235,28 @@ fn push_result(
     push_rule(demands, passing.here, Rule::Result, &pairs)
 }
 
+/// Appends what a call of a declared function demands.
 fn push_called(
     alloc: Global,
     demands: &mut Vec<Demand>,
-    here: Here<'_>,
+    passing: Passing<'_>,
     call: &Call,
     declaration: &ExternDeclaration,
 ) -> Result<(), AllocError>
     ensures { OnOk result (demands.new.items
-        ≡ demands.old.items ++ called_demands here.entry.typed.now here.entry.point call.now declaration.now) }
+        ≡ demands.old.items ++ called_demands passing.entry.here.typed.now passing.entry.here.point passing.entry.arguments.now call.now declaration.now) }
 {
-    let arguments = call.function.regions.as_slice();
     let signature = &declaration.signature;
-    let passing = Passing { here, arguments };
-    let parameters = signature.parameters.as_slice();
+    let operands = call.operands.as_slice();
     push_parameters(
         alloc,
         demands,
         passing,
-        call.operands.as_slice(),
-        parameters,
+        operands,
+        signature.parameters.as_slice(),
     )?;
-    let clauses = clause_pairs(alloc, arguments, signature.clauses.as_slice())?;
-    push_rule(demands, here, Rule::Clause, &clauses)?;
+    let clauses = clause_pairs(alloc, passing.arguments, signature.clauses.as_slice())?;
+    push_rule(demands, passing.here, Rule::Clause, &clauses)?;
     push_result(
         alloc,
         demands,
@@ -276,7 +275,16 @@ fn push_call(
     ensures { OnOk result (demands.new.items ≡ demands.old.items ++ call_demands here.entry.typed.now here.entry.point call.now) }
 {
     match here.typed.types().extern_of(&call.function.name) {
-        Some(declaration) => push_called(alloc, demands, here, call, declaration),
+        Some(declaration) => {
+            let arguments = call.function.regions.as_slice();
+            push_called(
+                alloc,
+                demands,
+                Passing { here, arguments },
+                call,
+                declaration,
+            )
+        }
         None => Ok(()),
     }
 }

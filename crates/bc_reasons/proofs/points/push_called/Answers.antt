@@ -9,15 +9,15 @@ use Rattle.bc_reasons.proofs.points.push_called.Goals as goal
 
 pub returns : goal.returns
 returns c =
-    let mir = c.args.here.typed.now in
-    let p = c.args.here.point in
+    let mir = c.args.passing.here.typed.now in
+    let p = c.args.passing.here.point in
+    let arguments = c.args.passing.arguments.now in
     let call = c.args.call.now in
-    let regions = call.function.regions in
     let signature = c.args.declaration.now.signature in
-    let parameters = parameter_demands mir p regions call.operands signature.parameters in
-    let clauses = demands_at mir p rules.Clause (map (replaced_clause regions) signature.clauses) in
-    let returned = demands_at mir p rules.Result (sub_place mir (Some (replaced_ty regions signature.result)) call.destination) in
+    let parameters = parameter_demands mir p arguments call.operands signature.parameters in
+    let clauses = demands_at mir p rules.Clause (map (replaced_clause arguments) signature.clauses) in
+    let returned = demands_at mir p rules.Result (sub_place mir (Some (replaced_ty arguments signature.result)) call.destination) in
     on_ok_weaker c.push_result.result
-    (λ done. appended-both _ _ _ parameters (clauses ++ returned) (rw (c.as_slice-arguments.ensures, c.as_slice-parameters.ensures, c.as_slice.ensures) at c.in_ok-push_parameters.ensures)
-    (appended-both _ _ _ clauses returned (rw (c.deref.ensures.value, c.in_ok-clauses.ensures, c.as_slice-arguments.ensures, c.as_slice-2.ensures) at c.in_ok-push_rule.ensures) done))
-    (rw c.as_slice-arguments.ensures at c.push_result.ensures)
+    (λ done. appended-both _ _ _ parameters (clauses ++ returned) (rw (c.as_slice-operands.ensures, c.as_slice.ensures) at c.in_ok-push_parameters.ensures)
+    (appended-both _ _ _ clauses returned (rw (c.deref.ensures.value, c.in_ok-clauses.ensures, c.as_slice-2.ensures) at c.in_ok-push_rule.ensures) done))
+    c.push_result.ensures
