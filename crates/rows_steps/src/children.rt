@@ -1,15 +1,17 @@
 //! The bodies that keep the typing rules over the headers of their children: `children.txt`, rows of declarations, a body `f` and its
 //! children `f/K`, at most two, ascending.
 //!
-//! Below a row comes the place where the body first breaks a rule, or what its points demand of regions: pairs of numbers, the longer
-//! region first.
+//! Below a row comes the place where the body first breaks a rule, with the part and the rule, or what its points demand of regions: pairs
+//! of numbers, the longer region first, and then the same with what demands each pair.
 ghost use Rattle.std.specs.Prelude.{◌≡◌, ⊤, map, MatchOption};
 ghost use Rattle.bc_syntax.specs.Children.{children_of};
 
+use crate::breaches::{show_breach, show_reasons};
 use crate::rows::{headed, named};
-use crate::steps::{body_of, declared, facts_of, show_demands, show_points};
+use crate::steps::{body_of, declared, demands_of, facts_of, show_demands, show_points};
+use bc_breaches::ill_breach;
 use bc_live::live;
-use bc_mir::{GoodTypes, IllFault, KidHeader, Typed, Where, type_unit};
+use bc_mir::{GoodTypes, IllFault, KidHeader, Typed, type_unit};
 use bc_names::Name;
 use bc_syntax::{Unit, UnitKind};
 use bc_text::read_unit;
@@ -66,7 +68,25 @@ fn show_typed<W: Write>(alloc: Global, typed: &Typed, out: &mut W) -> io::Result
     show_points(alloc, typed, out)?;
     let live = live(alloc, typed)?;
     let facts = facts_of(alloc, typed, &live)?;
-    show_demands(&facts, out)
+    show_demands(&facts, out)?;
+    let demands = demands_of(alloc, typed)?;
+    show_reasons(&demands, out)
+}
+
+/// Writes which rule a body breaks. Returns `InvalidData` if it breaks none.
+fn show_ill<W: Write>(
+    alloc: Global,
+    types: &Arc<GoodTypes, Global>,
+    unit: &Unit,
+    kids: &[KidHeader<'_>],
+    out: &mut W,
+) -> io::Result<()>
+    requires { map (λ kid. kid.number) kids.now ≡ children_of unit.now }
+{
+    match ill_breach(alloc, types, unit, kids)? {
+        Some(breach) => show_breach(breach, out),
+        None => Err(ErrorKind::InvalidData.into()),
+    }
 }
 
 /// Writes what a body over its children demands, or where it breaks a rule.
@@ -81,8 +101,7 @@ fn show_over<W: Write>(
 {
     match type_unit(alloc, types, unit, kids) {
         Ok(typed) => show_typed(alloc, &typed, out),
-        Err(IllFault::Ill(Where::Header)) => writeln!(out, "ill at header"),
-        Err(IllFault::Ill(Where::At(point))) => writeln!(out, "ill at {point}"),
+        Err(IllFault::Ill(_)) => show_ill(alloc, types, unit, kids, out),
         Err(IllFault::NoMemory) => Err(ErrorKind::OutOfMemory.into()),
     }
 }

@@ -16,6 +16,7 @@ use bc_live::{LiveSets, live};
 use bc_loans::{Scopes, loans};
 use bc_mir::{Child, GoodTypes, Step, Typed};
 use bc_points::{Access, AccessKind, Depth, Loan, accesses, region_number};
+use bc_reasons::Demands;
 use bc_solve::Values;
 use bc_syntax::{Sequence, Unit};
 use bc_text::read_unit;
@@ -44,7 +45,7 @@ fn show_numbers<W: Write, F: Fn(usize) -> bool>(
     writeln!(out)
 }
 
-fn show_access<W: Write>(access: &Access<'_>, out: &mut W) -> io::Result<()> {
+pub(crate) fn show_access<W: Write>(access: &Access<'_>, out: &mut W) -> io::Result<()> {
     let depth = match access.depth {
         Depth::Shallow => "shallow",
         Depth::Deep => "deep",
@@ -239,6 +240,12 @@ pub(crate) fn facts_of(alloc: Global, typed: &Typed, live: &LiveSets) -> Result<
     constraints(alloc, typed, live, &kids)
 }
 
+/// Returns the demands of a body, if no child requires anything.
+pub(crate) fn demands_of(alloc: Global, typed: &Typed) -> Result<Demands, AllocError> {
+    let kids = without_requirements(alloc, typed.children())?;
+    Demands::of(alloc, typed, &kids)
+}
+
 fn show_body<W: Write>(alloc: Global, typed: &Typed, out: &mut W) -> io::Result<()> {
     show_points(alloc, typed, out)?;
     let live = live(alloc, typed)?;
@@ -278,7 +285,7 @@ fn typed_body(alloc: Global, types: &Arc<GoodTypes, Global>, sections: &str) -> 
 }
 
 /// Returns the body of a row over its declarations, typed. Returns `InvalidData` as `declared` and `typed_body` do.
-fn typed(alloc: Global, sections: &str) -> io::Result<Typed> {
+pub(crate) fn typed(alloc: Global, sections: &str) -> io::Result<Typed> {
     let types = declared(alloc, sections)?;
     typed_body(alloc, &types, sections)
 }

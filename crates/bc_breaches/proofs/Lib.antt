@@ -1,0 +1,6 @@
+mod Firsts
+mod Looking
+mod Breaking
+mod Walking
+mod Keeping
+mod Stepping

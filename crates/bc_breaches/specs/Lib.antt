@@ -1,0 +1,4 @@
+pub mod Firsts
+pub mod Lookups
+pub mod Declarations
+pub mod Typing

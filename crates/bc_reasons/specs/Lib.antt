@@ -1,0 +1,4 @@
+pub mod Parts
+pub mod Demands
+pub mod Paths
+pub mod Uses
